@@ -4,8 +4,8 @@ use Rattle.ob0_scan.specs.Refused.{IsRightRefusalOver}
 use Rattle.ob0_scan.specs.Scanned.{Scanned}
 use Rattle.ob0_scan.specs.declared.rescanning.NotRescanned.{NotRescanned}
 use Rattle.ob0_scan.specs.declared.rescanning.NotRescanned.TheVariants as rescanned
-use Rattle.ob0_parse_kept.specs.KeptTokens.{AreKept}
-use Rattle.ob0_parse_kept.specs.declared.kept.Kept.{Kept}
+use Rattle.ob0_parse.specs.KeptTokens.{AreKept}
+use Rattle.ob0_parse.specs.declared.kept.Kept.{Kept}
 use Rattle.ob0_analysis.specs.Found.{IsRefusalOf}
 
 pub given_back : (old : Scanned) (text : List ℕ) (kept : Kept) (refusal : NotRescanned) → IsRightRefusalOver old text refusal → AreKept old.tokens kept → IsRefusalOf text kept refusal

@@ -3,8 +3,8 @@
 use Rattle.std.specs.Prelude.{ℕ, List, None, Option, Some}
 use Rattle.ob0_scan.specs.Scanned.{IsScanOf}
 use Rattle.ob0_tree.specs.Parsed.{Parsed, IsParsed, named_tree_of}
-use Rattle.ob0_scope_rules.specs.Resolution.{Resolution}
-use Rattle.ob0_types_rules.specs.WellTyped.{WellTyped}
+use Rattle.ob0_scope_table.specs.Resolution.{Resolution}
+use Rattle.ob0_language_types.specs.WellTyped.{WellTyped}
 use Rattle.ob0_types.specs.CheckedModules.{IsWellTyped}
 use Rattle.ob0_analysis.specs.Diagnosed.{IsWellTypedModule}
 

@@ -6,8 +6,8 @@ use Rattle.ob0_scan.specs.Scanned.{Scanned}
 use Rattle.ob0_scan.specs.declared.tokens.RescanInPlace.{RescanInPlace}
 use Rattle.ob0_tree.specs.declared.tree.ModuleTree.{ModuleTree}
 use Rattle.ob0_tree.specs.Parsed.{IsParsed, parsed_by}
-use Rattle.ob0_parse_kept.specs.KeptTokens.{AreKept}
-use Rattle.ob0_parse_kept.specs.declared.kept.Kept.{Kept}
+use Rattle.ob0_parse.specs.KeptTokens.{AreKept}
+use Rattle.ob0_parse.specs.declared.kept.Kept.{Kept}
 
 -- the text before has the tokens of these procedures
 pub record AreKeptBefore (c : RescanInPlace) (procedures : Kept) : Type 0 where

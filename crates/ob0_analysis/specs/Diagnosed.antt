@@ -11,9 +11,9 @@ use Rattle.ob0_scan.specs.declared.lexeme.Token.{Token}
 use Rattle.ob0_tree.specs.Module.{ModuleOf}
 use Rattle.ob0_tree.specs.Tree.{Tree, module_text}
 use Rattle.ob0_tree.specs.Parsed.{named_tree_of}
-use Rattle.ob0_scope_rules.specs.Names.{Name}
-use Rattle.ob0_scope_rules.specs.Resolution.{IsResolution, Resolution}
-use Rattle.ob0_types_rules.specs.WellTyped.{WellTyped}
+use Rattle.ob0_language_names.specs.Names.{Name}
+use Rattle.ob0_scope_table.specs.Resolution.{IsResolution, Resolution}
+use Rattle.ob0_language_types.specs.WellTyped.{WellTyped}
 use Rattle.ob0_types.specs.FaultOrder.{AreFirstFaults}
 use Rattle.ob0_parse_descent.specs.ExpectedText.{expected_text}
 use Rattle.ob0_parse.specs.RefusedBy.{RefusedBy}

@@ -5,9 +5,9 @@ use Rattle.ob0_scan.specs.Refused.{AreFaults}
 use Rattle.ob0_scan.specs.declared.rescanning.NotRescanned.{NotRescanned}
 use Rattle.ob0_scan.specs.declared.rescanning.NotRescanned.TheVariants as rescanned
 use Rattle.ob0_scan.specs.Scanned.{Scanned, IsScannable}
-use Rattle.ob0_parse_kept.specs.KeptTokens.{AreKept}
+use Rattle.ob0_parse.specs.KeptTokens.{AreKept}
 use Rattle.ob0_parse.specs.RefusedBy.{RefusedBy}
-use Rattle.ob0_parse_kept.specs.declared.kept.Kept.{Kept}
+use Rattle.ob0_parse.specs.declared.kept.Kept.{Kept}
 use Rattle.ob0_parse_descent.specs.declared.refusal.ParseRefusal.{ParseRefusal}
 use Rattle.ob0_parse_descent.specs.declared.refusal.ParseRefusal.TheVariants.{Syntax, TooDeep, Memory}
 use Rattle.ob0_analysis.specs.declared.analysis.Findings.{Findings}

@@ -1,7 +1,7 @@
 -- An edit of a text keeps what its module does.
 -- Rule: docs/PROTOCOL.md, Requests on documents 10.
 use Rattle.std.specs.Prelude.{ℕ, List}
-use Rattle.ob0_run_rules.specs.EditLaws.{SameRuns}
+use Rattle.ob0_language_runs.specs.EditLaws.{SameRuns}
 use Rattle.ob0_analysis.specs.Diagnosed.{IsWellTypedModule}
 
 -- both texts are well-typed modules, and these have the same run for every input and all bounds

@@ -2,7 +2,7 @@
 
 ghost use Rattle.std.specs.Prelude.{⊤, ℕ, List, IfOk};
 ghost use Rattle.std.specs.Str.{IsUtf8};
-ghost use Rattle.ob0_scope_rules.specs.Resolution.{Resolution};
+ghost use Rattle.ob0_scope_table.specs.Resolution.{Resolution};
 ghost use Rattle.ob0_analysis.specs.Analysed.{Finds};
 
 use crate::analysis::Analysis;

@@ -2,13 +2,13 @@
 
 ghost use Rattle.std.specs.Prelude.{◌≡◌, IfOk};
 ghost use Rattle.ob0_tree.specs.Parsed.{IsParsed, parsed_by};
-ghost use Rattle.ob0_scope_rules.specs.Bindings.{resolution_by};
-ghost use Rattle.ob0_scope_rules.specs.Resolution.{IsResolution};
+ghost use Rattle.ob0_scope_table.specs.Bindings.{resolution_by};
+ghost use Rattle.ob0_scope_table.specs.Resolution.{IsResolution};
 ghost use Rattle.ob0_types.specs.CheckedModules.{AreCheckedFaults, AreTypesOf, IsChecked};
 
 use ob0_scan::{Fault, Tokens};
 use ob0_scope::bindings_of;
-use ob0_scope_rules::{Bindings, Resolved};
+use ob0_scope_table::{Bindings, Resolved};
 use ob0_tree::{Module, ModuleTree};
 use ob0_types::{Checked, ModuleTypes, types_of};
 use std::alloc::{AllocError, Global};
@@ -26,8 +26,8 @@ pub(crate) struct ModuleParts {
 
 impl Model for ModuleParts {
     ghost use Rattle.ob0_tree.specs.Parsed.{IsParsed, parsed_by};
-    ghost use Rattle.ob0_scope_rules.specs.Bindings.{resolution_by};
-    ghost use Rattle.ob0_scope_rules.specs.Resolution.{IsResolution, Resolution};
+    ghost use Rattle.ob0_scope_table.specs.Bindings.{resolution_by};
+    ghost use Rattle.ob0_scope_table.specs.Resolution.{IsResolution, Resolution};
     ghost use Rattle.ob0_types.specs.CheckedModules.{AreTypesOf};
 
     ghost Value = { Resolution };

@@ -6,7 +6,7 @@ use Rattle.ob0_text.specs.declared.position_types.Position.{Position}
 use Rattle.ob0_text.specs.declared.position_types.Unit.{Unit}
 use Rattle.ob0_text.specs.declared.position_types.Unit.TheVariants.{Utf16}
 use Rattle.ob0_text.specs.declared.refusals.EditRefusal.{EditRefusal}
-use Rattle.ob0_rename.specs.InTexts.{FindsNewName}
+use Rattle.ob0_edits.specs.Renamings.{FindsNewName}
 use Rattle.ob0_commands.specs.Renamed.{IsRefusal, PrintsEdited, PrintsRenamed, RefusesName}
 
 -- what was found in a store that holds the text

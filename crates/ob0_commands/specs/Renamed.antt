@@ -11,7 +11,7 @@ use Rattle.ob0_text.specs.declared.position_types.Position.{Position}
 use Rattle.ob0_text.specs.declared.position_types.Unit.{Unit}
 use Rattle.ob0_text.specs.declared.position_types.Unit.TheVariants.{Utf16}
 use Rattle.ob0_text.specs.declared.refusals.EditRefusal.{EditRefusal}
-use Rattle.ob0_rename.specs.InTexts.{IsRefusedIn, RenamesIn}
+use Rattle.ob0_edits.specs.Renamings.{IsRefusedIn, RenamesIn}
 use Rattle.ob0_commands.specs.Printed.{PrintsFaults}
 use Rattle.ob0_commands.specs.Said.{refused_line}
 

@@ -10,7 +10,7 @@ ghost use Rattle.ob0_scan.specs.Scanned.{max_text};
 use crate::checking::{analyse, print_diagnoses, text_of};
 use crate::faults::{FileFault, print_fault};
 use crate::printing::{Output, print};
-use ob0_rename::rename_in;
+use ob0_edits::rename_in;
 use ob0_text::{Edit, EditRefusal, Lines, Position, TextStore, patch};
 use std::alloc::Global;
 

@@ -1,9 +1,7 @@
-pub mod Changed
-pub mod Ranges
-pub mod Replaced
-pub mod Written
-pub mod OfTrees
-pub mod Factors
-pub mod Removed
-pub mod Words
-pub mod Inlined
+pub mod Inlinings
+pub mod Layouts
+pub mod Renamings
+pub use Rattle.ob0_analysis.specs.Analysed
+pub use Rattle.ob0_analysis.specs.Diagnosed
+pub use Rattle.ob0_analysis.specs.RunsKept
+pub use Rattle.ob0_analysis.specs.Texts

@@ -4,8 +4,8 @@ use Rattle.std.proofs.lemmas.List.{map-append}
 use Rattle.ob0_tree.specs.declared.tree.Role.{Role}
 use Rattle.ob0_tree.specs.declared.tree.Role.TheVariants as role
 use Rattle.ob0_tree.specs.Tree.{Sort, Tree, factor, further_name, identifiers, items, mapped, names, adds, array_type, assigns, begins, branches, calls, compares, declares, declares_constant, declares_constants, declares_procedure, declares_type, declares_types, declares_variable, declares_variables, designator, else_branch, elsif_branch, empty, end, field, has_body, index, integer, is_module, listed, more, multiplies, named_type, negation, no_arguments, no_fields, no_formals, none, one, parenthesised, product, record_type, relates, repeat_loop, runs, some_arguments, some_fields, some_formals, sum, then_argument, then_fields, then_name, then_section, then_statement, value_section, variable_section, while_loop}
-use Rattle.ob0_edits.specs.Inlined.{ReplacesFactors}
-use Rattle.ob0_scope_rules.specs.Elsewhere.{names_elsewhere}
+use Rattle.ob0_edits_tokens.specs.Inlined.{ReplacesFactors}
+use Rattle.ob0_language_names.specs.Elsewhere.{names_elsewhere}
 
 abbrev pub None_other : {M : Type 0} → (ℕ → Option (Tree M factor)) → Role → ℕ → Type 0
 None_other c role.LookedUp i = Unit {0}

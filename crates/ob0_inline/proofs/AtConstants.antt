@@ -10,20 +10,20 @@ use Rattle.ob0_text.specs.declared.refusals.EditRefusal.TheVariants.{CommentInsi
 use Rattle.ob0_text.specs.Units.{width_of}
 use Rattle.ob0_tree.specs.Parsed.{Parsed, named_tree_of}
 use Rattle.ob0_tree.specs.Tree.{Tree, module_text, nesting}
-use Rattle.ob0_edits.specs.Ranges.{range_of}
-use Rattle.ob0_edits.specs.Removed.{span_over}
-use Rattle.ob0_edits.specs.Replaced.{edit_at, parts}
-use Rattle.ob0_scope_rules.specs.Names.{Label, Name}
-use Rattle.ob0_scope_rules.specs.Occurrences.{bindings, binds, label_ordinal}
-use Rattle.ob0_scope_rules.specs.Resolution.{Resolution}
-use Rattle.ob0_scope_rules.specs.Scopes.{same_ordinal}
+use Rattle.ob0_edits_tokens.specs.Ranges.{range_of}
+use Rattle.ob0_edits_tokens.specs.Removed.{span_over}
+use Rattle.ob0_edits_tokens.specs.Replaced.{edit_at, parts}
+use Rattle.ob0_language_names.specs.Names.{Label, Name}
+use Rattle.ob0_language_names.specs.Occurrences.{bindings, binds, label_ordinal}
+use Rattle.ob0_scope_table.specs.Resolution.{Resolution}
+use Rattle.ob0_language_names.specs.Scopes.{same_ordinal}
 use Rattle.ob0_scope.specs.declared.naming.Named as named
 use Rattle.ob0_scope.specs.NamesAtPlaces.{name_on}
 use Rattle.ob0_types.specs.CheckedModules.{IsWellTyped}
-use Rattle.ob0_types_rules.specs.EditLaws.{ConstantsAreAlone, IsConstantWritten, IsScalar, IsPredeclaredTruth}
-use Rattle.ob0_run_rules.specs.EditLaws.{InliningEverywhereKeepsModules}
-use Rattle.ob0_values.specs.declared.scalar.Scalar.TheVariants as scalar
-use Rattle.ob0_values.specs.Scalars.{scalar_value}
+use Rattle.ob0_language_types.specs.EditLaws.{ConstantsAreAlone, IsConstantWritten, IsScalar, IsPredeclaredTruth}
+use Rattle.ob0_language_runs.specs.EditLaws.{InliningEverywhereKeepsModules}
+use Rattle.ob0_language_values.specs.declared.scalar.Scalar.TheVariants as scalar
+use Rattle.ob0_language_values.specs.Scalars.{scalar_value}
 use Rattle.ob0_inline.specs.declared.constants.NamedConstant.{NamedConstant}
 use Rattle.ob0_inline.specs.Everywhere.{InlinesEverywhere, IsConstant, IsConstantAt, NoConstantAt, IsAlone, any_hidden, has_comment, inlined_all, is_hidden, refusal_everywhere, text_without, uses_of}
 use Rattle.ob0_inline.specs.Inlined.{LeavesModule}

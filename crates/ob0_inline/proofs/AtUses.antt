@@ -9,25 +9,25 @@ use Rattle.ob0_text.specs.declared.refusals.EditRefusal.{EditRefusal}
 use Rattle.ob0_text.specs.declared.refusals.EditRefusal.TheVariants.{Memory, Shadowed, TooDeep, TooLong}
 use Rattle.ob0_tree.specs.Parsed.{Parsed, named_tree_of}
 use Rattle.ob0_tree.specs.Tree.{Tree, module_text, nesting}
-use Rattle.ob0_edits.specs.Replaced.{AreNames, edit_at, parts, with_text_at}
-use Rattle.ob0_scope_rules.specs.Inlining.{only}
-use Rattle.ob0_scope_rules.specs.Names.{Name}
-use Rattle.ob0_scope_rules.specs.Occurrences.{binds}
-use Rattle.ob0_scope_rules.specs.Resolution.{IsResolution, Resolution, ordinal_in}
-use Rattle.ob0_scope_rules.specs.Scopes.{same_ordinal}
-use Rattle.ob0_scope_rules.proofs.Bound.{bound_at}
+use Rattle.ob0_edits_tokens.specs.Replaced.{AreNames, edit_at, parts, with_text_at}
+use Rattle.ob0_language_names.specs.Inlining.{only}
+use Rattle.ob0_language_names.specs.Names.{Name}
+use Rattle.ob0_language_names.specs.Occurrences.{binds}
+use Rattle.ob0_scope_table.specs.Resolution.{IsResolution, Resolution, ordinal_in}
+use Rattle.ob0_language_names.specs.Scopes.{same_ordinal}
+use Rattle.ob0_scope_table.proofs.Bound.{bound_at}
 use Rattle.ob0_scope.specs.declared.naming.Named as named
 use Rattle.ob0_scope.specs.Listing.{is_name_on}
 use Rattle.ob0_scope.specs.NamesAtPlaces.{name_on}
 use Rattle.ob0_scope.proofs.Placed.{name_found, named_so}
-use Rattle.ob0_types_rules.specs.ConstantValues.{value_of_constant}
+use Rattle.ob0_language_types.specs.ConstantValues.{value_of_constant}
 use Rattle.ob0_types.specs.CheckedModules.{IsWellTyped}
-use Rattle.ob0_types_rules.specs.EditLaws.{AreUsesOf, ConstantsAreAlone, IsConstantWritten, IsScalar, IsPredeclaredTruth}
-use Rattle.ob0_types_rules.specs.Written.{written_value}
-use Rattle.ob0_run_rules.specs.EditLaws.{InliningKeepsModules}
-use Rattle.ob0_values.specs.declared.scalar.Scalar.{Scalar}
-use Rattle.ob0_values.specs.declared.scalar.Scalar.TheVariants as scalar
-use Rattle.ob0_values.specs.Scalars.{scalar_value}
+use Rattle.ob0_language_types.specs.EditLaws.{AreUsesOf, ConstantsAreAlone, IsConstantWritten, IsScalar, IsPredeclaredTruth}
+use Rattle.ob0_language_types.specs.Written.{written_value}
+use Rattle.ob0_language_runs.specs.EditLaws.{InliningKeepsModules}
+use Rattle.ob0_language_values.specs.declared.scalar.Scalar.{Scalar}
+use Rattle.ob0_language_values.specs.declared.scalar.Scalar.TheVariants as scalar
+use Rattle.ob0_language_values.specs.Scalars.{scalar_value}
 use Rattle.std.specs.Prelude.{pos, negsuc}
 use Rattle.ob0_inline.specs.declared.uses.Use.{Use}
 use Rattle.ob0_inline.specs.Inlined.{LeavesModule, AreAlone, inlined_at}

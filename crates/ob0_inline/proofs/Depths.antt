@@ -5,8 +5,8 @@ use Rattle.std.proofs.lemmas.Bool.{leb-true, leb-false, le-ltb, lt-ltb}
 use Rattle.std.proofs.lemmas.List.{take-append-drop}
 use Rattle.std.proofs.lemmas.Simd.{map-map}
 use Rattle.std.proofs.lemmas.Str.{encodes-chars}
-use Rattle.ob0_edits.specs.Changed.{words_of}
-use Rattle.ob0_edits.specs.Words.{word_lexeme}
+use Rattle.ob0_edits_tokens.specs.Changed.{words_of}
+use Rattle.ob0_edits_tokens.specs.Words.{word_lexeme}
 use Rattle.ob0_tree.specs.Lexeme.{Terminal, EndOfText}
 use Rattle.ob0_scan.specs.Scanned.{Scanned, read_in}
 use Rattle.ob0_tree.specs.Module.{text_lexemes}

@@ -1,11 +1,11 @@
 -- Names are bound to what is declared before them: of the labels of a part each is below the first ordinal after it.
 use Rattle.std.proofs.Common.{ℕ, suc, ◌<◌, ◌≤◌, true, false, Option, Some, None, List, [], ◌∷◌, ◌++◌, map, sym, subst, arith}
 use Rattle.ob0_tree.specs.Tree.{Sort, Tree, block, constant, constants, declares, declares_constant, declares_constants, declares_procedure, declares_type, declares_types, declares_variable, declares_variables, end, formals, further_section, has_body, item, items, maybe, more, no_formals, none, occurrences, one, procedure, section, some_formals, then_section, type_name, type_names, value_section, variable, variable_section, variables}
-use Rattle.ob0_scope_rules.specs.Names.{Name, as_names, same_name}
-use Rattle.ob0_scope_rules.specs.Parts.{constant_names, formal_names, formal_sections, named_types, names_listed, procedure_name, section_constants, section_names, section_types, section_variables, variable_names}
-use Rattle.ob0_scope_rules.specs.Scopes.{Labels, Scope, after_block, after_names, after_procedure, after_procedures, body_scope, declare_names, declare_procedure_names, first_procedure, first_type, first_variable, label_of, ordinal_of, procedures_scope, relabel_block, relabel_constant_section, relabel_constants, relabel_formals, relabel_procedure, relabel_procedures, relabel_section, relabel_sections, relabel_type_section, relabel_types, relabel_uses, relabel_variable_section, relabel_variables, types_scope, variables_scope}
-use Rattle.ob0_scope_rules.proofs.OccurrenceNames.{occurrences-with_names}
-use Rattle.ob0_scope_rules.proofs.Ordinals.{after_names-append, le-after_block, le-after_names, le-after_procedure, le-after_procedures}
+use Rattle.ob0_language_names.specs.Names.{Name, as_names, same_name}
+use Rattle.ob0_language_names.specs.Parts.{constant_names, formal_names, formal_sections, named_types, names_listed, procedure_name, section_constants, section_names, section_types, section_variables, variable_names}
+use Rattle.ob0_language_names.specs.Scopes.{Labels, Scope, after_block, after_names, after_procedure, after_procedures, body_scope, declare_names, declare_procedure_names, first_procedure, first_type, first_variable, label_of, ordinal_of, procedures_scope, relabel_block, relabel_constant_section, relabel_constants, relabel_formals, relabel_procedure, relabel_procedures, relabel_section, relabel_sections, relabel_type_section, relabel_types, relabel_uses, relabel_variable_section, relabel_variables, types_scope, variables_scope}
+use Rattle.ob0_language_names.proofs.OccurrenceNames.{occurrences-with_names}
+use Rattle.ob0_language_names.proofs.Ordinals.{after_names-append, le-after_block, le-after_names, le-after_procedure, le-after_procedures}
 
 -- labels that have no names
 abbrev pub forget : {N : Type 0} → Labels N (Option ℕ)

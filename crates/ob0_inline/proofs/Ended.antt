@@ -14,22 +14,22 @@ use Rattle.ob0_tree.specs.Parsed.{Parsed, named_tree_of, tree_of}
 use Rattle.ob0_tree.specs.Places.{lexeme_of}
 use Rattle.ob0_tree.specs.Places as leaf
 use Rattle.ob0_tree.specs.Tree.{identifiers, occurrences, spell}
-use Rattle.ob0_edits.specs.Changed.{at_each, changed_words, words_of}
-use Rattle.ob0_edits.specs.OfTrees.{numbered_tokens}
-use Rattle.ob0_edits.specs.Removed.{IsDeclaration, without_words}
-use Rattle.ob0_edits.specs.Replaced.{AreNames}
-use Rattle.ob0_edits.specs.Words.{word_lexeme}
-use Rattle.ob0_scope_rules.specs.Names.{Label, Name, as_names, declared, same_label}
-use Rattle.ob0_scope_rules.specs.Occurrences.{bindings}
-use Rattle.ob0_scope_rules.specs.Parts.{module_block}
-use Rattle.ob0_scope_rules.specs.Resolution.{IsResolution, Resolution, declaring_only, label_at, ordinal_in, token_declaring}
-use Rattle.ob0_scope_rules.specs.Scopes.{as_label, same_ordinal}
-use Rattle.ob0_scope_rules.proofs.Bound.{bindings_by_table}
-use Rattle.ob0_scope_rules.proofs.OccurrenceNames.{length-map}
-use Rattle.ob0_scope_rules.proofs.Peeling.{heads}
-use Rattle.ob0_types_rules.specs.ConstantValues.{value_of_constant}
-use Rattle.ob0_values.specs.Scalars.{scalar_value}
-use Rattle.ob0_values.specs.Values.{Value}
+use Rattle.ob0_edits_tokens.specs.Changed.{at_each, changed_words, words_of}
+use Rattle.ob0_edits_tokens.specs.OfTrees.{numbered_tokens}
+use Rattle.ob0_edits_tokens.specs.Removed.{IsDeclaration, without_words}
+use Rattle.ob0_edits_tokens.specs.Replaced.{AreNames}
+use Rattle.ob0_edits_tokens.specs.Words.{word_lexeme}
+use Rattle.ob0_language_names.specs.Names.{Label, Name, as_names, declared, same_label}
+use Rattle.ob0_language_names.specs.Occurrences.{bindings}
+use Rattle.ob0_language_names.specs.Parts.{module_block}
+use Rattle.ob0_scope_table.specs.Resolution.{IsResolution, Resolution, declaring_only, label_at, ordinal_in, token_declaring}
+use Rattle.ob0_language_names.specs.Scopes.{as_label, same_ordinal}
+use Rattle.ob0_scope_table.proofs.Bound.{bindings_by_table}
+use Rattle.ob0_language_names.proofs.OccurrenceNames.{length-map}
+use Rattle.ob0_language_names.proofs.Peeling.{heads}
+use Rattle.ob0_language_types.specs.ConstantValues.{value_of_constant}
+use Rattle.ob0_language_values.specs.Scalars.{scalar_value}
+use Rattle.ob0_language_values.specs.Values.{Value}
 use Rattle.ob0_inline.specs.declared.constants.NamedConstant.{NamedConstant}
 use Rattle.ob0_inline.specs.Declarations.{is_semicolon}
 use Rattle.ob0_inline.specs.Everywhere.{IsConstant, IsAlone, inlined_all, uses_of}

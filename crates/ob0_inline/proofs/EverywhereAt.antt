@@ -6,21 +6,21 @@ use Rattle.ob0_scan.specs.Scanned.{Word}
 use Rattle.ob0_tree.specs.Order.{AreIdentifiers, Ascending}
 use Rattle.ob0_tree.specs.Parsed.{named_tree_of, tree_of}
 use Rattle.ob0_tree.specs.Tree.{Tree, factor, occurrences, spell}
-use Rattle.ob0_edits.specs.Changed.{at_each, changed_words, is_among, words_of}
-use Rattle.ob0_edits.specs.Inlined.{inlined}
-use Rattle.ob0_edits.specs.OfTrees.{factor_at, number_at, numbered_tokens, text_of_word}
-use Rattle.ob0_edits.specs.Removed.{without_words}
-use Rattle.ob0_edits.specs.Replaced.{AreNames}
-use Rattle.ob0_edits.specs.Words.{word_lexeme}
-use Rattle.ob0_scope_rules.specs.Elsewhere.{names_elsewhere}
-use Rattle.ob0_scope_rules.specs.Inlining.{all_bound_to, inlined_everywhere, module_without}
-use Rattle.ob0_scope_rules.specs.Names.{Name, declared}
-use Rattle.ob0_scope_rules.specs.Parts.{module_block}
-use Rattle.ob0_scope_rules.specs.Resolution.{IsResolution, Resolution, ordinal_in}
-use Rattle.ob0_scope_rules.specs.Scopes.{numbered, same_ordinal}
-use Rattle.ob0_scope_rules.proofs.Bound.{bound_at}
-use Rattle.ob0_types_rules.specs.ConstantValues.{value_of_constant}
-use Rattle.ob0_values.specs.Values.{Value}
+use Rattle.ob0_edits_tokens.specs.Changed.{at_each, changed_words, is_among, words_of}
+use Rattle.ob0_edits_tokens.specs.Inlined.{inlined}
+use Rattle.ob0_edits_tokens.specs.OfTrees.{factor_at, number_at, numbered_tokens, text_of_word}
+use Rattle.ob0_edits_tokens.specs.Removed.{without_words}
+use Rattle.ob0_edits_tokens.specs.Replaced.{AreNames}
+use Rattle.ob0_edits_tokens.specs.Words.{word_lexeme}
+use Rattle.ob0_language_names.specs.Elsewhere.{names_elsewhere}
+use Rattle.ob0_language_names.specs.Inlining.{all_bound_to, inlined_everywhere, module_without}
+use Rattle.ob0_language_names.specs.Names.{Name, declared}
+use Rattle.ob0_language_names.specs.Parts.{module_block}
+use Rattle.ob0_scope_table.specs.Resolution.{IsResolution, Resolution, ordinal_in}
+use Rattle.ob0_language_names.specs.Scopes.{numbered, same_ordinal}
+use Rattle.ob0_scope_table.proofs.Bound.{bound_at}
+use Rattle.ob0_language_types.specs.ConstantValues.{value_of_constant}
+use Rattle.ob0_language_values.specs.Values.{Value}
 use Rattle.ob0_inline.proofs.UsesFollow.{late_of, uses_following}
 use Rattle.ob0_inline.proofs.Late.{Late}
 use Rattle.ob0_inline.proofs.TakenOut.{block_declares, gone_module, gone_module_inlined, replaces_module}

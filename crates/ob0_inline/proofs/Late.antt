@@ -13,20 +13,20 @@ use Rattle.ob0_tree.specs.Order.{names_only}
 use Rattle.ob0_tree.specs.Tree.{Sort, Tree, factor, block, body, constant, constants, declares, declares_constant, declares_constants, declares_procedure, end, formals, has_body, identifiers, is_module, item, items, maybe, module_text, more, none, occurrences, one, procedure, spell, type_names, variables}
 use Rattle.ob0_tree.proofs.Leaves.{leaves_spelled, lexeme_names, lexeme_names-append}
 use Rattle.ob0_tree.proofs.Occurring.{looked_up_only, looked_up-occurrences}
-use Rattle.ob0_edits.specs.Changed.{is_among}
-use Rattle.ob0_edits.specs.Inlined.{inlined}
-use Rattle.ob0_scope_rules.specs.Names.{Name, as_names}
-use Rattle.ob0_scope_rules.specs.Parts.{constant_names, formal_names, formal_sections, module_block, named_types, procedure_name, section_constants, section_types, section_variables, variable_names}
-use Rattle.ob0_scope_rules.specs.Scopes.{Scope, after_names, after_procedure, body_scope, declare_names, first_procedure, first_type, first_variable, predeclared_scope, procedures_scope, relabel_block, relabel_constant_section, relabel_constants, relabel_formals, relabel_procedure, relabel_procedures, relabel_type_section, relabel_uses, relabel_variable_section, relabelled, types_scope, variables_scope}
-use Rattle.ob0_scope_rules.proofs.OccurrenceNames.{as_many-constant_section, as_many-formals, as_many-procedure, as_many-type_section, as_many-uses, as_many-variable_section}
-use Rattle.ob0_scope_rules.proofs.Ordinals.{le-after_names, le-after_procedure}
-use Rattle.ob0_types_rules.specs.ConstantValues.{Known, no_constant, predeclared_known, value_among, value_in_block, value_in_procedure, value_in_procedures, value_of_constant}
-use Rattle.ob0_types_rules.specs.Declarations.{declare_constants}
-use Rattle.ob0_types_rules.specs.Environments.{meanings}
-use Rattle.ob0_types_rules.specs.Expressions.{a_constant}
-use Rattle.ob0_types_rules.specs.Typing.{constant_value}
-use Rattle.ob0_types_rules.specs.WellTyped.{bind_names}
-use Rattle.ob0_values.specs.Values.{Value}
+use Rattle.ob0_edits_tokens.specs.Changed.{is_among}
+use Rattle.ob0_edits_tokens.specs.Inlined.{inlined}
+use Rattle.ob0_language_names.specs.Names.{Name, as_names}
+use Rattle.ob0_language_names.specs.Parts.{constant_names, formal_names, formal_sections, module_block, named_types, procedure_name, section_constants, section_types, section_variables, variable_names}
+use Rattle.ob0_language_names.specs.Scopes.{Scope, after_names, after_procedure, body_scope, declare_names, first_procedure, first_type, first_variable, predeclared_scope, procedures_scope, relabel_block, relabel_constant_section, relabel_constants, relabel_formals, relabel_procedure, relabel_procedures, relabel_type_section, relabel_uses, relabel_variable_section, relabelled, types_scope, variables_scope}
+use Rattle.ob0_language_names.proofs.OccurrenceNames.{as_many-constant_section, as_many-formals, as_many-procedure, as_many-type_section, as_many-uses, as_many-variable_section}
+use Rattle.ob0_language_names.proofs.Ordinals.{le-after_names, le-after_procedure}
+use Rattle.ob0_language_types.specs.ConstantValues.{Known, no_constant, predeclared_known, value_among, value_in_block, value_in_procedure, value_in_procedures, value_of_constant}
+use Rattle.ob0_language_types.specs.Declarations.{declare_constants}
+use Rattle.ob0_language_types.specs.Environments.{meanings}
+use Rattle.ob0_language_types.specs.Expressions.{a_constant}
+use Rattle.ob0_language_types.specs.Typing.{constant_value}
+use Rattle.ob0_language_types.specs.WellTyped.{bind_names}
+use Rattle.ob0_language_values.specs.Values.{Value}
 use Rattle.ob0_inline.proofs.Earlier.{AllLow, ScopeLow, constant_section_low, declared_low, forget, formals_low, low_append, procedure_low, raised, scope_raised, type_section_low, uses_low, variable_section_low}
 use Rattle.ob0_inline.proofs.TakenOut.{Taken, among_others, block_declares, expression_no_end, first_procedure_count, first_type_count, formals_count, get_first, get_later, gone_block, gone_constants, gone_here, gone_module, gone_procedure, gone_procedures, gone_section, high_procedure, high_section, low_procedures, names_counted, procedure_count, procedure_counted, procedure_declares, procedures_declare, put_before, put_following}
 

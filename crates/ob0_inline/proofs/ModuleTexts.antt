@@ -9,14 +9,14 @@ use Rattle.ob0_tree.specs.Lexeme.{EndOfText}
 use Rattle.ob0_tree.specs.Parsed.{Parsed, IsParsed, tree_of}
 use Rattle.ob0_tree.specs.Places.{lexeme_of, lexemes_from}
 use Rattle.ob0_tree.specs.Tree.{Tree, module_text, nesting, spell}
-use Rattle.ob0_edits.specs.Changed.{words_of, changed_words, at_each}
-use Rattle.ob0_edits.specs.OfTrees.{numbered_tokens}
-use Rattle.ob0_edits.specs.Replaced.{AreNames, LeavesWords}
-use Rattle.ob0_edits.specs.Words.{word_lexeme}
-use Rattle.ob0_edits.proofs.Factors.{number_spelled, truth_spelled}
-use Rattle.ob0_edits.proofs.OfTrees.{inlined_words_spell}
-use Rattle.ob0_values.specs.declared.scalar.Scalar.{Scalar}
-use Rattle.ob0_values.specs.declared.scalar.Scalar.TheVariants as scalar
+use Rattle.ob0_edits_tokens.specs.Changed.{words_of, changed_words, at_each}
+use Rattle.ob0_edits_tokens.specs.OfTrees.{numbered_tokens}
+use Rattle.ob0_edits_tokens.specs.Replaced.{AreNames, LeavesWords}
+use Rattle.ob0_edits_tokens.specs.Words.{word_lexeme}
+use Rattle.ob0_edits_tokens.proofs.Factors.{number_spelled, truth_spelled}
+use Rattle.ob0_edits_tokens.proofs.OfTrees.{inlined_words_spell}
+use Rattle.ob0_language_values.specs.declared.scalar.Scalar.{Scalar}
+use Rattle.ob0_language_values.specs.declared.scalar.Scalar.TheVariants as scalar
 use Rattle.ob0_inline.specs.Inlined.{LeavesModule, AreAlone, inlined_at}
 use Rattle.ob0_inline.specs.Values.{value_factor, value_words}
 use Rattle.ob0_inline.proofs.Depths.{lexemes_of_words}

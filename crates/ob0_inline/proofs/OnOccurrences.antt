@@ -2,11 +2,11 @@
 use Rattle.std.proofs.Common.{◌≡◌, ℕ, suc, ◌+◌, Bool, true, false, if◌then◌else◌, Option, Some, None, List, [], ◌∷◌, ◌++◌, length, refl, sym, ap, ◌∙◌, subst, arith, slice_get, add-zero}
 use Rattle.ob0_tree.specs.Tree.{Sort, Tree, factor, further_name, items, mapped, names, occurrences, adds, array_type, assigns, begins, branches, calls, compares, declares, declares_constant, declares_constants, declares_procedure, declares_type, declares_types, declares_variable, declares_variables, designator, else_branch, elsif_branch, empty, end, field, has_body, index, integer, is_module, listed, more, multiplies, named_type, negation, no_arguments, no_fields, no_formals, none, one, parenthesised, product, record_type, relates, repeat_loop, runs, some_arguments, some_fields, some_formals, sum, then_argument, then_fields, then_name, then_section, then_statement, value_section, variable_section, while_loop}
 use Rattle.ob0_tree.proofs.Occurring.{occurrences-further}
-use Rattle.ob0_edits.specs.Inlined.{inlined, or_name}
-use Rattle.ob0_scope_rules.specs.Inlining.{Uses, inline_in}
-use Rattle.ob0_scope_rules.specs.Names.{Name}
-use Rattle.ob0_scope_rules.proofs.OccurrenceNames.{length-map}
-use Rattle.ob0_scope_rules.proofs.OccurrencesMapped.{occurrences-mapped}
+use Rattle.ob0_edits_tokens.specs.Inlined.{inlined, or_name}
+use Rattle.ob0_language_names.specs.Inlining.{Uses, inline_in}
+use Rattle.ob0_language_names.specs.Names.{Name}
+use Rattle.ob0_language_names.proofs.OccurrenceNames.{length-map}
+use Rattle.ob0_language_names.proofs.OccurrencesMapped.{occurrences-mapped}
 
 -- the factor replaces the tokens of the used occurrences, of which the first has the number k, and for no other
 abbrev pub Agrees : (ℕ → Option (Tree Name factor)) → Uses → Tree Name factor → ℕ → List ℕ → Type 0

@@ -2,16 +2,16 @@
 use Rattle.std.proofs.Common.{ℕ, suc, ◌+◌, ◌≤◌, ◌==◌, Bool, true, false, List, if◌then◌else◌, subst, arith}
 use Rattle.ob0_tree.specs.Parsed.{Parsed, tree_of}
 use Rattle.ob0_tree.specs.Tree.{Tree, block, constant, constants, declares, declares_constants, declares_procedure, end, has_body, is_module, item, items, maybe, module_text, more, nesting, none, one, procedure}
-use Rattle.ob0_edits.specs.Changed.{words_of}
-use Rattle.ob0_edits.specs.Factors.{truth_factor}
-use Rattle.ob0_edits.specs.OfTrees.{number_at, text_of_word}
-use Rattle.ob0_edits.proofs.Factors.{nesting_at, number_shallow}
-use Rattle.ob0_scope_rules.specs.Names.{Name}
-use Rattle.ob0_scope_rules.specs.Parts.{formal_names, formal_sections}
-use Rattle.ob0_scope_rules.specs.Resolution.{IsResolution, Resolution}
-use Rattle.ob0_scope_rules.specs.Scopes.{after_names, after_procedure, first_procedure}
-use Rattle.ob0_values.specs.declared.scalar.Scalar.{Scalar}
-use Rattle.ob0_values.specs.declared.scalar.Scalar.TheVariants as scalar
+use Rattle.ob0_edits_tokens.specs.Changed.{words_of}
+use Rattle.ob0_edits_tokens.specs.Factors.{truth_factor}
+use Rattle.ob0_edits_tokens.specs.OfTrees.{number_at, text_of_word}
+use Rattle.ob0_edits_tokens.proofs.Factors.{nesting_at, number_shallow}
+use Rattle.ob0_language_names.specs.Names.{Name}
+use Rattle.ob0_language_names.specs.Parts.{formal_names, formal_sections}
+use Rattle.ob0_scope_table.specs.Resolution.{IsResolution, Resolution}
+use Rattle.ob0_language_names.specs.Scopes.{after_names, after_procedure, first_procedure}
+use Rattle.ob0_language_values.specs.declared.scalar.Scalar.{Scalar}
+use Rattle.ob0_language_values.specs.declared.scalar.Scalar.TheVariants as scalar
 use Rattle.ob0_inline.specs.declared.constants.NamedConstant.{NamedConstant}
 use Rattle.ob0_inline.specs.Everywhere.{inlined_all}
 use Rattle.ob0_inline.specs.Inlined.{inlined_at}

@@ -15,16 +15,16 @@ use Rattle.ob0_tree.specs.declared.tree.Sign.TheVariants as sign
 use Rattle.ob0_tree.specs.Lexeme.{Terminal, Mark, add_mark, multiply_mark, relation_mark, sign_marks}
 use Rattle.ob0_tree.specs.Lexeme as lexeme
 use Rattle.ob0_tree.specs.Tree.{Sort, Tree, identifiers, addend, adds, compares, designator, expression, factor, field, index, integer, multiplier, multiplies, negation, parenthesised, product, relates, selector, simple, sum, term, block, constant, constants, declares, declares_constant, declares_constants, declares_procedure, declares_type, declares_types, declares_variable, declares_variables, end, formals, further_name, further_section, has_body, is_module, item, items, listed, maybe, module_text, more, names, no_formals, none, one, procedure, section, some_formals, spell, then_name, then_section, type_name, type_names, value_section, variable, variable_section, variables}
-use Rattle.ob0_edits.specs.Inlined.{ReplacesFactors, inlined}
-use Rattle.ob0_scope_rules.specs.Inlining.{block_without, module_without, procedure_without, procedures_without, section_without, without}
-use Rattle.ob0_scope_rules.specs.Names.{Name}
-use Rattle.ob0_scope_rules.specs.Parts.{constant_names, formal_names, formal_sections, further_names, named_types, names_listed, section_constants, section_names, section_types, section_variables, variable_names, procedure_name, module_block}
+use Rattle.ob0_edits_tokens.specs.Inlined.{ReplacesFactors, inlined}
+use Rattle.ob0_language_names.specs.Inlining.{block_without, module_without, procedure_without, procedures_without, section_without, without}
+use Rattle.ob0_language_names.specs.Names.{Name}
+use Rattle.ob0_language_names.specs.Parts.{constant_names, formal_names, formal_sections, further_names, named_types, names_listed, section_constants, section_names, section_types, section_variables, variable_names, procedure_name, module_block}
 use Rattle.ob0_tree.specs.declared.tree.Role.{Role}
 use Rattle.ob0_tree.specs.declared.tree.Role.TheVariants as role
-use Rattle.ob0_scope_rules.specs.Resolution.{declaring_only}
-use Rattle.ob0_scope_rules.proofs.Plain.{IsPlain, declares_nothing, declaring_only-append}
-use Rattle.ob0_scope_rules.specs.Scopes.{after_block, after_names, after_procedure, after_procedures, first_procedure, first_type}
-use Rattle.ob0_scope_rules.proofs.Ordinals.{after_names-append, le-after_names, le-after_procedure, le-after_procedures}
+use Rattle.ob0_scope_table.specs.Resolution.{declaring_only}
+use Rattle.ob0_scope_table.proofs.Plain.{IsPlain, declares_nothing, declaring_only-append}
+use Rattle.ob0_language_names.specs.Scopes.{after_block, after_names, after_procedure, after_procedures, first_procedure, first_type}
+use Rattle.ob0_language_names.proofs.Ordinals.{after_names-append, le-after_names, le-after_procedure, le-after_procedures}
 
 -- as the module without a declaration, over any names
 abbrev pub gone_constants : {N : Type 0} → ℕ → ℕ → Tree N (items constant) → Tree N (items constant)

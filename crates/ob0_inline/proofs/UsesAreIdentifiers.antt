@@ -12,15 +12,15 @@ use Rattle.ob0_tree.specs.Places as leaf
 use Rattle.ob0_tree.specs.Tree.{Tree, factor, identifiers, occurrences}
 use Rattle.ob0_tree.proofs.Leaves.{leaves_are_identifiers, leaves_ascend}
 use Rattle.ob0_tree.proofs.Occurring.{looked_up_only, looked_up-occurrences}
-use Rattle.ob0_edits.specs.Changed.{is_among, words_of}
-use Rattle.ob0_edits.specs.Inlined.{ReplacesFactors, inlined}
-use Rattle.ob0_edits.specs.OfTrees.{factor_at, number_at, text_of_word}
-use Rattle.ob0_edits.specs.Replaced.{AreNames}
-use Rattle.ob0_scope_rules.specs.Elsewhere.{names_elsewhere}
-use Rattle.ob0_scope_rules.specs.Inlining.{Uses, inline_in}
-use Rattle.ob0_scope_rules.specs.Names.{Label, Name, as_names, declared}
-use Rattle.ob0_scope_rules.specs.Resolution.{IsResolution, Resolution, label_at, ordinal_in}
-use Rattle.ob0_scope_rules.specs.Scopes.{as_label, numbered}
+use Rattle.ob0_edits_tokens.specs.Changed.{is_among, words_of}
+use Rattle.ob0_edits_tokens.specs.Inlined.{ReplacesFactors, inlined}
+use Rattle.ob0_edits_tokens.specs.OfTrees.{factor_at, number_at, text_of_word}
+use Rattle.ob0_edits_tokens.specs.Replaced.{AreNames}
+use Rattle.ob0_language_names.specs.Elsewhere.{names_elsewhere}
+use Rattle.ob0_language_names.specs.Inlining.{Uses, inline_in}
+use Rattle.ob0_language_names.specs.Names.{Label, Name, as_names, declared}
+use Rattle.ob0_scope_table.specs.Resolution.{IsResolution, Resolution, label_at, ordinal_in}
+use Rattle.ob0_language_names.specs.Scopes.{as_label, numbered}
 use Rattle.ob0_scope.proofs.SeenInPlaces.{AllMarked, occurrence_table, uses_reported}
 use Rattle.ob0_inline.proofs.Alone.{NoneFor, NoneOther, alone, elsewhere-mapped}
 use Rattle.ob0_inline.proofs.OnOccurrences.{agrees_each, same}

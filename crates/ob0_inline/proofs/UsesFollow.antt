@@ -11,19 +11,19 @@ use Rattle.ob0_tree.specs.Places as leaf
 use Rattle.ob0_tree.specs.Places.{lexeme_of}
 use Rattle.ob0_tree.specs.Tree.{Sort, Tree, integer, mapped, occurrences, spell}
 use Rattle.ob0_tree.proofs.Leaves.{lexeme_names}
-use Rattle.ob0_edits.specs.Changed.{is_among, words_of}
-use Rattle.ob0_edits.specs.Inlined.{inlined}
-use Rattle.ob0_edits.specs.OfTrees.{numbered_tokens}
-use Rattle.ob0_scope_rules.specs.Names.{Name, as_names}
-use Rattle.ob0_scope_rules.specs.Parts.{module_block}
-use Rattle.ob0_scope_rules.specs.Resolution.{IsResolution, Resolution, bound_at, ordinal_in, with_ordinal}
-use Rattle.ob0_scope_rules.specs.Scopes.{relabelled}
-use Rattle.ob0_scope_rules.proofs.EditedTrees.{UsesNone, inline-nothing}
+use Rattle.ob0_edits_tokens.specs.Changed.{is_among, words_of}
+use Rattle.ob0_edits_tokens.specs.Inlined.{inlined}
+use Rattle.ob0_edits_tokens.specs.OfTrees.{numbered_tokens}
+use Rattle.ob0_language_names.specs.Names.{Name, as_names}
+use Rattle.ob0_language_names.specs.Parts.{module_block}
+use Rattle.ob0_scope_table.specs.Resolution.{IsResolution, Resolution, bound_at, ordinal_in, with_ordinal}
+use Rattle.ob0_language_names.specs.Scopes.{relabelled}
+use Rattle.ob0_language_names.proofs.EditedTrees.{UsesNone, inline-nothing}
 use Rattle.ob0_scope.proofs.Fused.{mapped-mapped, relabelled-mapped}
-use Rattle.ob0_scope_rules.proofs.OccurrenceNames.{length-map}
-use Rattle.ob0_scope_rules.proofs.OccurrencesMapped.{occurrences-mapped}
-use Rattle.ob0_types_rules.specs.ConstantValues.{value_of_constant}
-use Rattle.ob0_values.specs.Values.{Value}
+use Rattle.ob0_language_names.proofs.OccurrenceNames.{length-map}
+use Rattle.ob0_language_names.proofs.OccurrencesMapped.{occurrences-mapped}
+use Rattle.ob0_language_types.specs.ConstantValues.{value_of_constant}
+use Rattle.ob0_language_values.specs.Values.{Value}
 use Rattle.ob0_inline.proofs.Earlier.{AllLow, IsLow, forget}
 use Rattle.ob0_inline.proofs.Late.{AllIn, Late, late_module, late_move}
 use Rattle.ob0_inline.proofs.OnOccurrences.{agrees_each, same}

@@ -3,7 +3,7 @@ use Rattle.std.proofs.Common.{◌≡◌, inl, inr, ℕ, zero, suc, ◌+◌, ◌<
 use Rattle.std.proofs.lemmas.Bool.{lt-leb, le-leb}
 use Rattle.std.proofs.lemmas.Grind.{flat_map-append}
 use Rattle.std.proofs.lemmas.List.{map-append}
-use Rattle.ob0_scope_rules.proofs.OccurrenceNames.{length-map}
+use Rattle.ob0_language_names.proofs.OccurrenceNames.{length-map}
 use Rattle.std.proofs.Math.Seq.{get_or-append_seam}
 use Rattle.std.specs.List.{flat_map}
 use Rattle.ob0_scan.specs.declared.lexeme.Symbol.TheVariants as symbol
@@ -15,15 +15,15 @@ use Rattle.ob0_tree.specs.Lexeme.{Terminal, Mark, kind_lexeme}
 use Rattle.ob0_tree.specs.Lexeme as lexeme
 use Rattle.ob0_tree.specs.Places.{lexeme_of, value_of}
 use Rattle.ob0_tree.specs.Tree.{Sort, Tree, factor, spell}
-use Rattle.ob0_edits.specs.Changed.{Changes, at_each, changed_words, is_among, or_itself, words_of}
-use Rattle.ob0_edits.specs.Inlined.{ReplacesFactors, inlined, or_named, spelled, token_with, inlined_tokens}
-use Rattle.ob0_edits.specs.OfTrees.{factor_at, number_at, numbered_tokens, text_of_word, word_at}
-use Rattle.ob0_edits.specs.Removed.{IsDeclaration, without_words}
-use Rattle.ob0_edits.specs.Replaced as place
-use Rattle.ob0_edits.specs.Replaced.{AreNames}
-use Rattle.ob0_edits.specs.Words.{word_lexeme}
-use Rattle.ob0_edits.proofs.Inlined.{spell_inlined}
-use Rattle.ob0_scope_rules.proofs.Peeling.{heads}
+use Rattle.ob0_edits_tokens.specs.Changed.{Changes, at_each, changed_words, is_among, or_itself, words_of}
+use Rattle.ob0_edits_tokens.specs.Inlined.{ReplacesFactors, inlined, or_named, spelled, token_with, inlined_tokens}
+use Rattle.ob0_edits_tokens.specs.OfTrees.{factor_at, number_at, numbered_tokens, text_of_word, word_at}
+use Rattle.ob0_edits_tokens.specs.Removed.{IsDeclaration, without_words}
+use Rattle.ob0_edits_tokens.specs.Replaced as place
+use Rattle.ob0_edits_tokens.specs.Replaced.{AreNames}
+use Rattle.ob0_edits_tokens.specs.Words.{word_lexeme}
+use Rattle.ob0_edits_tokens.proofs.Inlined.{spell_inlined}
+use Rattle.ob0_language_names.proofs.Peeling.{heads}
 use Rattle.ob0_inline.proofs.TakenOut.{Taken}
 
 -- words cut where their tokens are

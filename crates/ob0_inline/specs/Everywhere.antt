@@ -14,21 +14,21 @@ use Rattle.ob0_tree.specs.declared.tree.Role.TheVariants as role
 use Rattle.ob0_tree.specs.Module.{max_nesting}
 use Rattle.ob0_tree.specs.Parsed.{Parsed, named_tree_of, tree_of}
 use Rattle.ob0_tree.specs.Tree.{Tree, identifiers, module_text, nesting, occurrences}
-use Rattle.ob0_edits.specs.Ranges.{range_of}
-use Rattle.ob0_edits.specs.Removed.{span_over, without_text}
-use Rattle.ob0_edits.specs.Replaced.{edit_at, parts}
-use Rattle.ob0_scope_rules.specs.Elsewhere.{names_elsewhere}
-use Rattle.ob0_scope_rules.specs.Inlining.{inlined_everywhere}
-use Rattle.ob0_scope_rules.specs.Names.{Name, declared, same_label}
-use Rattle.ob0_scope_rules.specs.Occurrences.{bindings, binds}
-use Rattle.ob0_scope_rules.specs.Resolution.{declaring_only, token_declaring}
-use Rattle.ob0_scope_rules.specs.Scopes.{numbered, same_ordinal}
-use Rattle.ob0_values.specs.Scalars.{scalar_value}
+use Rattle.ob0_edits_tokens.specs.Ranges.{range_of}
+use Rattle.ob0_edits_tokens.specs.Removed.{span_over, without_text}
+use Rattle.ob0_edits_tokens.specs.Replaced.{edit_at, parts}
+use Rattle.ob0_language_names.specs.Elsewhere.{names_elsewhere}
+use Rattle.ob0_language_names.specs.Inlining.{inlined_everywhere}
+use Rattle.ob0_language_names.specs.Names.{Name, declared, same_label}
+use Rattle.ob0_language_names.specs.Occurrences.{bindings, binds}
+use Rattle.ob0_scope_table.specs.Resolution.{declaring_only, token_declaring}
+use Rattle.ob0_language_names.specs.Scopes.{numbered, same_ordinal}
+use Rattle.ob0_language_values.specs.Scalars.{scalar_value}
 use Rattle.ob0_scope.specs.declared.naming.Named as named
 use Rattle.ob0_scope.specs.NamesAtPlaces.{name_on}
-use Rattle.ob0_types_rules.specs.ConstantValues.{value_of_constant}
-use Rattle.ob0_types_rules.specs.WellTyped.{WellTyped}
-use Rattle.ob0_run_rules.specs.EditLaws.{SameRuns}
+use Rattle.ob0_language_types.specs.ConstantValues.{value_of_constant}
+use Rattle.ob0_language_types.specs.WellTyped.{WellTyped}
+use Rattle.ob0_language_runs.specs.EditLaws.{SameRuns}
 use Rattle.ob0_inline.specs.declared.constants.NamedConstant.{NamedConstant}
 use Rattle.ob0_inline.specs.Declarations.{is_inside, is_semicolon}
 use Rattle.ob0_inline.specs.Inlined.{LeavesModule}

@@ -10,10 +10,10 @@ use Rattle.ob0_text.specs.Units.{width_of}
 use Rattle.ob0_tree.specs.Module.{ModuleOf}
 use Rattle.ob0_tree.specs.Parsed.{Parsed, tree_of}
 use Rattle.ob0_tree.specs.Tree.{Tree, module_text}
-use Rattle.ob0_edits.specs.Changed.{words_of}
-use Rattle.ob0_edits.specs.Inlined.{ReplacesFactors, inlined}
-use Rattle.ob0_edits.specs.OfTrees.{factor_at, number_at, text_of_word}
-use Rattle.ob0_values.specs.declared.scalar.Scalar.{Scalar}
+use Rattle.ob0_edits_tokens.specs.Changed.{words_of}
+use Rattle.ob0_edits_tokens.specs.Inlined.{ReplacesFactors, inlined}
+use Rattle.ob0_edits_tokens.specs.OfTrees.{factor_at, number_at, text_of_word}
+use Rattle.ob0_language_values.specs.declared.scalar.Scalar.{Scalar}
 use Rattle.ob0_inline.specs.Values.{value_factor}
 
 -- the identifiers at these tokens are as whole factors

@@ -11,20 +11,20 @@ use Rattle.ob0_text.specs.declared.refusals.EditRefusal.TheVariants.{Memory, NoN
 use Rattle.ob0_tree.specs.Module.{max_nesting}
 use Rattle.ob0_tree.specs.Parsed.{Parsed, named_tree_of, tree_of}
 use Rattle.ob0_tree.specs.Tree.{Tree, module_text, nesting, occurrences}
-use Rattle.ob0_edits.specs.Replaced.{edit_at, parts, with_text_at}
-use Rattle.ob0_edits.specs.Written.{truth_text}
-use Rattle.ob0_scope_rules.specs.Inlining.{inlined, only}
-use Rattle.ob0_scope_rules.specs.Names.{Name}
-use Rattle.ob0_scope_rules.specs.Occurrences.{binds}
-use Rattle.ob0_scope_rules.specs.Scopes.{same_ordinal}
-use Rattle.ob0_scope_rules.specs.SeenNames.{sees}
-use Rattle.ob0_values.specs.declared.scalar.Scalar.{Scalar}
-use Rattle.ob0_values.specs.declared.scalar.Scalar.TheVariants as scalar
-use Rattle.ob0_values.specs.Scalars.{scalar_value}
+use Rattle.ob0_edits_tokens.specs.Replaced.{edit_at, parts, with_text_at}
+use Rattle.ob0_edits_tokens.specs.Written.{truth_text}
+use Rattle.ob0_language_names.specs.Inlining.{inlined, only}
+use Rattle.ob0_language_names.specs.Names.{Name}
+use Rattle.ob0_language_names.specs.Occurrences.{binds}
+use Rattle.ob0_language_names.specs.Scopes.{same_ordinal}
+use Rattle.ob0_language_names.specs.SeenNames.{sees}
+use Rattle.ob0_language_values.specs.declared.scalar.Scalar.{Scalar}
+use Rattle.ob0_language_values.specs.declared.scalar.Scalar.TheVariants as scalar
+use Rattle.ob0_language_values.specs.Scalars.{scalar_value}
 use Rattle.ob0_scope.specs.NamesAtPlaces.{name_on}
-use Rattle.ob0_types_rules.specs.ConstantValues.{value_of_constant}
-use Rattle.ob0_types_rules.specs.WellTyped.{WellTyped}
-use Rattle.ob0_run_rules.specs.EditLaws.{SameRuns}
+use Rattle.ob0_language_types.specs.ConstantValues.{value_of_constant}
+use Rattle.ob0_language_types.specs.WellTyped.{WellTyped}
+use Rattle.ob0_language_runs.specs.EditLaws.{SameRuns}
 use Rattle.ob0_inline.specs.declared.uses.Use.{Use}
 use Rattle.ob0_inline.specs.Inlined.{LeavesModule}
 use Rattle.ob0_inline.specs.Values.{value_factor, value_text}

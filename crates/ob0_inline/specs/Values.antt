@@ -3,10 +3,10 @@
 use Rattle.std.specs.Prelude.{ℕ, List}
 use Rattle.ob0_scan.specs.Scanned.{Word}
 use Rattle.ob0_tree.specs.Tree.{Tree, factor}
-use Rattle.ob0_values.specs.declared.scalar.Scalar.{Scalar}
-use Rattle.ob0_values.specs.declared.scalar.Scalar.TheVariants as scalar
-use Rattle.ob0_edits.specs.Written.{number_text, number_words, truth_text, truth_words}
-use Rattle.ob0_edits.specs.Factors.{number_factor, truth_factor}
+use Rattle.ob0_language_values.specs.declared.scalar.Scalar.{Scalar}
+use Rattle.ob0_language_values.specs.declared.scalar.Scalar.TheVariants as scalar
+use Rattle.ob0_edits_tokens.specs.Written.{number_text, number_words, truth_text, truth_words}
+use Rattle.ob0_edits_tokens.specs.Factors.{number_factor, truth_factor}
 
 -- the text that is written for a value
 abbrev pub value_text : Scalar → List ℕ

@@ -3,16 +3,16 @@
 ghost use Rattle.std.specs.Prelude.{◌≡◌, drop, IsSomeAnd, MatchOption, Some};
 ghost use Rattle.std.specs.List.{position_from};
 ghost use Rattle.ob0_tree.specs.Parsed.{named_tree_of};
-ghost use Rattle.ob0_types_rules.specs.ConstantValues.{value_of_constant};
-ghost use Rattle.ob0_values.specs.Scalars.{scalar_value};
+ghost use Rattle.ob0_language_types.specs.ConstantValues.{value_of_constant};
+ghost use Rattle.ob0_language_values.specs.Scalars.{scalar_value};
 ghost use Rattle.ob0_inline.specs.Declarations.{is_semicolon};
 ghost use Rattle.ob0_inline.specs.Everywhere.{IsConstant, IsConstantAt, NoConstantAt};
 
+use ob0_language_values::Scalar;
 use ob0_scan::{Symbol, Token, TokenKind};
 use ob0_scope::name_at;
-use ob0_scope_rules::Resolved;
+use ob0_scope_table::Resolved;
 use ob0_types::WellTyped;
-use ob0_values::Scalar;
 
 /// A constant of a CONST section: its ordinal and value, and the tokens of its declaration's name and `;`.
 #[derive(Clone, Copy)]

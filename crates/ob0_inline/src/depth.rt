@@ -1,8 +1,8 @@
 //! How deep a text is nested once it is edited.
 
 ghost use Rattle.std.specs.Prelude.{◌≡◌, ◌≤◌, ◌+◌, List, IfOk, IfErr, map, nat_le, nat_lt, ℕ};
-ghost use Rattle.ob0_edits.specs.Replaced.{LeavesWords};
-ghost use Rattle.ob0_edits.specs.Words.{word_lexeme};
+ghost use Rattle.ob0_edits_tokens.specs.Replaced.{LeavesWords};
+ghost use Rattle.ob0_edits_tokens.specs.Words.{word_lexeme};
 ghost use Rattle.ob0_scan.specs.Scanned.{IsScan, Scanned, Word};
 ghost use Rattle.ob0_text.specs.declared.refusals.EditRefusal.TheVariants.{Memory};
 ghost use Rattle.ob0_tree.specs.Module.{max_nesting, text_lexemes};

@@ -10,10 +10,10 @@ use crate::shadowing::is_predeclared_truth;
 use crate::uses::{Use, use_at};
 use crate::writing::edits_at;
 use crate::written::is_scalar;
-use ob0_run_rules::laws::inlining_keeps_modules;
+use ob0_language_runs::laws::inlining_keeps_modules;
+use ob0_language_types::laws::constants_are_alone;
 use ob0_text::{Edit, EditRefusal, Position, TextStore};
 use ob0_types::WellTyped;
-use ob0_types_rules::laws::constants_are_alone;
 use std::alloc::Global;
 
 /// The edit that writes a constant's value in place of the use of it that a place is on.

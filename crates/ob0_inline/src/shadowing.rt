@@ -3,16 +3,16 @@
 ghost use Rattle.std.specs.Prelude.{◌≡◌, IfOk, ◌==◌, ◌&&◌, not, length, option_and_then, slice_get};
 ghost use Rattle.std.specs.List.{list_any, range_with_len};
 ghost use Rattle.ob0_tree.specs.Parsed.{named_tree_of};
-ghost use Rattle.ob0_scope_rules.specs.Occurrences.{bindings, binds};
-ghost use Rattle.ob0_scope_rules.specs.Scopes.{same_ordinal};
-ghost use Rattle.ob0_scope_rules.specs.SeenNames.{sees};
+ghost use Rattle.ob0_language_names.specs.Occurrences.{bindings, binds};
+ghost use Rattle.ob0_language_names.specs.Scopes.{same_ordinal};
+ghost use Rattle.ob0_language_names.specs.SeenNames.{sees};
 ghost use Rattle.ob0_inline.specs.Everywhere.{any_hidden};
 ghost use Rattle.ob0_inline.specs.Uses.{is_predeclared_truth};
 
 use crate::constants::NamedConstant;
+use ob0_language_values::Scalar;
 use ob0_scope::ordinals_seen;
-use ob0_scope_rules::Resolved;
-use ob0_values::Scalar;
+use ob0_scope_table::Resolved;
 use std::alloc::{AllocError, Global};
 
 /// The ordinals of the predeclared TRUE and FALSE.

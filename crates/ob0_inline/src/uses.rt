@@ -4,10 +4,10 @@ ghost use Rattle.std.specs.Prelude.{◌≡◌, ◌==◌, MatchOption, Some};
 ghost use Rattle.std.specs.List.{position_from};
 ghost use Rattle.ob0_inline.specs.Uses.{IsUse, IsUseAt};
 
+use ob0_language_values::Scalar;
 use ob0_scope::name_at;
-use ob0_scope_rules::Resolved;
+use ob0_scope_table::Resolved;
 use ob0_types::WellTyped;
-use ob0_values::Scalar;
 
 /// A use of a constant: its token, its number among the occurrences of the text, the constant's ordinal, and its value.
 #[derive(Clone, Copy)]

@@ -6,16 +6,16 @@ ghost use Rattle.ob0_scan.specs.Scanned.{max_text};
 ghost use Rattle.ob0_text.specs.declared.refusals.EditRefusal.TheVariants.{Memory, TooDeep, TooLong};
 ghost use Rattle.ob0_tree.specs.Module.{max_nesting};
 ghost use Rattle.ob0_tree.specs.Tree.{nesting};
-ghost use Rattle.ob0_edits.specs.Replaced.{AreNames, edit_at, parts, with_text_at};
+ghost use Rattle.ob0_edits_tokens.specs.Replaced.{AreNames, edit_at, parts, with_text_at};
 ghost use Rattle.ob0_inline.specs.Inlined.{LeavesModule, AreAlone, inlined_at};
 ghost use Rattle.ob0_inline.specs.Values.{value_text};
 
 use crate::depth::is_too_deep;
 use crate::written::value_text;
-use ob0_edits::edits_for;
-use ob0_scope_rules::Resolved;
+use ob0_edits_tokens::edits_for;
+use ob0_language_values::Scalar;
+use ob0_scope_table::Resolved;
 use ob0_text::{Edit, EditRefusal, TextStore};
-use ob0_values::Scalar;
 use std::alloc::Global;
 
 /// One edit for each of some tokens, identifiers that are as whole factors, which writes the value in its place.

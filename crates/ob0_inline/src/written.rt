@@ -1,14 +1,14 @@
 //! How a value is written.
 
 ghost use Rattle.std.specs.Prelude.{◌≡◌, IfOk, IsTrue, string_bytes};
-ghost use Rattle.ob0_edits.specs.Replaced.{ReplacesName};
-ghost use Rattle.ob0_edits.specs.Written.{number_text, number_words};
-ghost use Rattle.ob0_types_rules.specs.EditLaws.{IsScalar};
-ghost use Rattle.ob0_values.specs.Scalars.{scalar_value};
-ghost use Rattle.ob0_values.specs.Values.{fits};
+ghost use Rattle.ob0_edits_tokens.specs.Replaced.{ReplacesName};
+ghost use Rattle.ob0_edits_tokens.specs.Written.{number_text, number_words};
+ghost use Rattle.ob0_language_types.specs.EditLaws.{IsScalar};
+ghost use Rattle.ob0_language_values.specs.Scalars.{scalar_value};
+ghost use Rattle.ob0_language_values.specs.Values.{fits};
 ghost use Rattle.ob0_inline.specs.Values.{value_text, value_words};
 
-use ob0_values::Scalar;
+use ob0_language_values::Scalar;
 use std::alloc::{AllocError, Global};
 
 /// The text of a value: a negative number in parentheses, and the least number as a difference, since it has no digits

@@ -18,7 +18,7 @@ use Rattle.ob0_scan.proofs.Spans.{LexemesFrom, next_from}
 use Rattle.ob0_layout.specs.declared.sites.GapSite.{GapSite}
 use Rattle.ob0_layout.specs.declared.sites.NextLexeme.TheVariants as next
 use Rattle.ob0_layout.specs.declared.sites.Solid.{Solid}
-use Rattle.ob0_layout_roles.specs.declared.line_role.LineRole.{LineRole}
+use Rattle.ob0_layout.specs.declared.line_role.LineRole.{LineRole}
 use Rattle.ob0_layout.specs.Layout.{next_line, next_role, has_break, comment_role}
 use Rattle.std.specs.List.{All}
 use Rattle.std.proofs.lemmas.List.Elements.{All-nil, All-cons}

@@ -26,9 +26,9 @@ use Rattle.ob0_tree.specs.Lexeme.{kind_lexeme}
 use Rattle.ob0_tree.specs.Tree.{Sort, Tree, spell}
 use Rattle.ob0_layout.proofs.Named.{named_lexeme}
 use Rattle.ob0_layout.specs.declared.gap.Gap.TheVariants.{Nothing, Space}
-use Rattle.ob0_layout_roles.specs.declared.line_role.LineRole.{LineRole}
-use Rattle.ob0_layout_roles.specs.declared.line_role.LineRole.TheVariants.{Begins, Opening, Joining, Plain}
-use Rattle.ob0_layout_roles.specs.LineRoles.{line_roles}
+use Rattle.ob0_layout.specs.declared.line_role.LineRole.{LineRole}
+use Rattle.ob0_layout.specs.declared.line_role.LineRole.TheVariants.{Begins, Opening, Joining, Plain}
+use Rattle.ob0_layout.specs.LineRoles.{line_roles}
 use Rattle.ob0_layout.specs.Layout.{PlacedLexeme, placed, next_line, next_role, has_break, comment_role, is_comment, follows_directly, precedes_directly, indentation, gap, gap_between, gap_in_line, gap_text, spaced, laid_after, laid, laid_out}
 use Rattle.ob0_layout.proofs.Pairs.{Calm, calm_next, calm_paren, is_paren, is_star, calm_spelled}
 

@@ -12,3 +12,5 @@ pub mod TextCuts
 pub mod Patched
 pub mod White
 pub mod Written
+mod Walks
+pub mod Unnamed

@@ -17,7 +17,7 @@ use Rattle.ob0_text.specs.declared.edits.Indent.TheVariants as indent_by
 use Rattle.ob0_text.specs.Patches.{Cut, pieced}
 use Rattle.ob0_layout.specs.declared.sites.GapSite.{GapSite}
 use Rattle.ob0_layout.specs.declared.sites.Solid.{Solid}
-use Rattle.ob0_layout_roles.specs.declared.line_role.LineRole.{LineRole}
+use Rattle.ob0_layout.specs.declared.line_role.LineRole.{LineRole}
 use Rattle.ob0_layout.specs.Layout.{PlacedLexeme, placed, next_line, next_role, has_break, comment_role, indentation, gap, gap_text, spaced, laid_after, laid}
 use Rattle.ob0_layout.specs.Sites.{sites, all_sites, is_changed, changed_sites, laid_len, LiesIn}
 use Rattle.ob0_layout.proofs.Ahead.{all_lie}

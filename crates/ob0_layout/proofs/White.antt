@@ -15,7 +15,7 @@ use Rattle.ob0_text.specs.declared.edits.Indent.TheVariants as indent_by
 use Rattle.ob0_layout.specs.declared.gap.Gap.{Gap}
 use Rattle.ob0_layout.specs.declared.gap.Gap.TheVariants.{Nothing, Space, Line}
 use Rattle.ob0_layout.specs.declared.sites.Solid.{Solid}
-use Rattle.ob0_layout_roles.specs.declared.line_role.LineRole.{LineRole}
+use Rattle.ob0_layout.specs.declared.line_role.LineRole.{LineRole}
 use Rattle.ob0_layout.specs.Layout.{next_line, has_break, indentation, gap_text}
 use Rattle.ob0_layout.specs.Sites.{IsWhite, all_sites, last_gap, sites}
 use Rattle.ob0_layout.proofs.Pieced.{none_taken, two_parts}

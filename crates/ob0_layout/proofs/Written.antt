@@ -11,7 +11,7 @@ use Rattle.ob0_text.specs.declared.edits.Indent.TheVariants as indent_by
 use Rattle.ob0_layout.specs.Cuts.{all_are}
 use Rattle.ob0_layout.specs.Layout.{indentation}
 use Rattle.ob0_layout.specs.Sites.{LiesIn, changed_sites, is_changed}
-use Rattle.ob0_layout_roles.specs.declared.line_role.LineRole.{LineRole}
+use Rattle.ob0_layout.specs.declared.line_role.LineRole.{LineRole}
 use Rattle.ob0_layout.specs.declared.sites.GapSite.{GapSite}
 use Rattle.ob0_layout.specs.declared.sites.Solid.{Solid}
 use Rattle.ob0_layout.proofs.Ahead.{Sited}

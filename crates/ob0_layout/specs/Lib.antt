@@ -1,3 +1,4 @@
 pub mod Layout
 pub mod Sites
 pub mod Cuts
+pub mod LineRoles

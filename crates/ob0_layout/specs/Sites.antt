@@ -18,7 +18,7 @@ use Rattle.ob0_layout.specs.declared.sites.GapSite.{GapSite}
 use Rattle.ob0_layout.specs.declared.sites.NextLexeme.{NextLexeme}
 use Rattle.ob0_layout.specs.declared.sites.NextLexeme.TheVariants as next
 use Rattle.ob0_layout.specs.declared.sites.Solid.{Solid}
-use Rattle.ob0_layout_roles.specs.declared.line_role.LineRole.{LineRole}
+use Rattle.ob0_layout.specs.declared.line_role.LineRole.{LineRole}
 use Rattle.ob0_layout.specs.Layout.{next_line, next_role, has_break, comment_role, gap_between, gap_text}
 
 -- the gap before a token or comment: nothing at the text's start

@@ -9,11 +9,11 @@ ghost use Rattle.ob0_text.specs.Units.{width_of};
 ghost use Rattle.ob0_text.specs.declared.refusals.EditRefusal.TheVariants.{TooLong, Memory};
 ghost use Rattle.ob0_tree.specs.Parsed.{named_tree_of};
 ghost use Rattle.ob0_layout.specs.Layout.{layout};
-ghost use Rattle.ob0_layout_roles.specs.LineRoles.{line_roles};
+ghost use Rattle.ob0_layout.specs.LineRoles.{line_roles};
 ghost use Rattle.ob0_layout.specs.Sites.{all_sites, changed_sites, edit_text, edit_of, LiesIn, laid_len};
 
 use crate::sites::{GapSite, changed_sites};
-use ob0_layout_roles::line_roles;
+use crate::walk::line_roles;
 use ob0_scan::MAX_TEXT;
 use ob0_text::{Edit, EditRefusal, Indent, Range, TextStore};
 use ob0_tree::Module;

@@ -13,7 +13,7 @@ ghost use Rattle.ob0_layout.specs.Cuts.{text_with_gaps};
 ghost use Rattle.ob0_layout.specs.declared.gap.Gap.{Gap};
 ghost use Rattle.ob0_layout.specs.Layout.{gap_text, solid, laid_out, layout};
 ghost use Rattle.ob0_layout.specs.Sites.{IsWhite, all_sites, changed_sites, laid_len};
-ghost use Rattle.ob0_layout_roles.specs.LineRoles.{line_roles};
+ghost use Rattle.ob0_layout.specs.LineRoles.{line_roles};
 
 /// The layout of a module's text is cut into the lexemes that are laid out, and its tokens and comments are those of
 /// the text.

@@ -5,8 +5,8 @@ ghost use Rattle.ob0_scan.specs.Scanned.{IsScan};
 ghost use Rattle.ob0_layout.specs.Layout.{next_line, next_role, comment_role, has_break};
 ghost use Rattle.ob0_layout.specs.Sites.{all_sites, changed_sites, is_changed, next_of, gap_before, last_gap, LiesIn};
 
+use crate::LineRole;
 use crate::gap::{Gap, gap_between};
-use ob0_layout_roles::LineRole;
 use ob0_scan::{LexemeKind, Span, Token, Tokens};
 use ob0_text::Indent;
 use std::alloc::{AllocError, Global};

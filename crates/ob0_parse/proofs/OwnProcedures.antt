@@ -5,13 +5,13 @@ use Rattle.ob0_tree.specs.declared.tree.Procedure.{Procedure}
 use Rattle.ob0_tree.specs.Module.{max_nesting}
 use Rattle.ob0_tree.specs.View.{procedure_of}
 use Rattle.ob0_parse_descent.specs.Reading.{Taken}
-use Rattle.ob0_parse_kept.specs.KeptTokens.{AreKept, Each, IsMade, IsTakenAt}
+use Rattle.ob0_parse.specs.KeptTokens.{AreKept, Each, IsMade, IsTakenAt}
 use Rattle.ob0_parse.specs.StayKept.{StayKept, StayRefused}
-use Rattle.ob0_parse_kept.specs.declared.kept.Kept.{Kept}
+use Rattle.ob0_parse.specs.declared.kept.Kept.{Kept}
 use Rattle.ob0_parse_descent.specs.declared.refusal.ParseRefusal.{ParseRefusal}
 use Rattle.ob0_parse_descent.specs.declared.refusal.ParseRefusal.TheVariants.{Syntax, TooDeep, Memory}
 use Rattle.ob0_parse.proofs.TakenOver.{taken_kept, taken_is_there}
-use Rattle.ob0_parse_kept.proofs.Carried.{each_joined}
+use Rattle.ob0_parse.proofs.Carried.{each_joined}
 
 stays_refused : {ts : List Token} {k : Kept} → AreKept ts k → (e : ParseRefusal) → StayRefused ts k e
 stays_refused h (Syntax i expected) = h

@@ -10,8 +10,8 @@ use Rattle.ob0_parse_descent.specs.Descent.{node, Descends}
 use Rattle.ob0_parse_descent.specs.Reading.{rest, Taken}
 use Rattle.ob0_parse_descent.proofs.Finished.{finishes}
 use Rattle.ob0_parse_descent.proofs.Leads.{only_zero, stops_zero}
-use Rattle.ob0_parse_kept.specs.KeptTokens.{lexemes_by, first_of, end_of, IsThere}
-use Rattle.ob0_parse_kept.proofs.Keeping.{count_lexemes, pieces_of_rest, kept_there}
+use Rattle.ob0_parse.specs.KeptTokens.{lexemes_by, first_of, end_of, IsThere}
+use Rattle.ob0_parse.proofs.Keeping.{count_lexemes, pieces_of_rest, kept_there}
 
 count_rest : (ts : List Token) (at : ℕ) → at ≤ length ts → at + length (rest ts at) ≡ length ts + 1
 unfolding rest

@@ -4,8 +4,8 @@ use Rattle.std.specs.Prelude.{List, Result, Ok, Err}
 use Rattle.ob0_scan.specs.declared.lexeme.Token.{Token}
 use Rattle.ob0_parse_descent.specs.declared.refusal.ParseRefusal.{ParseRefusal}
 use Rattle.ob0_parse_descent.specs.declared.refusal.ParseRefusal.TheVariants.{Syntax, TooDeep, Memory}
-use Rattle.ob0_parse_kept.specs.KeptTokens.{AreKept}
-use Rattle.ob0_parse_kept.specs.declared.kept.Kept.{Kept}
+use Rattle.ob0_parse.specs.KeptTokens.{AreKept}
+use Rattle.ob0_parse.specs.declared.kept.Kept.{Kept}
 
 -- after this refusal all procedures that are kept are there, unless memory ran out
 abbrev pub StayRefused : List Token → Kept → ParseRefusal → Type 0

@@ -4,12 +4,13 @@ ghost use Rattle.std.specs.Prelude.{◌≡◌, ◌≤◌, length};
 ghost use Rattle.ob0_tree.specs.View.{block_of, procedure_of};
 ghost use Rattle.ob0_tree.specs.Module.{max_nesting};
 ghost use Rattle.ob0_parse_descent.specs.Reading.{Reads, ReadsItem};
-ghost use Rattle.ob0_parse_kept.specs.KeptTokens.{AreKept, Each, IsWaiting};
+ghost use Rattle.ob0_parse.specs.KeptTokens.{AreKept, Each, IsWaiting};
 ghost use Rattle.ob0_parse.specs.OwnBlock.{own_block_of, ReadsModule, ReadsOwn};
 ghost use Rattle.ob0_parse.specs.StayKept.{StayKept};
 
+use crate::kept::kept_at;
+use crate::{Kept, KeptProcedure};
 use ob0_parse_descent::{Expected, ParseRefusal, Parsed, ParsedItem, Parser, add, missing};
-use ob0_parse_kept::{Kept, KeptProcedure, kept_at};
 use ob0_scan::{Reserved, Symbol};
 use ob0_tree::{Block, Constant, MAX_NESTING, Procedure, Statement, TypeDeclaration, Variables};
 use std::mem;

@@ -6,12 +6,12 @@ use Rattle.ob0_scan.specs.Scanned.{Scanned}
 use Rattle.ob0_scan.specs.declared.lexeme.Span.{Span}
 use Rattle.ob0_tree.specs.Parsed.{Parsed}
 use Rattle.ob0_tree.specs.Places.{text_at}
-use Rattle.ob0_scope_rules.specs.Resolution.{Resolution, span_at}
-use Rattle.ob0_scope_rules.specs.Spans.{is_on}
+use Rattle.ob0_scope_table.specs.Resolution.{Resolution, span_at}
+use Rattle.ob0_scope_table.specs.Spans.{is_on}
 use Rattle.ob0_scope.specs.NamesAtPlaces.{name_on}
 use Rattle.ob0_scope.specs.declared.naming.Named as named
 use Rattle.ob0_types.specs.RowsOfFields.{field_row_at, field_row_of}
-use Rattle.ob0_types_rules.proofs.Literals.{some_inverse}
+use Rattle.ob0_language_types.proofs.Literals.{some_inverse}
 use Rattle.ob0_types_fields.specs.FieldTypes.{TypedField, typed_field}
 use Rattle.ob0_types_fields.specs.Identifiers.{declaring_field, field_at, field_identifiers, field_on, field_tokens, is_field, tokens_among}
 use Rattle.ob0_types_fields.proofs.FieldsDeclared.{fields_declared-holds}

@@ -3,7 +3,7 @@ use Rattle.std.proofs.Common.{◌≡◌, List, [], ◌∷◌, length, refl, arit
 use Rattle.ob0_refs.specs.Hovers.{fields_count}
 use Rattle.ob0_types_table.specs.Tables.{fields_shape}
 use Rattle.ob0_types_table.specs.declared.known.Field.{Field}
-use Rattle.ob0_values.specs.Values.{Shape}
+use Rattle.ob0_language_values.specs.Values.{Shape}
 
 pub fields_counted : (shapes : List Shape) (fs : List Field) → length fs ≡ fields_count (fields_shape shapes fs)
 fields_counted shapes [] = refl

@@ -2,8 +2,8 @@
 use Rattle.std.proofs.Common.{◌≡◌, ℕ, ◌<◌, zero, suc, min, List, [], ◌∷◌, ◌++◌, length, drop, map, get_or, refl, ap, sym, ◌∙◌, arith, append_assoc, append-nil}
 use Rattle.ob0_refs.specs.Declarations.{parameter_hover, parameters_hover}
 use Rattle.ob0_refs.specs.Hovers.{HoverParameter}
-use Rattle.ob0_scope_rules.specs.Names.{Name}
-use Rattle.ob0_types_rules.specs.WellTyped.{Formal}
+use Rattle.ob0_language_names.specs.Names.{Name}
+use Rattle.ob0_language_types.specs.WellTyped.{Formal}
 
 -- those found so far and those that are left are all
 abbrev pub Gathered : {A B : Type 0} → (A → Name) → (B → Formal) → List A → List B → ℕ → List HoverParameter → Type 0

@@ -6,9 +6,9 @@ use Rattle.ob0_tree.specs.declared.tree.Role.TheVariants as role
 use Rattle.ob0_tree.specs.Parsed.{Parsed, tree_of}
 use Rattle.ob0_tree.specs.Places.{text_at}
 use Rattle.ob0_tree.specs.Tree.{Sort, Tree, block, declares, declares_procedure, end, formals, further_name, further_section, has_body, identifiers, is_module, item, items, listed, maybe, module_text, more, names, no_formals, none, one, procedure, section, some_formals, then_name, then_section, value_section, variable_section, written_type}
-use Rattle.ob0_scope_rules.specs.Parts.{formal_names, formal_sections, further_names, module_block, names_listed, section_names}
-use Rattle.ob0_scope_rules.specs.Resolution.{declaring_only}
-use Rattle.ob0_scope_rules.proofs.Plain.{declares_nothing, declaring_only-append}
+use Rattle.ob0_language_names.specs.Parts.{formal_names, formal_sections, further_names, module_block, names_listed, section_names}
+use Rattle.ob0_scope_table.specs.Resolution.{declaring_only}
+use Rattle.ob0_scope_table.proofs.Plain.{declares_nothing, declaring_only-append}
 use Rattle.ob0_refs.specs.HoverLaws.{HasParametersAfter, ParametersFollow, block_headings, headings, procedure_headings}
 
 -- ---- the identifiers of formal parameters

@@ -2,7 +2,7 @@
 -- Rule: docs/PROTOCOL.md, Requests on documents 3, 4.
 use Rattle.std.specs.Prelude.{ℕ, nat_lt, if◌then◌else◌}
 use Rattle.ob0_tree.specs.Parsed.{Parsed}
-use Rattle.ob0_scope_rules.specs.Resolution.{span_at}
+use Rattle.ob0_scope_table.specs.Resolution.{span_at}
 use Rattle.ob0_scope.specs.declared.naming.Named as named
 use Rattle.ob0_refs.specs.declared.answers.At as answer
 use Rattle.ob0_refs.specs.declared.answers.Of as of

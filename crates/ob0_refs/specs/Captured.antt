@@ -4,9 +4,9 @@ use Rattle.std.specs.Prelude.{ℕ, Option, Some, None, option_map, slice_get}
 use Rattle.ob0_scan.specs.declared.lexeme.Span.{Span}
 use Rattle.ob0_tree.specs.Parsed.{Parsed, named_tree_of, tree_of}
 use Rattle.ob0_tree.specs.Tree.{occurrences}
-use Rattle.ob0_scope_rules.specs.Names.{Name}
-use Rattle.ob0_scope_rules.specs.Occurrences.{Capture, at_declaration, at_occurrence, first_captured}
-use Rattle.ob0_scope_rules.specs.Resolution.{span_at}
+use Rattle.ob0_language_names.specs.Names.{Name}
+use Rattle.ob0_language_names.specs.Occurrences.{Capture, at_declaration, at_occurrence, first_captured}
+use Rattle.ob0_scope_table.specs.Resolution.{span_at}
 use Rattle.ob0_refs.specs.Places.{declaring_span}
 
 -- where an occurrence is, by its number

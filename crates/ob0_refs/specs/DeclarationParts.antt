@@ -5,9 +5,9 @@ use Rattle.ob0_types_table.specs.declared.known.Formal as formal
 use Rattle.ob0_types_table.specs.declared.known.Object as declaration
 use Rattle.ob0_types_table.specs.KnownTables.{Tables, shapes_of}
 use Rattle.ob0_types_table.specs.Tables.{formal_in, object_in}
-use Rattle.ob0_types_rules.specs.Expressions.{Object}
-use Rattle.ob0_types_rules.specs.WellTyped.{Signature}
-use Rattle.ob0_values.specs.Values.{Shape}
+use Rattle.ob0_language_types.specs.Expressions.{Object}
+use Rattle.ob0_language_types.specs.WellTyped.{Signature}
+use Rattle.ob0_language_values.specs.Values.{Shape}
 
 -- what a declaration of the table is
 abbrev pub object_of : Tables → declaration.Object → Option (Object Shape Signature)

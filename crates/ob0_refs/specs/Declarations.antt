@@ -5,14 +5,14 @@ use Rattle.ob0_tree.specs.declared.tree.Role.TheVariants as role
 use Rattle.ob0_tree.specs.Parsed.{Parsed, tree_of}
 use Rattle.ob0_tree.specs.Places.{text_at}
 use Rattle.ob0_tree.specs.Tree.{identifiers}
-use Rattle.ob0_scope_rules.specs.Names.{Name}
-use Rattle.ob0_scope_rules.specs.Resolution.{declaring_only}
+use Rattle.ob0_language_names.specs.Names.{Name}
+use Rattle.ob0_scope_table.specs.Resolution.{declaring_only}
 use Rattle.ob0_scope.specs.declared.naming.Named as named
 use Rattle.ob0_refs.specs.Hovers.{HoverParameter, constant_text, named_type_text, predeclared_text, procedure_text, type_text, variable_text}
-use Rattle.ob0_types_rules.specs.Expressions.{Object, a_constant, a_procedure, a_standard, a_type, a_variable}
-use Rattle.ob0_types_rules.specs.WellTyped.{Formal, Mode, Signature, by_place, by_value}
-use Rattle.ob0_values.specs.Values.{Shape, Value, elements, members, number, truth}
-use Rattle.ob0_values.specs.declared.scalar.Scalar.TheVariants as scalar
+use Rattle.ob0_language_types.specs.Expressions.{Object, a_constant, a_procedure, a_standard, a_type, a_variable}
+use Rattle.ob0_language_types.specs.WellTyped.{Formal, Mode, Signature, by_place, by_value}
+use Rattle.ob0_language_values.specs.Values.{Shape, Value, elements, members, number, truth}
+use Rattle.ob0_language_values.specs.declared.scalar.Scalar.TheVariants as scalar
 
 -- a constant is a number or a truth
 abbrev pub constant_hover : Name → Value → Option (List ℕ)

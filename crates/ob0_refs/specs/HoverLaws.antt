@@ -6,8 +6,8 @@ use Rattle.ob0_tree.specs.declared.tree.Role.TheVariants as role
 use Rattle.ob0_tree.specs.Parsed.{Parsed, tree_of}
 use Rattle.ob0_tree.specs.Places.{text_at}
 use Rattle.ob0_tree.specs.Tree.{Tree, block, declares, declares_procedure, end, has_body, identifiers, item, items, more, procedure}
-use Rattle.ob0_scope_rules.specs.Parts.{formal_names, formal_sections, module_block}
-use Rattle.ob0_scope_rules.specs.Resolution.{declaring_only, token_declaring}
+use Rattle.ob0_language_names.specs.Parts.{formal_names, formal_sections, module_block}
+use Rattle.ob0_scope_table.specs.Resolution.{declaring_only, token_declaring}
 use Rattle.ob0_refs.specs.Declarations.{names_after}
 
 -- the headings of procedures in text order: each name with the names of the formal parameters

@@ -4,7 +4,7 @@ use Rattle.std.specs.Prelude.{◌≡◌, ℕ, true, Some, None, map, is_some}
 use Rattle.std.specs.List.{Contains}
 use Rattle.ob0_scan.specs.declared.lexeme.Span.{Span}
 use Rattle.ob0_tree.specs.Places.{text_at}
-use Rattle.ob0_scope_rules.specs.Resolution.{Resolution, span_at}
+use Rattle.ob0_scope_table.specs.Resolution.{Resolution, span_at}
 use Rattle.ob0_scope.specs.NamesAtPlaces.{name_on}
 use Rattle.ob0_types_fields.specs.Identifiers.{field_at, field_tokens}
 use Rattle.ob0_types.specs.CheckedModules.{IsWellTyped}

@@ -5,7 +5,7 @@ use Rattle.ob0_scan.specs.declared.lexeme.Span.{Span}
 use Rattle.ob0_tree.specs.Parsed.{Parsed, tree_of}
 use Rattle.ob0_tree.specs.Tree.{identifiers}
 use Rattle.ob0_tree.specs.declared.tree.Role.TheVariants as role
-use Rattle.ob0_scope_rules.specs.Resolution.{declaring_only, span_at, token_declaring}
+use Rattle.ob0_scope_table.specs.Resolution.{declaring_only, span_at, token_declaring}
 use Rattle.ob0_scope.specs.NamesAtPlaces.{tokens_bound}
 
 -- where the identifier is that declares what has an ordinal; nowhere for a predeclared name

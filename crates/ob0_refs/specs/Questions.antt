@@ -5,7 +5,7 @@ use Rattle.std.specs.List.{filter}
 use Rattle.ob0_scan.specs.declared.lexeme.Span.{Span}
 use Rattle.ob0_tree.specs.Parsed.{Parsed}
 use Rattle.ob0_tree.specs.Places.{text_at}
-use Rattle.ob0_scope_rules.specs.Resolution.{Resolution, span_at}
+use Rattle.ob0_scope_table.specs.Resolution.{Resolution, span_at}
 use Rattle.ob0_scope.specs.NamesAtPlaces.{name_on}
 use Rattle.ob0_scope.specs.declared.naming.Named as named
 use Rattle.ob0_types_fields.specs.Identifiers.{declaring_field, field_at, field_place, field_tokens}

@@ -3,10 +3,10 @@
 use Rattle.std.specs.Prelude.{ℕ, List, Option, option_map, option_and_then}
 use Rattle.ob0_scan.specs.declared.lexeme.Span.{Span}
 use Rattle.ob0_tree.specs.Parsed.{Parsed, named_tree_of}
-use Rattle.ob0_scope_rules.specs.Resolution.{span_at}
+use Rattle.ob0_scope_table.specs.Resolution.{span_at}
 use Rattle.ob0_scope.specs.NamesAtPlaces.{name_on}
 use Rattle.ob0_scope.specs.declared.naming.Named as named
-use Rattle.ob0_types_rules.specs.Bindings.{declared_object}
+use Rattle.ob0_language_types.specs.Bindings.{declared_object}
 use Rattle.ob0_refs.specs.Declarations.{name_hover}
 
 -- the hover text, and where the name is

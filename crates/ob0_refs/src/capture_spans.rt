@@ -7,7 +7,7 @@ ghost use Rattle.ob0_refs.specs.Captured.{capture_span, occurrence_span, or_star
 use crate::declaration_spans::declared_at;
 use ob0_scan::Span;
 use ob0_scope::FirstCapture;
-use ob0_scope_rules::{Resolved, token_span};
+use ob0_scope_table::{Resolved, token_span};
 
 /// Where it is that a capture is: at the identifier that declares the declaration, or at an occurrence.
 pub(crate) fn capture_span(names: &Resolved, declaration: usize, capture: FirstCapture) -> Span

@@ -2,14 +2,14 @@
 
 ghost use Rattle.std.specs.Prelude.{◌≡◌, ◌↔◌, None, IfOk, option_map};
 ghost use Rattle.ob0_tree.specs.Parsed.{named_tree_of};
-ghost use Rattle.ob0_scope_rules.specs.Occurrences.{Free};
+ghost use Rattle.ob0_language_names.specs.Occurrences.{Free};
 ghost use Rattle.ob0_refs.specs.Parts.{capture_at};
 ghost use Rattle.ob0_refs.specs.Captured.{captured_span};
 
 use crate::answers::Capture;
 use crate::capture_spans::capture_span;
 use ob0_scope::captures as first_capture;
-use ob0_scope_rules::Resolved;
+use ob0_scope_table::Resolved;
 use std::alloc::{AllocError, Global};
 
 /// Where another name for a declaration isn't free: the identifier that declares it, where another declaration of its

@@ -1,12 +1,12 @@
 //! Where a name is declared, and where it is named.
 
 ghost use Rattle.std.specs.Prelude.{◌≡◌, IfOk, map};
-ghost use Rattle.ob0_scope_rules.specs.Resolution.{span_at};
+ghost use Rattle.ob0_scope_table.specs.Resolution.{span_at};
 ghost use Rattle.ob0_refs.specs.Places.{declaring_span, references_to};
 
 use ob0_scan::{Span, Tokens};
 use ob0_scope::tokens_bound;
-use ob0_scope_rules::{Resolved, token_span};
+use ob0_scope_table::{Resolved, token_span};
 use std::alloc::{AllocError, Global};
 
 /// Where that is declared which has an ordinal. None for a predeclared name.

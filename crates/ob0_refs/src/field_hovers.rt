@@ -8,7 +8,7 @@ ghost use Rattle.ob0_types.specs.RowsOfFields.{row_in};
 use crate::answers::Hover;
 use crate::hovering::hover as hover_name;
 use crate::showing::field_line;
-use ob0_scope_rules::{Resolved, token_span};
+use ob0_scope_table::{Resolved, token_span};
 use ob0_tree::text_at;
 use ob0_types::{FieldRow, WellTyped, field_row_at};
 use std::alloc::{AllocError, Global};

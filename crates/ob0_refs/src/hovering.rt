@@ -7,7 +7,7 @@ ghost use Rattle.ob0_refs.specs.Shown.{name_hover_at, hover_of};
 use crate::answers::Hover;
 use crate::showing::name_text;
 use ob0_scope::{Named, name_at};
-use ob0_scope_rules::token_span;
+use ob0_scope_table::token_span;
 use ob0_types::WellTyped;
 use std::alloc::{AllocError, Global};
 

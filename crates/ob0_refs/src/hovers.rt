@@ -1,11 +1,11 @@
 //! The hover texts of names.
 
 ghost use Rattle.std.specs.Prelude.{◌≡◌, ◌++◌, ℕ, IfOk, OnOk, map, string_bytes};
-ghost use Rattle.ob0_values.specs.Values.{FieldShapes, Shape, array_shape, record_shape};
+ghost use Rattle.ob0_language_values.specs.Values.{FieldShapes, Shape, array_shape, record_shape};
 ghost use Rattle.ob0_refs.specs.Hovers.{by_text, constant_text, fields_count, named_type_text, parameter_text, parameters_text, predeclared_text, procedure_text, truth_text, type_text, variable_text};
 ghost use Rattle.ob0_refs.specs.Parameters.{parameter_in};
 
-use ob0_values::Scalar;
+use ob0_language_values::Scalar;
 use std::alloc::{AllocError, Global};
 
 /// A formal parameter, with the text of its type.

@@ -5,7 +5,7 @@ ghost use Rattle.ob0_refs.specs.Answered.{at_name, of_ordinal};
 
 use crate::answers::{At, Of};
 use ob0_scope::Named;
-use ob0_scope_rules::{PREDECLARED, Resolved, token_span};
+use ob0_scope_table::{PREDECLARED, Resolved, token_span};
 
 /// Where a name is, and what it is a name of.
 pub(crate) fn at_name(names: &Resolved, name: Named) -> At

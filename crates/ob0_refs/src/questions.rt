@@ -8,7 +8,7 @@ use crate::declaration_spans::{declared_at, references_to, spans_of};
 use crate::names::at_name;
 use ob0_scan::Span;
 use ob0_scope::name_at;
-use ob0_scope_rules::token_span;
+use ob0_scope_table::token_span;
 use ob0_tree::text_at;
 use ob0_types::{WellTyped, declaring_field, field_at, field_place, field_tokens};
 use std::alloc::{AllocError, Global};

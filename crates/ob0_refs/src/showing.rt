@@ -5,7 +5,7 @@ ghost use Rattle.ob0_tree.specs.Parsed.{tree_of};
 ghost use Rattle.ob0_tree.specs.Places.{text_at};
 ghost use Rattle.ob0_tree.specs.Tree.{identifiers};
 ghost use Rattle.ob0_tree.specs.declared.tree.Role.TheVariants as role;
-ghost use Rattle.ob0_scope_rules.specs.Resolution.{declaring_only};
+ghost use Rattle.ob0_scope_table.specs.Resolution.{declaring_only};
 ghost use Rattle.ob0_refs.specs.DeclarationParts.{object_of, signature_in};
 ghost use Rattle.ob0_refs.specs.Declarations.{declaration_hover, name_hover, names_after, parameter_hover, parameters_hover};
 ghost use Rattle.ob0_refs.specs.Hovers.{field_text, named_type_text, procedure_text, type_text, variable_text};
@@ -19,7 +19,7 @@ use crate::hovers::{
 use crate::typing::type_text;
 use ob0_scan::Tokens;
 use ob0_scope::Named;
-use ob0_scope_rules::{PREDECLARED, Resolved};
+use ob0_scope_table::{PREDECLARED, Resolved};
 use ob0_tree::text_at;
 use ob0_types_table::{Formal, Known, Object, TypeId};
 use std::alloc::{AllocError, Global};

@@ -4,7 +4,7 @@ ghost use Rattle.std.specs.Prelude.{◌≡◌, IfOk, string_bytes};
 ghost use Rattle.ob0_refs.specs.Hovers.{type_text};
 ghost use Rattle.ob0_types_table.specs.KnownTables.{shapes_of};
 ghost use Rattle.ob0_types_table.specs.Tables.{type_shape};
-ghost use Rattle.ob0_values.specs.Values.{array_shape};
+ghost use Rattle.ob0_language_values.specs.Values.{array_shape};
 
 use crate::hovers::{array_text, record_text};
 use ob0_types_table::{ArrayShape, Known, Parts, TypeId};

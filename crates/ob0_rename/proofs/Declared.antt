@@ -2,11 +2,11 @@
 use Rattle.std.proofs.Common.{◌≡◌, ℕ, suc, ◌+◌, List, [], ◌∷◌, ◌++◌, length, refl, sym, ap, ◌∙◌, arith, append-nil}
 use Rattle.ob0_tree.specs.declared.tree.Role.TheVariants as role
 use Rattle.ob0_tree.specs.Tree.{Tree, identifiers, block, constant, constants, declares, declares_constant, declares_constants, declares_procedure, declares_type, declares_types, declares_variable, declares_variables, end, formals, further_name, further_section, has_body, is_module, item, items, listed, maybe, module_text, more, names, no_formals, none, one, procedure, section, some_formals, then_name, then_section, type_name, type_names, value_section, variable, variable_section, variables, written_type}
-use Rattle.ob0_scope_rules.specs.Parts.{constant_names, formal_names, formal_sections, further_names, module_block, named_types, names_listed, section_constants, section_names, section_types, section_variables, variable_names}
-use Rattle.ob0_scope_rules.specs.Resolution.{declaring_only}
-use Rattle.ob0_scope_rules.specs.Scopes.{after_block, after_names, after_procedure, after_procedures}
-use Rattle.ob0_scope_rules.proofs.Ordinals.{after_names-append}
-use Rattle.ob0_scope_rules.proofs.Plain.{declares_nothing, declaring_only-append}
+use Rattle.ob0_language_names.specs.Parts.{constant_names, formal_names, formal_sections, further_names, module_block, named_types, names_listed, section_constants, section_names, section_types, section_variables, variable_names}
+use Rattle.ob0_scope_table.specs.Resolution.{declaring_only}
+use Rattle.ob0_language_names.specs.Scopes.{after_block, after_names, after_procedure, after_procedures}
+use Rattle.ob0_language_names.proofs.Ordinals.{after_names-append}
+use Rattle.ob0_scope_table.proofs.Plain.{declares_nothing, declaring_only-append}
 
 abbrev mutual
   pub names_in : {N : Type 0} → Tree N block → List N

@@ -13,16 +13,16 @@ use Rattle.ob0_text.specs.declared.refusals.EditRefusal.TheVariants as refusal
 use Rattle.ob0_tree.specs.Parsed.{named_tree_of, tree_of}
 use Rattle.ob0_tree.specs.Places as place
 use Rattle.ob0_tree.specs.Tree.{mapped}
-use Rattle.ob0_scope_rules.specs.Names.{Name, same_name}
-use Rattle.ob0_scope_rules.specs.Resolution.{Resolution}
+use Rattle.ob0_language_names.specs.Names.{Name, same_name}
+use Rattle.ob0_scope_table.specs.Resolution.{Resolution}
 use Rattle.ob0_analysis.specs.CheckedModules.{IsWellTyped}
-use Rattle.ob0_edits.specs.Changed.{is_among, words_of}
-use Rattle.ob0_edits.specs.OfTrees.{RenamedWordsSpell, number_at, renamed_at}
-use Rattle.ob0_edits.specs.Replaced.{AreNames, ReplacesName, with_text_at}
-use Rattle.ob0_edits.specs.Written.{name_word}
-use Rattle.ob0_rename_laws.specs.FieldLaws.{FreeFieldKeepsModules}
+use Rattle.ob0_edits_tokens.specs.Changed.{is_among, words_of}
+use Rattle.ob0_edits_tokens.specs.OfTrees.{RenamedWordsSpell, number_at, renamed_at}
+use Rattle.ob0_edits_tokens.specs.Replaced.{AreNames, ReplacesName, with_text_at}
+use Rattle.ob0_edits_tokens.specs.Written.{name_word}
+use Rattle.ob0_language_field_laws.specs.FieldLaws.{FreeFieldKeepsModules}
 use Rattle.ob0_types_fields.specs.Identifiers.{DuplicateByToken, RenamedAtTokens, declaring_field, field_identifiers, field_tokens, tokens_among}
-use Rattle.ob0_types_fields.specs.Renaming.{FieldFree, field_renamed}
+use Rattle.ob0_language_fields.specs.Renaming.{FieldFree, field_renamed}
 use Rattle.ob0_rename.specs.Answers.{RenameAnswers, AnswersForField, IsRefused, IsRefusedToField, OnlyMemory}
 use Rattle.ob0_rename.specs.Renaming.{MeansField, Renaming, field_tokens_to_rename, token_range}
 use Rattle.ob0_rename.proofs.Outcomes.{Edited, whole, written}

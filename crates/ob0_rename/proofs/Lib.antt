@@ -8,4 +8,3 @@ pub mod Occurring
 pub mod Spelled
 pub mod Outcomes
 pub mod FieldOutcomes
-pub mod InTexts

@@ -4,9 +4,9 @@ use Rattle.std.specs.Prelude.{IfOk}
 use Rattle.std.specs.declared.alloc.Global.{Global}
 use Rattle.ob0_scan.specs.declared.lexeme.Token.{Token}
 use Rattle.ob0_tree.specs.Order.{AreIdentifiers, Ascending}
-use Rattle.ob0_edits.specs.Changed as changed
-use Rattle.ob0_edits.specs.Replaced.{AreNames}
-use Rattle.ob0_edits.proofs.MadeWithout.{lower}
+use Rattle.ob0_edits_tokens.specs.Changed as changed
+use Rattle.ob0_edits_tokens.specs.Replaced.{AreNames}
+use Rattle.ob0_edits_tokens.proofs.MadeWithout.{lower}
 use Rattle.ob0_scope.specs.NamesAtPlaces as names_at
 
 pub are_names : (tokens : List Token) (low : ℕ) (places : List ℕ) (high : ℕ) → Ascending low places high → AreIdentifiers tokens places → AreNames tokens low places

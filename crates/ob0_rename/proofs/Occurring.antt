@@ -4,10 +4,10 @@ use Rattle.std.proofs.lemmas.List.{length-map}
 use Rattle.std.proofs.lemmas.Option.{slice_get-get_or}
 use Rattle.ob0_tree.specs.Parsed.{named_tree_of, tree_of}
 use Rattle.ob0_tree.specs.Tree.{occurrences}
-use Rattle.ob0_scope_rules.specs.Names.{Label}
-use Rattle.ob0_scope_rules.specs.Occurrences.{bindings, first_difference, same_binding}
-use Rattle.ob0_scope_rules.specs.Resolution.{IsResolution, Resolution, label_at}
-use Rattle.ob0_scope_rules.proofs.Bound.{bindings_by_table}
+use Rattle.ob0_language_names.specs.Names.{Label}
+use Rattle.ob0_language_names.specs.Occurrences.{bindings, first_difference, same_binding}
+use Rattle.ob0_scope_table.specs.Resolution.{IsResolution, Resolution, label_at}
+use Rattle.ob0_scope_table.proofs.Bound.{bindings_by_table}
 
 first_inside : (xs ys : List Label) (k : ℕ) → first_difference xs ys ≡ Some k → k < length ys
 first_inside [] ys k e = absurd (cc)

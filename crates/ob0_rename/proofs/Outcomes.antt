@@ -13,21 +13,21 @@ use Rattle.ob0_text.specs.declared.refusals.EditRefusal.{EditRefusal}
 use Rattle.ob0_text.specs.declared.refusals.EditRefusal.TheVariants as refusal
 use Rattle.ob0_tree.specs.Parsed.{Parsed, named_tree_of, tree_of}
 use Rattle.ob0_tree.specs.Tree.{Tree, module_text, occurrences}
-use Rattle.ob0_scope_rules.specs.DeclaredOnce.{declared_once}
-use Rattle.ob0_scope_rules.specs.Names.{Name}
-use Rattle.ob0_scope_rules.specs.Occurrences.{Free, at_declaration, at_occurrence, bindings, first_captured, first_difference, is_duplicate}
+use Rattle.ob0_language_names.specs.DeclaredOnce.{declared_once}
+use Rattle.ob0_language_names.specs.Names.{Name}
+use Rattle.ob0_language_names.specs.Occurrences.{Free, at_declaration, at_occurrence, bindings, first_captured, first_difference, is_duplicate}
 use Rattle.ob0_scope.specs.Renames.{namesake, other_of, place_of}
-use Rattle.ob0_scope_rules.specs.Resolution.{IsResolution, Resolution}
-use Rattle.ob0_scope_rules.specs.Scopes.{renamed}
+use Rattle.ob0_scope_table.specs.Resolution.{IsResolution, Resolution}
+use Rattle.ob0_language_names.specs.Scopes.{renamed}
 use Rattle.ob0_scope.specs.declared.capturing.FirstCapture as reported
 use Rattle.ob0_scope.specs.declared.capturing.FirstCapture.TheVariants as reports
 use Rattle.ob0_analysis.specs.CheckedModules.{IsWellTyped}
-use Rattle.ob0_types_rules.specs.WellTyped.{WellTyped}
-use Rattle.ob0_run_rules.specs.EditLaws.{FreeKeepsModules, SameRuns}
-use Rattle.ob0_edits.specs.Changed.{at_each, changed_words, words_of}
-use Rattle.ob0_edits.specs.OfTrees.{RenamedWordsSpell}
-use Rattle.ob0_edits.specs.Replaced.{AreNames, LeavesWords, ReplacesName, edit_at, parts, with_text_at}
-use Rattle.ob0_edits.specs.Written.{name_word}
+use Rattle.ob0_language_types.specs.WellTyped.{WellTyped}
+use Rattle.ob0_language_runs.specs.EditLaws.{FreeKeepsModules, SameRuns}
+use Rattle.ob0_edits_tokens.specs.Changed.{at_each, changed_words, words_of}
+use Rattle.ob0_edits_tokens.specs.OfTrees.{RenamedWordsSpell}
+use Rattle.ob0_edits_tokens.specs.Replaced.{AreNames, LeavesWords, ReplacesName, edit_at, parts, with_text_at}
+use Rattle.ob0_edits_tokens.specs.Written.{name_word}
 use Rattle.ob0_scope.specs.NamesAtPlaces.{name_on, tokens_bound}
 use Rattle.ob0_scope.specs.declared.naming.Named as named
 use Rattle.ob0_types_fields.specs.Identifiers.{field_at}

@@ -8,13 +8,13 @@ use Rattle.ob0_tree.specs.Parsed.{Parsed, named_tree_of, tree_of}
 use Rattle.ob0_tree.specs.Places.{text_at, value_at}
 use Rattle.ob0_tree.specs.Tree.{Tree, identifiers, mapped, block, constant, constants, declares, declares_constant, declares_constants, declares_procedure, declares_type, declares_types, declares_variable, declares_variables, end, formals, further_name, further_section, has_body, item, items, listed, maybe, more, names, no_formals, none, one, procedure, section, some_formals, then_name, then_section, type_name, type_names, value_section, variable, variable_section, variables}
 use Rattle.ob0_tree.specs.declared.tree.Role.TheVariants as role
-use Rattle.ob0_scope_rules.specs.DeclaredOnce.{declared_once}
-use Rattle.ob0_scope_rules.specs.Names.{Name, same_name}
-use Rattle.ob0_scope_rules.specs.Occurrences.{Free}
-use Rattle.ob0_scope_rules.specs.Parts.{constant_names, formal_names, formal_sections, further_names, module_block, named_types, names_listed, section_constants, section_names, section_types, section_variables, variable_names}
+use Rattle.ob0_language_names.specs.DeclaredOnce.{declared_once}
+use Rattle.ob0_language_names.specs.Names.{Name, same_name}
+use Rattle.ob0_language_names.specs.Occurrences.{Free}
+use Rattle.ob0_language_names.specs.Parts.{constant_names, formal_names, formal_sections, further_names, module_block, named_types, names_listed, section_constants, section_names, section_types, section_variables, variable_names}
 use Rattle.ob0_scope.specs.Renames.{namesake}
-use Rattle.ob0_scope_rules.specs.Resolution.{declaring_only}
-use Rattle.ob0_scope_rules.specs.Scopes.{after_block, renamed}
+use Rattle.ob0_scope_table.specs.Resolution.{declaring_only}
+use Rattle.ob0_language_names.specs.Scopes.{after_block, renamed}
 use Rattle.ob0_rename.specs.Renaming.{declaring_token, is_declared_as}
 use Rattle.ob0_rename.proofs.Declared.{after_count, after_names_in, module_declared, names_in, names_in_procedure, names_in_procedures}
 use Rattle.ob0_rename.proofs.Kept.{AreSo, same_module, so_where}

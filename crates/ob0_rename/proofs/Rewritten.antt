@@ -10,14 +10,14 @@ use Rattle.ob0_tree.specs.Module.{ModuleOf, token_lexeme}
 use Rattle.ob0_tree.specs.Parsed.{IsParsed, Parsed, named_tree_of, tree_of}
 use Rattle.ob0_tree.specs.Places as place
 use Rattle.ob0_tree.specs.Tree.{Tree, mapped, module_text, nesting, spell}
-use Rattle.ob0_scope_rules.specs.DeclaredOnce.{declared_once}
-use Rattle.ob0_scope_rules.specs.Names.{Name}
-use Rattle.ob0_scope_rules.specs.Scopes.{renamed}
-use Rattle.ob0_edits.specs.Changed.{at_each, changed_words, words_of}
-use Rattle.ob0_edits.specs.OfTrees.{RenamedWordsSpell, number_at, numbered_tokens, renamed_at, text_of_word}
-use Rattle.ob0_edits.specs.Replaced.{AreNames}
-use Rattle.ob0_edits.specs.Words.{word_lexeme}
-use Rattle.ob0_edits.specs.Written.{name_word}
+use Rattle.ob0_language_names.specs.DeclaredOnce.{declared_once}
+use Rattle.ob0_language_names.specs.Names.{Name}
+use Rattle.ob0_language_names.specs.Scopes.{renamed}
+use Rattle.ob0_edits_tokens.specs.Changed.{at_each, changed_words, words_of}
+use Rattle.ob0_edits_tokens.specs.OfTrees.{RenamedWordsSpell, number_at, numbered_tokens, renamed_at, text_of_word}
+use Rattle.ob0_edits_tokens.specs.Replaced.{AreNames}
+use Rattle.ob0_edits_tokens.specs.Words.{word_lexeme}
+use Rattle.ob0_edits_tokens.specs.Written.{name_word}
 use Rattle.ob0_scope.specs.NamesAtPlaces as names_at
 use Rattle.ob0_scope.specs.NamesAtPlaces.{IsRenamedAt, tokens_bound}
 use Rattle.ob0_rename.specs.Renaming.{is_declared_as, tokens_to_rename}

@@ -18,11 +18,11 @@ use Rattle.ob0_tree.specs.Places as place
 use Rattle.ob0_tree.specs.Tree.{identifiers}
 use Rattle.ob0_tree.specs.declared.tree.Role.{Role}
 use Rattle.ob0_tree.specs.declared.tree.Role.TheVariants as role
-use Rattle.ob0_scope_rules.specs.Names.{Name}
-use Rattle.ob0_scope_rules.specs.Resolution.{declaring_only}
-use Rattle.ob0_edits.specs.Changed.{words_of}
-use Rattle.ob0_edits.specs.OfTrees.{text_of_word, word_at}
-use Rattle.ob0_edits.specs.Replaced as edit
+use Rattle.ob0_language_names.specs.Names.{Name}
+use Rattle.ob0_scope_table.specs.Resolution.{declaring_only}
+use Rattle.ob0_edits_tokens.specs.Changed.{words_of}
+use Rattle.ob0_edits_tokens.specs.OfTrees.{text_of_word, word_at}
+use Rattle.ob0_edits_tokens.specs.Replaced as edit
 use Rattle.ob0_rename.specs.Renaming.{is_declared_as}
 use Rattle.ob0_rename.proofs.Owned.{IsDeclaredBy, declared_by, declaring_tokens}
 use Rattle.ob0_rename.proofs.Rewritten.{text_same}

@@ -6,16 +6,16 @@ use Rattle.std.proofs.lemmas.Bool.{and_parts, or_parts}
 use Rattle.std.proofs.lemmas.List.Folds.{list_any-append}
 use Rattle.std.proofs.lemmas.Slice.Eq.{bytes_eq-Decides}
 use Rattle.ob0_tree.specs.Tree.{Tree, block, declares, declares_procedure, end, has_body, is_module, item, items, module_text, more, procedure}
-use Rattle.ob0_scope_rules.specs.DeclaredOnce.{are_distinct, block_names, block_once, declared_once, formals_once, is_among, procedure_once, procedures_once, types_once, variables_once}
-use Rattle.ob0_scope_rules.specs.Names.{Name, same_name}
-use Rattle.ob0_scope_rules.specs.Occurrences.{Free, bindings, blocks_in, blocks_in_procedure, blocks_in_procedures, declares_ordinal, names_another}
-use Rattle.ob0_scope_rules.specs.Parts.{constant_names, formal_names, formal_sections, module_block, named_types, procedure_name, section_constants, section_types, section_variables, variable_names}
+use Rattle.ob0_language_names.specs.DeclaredOnce.{are_distinct, block_names, block_once, declared_once, formals_once, is_among, procedure_once, procedures_once, types_once, variables_once}
+use Rattle.ob0_language_names.specs.Names.{Name, same_name}
+use Rattle.ob0_language_names.specs.Occurrences.{Free, bindings, blocks_in, blocks_in_procedure, blocks_in_procedures, declares_ordinal, names_another}
+use Rattle.ob0_language_names.specs.Parts.{constant_names, formal_names, formal_sections, module_block, named_types, procedure_name, section_constants, section_types, section_variables, variable_names}
 use Rattle.ob0_scope.specs.Renames.{namesake, namesake_in, other_named}
-use Rattle.ob0_scope_rules.specs.Scopes.{Scope, after_block, after_names, after_procedure, after_procedures, body_scope, declare_names, declare_procedure_names, first_procedure, first_type, first_variable, procedures_scope, types_scope, variables_scope}
-use Rattle.ob0_scope_rules.proofs.DistinctNames.{distinct-onto, labels_in, onto, onto-append, own_name}
-use Rattle.ob0_scope_rules.proofs.Ordinals.{le-after_block, le-after_names, le-after_procedure, le-after_procedures}
-use Rattle.ob0_scope_rules.proofs.RenamedDeclarations.{Clashes, label_names-own, labels_in-names, own_names-block}
-use Rattle.ob0_scope_rules.proofs.NameEquality.{same_name-comm}
+use Rattle.ob0_language_names.specs.Scopes.{Scope, after_block, after_names, after_procedure, after_procedures, body_scope, declare_names, declare_procedure_names, first_procedure, first_type, first_variable, procedures_scope, types_scope, variables_scope}
+use Rattle.ob0_language_names.proofs.DistinctNames.{distinct-onto, labels_in, onto, onto-append, own_name}
+use Rattle.ob0_language_names.proofs.Ordinals.{le-after_block, le-after_names, le-after_procedure, le-after_procedures}
+use Rattle.ob0_language_names.proofs.RenamedDeclarations.{Clashes, label_names-own, labels_in-names, own_names-block}
+use Rattle.ob0_language_names.proofs.NameEquality.{same_name-comm}
 use Rattle.ob0_rename.proofs.Declared.{after_names_in_procedure, names_in, names_in_procedure, names_in_procedures}
 use Rattle.ob0_rename.proofs.Kept.{AreSo, InScope, in_scope-names, same_module, so-append}
 

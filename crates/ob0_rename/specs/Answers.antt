@@ -12,13 +12,13 @@ use Rattle.ob0_text.specs.declared.refusals.EditRefusal.{EditRefusal}
 use Rattle.ob0_text.specs.declared.refusals.EditRefusal.TheVariants as refusal
 use Rattle.ob0_tree.specs.Module.{ModuleOf}
 use Rattle.ob0_tree.specs.Tree.{Tree, module_text}
-use Rattle.ob0_scope_rules.specs.Names.{Name}
-use Rattle.ob0_scope_rules.specs.Occurrences.{Free, at_declaration, at_occurrence, first_captured}
-use Rattle.ob0_scope_rules.specs.Scopes.{renamed}
-use Rattle.ob0_types_rules.specs.WellTyped.{WellTyped}
-use Rattle.ob0_run_rules.specs.EditLaws.{SameRuns}
-use Rattle.ob0_edits.specs.Replaced.{edit_at, parts}
-use Rattle.ob0_types_fields.specs.Renaming.{FieldFree, field_renamed, is_duplicate_field}
+use Rattle.ob0_language_names.specs.Names.{Name}
+use Rattle.ob0_language_names.specs.Occurrences.{Free, at_declaration, at_occurrence, first_captured}
+use Rattle.ob0_language_names.specs.Scopes.{renamed}
+use Rattle.ob0_language_types.specs.WellTyped.{WellTyped}
+use Rattle.ob0_language_runs.specs.EditLaws.{SameRuns}
+use Rattle.ob0_edits_tokens.specs.Replaced.{edit_at, parts}
+use Rattle.ob0_language_fields.specs.Renaming.{FieldFree, field_renamed, is_duplicate_field}
 use Rattle.ob0_rename.specs.Renaming.{NamesDeclaration, MeansField, Renaming, field_tokens_to_rename, is_declared_as, meant, module_of, nothing, occurrence_range, other_field_range, other_range, predeclared, text_with, tokens_to_rename, named_tree}
 
 -- The edits write the new name at these tokens, and nothing else. Made at once they leave a text of

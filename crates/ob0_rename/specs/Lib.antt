@@ -1,3 +1,2 @@
 pub mod Renaming
 pub mod Answers
-pub mod InTexts

@@ -12,11 +12,11 @@ use Rattle.ob0_tree.specs.Parsed as read
 use Rattle.ob0_tree.specs.Places.{text_at}
 use Rattle.ob0_tree.specs.Tree.{Tree, identifiers, module_text, occurrences}
 use Rattle.ob0_tree.specs.declared.tree.Role.TheVariants as role
-use Rattle.ob0_scope_rules.specs.Names.{Name, same_name}
+use Rattle.ob0_language_names.specs.Names.{Name, same_name}
 use Rattle.ob0_scope.specs.Renames.{namesake}
-use Rattle.ob0_scope_rules.specs.Resolution.{Resolution, declaring_only, span_at, token_declaring}
-use Rattle.ob0_edits.specs.Replaced.{with_text_at}
-use Rattle.ob0_edits.specs.Ranges.{range_of}
+use Rattle.ob0_scope_table.specs.Resolution.{Resolution, declaring_only, span_at, token_declaring}
+use Rattle.ob0_edits_tokens.specs.Replaced.{with_text_at}
+use Rattle.ob0_edits_tokens.specs.Ranges.{range_of}
 use Rattle.ob0_scope.specs.NamesAtPlaces.{name_on, tokens_bound}
 use Rattle.ob0_scope.specs.declared.naming.Named as named
 use Rattle.ob0_types_fields.specs.Identifiers.{declaring_field, field_at, field_tokens}

@@ -1,18 +1,18 @@
 //! Places of a text: the tokens at which a new name is to be written, and ranges of tokens.
 
 ghost use Rattle.std.specs.Prelude.{◌≡◌, ℕ, IfOk, Some};
-ghost use Rattle.ob0_scope_rules.specs.Names.{same_name};
-ghost use Rattle.ob0_scope_rules.specs.Resolution.{span_at};
+ghost use Rattle.ob0_language_names.specs.Names.{same_name};
+ghost use Rattle.ob0_scope_table.specs.Resolution.{span_at};
 ghost use Rattle.ob0_text.specs.Units.{width_of};
 ghost use Rattle.ob0_tree.specs.Places.{text_at};
-ghost use Rattle.ob0_edits.specs.Ranges.{range_of};
-ghost use Rattle.ob0_edits.specs.Replaced.{AreNames};
+ghost use Rattle.ob0_edits_tokens.specs.Ranges.{range_of};
+ghost use Rattle.ob0_edits_tokens.specs.Replaced.{AreNames};
 ghost use Rattle.ob0_rename.specs.Renaming.{is_declared_as, tokens_to_rename};
 
-use ob0_edits::range_of;
+use ob0_edits_tokens::range_of;
 use ob0_scan::{Span, Tokens};
 use ob0_scope::renamed_tokens;
-use ob0_scope_rules::{Resolved, token_span};
+use ob0_scope_table::{Resolved, token_span};
 use ob0_text::{Range, TextStore};
 use std::alloc::{AllocError, Global};
 

@@ -7,22 +7,22 @@ ghost use Rattle.ob0_text.specs.Units.{width_of};
 ghost use Rattle.ob0_text.specs.declared.position_types.Position as positions;
 ghost use Rattle.ob0_tree.specs.Parsed.{tree_of};
 ghost use Rattle.ob0_tree.specs.Tree.{occurrences};
-ghost use Rattle.ob0_scope_rules.specs.Resolution.{span_at};
+ghost use Rattle.ob0_scope_table.specs.Resolution.{span_at};
 ghost use Rattle.ob0_scope.specs.declared.capturing.FirstCapture.TheVariants.{Duplicate, Occurrence};
 ghost use Rattle.ob0_text.specs.declared.refusals.EditRefusal.TheVariants as refused;
-ghost use Rattle.ob0_edits.specs.Ranges.{range_of};
+ghost use Rattle.ob0_edits_tokens.specs.Ranges.{range_of};
 ghost use Rattle.ob0_rename.specs.Answers.{RenameAnswers, AnswersDeclaration, AllocatesOnly, OnlyMemory, TakesOwnName};
 ghost use Rattle.ob0_rename.specs.Renaming.{declaring_token, is_declared_as};
 
 use crate::fields::{field_named_at, rename_field};
 use crate::places::{token_range, tokens_to_rename};
 use ob0_analysis::WellTyped;
-use ob0_edits::edits_for;
-use ob0_edits::laws::{names_replace_names, renamed_words_spell};
-use ob0_run_rules::laws::free_keeps_modules;
+use ob0_edits_tokens::edits_for;
+use ob0_edits_tokens::laws::{names_replace_names, renamed_words_spell};
+use ob0_language_runs::laws::free_keeps_modules;
 use ob0_scan::is_identifier;
 use ob0_scope::{FirstCapture, captures, name_at};
-use ob0_scope_rules::{PREDECLARED, Resolved};
+use ob0_scope_table::{PREDECLARED, Resolved};
 use ob0_text::{Edit, EditRefusal, Position, TextStore};
 use std::alloc::Global;
 

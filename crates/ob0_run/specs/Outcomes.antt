@@ -1,10 +1,10 @@
 -- What an outcome says of a run.
 -- Rule: none; for contracts: what values of the code mean.
-use Rattle.ob0_values.specs.Values as values
+use Rattle.ob0_language_values.specs.Values as values
 use Rattle.ob0_run.specs.declared.running.End.{End}
 use Rattle.ob0_run.specs.declared.running.End.TheVariants as end
 use Rattle.ob0_run.specs.declared.running.Outcome.{Outcome}
-use Rattle.ob0_run_rules.specs.Runs.{Run}
+use Rattle.ob0_language_runs.specs.Runs.{Run}
 use Rattle.ob0_run.specs.States.{items_out}
 
 -- an end of the code

@@ -2,8 +2,8 @@
 -- Rule: none; for contracts: what a lowered program means.
 use Rattle.std.specs.Prelude.{◌≡◌, ℕ, suc, ◌*◌, ◌<◌, ◌^◌, List, ℤ}
 use Rattle.ob0_tree.specs.Tree.{Tree, module_text}
-use Rattle.ob0_scope_rules.specs.Names.{Name}
-use Rattle.ob0_run_rules.specs.Runs.{run}
+use Rattle.ob0_language_names.specs.Names.{Name}
+use Rattle.ob0_language_runs.specs.Runs.{run}
 use Rattle.ob0_run_machine.specs.Execution as machine
 use Rattle.ob0_run_machine.specs.View.{program_of}
 use Rattle.ob0_run_cells.specs.ActivationLaws.{run_of}

@@ -3,7 +3,7 @@
 use Rattle.std.specs.Prelude.{List, map}
 use Rattle.ob0_run_machine.specs.declared.machine.Item.{Item}
 use Rattle.ob0_run_machine.specs.declared.machine.Item.TheVariants as item
-use Rattle.ob0_run_rules.specs.Runs.{Written, line_out, number_out}
+use Rattle.ob0_language_runs.specs.Runs.{Written, line_out, number_out}
 
 -- an item of output of the code
 abbrev pub item_of : Item → Written

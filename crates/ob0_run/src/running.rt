@@ -3,8 +3,8 @@
 ghost use Rattle.std.specs.Prelude.{◌≡◌, ◌*◌, ◌^◌, IfOk, nat_lt, suc};
 ghost use Rattle.ob0_tree.specs.Parsed.{named_tree_of};
 ghost use Rattle.ob0_tree.specs.Tree.{Tree, module_text};
-ghost use Rattle.ob0_scope_rules.specs.Names.{Name};
-ghost use Rattle.ob0_run_rules.specs.Runs.{run};
+ghost use Rattle.ob0_language_names.specs.Names.{Name};
+ghost use Rattle.ob0_language_runs.specs.Runs.{run};
 ghost use Rattle.ob0_run_machine.specs.Outcomes as machine;
 ghost use Rattle.ob0_run_machine.specs.View.{program_of};
 ghost use Rattle.ob0_run_cells.specs.Lowering.{end_of};

@@ -1,16 +1,16 @@
 -- Calls of lowered procedures do what calls of the module's do, by induction on how many may be open.
 use Rattle.std.proofs.Common.{◌≡◌, ℕ, zero, suc, ◌+◌, ◌*◌, ◌^◌, ◌<◌, true, List, [], ◌∷◌, ◌++◌, drop, length, map, replicate, take, pos, slice_get, Some, option_and_then, unwrap_or, sym, refl, ap, ◌∙◌, subst, arith, append_assoc}
 use Rattle.ob0_tree.specs.Tree.{Tree, begins, body, declares_procedure, item, maybe, none, one, procedure}
-use Rattle.ob0_scope_rules.specs.Parts.{block_statements, formal_sections, procedure_formals}
-use Rattle.ob0_types_rules.specs.Declarations.{formals_constructors}
-use Rattle.ob0_types_rules.specs.Environments.{from_binding, meanings, newest}
-use Rattle.ob0_types_rules.specs.Expressions.{Object, a_constant, a_procedure, a_standard, a_type, a_variable}
-use Rattle.ob0_types_rules.specs.WellTyped.{Signature, TypeEnvironment, TypedParameter, bind_typed, block_fits, heading, procedure_fits, signature_of, typed_parameters}
-use Rattle.ob0_values.specs.Values.{Place, Shape, Store}
-use Rattle.ob0_run_rules.specs.Fitting.{ArgumentsFit, BindingFits, EnvironmentsFit, StoreFits, StoreTyping}
-use Rattle.ob0_run_rules.specs.Freed.{call_freeing, drop_variables}
-use Rattle.ob0_run_rules.specs.Runs.{Activation, Argument, ProcedureText, Frame, Progress, State, activate, bind_parameters, declare_block, execute_body, in_frame, running, statement_meanings, stopped}
-use Rattle.ob0_run_rules.proofs.SoundCalls.{from-fit, names-fit, parameters-of_typed, some-inverse}
+use Rattle.ob0_language_names.specs.Parts.{block_statements, formal_sections, procedure_formals}
+use Rattle.ob0_language_types.specs.Declarations.{formals_constructors}
+use Rattle.ob0_language_types.specs.Environments.{from_binding, meanings, newest}
+use Rattle.ob0_language_types.specs.Expressions.{Object, a_constant, a_procedure, a_standard, a_type, a_variable}
+use Rattle.ob0_language_types.specs.WellTyped.{Signature, TypeEnvironment, TypedParameter, bind_typed, block_fits, heading, procedure_fits, signature_of, typed_parameters}
+use Rattle.ob0_language_values.specs.Values.{Place, Shape, Store}
+use Rattle.ob0_language_runs.specs.Fitting.{ArgumentsFit, BindingFits, EnvironmentsFit, StoreFits, StoreTyping}
+use Rattle.ob0_language_runs.specs.Freed.{call_freeing, drop_variables}
+use Rattle.ob0_language_runs.specs.Runs.{Activation, Argument, ProcedureText, Frame, Progress, State, activate, bind_parameters, declare_block, execute_body, in_frame, running, statement_meanings, stopped}
+use Rattle.ob0_language_runs.proofs.SoundCalls.{from-fit, names-fit, parameters-of_typed, some-inverse}
 use Rattle.ob0_run_machine.specs.Evaluation.{Level, Levels}
 use Rattle.ob0_run_machine.specs.Execution as execution
 use Rattle.ob0_run_machine.specs.Lowered as lowered

@@ -2,12 +2,12 @@
 use Rattle.std.proofs.Common.{◌≡◌, ℕ, ◌+◌, ◌≤◌, true, ◌&&◌, List, [], ◌∷◌, ◌++◌, length, take, drop, ℤ, if◌then◌else◌, nat_le, Some, None, Option, sym, refl, ap, ◌∙◌, subst}
 use Rattle.std.proofs.lemmas.Bool.{le-leb}
 use Rattle.ob0_tree.specs.Tree.{Tree, arguments, assigns, calls, expression, items, maybe, selector}
-use Rattle.ob0_types_rules.specs.Arguments.{arguments_listed}
-use Rattle.ob0_types_rules.specs.Expressions.{Object, Standard, a_constant, a_procedure, a_standard, a_type, a_variable, designate, evaluate, reads, writes, writes_line}
-use Rattle.ob0_types_rules.specs.WellTyped.{Mode, Typed, by_place, by_value}
-use Rattle.ob0_values.specs.Values.{Outcome, Place, Shape, Value, boolean_shape, ends, gives, integer_shape, number, or_stuck, read_place, truth, ◌>>=◌}
-use Rattle.ob0_run_rules.specs.Fitting.{ObjectFits, PlaceFits, StoreTyping}
-use Rattle.ob0_run_rules.specs.Runs.{Argument, Progress, State, evaluate_arguments, execute, modes_of, perform, place_argument, read_number, running, store_at, use_in, value_argument}
+use Rattle.ob0_language_types.specs.Arguments.{arguments_listed}
+use Rattle.ob0_language_types.specs.Expressions.{Object, Standard, a_constant, a_procedure, a_standard, a_type, a_variable, designate, evaluate, reads, writes, writes_line}
+use Rattle.ob0_language_types.specs.WellTyped.{Mode, Typed, by_place, by_value}
+use Rattle.ob0_language_values.specs.Values.{Outcome, Place, Shape, Value, boolean_shape, ends, gives, integer_shape, number, or_stuck, read_place, truth, ◌>>=◌}
+use Rattle.ob0_language_runs.specs.Fitting.{ObjectFits, PlaceFits, StoreTyping}
+use Rattle.ob0_language_runs.specs.Runs.{Argument, Progress, State, evaluate_arguments, execute, modes_of, perform, place_argument, read_number, running, store_at, use_in, value_argument}
 use Rattle.ob0_run_machine.specs.Evaluation as machine
 use Rattle.ob0_run_machine.specs.Execution as execution
 use Rattle.ob0_run_machine.specs.Lowered as lowered

@@ -1,9 +1,9 @@
 -- Branches, loops and sequences of lowered code.
 use Rattle.std.proofs.Common.{◌-◌}
 use Rattle.ob0_tree.specs.Tree.{Tree, branches, else_branch, else_part, elsif_branch, elsif_part, empty, end, expression, further_statement, items, maybe, more, none, one, repeat_loop, runs, sequence, statement, then_statement, while_loop}
-use Rattle.ob0_types_rules.specs.Expressions.{evaluate}
-use Rattle.ob0_types_rules.specs.WellTyped.{Typed}
-use Rattle.ob0_run_rules.specs.Runs.{execute, execute_all, execute_else, execute_elsifs, execute_further}
+use Rattle.ob0_language_types.specs.Expressions.{evaluate}
+use Rattle.ob0_language_types.specs.WellTyped.{Typed}
+use Rattle.ob0_language_runs.specs.Runs.{execute, execute_all, execute_else, execute_elsifs, execute_further}
 use Rattle.ob0_run_machine.specs.Evaluation as machine
 use Rattle.ob0_run_machine.specs.Execution as execution
 use Rattle.ob0_run_machine.specs.Lowered as lowered

@@ -4,9 +4,9 @@ use Rattle.ob0_tree.specs.declared.tree.Sign.TheVariants as sign
 use Rattle.ob0_tree.specs.declared.tree.AddOperator.{AddOperator}
 use Rattle.ob0_tree.specs.declared.tree.MultiplyOperator.{MultiplyOperator}
 use Rattle.ob0_tree.specs.Tree.{Tree, addend, adds, compares, expression, factor, integer, items, more, multiplier, multiplies, none, parenthesised, product, simple, sum, term}
-use Rattle.ob0_types_rules.specs.Expressions.{evaluate}
-use Rattle.ob0_types_rules.specs.WellTyped.{Typed}
-use Rattle.ob0_values.specs.Values.{Outcome, Value, add, add_is_settled, ends, gives, multiply, multiply_is_settled, number, apply_sign, ◌>>=◌}
+use Rattle.ob0_language_types.specs.Expressions.{evaluate}
+use Rattle.ob0_language_types.specs.WellTyped.{Typed}
+use Rattle.ob0_language_values.specs.Values.{Outcome, Value, add, add_is_settled, ends, gives, multiply, multiply_is_settled, number, apply_sign, ◌>>=◌}
 use Rattle.ob0_run_machine.specs.Evaluation as machine
 use Rattle.ob0_run_machine.specs.Lowered as lowered
 use Rattle.ob0_run_cells.specs.Lowering.{Evaluated, Moment, NumberLeads, NumberMeans, RestOfChain, Slot, addends_left, cells_in, multipliers_left, value_of_expression, value_of_factor, value_of_simple, value_of_term}

@@ -6,8 +6,8 @@ use Rattle.ob0_tree.specs.declared.tree.Relation.TheVariants as relation
 use Rattle.ob0_tree.specs.declared.tree.Sign.TheVariants as sign
 use Rattle.ob0_tree.specs.declared.tree.AddOperator.TheVariants as add_operator
 use Rattle.ob0_tree.specs.declared.tree.MultiplyOperator.TheVariants as multiply_operator
-use Rattle.ob0_values.specs.Values.{End, Outcome, Overflow, Place, Shape, Value, add, divided, divided_by, ends, fits, gives, in_range, multiply, number, or_stuck, quotient, relate, remainder, same_truth, apply_sign, truth, ◌>>=◌}
-use Rattle.ob0_run_rules.specs.Fitting.{PlaceFits, StoreTyping}
+use Rattle.ob0_language_values.specs.Values.{End, Outcome, Overflow, Place, Shape, Value, add, divided, divided_by, ends, fits, gives, in_range, multiply, number, or_stuck, quotient, relate, remainder, same_truth, apply_sign, truth, ◌>>=◌}
+use Rattle.ob0_language_runs.specs.Fitting.{PlaceFits, StoreTyping}
 use Rattle.ob0_run_machine.specs.Evaluation as machine
 use Rattle.ob0_run_machine.specs.Lowered as lowered
 use Rattle.ob0_run_cells.specs.Cells.{address}

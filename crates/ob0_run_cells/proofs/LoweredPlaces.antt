@@ -2,12 +2,12 @@
 use Rattle.std.proofs.Common.{◌≡◌, ℕ, zero, suc, ◌+◌, ◌*◌, ◌<◌, ◌^◌, Bool, true, false, List, [], ◌∷◌, ◌++◌, ℤ, pos, negsuc, if◌then◌else◌, nat_lt, slice_get, Some, None, Option, option_map, option_and_then, unwrap_or, sym, refl, ap, ◌∙◌, subst, subst₂, arith, append_assoc, append-nil}
 use Rattle.std.proofs.lemmas.Option.{get_or_from_slice_get}
 use Rattle.ob0_tree.specs.Tree.{Tree, compares, designator, end, expression, factor, field, index, items, more, none, parenthesised, product, selector, sum}
-use Rattle.ob0_types_rules.specs.Expressions.{Meanings, Object, a_constant, a_procedure, a_standard, a_type, a_variable, designate, element_step, evaluate, follow, object_place, object_value}
-use Rattle.ob0_types_rules.specs.Typing.{shape_of_field}
-use Rattle.ob0_types_rules.specs.WellTyped.{Mode, Typed}
-use Rattle.ob0_values.specs.Values.{FieldShapes, Index, Outcome, Place, Shape, Step, Store, Value, Values, array_shape, at_field, at_index, at_path, boolean_shape, count_values, elements, ends, gives, integer_shape, number, or_stuck, part, read_place, record_shape, truth, ◌>>=◌}
-use Rattle.ob0_run_rules.specs.Fitting.{HasShape, ObjectFits, PlaceFits, StoreFits, StoreTyping, part_shape, shape_at_path}
-use Rattle.ob0_run_rules.proofs.Sound.{is_elements}
+use Rattle.ob0_language_types.specs.Expressions.{Meanings, Object, a_constant, a_procedure, a_standard, a_type, a_variable, designate, element_step, evaluate, follow, object_place, object_value}
+use Rattle.ob0_language_types.specs.Typing.{shape_of_field}
+use Rattle.ob0_language_types.specs.WellTyped.{Mode, Typed}
+use Rattle.ob0_language_values.specs.Values.{FieldShapes, Index, Outcome, Place, Shape, Step, Store, Value, Values, array_shape, at_field, at_index, at_path, boolean_shape, count_values, elements, ends, gives, integer_shape, number, or_stuck, part, read_place, record_shape, truth, ◌>>=◌}
+use Rattle.ob0_language_runs.specs.Fitting.{HasShape, ObjectFits, PlaceFits, StoreFits, StoreTyping, part_shape, shape_at_path}
+use Rattle.ob0_language_runs.proofs.Sound.{is_elements}
 use Rattle.ob0_run_machine.specs.Evaluation as machine
 use Rattle.ob0_run_machine.specs.Evaluation.{Levels}
 use Rattle.ob0_run_machine.specs.Lowered as lowered

@@ -5,9 +5,9 @@ use Rattle.ob0_tree.specs.declared.tree.Relation.TheVariants as relation
 use Rattle.ob0_tree.specs.declared.tree.AddOperator.TheVariants as add_operator
 use Rattle.ob0_tree.specs.declared.tree.MultiplyOperator.TheVariants as multiply_operator
 use Rattle.ob0_tree.specs.Tree.{Tree, addend, adds, compares, expression, factor, items, more, multiplier, multiplies, negation, none, one, parenthesised, product, relates, simple, sum, term}
-use Rattle.ob0_types_rules.specs.Expressions.{evaluate}
-use Rattle.ob0_types_rules.specs.WellTyped.{Typed}
-use Rattle.ob0_values.specs.Values.{Outcome, Value, add, add_is_settled, gives, multiply, multiply_is_settled, negate, number, relate, truth, ◌>>=◌}
+use Rattle.ob0_language_types.specs.Expressions.{evaluate}
+use Rattle.ob0_language_types.specs.WellTyped.{Typed}
+use Rattle.ob0_language_values.specs.Values.{Outcome, Value, add, add_is_settled, gives, multiply, multiply_is_settled, negate, number, relate, truth, ◌>>=◌}
 use Rattle.ob0_run_machine.specs.Evaluation as machine
 use Rattle.ob0_run_machine.specs.Lowered as lowered
 use Rattle.ob0_run_cells.specs.Lowering.{Evaluated, Moment, NumberMeans, RestOfChain, Slot, TruthLeads, TruthMeans, addends_left, cells_in, multipliers_left, outcome_of, relation_of, value_of_expression, value_of_factor, value_of_simple, value_of_term}

@@ -1,13 +1,13 @@
 -- Parts of values lie in the cells of their wholes.
 use Rattle.std.proofs.Common.{◌≡◌, ℕ, zero, suc, ◌+◌, ◌*◌, ◌<◌, ◌≤◌, true, false, List, [], ◌∷◌, ◌++◌, length, ℤ, if◌then◌else◌, nat_lt, Some, None, option_map, option_and_then, unwrap_or, sym, refl, ap, ◌∙◌, subst, arith, length-append}
 use Rattle.std.proofs.Math.Nat.{mul-le-mul_left}
-use Rattle.ob0_scope_rules.specs.Names.{Name, same_name}
-use Rattle.ob0_types_rules.specs.Typing.{field_scalars, shape_of_field}
-use Rattle.ob0_values.specs.Values.{FieldShapes, Members, Shape, Step, Value, Values, array_shape, at_field, at_index, at_path, boolean_shape, count_values, elements, integer_shape, members, named_member, next_field_shape, next_member, next_value, no_field_shape, no_member, no_value, nth_value, number, part, record_shape, truth, with_at_path, with_named_member, with_nth_value, with_part}
-use Rattle.ob0_run_rules.specs.Fitting.{EachHasShape, HasShape, HaveShapes, part_shape, shape_at_path}
-use Rattle.ob0_types_rules.proofs.Conditions.{of_some}
-use Rattle.ob0_run_rules.proofs.Sound.{below_of, some-gives}
-use Rattle.ob0_run_rules.proofs.SoundStatements.{with_path-fits}
+use Rattle.ob0_language_names.specs.Names.{Name, same_name}
+use Rattle.ob0_language_types.specs.Typing.{field_scalars, shape_of_field}
+use Rattle.ob0_language_values.specs.Values.{FieldShapes, Members, Shape, Step, Value, Values, array_shape, at_field, at_index, at_path, boolean_shape, count_values, elements, integer_shape, members, named_member, next_field_shape, next_member, next_value, no_field_shape, no_member, no_value, nth_value, number, part, record_shape, truth, with_at_path, with_named_member, with_nth_value, with_part}
+use Rattle.ob0_language_runs.specs.Fitting.{EachHasShape, HasShape, HaveShapes, part_shape, shape_at_path}
+use Rattle.ob0_language_types.proofs.Conditions.{of_some}
+use Rattle.ob0_language_runs.proofs.Sound.{below_of, some-gives}
+use Rattle.ob0_language_runs.proofs.SoundStatements.{with_path-fits}
 use Rattle.ob0_run_cells.specs.CellLaws.{PartsAreSlices, SizesAreLimited, WritingPartsWritesSlices}
 use Rattle.ob0_run_cells.specs.Cells.{cells_at, cells_of, cells_with, element_cells, field_offset, field_sizes, member_cells, offset, size, step_offset}
 use Rattle.ob0_run_cells.proofs.Splits.{Lies, lies-alone, lies-following, lies-first, lies-within, split-at, split-with}

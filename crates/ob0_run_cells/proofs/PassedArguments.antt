@@ -3,13 +3,13 @@ use Rattle.std.proofs.Common.{◌≡◌, ℕ, zero, suc, ◌+◌, ◌-◌, ◌�
 use Rattle.std.proofs.lemmas.Bool.{le-leb}
 use Rattle.std.proofs.lemmas.List.{drop-append-le, take-append-le}
 use Rattle.ob0_tree.specs.Tree.{Tree, arguments, calls, expression, items, maybe, selector}
-use Rattle.ob0_types_rules.specs.Arguments.{arguments_listed}
-use Rattle.ob0_types_rules.specs.Expressions.{Object, a_constant, a_procedure, a_standard, a_type, a_variable, designate, evaluate}
-use Rattle.ob0_types_rules.specs.WellTyped.{Formal, Mode, Signature, Typed}
-use Rattle.ob0_values.specs.Values.{Outcome, Place, Shape, Store, Value, ends, gives, number, or_stuck, read_place, truth, ◌>>=◌}
-use Rattle.ob0_run_rules.specs.Fitting.{ArgumentsFit, HasShape, ObjectFits, PlaceFits, StoreFits, StoreTyping, modes_in}
-use Rattle.ob0_run_rules.specs.Runs.{Argument, Progress, State, evaluate_argument, evaluate_arguments, execute, modes_of, perform, place_argument, use_in, value_argument}
-use Rattle.ob0_run_rules.proofs.SoundStatements.{first-argument}
+use Rattle.ob0_language_types.specs.Arguments.{arguments_listed}
+use Rattle.ob0_language_types.specs.Expressions.{Object, a_constant, a_procedure, a_standard, a_type, a_variable, designate, evaluate}
+use Rattle.ob0_language_types.specs.WellTyped.{Formal, Mode, Signature, Typed}
+use Rattle.ob0_language_values.specs.Values.{Outcome, Place, Shape, Store, Value, ends, gives, number, or_stuck, read_place, truth, ◌>>=◌}
+use Rattle.ob0_language_runs.specs.Fitting.{ArgumentsFit, HasShape, ObjectFits, PlaceFits, StoreFits, StoreTyping, modes_in}
+use Rattle.ob0_language_runs.specs.Runs.{Argument, Progress, State, evaluate_argument, evaluate_arguments, execute, modes_of, perform, place_argument, use_in, value_argument}
+use Rattle.ob0_language_runs.proofs.SoundStatements.{first-argument}
 use Rattle.ob0_run_machine.specs.Evaluation as machine
 use Rattle.ob0_run_machine.specs.Execution as execution
 use Rattle.ob0_run_machine.specs.Lowered as lowered

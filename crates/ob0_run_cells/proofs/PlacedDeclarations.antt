@@ -2,18 +2,18 @@
 use Rattle.std.proofs.Common.{◌≡◌, ℕ, zero, suc, ◌+◌, ◌≤◌, true, ◌&&◌, List, [], ◌∷◌, ◌++◌, drop, length, map, replicate, ℤ, pos, slice_index_or, Some, option_and_then, option_map, sym, refl, ap, ◌∙◌, subst, arith, append-nil, append_assoc}
 use Rattle.std.proofs.lemmas.List.{replicate-append-replicate}
 use Rattle.ob0_tree.specs.Tree.{Tree, block, body, constant, declares, declares_constant, declares_type, declares_variable, end, has_body, items, maybe, more, procedure, type_name, variable}
-use Rattle.ob0_scope_rules.specs.Parts.{block_statements, constant_names, named_types, names_listed, procedure_name, section_constants, section_types, section_variables}
-use Rattle.ob0_types_rules.specs.Declarations.{after_types, after_variables, declare_constants, declare_types, procedure_constructors}
-use Rattle.ob0_types_rules.specs.Environments.{meanings}
-use Rattle.ob0_types_rules.specs.Expressions.{a_constant, a_procedure, a_type, a_variable}
-use Rattle.ob0_types_rules.specs.Typing.{constant_value, constructors, denoted}
-use Rattle.ob0_types_rules.specs.WellTyped.{Signature, TypeEnvironment, TypedParameter, bind_names, bind_typed, block_fits, declare_typed, heading, some_and, procedure_fits, procedures_fit}
-use Rattle.ob0_values.specs.Values.{Shape, Store, Value, initial}
-use Rattle.ob0_run_rules.specs.Fitting.{ArgumentsFit, EnvironmentsFit, HasShape, StoreFits, StoreTyping}
-use Rattle.ob0_run_rules.specs.Runs.{Activation, Argument, Frame, allocate, bind_parameter, bind_parameters, declare_block, declare_procedures, declare_variables, place_argument, value_argument, with_procedures}
-use Rattle.ob0_run_rules.proofs.Sound.{some-gives}
-use Rattle.ob0_run_rules.proofs.SoundCalls.{ArgumentsFit-grows, as_parameter, constants-run, denoted-same, environments-grow, some-inverse, types-run}
-use Rattle.ob0_types_rules.proofs.Conditions.{both_true}
+use Rattle.ob0_language_names.specs.Parts.{block_statements, constant_names, named_types, names_listed, procedure_name, section_constants, section_types, section_variables}
+use Rattle.ob0_language_types.specs.Declarations.{after_types, after_variables, declare_constants, declare_types, procedure_constructors}
+use Rattle.ob0_language_types.specs.Environments.{meanings}
+use Rattle.ob0_language_types.specs.Expressions.{a_constant, a_procedure, a_type, a_variable}
+use Rattle.ob0_language_types.specs.Typing.{constant_value, constructors, denoted}
+use Rattle.ob0_language_types.specs.WellTyped.{Signature, TypeEnvironment, TypedParameter, bind_names, bind_typed, block_fits, declare_typed, heading, some_and, procedure_fits, procedures_fit}
+use Rattle.ob0_language_values.specs.Values.{Shape, Store, Value, initial}
+use Rattle.ob0_language_runs.specs.Fitting.{ArgumentsFit, EnvironmentsFit, HasShape, StoreFits, StoreTyping}
+use Rattle.ob0_language_runs.specs.Runs.{Activation, Argument, Frame, allocate, bind_parameter, bind_parameters, declare_block, declare_procedures, declare_variables, place_argument, value_argument, with_procedures}
+use Rattle.ob0_language_runs.proofs.Sound.{some-gives}
+use Rattle.ob0_language_runs.proofs.SoundCalls.{ArgumentsFit-grows, as_parameter, constants-run, denoted-same, environments-grow, some-inverse, types-run}
+use Rattle.ob0_language_types.proofs.Conditions.{both_true}
 use Rattle.ob0_run_machine.specs.Evaluation.{Level, Levels}
 use Rattle.ob0_run_machine.specs.Lowered as lowered
 use Rattle.ob0_run_cells.specs.Activations.{RoutineTable, BlockMeans, BodyMeans, Placed, Placing, PlacingFits, ProceduresMean, hide_names, in_slot, nowhere, own_target, place_names, place_parameter, place_parameters, place_variables}

@@ -1,11 +1,11 @@
 -- Placings that fit: names found in them, stores that grow, and what is seen from further in.
 use Rattle.std.proofs.Common.{◌≡◌, true, false, [], ◌∷◌, ◌++◌, drop, Some, None, sym, refl, ap, ◌∙◌, subst}
-use Rattle.ob0_types_rules.specs.Environments.{from_binding, newest}
-use Rattle.ob0_types_rules.specs.Expressions.{Object, a_constant, a_procedure, a_standard, a_type, a_variable}
-use Rattle.ob0_types_rules.specs.WellTyped.{Signature, TypeEnvironment}
-use Rattle.ob0_values.specs.Values.{Place, Shape}
-use Rattle.ob0_run_rules.specs.Fitting.{StoreTyping}
-use Rattle.ob0_run_rules.specs.Runs.{Activation, ProcedureText, passing}
+use Rattle.ob0_language_types.specs.Environments.{from_binding, newest}
+use Rattle.ob0_language_types.specs.Expressions.{Object, a_constant, a_procedure, a_standard, a_type, a_variable}
+use Rattle.ob0_language_types.specs.WellTyped.{Signature, TypeEnvironment}
+use Rattle.ob0_language_values.specs.Values.{Place, Shape}
+use Rattle.ob0_language_runs.specs.Fitting.{StoreTyping}
+use Rattle.ob0_language_runs.specs.Runs.{Activation, ProcedureText, passing}
 use Rattle.ob0_run_machine.specs.Evaluation.{Level, Levels}
 use Rattle.ob0_run_cells.specs.Activations.{IsPlaced, RoutineTable, Placing, PlacingFits, Whereabouts, at_target, first_slot, from_name, in_slot, inward, inward_slot, inward_whereabouts, nowhere}
 use Rattle.ob0_run_cells.specs.Cells.{address}

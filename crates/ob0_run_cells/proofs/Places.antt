@@ -1,10 +1,10 @@
 -- What places hold lies in the cells of the store.
 use Rattle.std.proofs.Common.{◌≡◌, ℕ, zero, suc, ◌+◌, List, [], ◌∷◌, ◌++◌, length, take, ℤ, slice_get, slice_set, Some, option_map, option_and_then, unwrap_or, sym, refl, ap, ◌∙◌, subst, arith, length-append}
-use Rattle.ob0_values.specs.Values.{Place, Shape, Step, Store, Value, at_path, boolean_shape, integer_shape, number, read_place, truth, with_at_path, write_place}
-use Rattle.ob0_run_rules.specs.Fitting.{HasShape, PlaceFits, StoreFits, StoreTyping, part_shape, shape_at_path}
-use Rattle.ob0_types_rules.proofs.Conditions.{of_some}
-use Rattle.ob0_run_rules.proofs.Sound.{is_number, is_truth, some-gives}
-use Rattle.ob0_run_rules.proofs.SoundStatements.{PlaceFits-grows, set-fits, slice_get-grows, with_path-fits}
+use Rattle.ob0_language_values.specs.Values.{Place, Shape, Step, Store, Value, at_path, boolean_shape, integer_shape, number, read_place, truth, with_at_path, write_place}
+use Rattle.ob0_language_runs.specs.Fitting.{HasShape, PlaceFits, StoreFits, StoreTyping, part_shape, shape_at_path}
+use Rattle.ob0_language_types.proofs.Conditions.{of_some}
+use Rattle.ob0_language_runs.proofs.Sound.{is_number, is_truth, some-gives}
+use Rattle.ob0_language_runs.proofs.SoundStatements.{PlaceFits-grows, set-fits, slice_get-grows, with_path-fits}
 use Rattle.ob0_run_cells.specs.CellLaws.{AddressesStay, NumbersAreCells, PartsHaveAddresses, PlacesAreSlices, TruthsAreCells, TypesGiveSizes, WritingPlacesWritesSlices}
 use Rattle.ob0_run_cells.specs.Cells.{address, all_cells, cells_at, cells_of, cells_with, offset, size, sizes, truth_cell}
 use Rattle.ob0_run_cells.proofs.Parts.{cells-size, lies-inside, path-lies}

@@ -1,10 +1,10 @@
 -- Steps that states of lowered code and of the definition make alike.
 use Rattle.std.proofs.Common.{◌≡◌, ℕ, zero, suc, Bool, true, false, List, [], ◌∷◌, ◌++◌, take, drop, ℤ, slice_set, sym, refl, ap, ◌∙◌, subst, append-nil}
 use Rattle.std.proofs.lemmas.List.{map-append}
-use Rattle.ob0_types_rules.specs.WellTyped.{Typed}
-use Rattle.ob0_values.specs.Values.{Outcome, Place, Shape, Store, TurnBound, Value, boolean_shape, ends, gives, integer_shape, number, or_stuck, truth}
-use Rattle.ob0_run_rules.specs.Fitting.{PlaceFits, StoreFits, StoreTyping}
-use Rattle.ob0_run_rules.specs.Runs.{Progress, State, choose, continue_with, append_output, read_number, running, stopped, store_at, turns, turns_until, use_in}
+use Rattle.ob0_language_types.specs.WellTyped.{Typed}
+use Rattle.ob0_language_values.specs.Values.{Outcome, Place, Shape, Store, TurnBound, Value, boolean_shape, ends, gives, integer_shape, number, or_stuck, truth}
+use Rattle.ob0_language_runs.specs.Fitting.{PlaceFits, StoreFits, StoreTyping}
+use Rattle.ob0_language_runs.specs.Runs.{Progress, State, choose, continue_with, append_output, read_number, running, stopped, store_at, turns, turns_until, use_in}
 use Rattle.ob0_run_machine.specs.Evaluation as machine
 use Rattle.ob0_run_machine.specs.Execution as execution
 use Rattle.ob0_run_machine.specs.Lowered as lowered

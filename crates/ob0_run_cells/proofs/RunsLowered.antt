@@ -1,17 +1,17 @@
 -- The run of a lowered program is the run of its module.
 use Rattle.std.proofs.Common.{◌≡◌, ℕ, suc, ◌+◌, ◌*◌, ◌^◌, ◌<◌, true, List, [], ℤ, sym, refl, ap, ◌∙◌, subst, arith}
 use Rattle.ob0_tree.specs.Tree.{Tree, is_module, module_text}
-use Rattle.ob0_scope_rules.specs.Names.{Naming, as_labels}
-use Rattle.ob0_scope_rules.specs.Parts.{block_statements}
-use Rattle.ob0_scope_rules.specs.Scopes.{numbered}
-use Rattle.ob0_types_rules.specs.Environments.{outermost}
-use Rattle.ob0_types_rules.specs.WellTyped.{WellTyped, fits_over}
-use Rattle.ob0_types_rules.proofs.Proved.{fits_by_ordinal-holds}
-use Rattle.ob0_run_rules.specs.Fitting.{StoreTyping}
-use Rattle.ob0_run_rules.specs.Freed.{call_freeing, run_freeing}
-use Rattle.ob0_run_rules.specs.Runs.{Frame, Progress, State, execute_body, finished, in_frame, run_numbered, run_over, running, stopped}
-use Rattle.ob0_run_rules.proofs.KeptVariables.{freeing-keeps}
-use Rattle.ob0_run_rules.proofs.Proved.{runs_by_ordinal-holds}
+use Rattle.ob0_language_names.specs.Names.{Naming, as_labels}
+use Rattle.ob0_language_names.specs.Parts.{block_statements}
+use Rattle.ob0_language_names.specs.Scopes.{numbered}
+use Rattle.ob0_language_types.specs.Environments.{outermost}
+use Rattle.ob0_language_types.specs.WellTyped.{WellTyped, fits_over}
+use Rattle.ob0_language_types.proofs.Proved.{fits_by_ordinal-holds}
+use Rattle.ob0_language_runs.specs.Fitting.{StoreTyping}
+use Rattle.ob0_language_runs.specs.Freed.{call_freeing, run_freeing}
+use Rattle.ob0_language_runs.specs.Runs.{Frame, Progress, State, execute_body, finished, in_frame, run_numbered, run_over, running, stopped}
+use Rattle.ob0_language_runs.proofs.KeptVariables.{freeing-keeps}
+use Rattle.ob0_language_runs.proofs.Proved.{runs_by_ordinal-holds}
 use Rattle.ob0_run_machine.specs.Execution as execution
 use Rattle.ob0_run_machine.specs.Lowered as lowered
 use Rattle.ob0_run_cells.specs.ActivationLaws.{RunsLowered, run_of}

@@ -1,8 +1,8 @@
 -- Values of one type are the same where their cells are.
 use Rattle.std.proofs.Common.{◌≡◌, Bool, true, false, List, [], ◌∷◌, ◌++◌, length, take, drop, ℤ, slice_get, sym, refl, ap, ◌∙◌, unwrap_or}
 use Rattle.std.proofs.lemmas.List.{drop_at, take_at}
-use Rattle.ob0_values.specs.Values.{FieldShapes, Members, Shape, Store, Value, Values, array_shape, boolean_shape, count_values, elements, integer_shape, members, next_field_shape, next_member, next_value, no_field_shape, no_member, no_value, number, record_shape, truth}
-use Rattle.ob0_run_rules.specs.Fitting.{EachHasShape, HasShape, HaveShapes, StoreFits, StoreTyping}
+use Rattle.ob0_language_values.specs.Values.{FieldShapes, Members, Shape, Store, Value, Values, array_shape, boolean_shape, count_values, elements, integer_shape, members, next_field_shape, next_member, next_value, no_field_shape, no_member, no_value, number, record_shape, truth}
+use Rattle.ob0_language_runs.specs.Fitting.{EachHasShape, HasShape, HaveShapes, StoreFits, StoreTyping}
 use Rattle.ob0_run_cells.specs.CellLaws.{CellsDetermineValues}
 use Rattle.ob0_run_cells.specs.Cells.{all_cells, cells_of, element_cells, member_cells, truth_cell}
 use Rattle.ob0_run_cells.proofs.Parts.{cells-size}

@@ -1,7 +1,7 @@
 -- What lies in the cells of a whole: those before it, its own, and those after it; and that writing it changes its own.
 use Rattle.std.proofs.Common.{◌≡◌, ℕ, ◌+◌, List, [], ◌∷◌, ◌++◌, length, take, drop, ℤ, slice_get, slice_set, Some, sym, refl, ap, ◌∙◌, length-append, append_assoc}
 use Rattle.std.proofs.lemmas.List.{append-nil, drop_at, take_at}
-use Rattle.ob0_values.specs.Values.{Value}
+use Rattle.ob0_language_values.specs.Values.{Value}
 use Rattle.ob0_run_cells.specs.Cells.{cells_at, cells_of, cells_with}
 
 -- what is written in a whole is the part `old`, which begins at an address

@@ -1,9 +1,9 @@
 -- Variables that begin, are added, and are dropped.
 use Rattle.std.proofs.Common.{◌≡◌, ℕ, zero, suc, ◌+◌, ◌*◌, List, [], ◌∷◌, ◌++◌, length, replicate, take, ℤ, pos, slice_get, Some, option_and_then, option_map, unwrap_or, sym, refl, ap, ◌∙◌, arith, append_assoc, append-nil}
 use Rattle.std.proofs.lemmas.List.{replicate-append-replicate, take_at}
-use Rattle.ob0_values.specs.Values.{FieldShapes, Shape, Store, Value, array_shape, boolean_shape, copies, initial, initial_members, integer_shape, next_field_shape, no_field_shape, record_shape}
-use Rattle.ob0_run_rules.specs.Fitting.{StoreFits, StoreTyping, shape_at_path}
-use Rattle.ob0_run_rules.proofs.SoundCalls.{initial-fits, last-shape, store-appends}
+use Rattle.ob0_language_values.specs.Values.{FieldShapes, Shape, Store, Value, array_shape, boolean_shape, copies, initial, initial_members, integer_shape, next_field_shape, no_field_shape, record_shape}
+use Rattle.ob0_language_runs.specs.Fitting.{StoreFits, StoreTyping, shape_at_path}
+use Rattle.ob0_language_runs.proofs.SoundCalls.{initial-fits, last-shape, store-appends}
 use Rattle.ob0_run_cells.specs.CellLaws.{InitialCellsAreZero, VariablesAreAdded, VariablesAreDropped}
 use Rattle.ob0_run_cells.specs.Cells.{all_cells, cells_of, element_cells, field_sizes, member_cells, offset, size, sizes}
 use Rattle.ob0_run_cells.proofs.Places.{store-size}

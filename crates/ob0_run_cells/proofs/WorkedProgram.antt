@@ -1,13 +1,13 @@
 -- A worked program: a module with a procedure, a VAR parameter among its two, and the program that means it.
 use Rattle.std.proofs.Common.{◌≡◌, ℕ, List, [], ◌∷◌, Some, None, pos, refl, arith}
 use Rattle.ob0_tree.specs.Tree.{Tree, assigns, begins, calls, compares, declares, declares_procedure, declares_variable, declares_variables, designator, end, expression, has_body, integer, is_module, item, listed, module_text, more, named_type, none, one, procedure, product, runs, some_arguments, some_formals, sum, then_argument, then_section, then_statement, value_section, variable_section}
-use Rattle.ob0_scope_rules.specs.Names.{Label, as_labels, as_written, declared}
-use Rattle.ob0_types_rules.specs.Declarations.{declare_first}
-use Rattle.ob0_types_rules.specs.Environments.{meanings, outermost}
-use Rattle.ob0_types_rules.specs.Expressions.{a_variable}
-use Rattle.ob0_types_rules.specs.WellTyped.{TypeEnvironment, Typed, TypedParameter, bind_typed, by_place, by_value, declare_typed, fits_over, heading, typed_parameters}
-use Rattle.ob0_values.specs.Values.{Shape, integer_shape}
-use Rattle.ob0_run_rules.specs.Runs.{run_over}
+use Rattle.ob0_language_names.specs.Names.{Label, as_labels, as_written, declared}
+use Rattle.ob0_language_types.specs.Declarations.{declare_first}
+use Rattle.ob0_language_types.specs.Environments.{meanings, outermost}
+use Rattle.ob0_language_types.specs.Expressions.{a_variable}
+use Rattle.ob0_language_types.specs.WellTyped.{TypeEnvironment, Typed, TypedParameter, bind_typed, by_place, by_value, declare_typed, fits_over, heading, typed_parameters}
+use Rattle.ob0_language_values.specs.Values.{Shape, integer_shape}
+use Rattle.ob0_language_runs.specs.Runs.{run_over}
 use Rattle.ob0_run_machine.specs.Execution as execution
 use Rattle.ob0_run_machine.specs.Lowered as lowered
 use Rattle.ob0_run_cells.specs.ActivationLaws.{run_of}

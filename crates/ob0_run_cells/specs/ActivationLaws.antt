@@ -3,13 +3,13 @@
 -- Rule: none; laws of lowered programs.
 use Rattle.std.specs.Prelude.{◌≡◌, ℕ, suc, ◌+◌, ◌*◌, ◌<◌, ◌^◌, List, map, ℤ}
 use Rattle.ob0_tree.specs.Tree.{Tree, module_text}
-use Rattle.ob0_scope_rules.specs.Names.{Label, Name, as_labels}
-use Rattle.ob0_scope_rules.specs.Scopes.{numbered}
-use Rattle.ob0_types_rules.specs.Environments.{meanings}
-use Rattle.ob0_types_rules.specs.WellTyped.{TypeEnvironment, WellTyped}
-use Rattle.ob0_run_rules.specs.Fitting.{EnvironmentsFit, StoreTyping}
-use Rattle.ob0_run_rules.specs.Freed.{call_freeing}
-use Rattle.ob0_run_rules.specs.Runs.{Activation, Run, run, statement_meanings}
+use Rattle.ob0_language_names.specs.Names.{Label, Name, as_labels}
+use Rattle.ob0_language_names.specs.Scopes.{numbered}
+use Rattle.ob0_language_types.specs.Environments.{meanings}
+use Rattle.ob0_language_types.specs.WellTyped.{TypeEnvironment, WellTyped}
+use Rattle.ob0_language_runs.specs.Fitting.{EnvironmentsFit, StoreTyping}
+use Rattle.ob0_language_runs.specs.Freed.{call_freeing}
+use Rattle.ob0_language_runs.specs.Runs.{Activation, Run, run, statement_meanings}
 use Rattle.ob0_run_machine.specs.Evaluation.{Levels}
 use Rattle.ob0_run_machine.specs.Execution as execution
 use Rattle.ob0_run_machine.specs.Lowered as lowered

@@ -3,16 +3,16 @@
 -- Rule: none; for contracts of lowering, against docs/LANGUAGE.md, Runs 6.
 use Rattle.std.specs.Prelude.{◌≡◌, ℕ, suc, ◌+◌, ◌≤◌, true, false, List, [], ◌∷◌, drop, slice_get, Some, Option, option_and_then}
 use Rattle.ob0_tree.specs.Tree.{Tree, begins, block, body, declares, declares_procedure, declares_variable, end, has_body, item, items, maybe, module_text, more, none, one, procedure, variable}
-use Rattle.ob0_scope_rules.specs.Names.{Label, Naming, as_labels}
-use Rattle.ob0_scope_rules.specs.Parts.{block_constants, block_types, block_variables, constant_names, formal_sections, module_block, named_types, names_listed, procedure_formals, procedure_name}
-use Rattle.ob0_types_rules.specs.Declarations.{after_types, after_variables, declare_first, formals_constructors, procedure_constructors}
-use Rattle.ob0_types_rules.specs.Environments.{meanings, outermost}
-use Rattle.ob0_types_rules.specs.Expressions.{Object, a_constant, a_procedure, a_standard, a_type, a_variable}
-use Rattle.ob0_types_rules.specs.Typing.{constructors, denoted}
-use Rattle.ob0_types_rules.specs.WellTyped.{Mode, Signature, TypeEnvironment, TypedParameter, bind_names, bind_typed, by_place, by_value, declare_typed, heading, typed_parameters}
-use Rattle.ob0_values.specs.Values.{Place, Shape}
-use Rattle.ob0_run_rules.specs.Fitting.{PlaceFits, StoreTyping}
-use Rattle.ob0_run_rules.specs.Runs.{Activation, ProcedureText}
+use Rattle.ob0_language_names.specs.Names.{Label, Naming, as_labels}
+use Rattle.ob0_language_names.specs.Parts.{block_constants, block_types, block_variables, constant_names, formal_sections, module_block, named_types, names_listed, procedure_formals, procedure_name}
+use Rattle.ob0_language_types.specs.Declarations.{after_types, after_variables, declare_first, formals_constructors, procedure_constructors}
+use Rattle.ob0_language_types.specs.Environments.{meanings, outermost}
+use Rattle.ob0_language_types.specs.Expressions.{Object, a_constant, a_procedure, a_standard, a_type, a_variable}
+use Rattle.ob0_language_types.specs.Typing.{constructors, denoted}
+use Rattle.ob0_language_types.specs.WellTyped.{Mode, Signature, TypeEnvironment, TypedParameter, bind_names, bind_typed, by_place, by_value, declare_typed, heading, typed_parameters}
+use Rattle.ob0_language_values.specs.Values.{Place, Shape}
+use Rattle.ob0_language_runs.specs.Fitting.{PlaceFits, StoreTyping}
+use Rattle.ob0_language_runs.specs.Runs.{Activation, ProcedureText}
 use Rattle.ob0_run_machine.specs.Evaluation.{Levels}
 use Rattle.ob0_run_machine.specs.Lowered as lowered
 use Rattle.ob0_run_cells.specs.Cells.{address, size}

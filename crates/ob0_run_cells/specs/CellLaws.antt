@@ -1,9 +1,9 @@
 -- Laws of cells: values, places and the store of a checked module against one list of cells.
 -- Rule: none; laws of cells.
 use Rattle.std.specs.Prelude.{◌≡◌, ◌+◌, ◌≤◌, Bool, List, [], ◌∷◌, ◌++◌, length, replicate, take, ℤ, pos, slice_get, slice_set, Some}
-use Rattle.ob0_types_rules.specs.Typing.{scalars}
-use Rattle.ob0_values.specs.Values.{Place, Shape, Step, Store, Value, at_path, boolean_shape, initial, integer_shape, number, read_place, truth, with_at_path, write_place}
-use Rattle.ob0_run_rules.specs.Fitting.{HasShape, PlaceFits, StoreFits, StoreTyping, shape_at_path}
+use Rattle.ob0_language_types.specs.Typing.{scalars}
+use Rattle.ob0_language_values.specs.Values.{Place, Shape, Step, Store, Value, at_path, boolean_shape, initial, integer_shape, number, read_place, truth, with_at_path, write_place}
+use Rattle.ob0_language_runs.specs.Fitting.{HasShape, PlaceFits, StoreFits, StoreTyping, shape_at_path}
 use Rattle.ob0_run_cells.specs.Cells.{address, all_cells, cells_at, cells_of, cells_with, offset, size, sizes, truth_cell}
 
 -- a value of a type has as many cells as the type says, and a store as many as its types say

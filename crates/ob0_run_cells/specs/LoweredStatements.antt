@@ -3,12 +3,12 @@
 -- Rule: none; for contracts of lowering, against docs/LANGUAGE.md, Runs 5 to 9.
 use Rattle.std.specs.Prelude.{◌≡◌, ℕ, ◌^◌, ◌<◌, true, List, [], ◌∷◌, ◌++◌, length, map, ℤ, Some}
 use Rattle.ob0_tree.specs.Tree.{Tree, else_part, elsif_part, expression, further_statement, items, maybe, selector, sequence, statement}
-use Rattle.ob0_types_rules.specs.Expressions.{Meanings, a_procedure, a_variable}
-use Rattle.ob0_types_rules.specs.Typing.{lone_designator}
-use Rattle.ob0_types_rules.specs.WellTyped.{Formal, Mode, Signature, Typed, by_place, by_value}
-use Rattle.ob0_values.specs.Values.{Place, Shape, boolean_shape, integer_shape}
-use Rattle.ob0_run_rules.specs.Fitting.{ArgumentsFit, MeaningsFit, StoreFits, StoreTyping}
-use Rattle.ob0_run_rules.specs.Runs.{Argument, Calls, Progress, State, Written, execute, execute_all, execute_else, execute_elsifs, execute_further, line_out, number_out, place_argument, running, stopped, value_argument}
+use Rattle.ob0_language_types.specs.Expressions.{Meanings, a_procedure, a_variable}
+use Rattle.ob0_language_types.specs.Typing.{lone_designator}
+use Rattle.ob0_language_types.specs.WellTyped.{Formal, Mode, Signature, Typed, by_place, by_value}
+use Rattle.ob0_language_values.specs.Values.{Place, Shape, boolean_shape, integer_shape}
+use Rattle.ob0_language_runs.specs.Fitting.{ArgumentsFit, MeaningsFit, StoreFits, StoreTyping}
+use Rattle.ob0_language_runs.specs.Runs.{Argument, Calls, Progress, State, Written, execute, execute_all, execute_else, execute_elsifs, execute_further, line_out, number_out, place_argument, running, stopped, value_argument}
 use Rattle.ob0_run_machine.specs.Evaluation as machine
 use Rattle.ob0_run_machine.specs.Evaluation.{Levels}
 use Rattle.ob0_run_machine.specs.Execution as execution

@@ -5,10 +5,10 @@ use Rattle.std.specs.Prelude.{◌≡◌, ℕ, zero, suc, ◌+◌, ◌^◌, ◌<�
 use Rattle.ob0_tree.specs.declared.tree.Relation.{Relation}
 use Rattle.ob0_tree.specs.declared.tree.Relation.TheVariants as relation
 use Rattle.ob0_tree.specs.Tree.{Tree, addend, expression, factor, items, multiplier, selector, simple, term}
-use Rattle.ob0_types_rules.specs.Expressions.{Meanings, a_variable, designate, evaluate, evaluate_addends, evaluate_factor, evaluate_multipliers, evaluate_simple, evaluate_term, follow}
-use Rattle.ob0_types_rules.specs.WellTyped.{Mode, Typed}
-use Rattle.ob0_values.specs.Values.{CallBound, Divisor, Done, End, Index, InputEnd, Outcome, Overflow, Place, Shape, Step, Store, TurnBound, Value, ends, gives, number, or_stuck, read_place, truth, ◌>>=◌}
-use Rattle.ob0_run_rules.specs.Fitting.{MeaningsFit, PlaceFits, StoreFits, StoreTyping}
+use Rattle.ob0_language_types.specs.Expressions.{Meanings, a_variable, designate, evaluate, evaluate_addends, evaluate_factor, evaluate_multipliers, evaluate_simple, evaluate_term, follow}
+use Rattle.ob0_language_types.specs.WellTyped.{Mode, Typed}
+use Rattle.ob0_language_values.specs.Values.{CallBound, Divisor, Done, End, Index, InputEnd, Outcome, Overflow, Place, Shape, Step, Store, TurnBound, Value, ends, gives, number, or_stuck, read_place, truth, ◌>>=◌}
+use Rattle.ob0_language_runs.specs.Fitting.{MeaningsFit, PlaceFits, StoreFits, StoreTyping}
 use Rattle.ob0_run_machine.specs.Evaluation as machine
 use Rattle.ob0_run_machine.specs.Evaluation.{Levels, level_at}
 use Rattle.ob0_run_machine.specs.Lowered as lowered

@@ -8,11 +8,11 @@ use Rattle.ob0_tree.specs.declared.tree.Sign.TheVariants as sign
 use Rattle.ob0_tree.specs.declared.tree.AddOperator.TheVariants as add_operator
 use Rattle.ob0_tree.specs.declared.tree.MultiplyOperator.TheVariants as multiply_operator
 use Rattle.ob0_tree.specs.Tree.{Tree, addend, adds, compares, designator, end, expression, factor, field, index, integer, items, more, multiplier, multiplies, negation, none, one, parenthesised, product, relates, selector, simple, sum, term}
-use Rattle.ob0_scope_rules.specs.Names.{Label}
-use Rattle.ob0_types_rules.specs.Expressions.{a_constant, a_variable}
-use Rattle.ob0_types_rules.specs.Typing.{shape_of_field}
-use Rattle.ob0_types_rules.specs.WellTyped.{Typed}
-use Rattle.ob0_values.specs.Values.{FieldShapes, Place, Shape, Value, array_shape, boolean_shape, integer_shape, number, record_shape, truth}
+use Rattle.ob0_language_names.specs.Names.{Label}
+use Rattle.ob0_language_types.specs.Expressions.{a_constant, a_variable}
+use Rattle.ob0_language_types.specs.Typing.{shape_of_field}
+use Rattle.ob0_language_types.specs.WellTyped.{Typed}
+use Rattle.ob0_language_values.specs.Values.{FieldShapes, Place, Shape, Value, array_shape, boolean_shape, integer_shape, number, record_shape, truth}
 use Rattle.ob0_run_machine.specs.Evaluation as machine
 use Rattle.ob0_run_machine.specs.Lowered as lowered
 use Rattle.ob0_run_cells.specs.Cells.{field_offset, size}

@@ -3,11 +3,11 @@
 -- Rule: none; laws of lowered statements.
 use Rattle.std.specs.Prelude.{◌≡◌, List, [], ◌∷◌, Some}
 use Rattle.ob0_tree.specs.Tree.{Tree, arguments, assigns, branches, calls, else_branch, else_part, elsif_branch, elsif_part, empty, end, expression, further_statement, items, maybe, more, none, one, repeat_loop, runs, selector, sequence, statement, then_statement, while_loop}
-use Rattle.ob0_scope_rules.specs.Names.{Label}
-use Rattle.ob0_types_rules.specs.Arguments.{arguments_listed}
-use Rattle.ob0_types_rules.specs.Expressions.{a_procedure, a_standard, reads, writes, writes_line}
-use Rattle.ob0_types_rules.specs.WellTyped.{Signature, Typed}
-use Rattle.ob0_values.specs.Values.{Shape, boolean_shape, integer_shape}
+use Rattle.ob0_language_names.specs.Names.{Label}
+use Rattle.ob0_language_types.specs.Arguments.{arguments_listed}
+use Rattle.ob0_language_types.specs.Expressions.{a_procedure, a_standard, reads, writes, writes_line}
+use Rattle.ob0_language_types.specs.WellTyped.{Signature, Typed}
+use Rattle.ob0_language_values.specs.Values.{Shape, boolean_shape, integer_shape}
 use Rattle.ob0_run_machine.specs.Lowered as lowered
 use Rattle.ob0_run_cells.specs.Cells.{size}
 use Rattle.ob0_run_cells.specs.LoweredStatements.{ArgumentsMean, ElseMeans, ElsifsMean, FurtherMean, IsAt, SequenceMeans, StatementMeans, Target}

@@ -3,12 +3,12 @@ use Rattle.std.proofs.Common.{◌≡◌, ℕ, true, Some, sym, subst}
 use Rattle.ob0_tree.specs.Tree.{Tree, assigns, expression, items, selector}
 use Rattle.ob0_tree.specs.View.{expression_of}
 use Rattle.ob0_tree.specs.declared.tree.Expression.{Expression}
-use Rattle.ob0_scope_rules.specs.Names.{Label}
-use Rattle.ob0_types_rules.specs.InLabels.{in_labels, label_in}
-use Rattle.ob0_types_rules.specs.Typing.{type_of}
-use Rattle.ob0_types_rules.specs.WellTyped.{Typed, statement_fits, variable_type}
-use Rattle.ob0_values.specs.Values.{Shape, array_shape, boolean_shape, integer_shape, record_shape}
-use Rattle.ob0_types_rules.proofs.Conditions.{agree-true}
+use Rattle.ob0_language_names.specs.Names.{Label}
+use Rattle.ob0_scope_table.specs.InLabels.{in_labels, label_in}
+use Rattle.ob0_language_types.specs.Typing.{type_of}
+use Rattle.ob0_language_types.specs.WellTyped.{Typed, statement_fits, variable_type}
+use Rattle.ob0_language_values.specs.Values.{Shape, array_shape, boolean_shape, integer_shape, record_shape}
+use Rattle.ob0_language_types.proofs.Conditions.{agree-true}
 use Rattle.ob0_run_machine.specs.declared.code.Number.{Number}
 use Rattle.ob0_run_machine.specs.declared.code.Place.{Place}
 use Rattle.ob0_run_machine.specs.declared.code.Truth.{Truth}

@@ -6,20 +6,20 @@ use Rattle.std.specs.declared.vec.Vec.{Vec}
 use Rattle.ob0_tree.specs.Tree.{Tree, arguments, calls, compares, end, expression, integer, maybe, none, product, sum}
 use Rattle.ob0_tree.specs.View.{arguments_of, expression_of}
 use Rattle.ob0_tree.specs.declared.tree.Expression.{Expression}
-use Rattle.ob0_scope_rules.specs.Names.{Label}
-use Rattle.ob0_scope_rules.specs.Resolution.{Resolution}
+use Rattle.ob0_language_names.specs.Names.{Label}
+use Rattle.ob0_scope_table.specs.Resolution.{Resolution}
 use Rattle.ob0_types_table.specs.KnownTables.{shapes_of}
 use Rattle.ob0_types_table.specs.Tables.{formal_in}
 use Rattle.ob0_types_table.specs.declared.known.Formal as formal
-use Rattle.ob0_types_rules.specs.Designators.{all_in_labels}
-use Rattle.ob0_types_rules.specs.InLabels.{in_labels}
-use Rattle.ob0_types_rules.proofs.Parts.{all_listed}
-use Rattle.ob0_types_rules.specs.Arguments.{arguments_listed}
-use Rattle.ob0_types_rules.specs.Expressions.{Object, a_procedure, a_standard, reads, writes, writes_line}
-use Rattle.ob0_types_rules.specs.Typing.{lone_designator, type_of}
-use Rattle.ob0_types_rules.specs.WellTyped.{Formal, Signature, Typed, argument_fits, arguments_fit, by_place, by_value, call_fits, signature_of, statement_fits, variable_type}
-use Rattle.ob0_values.specs.Values.{Shape, integer_shape}
-use Rattle.ob0_types_rules.proofs.Conditions.{agree-true, both_true}
+use Rattle.ob0_types_table.specs.Designators.{all_in_labels}
+use Rattle.ob0_scope_table.specs.InLabels.{in_labels}
+use Rattle.ob0_types_table.proofs.LabelledParts.{all_listed}
+use Rattle.ob0_language_types.specs.Arguments.{arguments_listed}
+use Rattle.ob0_language_types.specs.Expressions.{Object, a_procedure, a_standard, reads, writes, writes_line}
+use Rattle.ob0_language_types.specs.Typing.{lone_designator, type_of}
+use Rattle.ob0_language_types.specs.WellTyped.{Formal, Signature, Typed, argument_fits, arguments_fit, by_place, by_value, call_fits, signature_of, statement_fits, variable_type}
+use Rattle.ob0_language_values.specs.Values.{Shape, integer_shape}
+use Rattle.ob0_language_types.proofs.Conditions.{agree-true, both_true}
 use Rattle.ob0_run_machine.specs.declared.code.Argument as argument
 use Rattle.ob0_run_machine.specs.declared.code.Number.{Number}
 use Rattle.ob0_run_machine.specs.Lowered as lowered

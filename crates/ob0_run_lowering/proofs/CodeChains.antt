@@ -4,9 +4,9 @@ use Rattle.std.proofs.Common.{◌≡◌, ℕ, ◌+◌, ◌<◌, ◌≤◌, List,
 use Rattle.std.proofs.lemmas.List.{drop_all, drop_more}
 use Rattle.ob0_tree.specs.Tree.{Tree, Item, addend, adds, item, items, end, field, index, more, multiplier, multiplies, selector}
 use Rattle.ob0_tree.specs.View.{items_of}
-use Rattle.ob0_scope_rules.specs.Names.{Label}
-use Rattle.ob0_scope_rules.specs.Resolution.{Resolution}
-use Rattle.ob0_types_rules.specs.InLabels.{in_labels}
+use Rattle.ob0_language_names.specs.Names.{Label}
+use Rattle.ob0_scope_table.specs.Resolution.{Resolution}
+use Rattle.ob0_scope_table.specs.InLabels.{in_labels}
 use Rattle.ob0_run_lowering.specs.Codes.{ExpressionCode, FoundPlace, added, multiplied}
 use Rattle.ob0_run_lowering.specs.Trees.{addends_code, factor_code, multipliers_code, selected_once, selected_place, term_code}
 use Rattle.ob0_run_lowering.specs.declared.scene.Scene.{Scene}

@@ -9,11 +9,11 @@ use Rattle.ob0_tree.specs.declared.tree.AddOperator.TheVariants as add_operator
 use Rattle.ob0_tree.specs.declared.tree.MultiplyOperator.{MultiplyOperator}
 use Rattle.ob0_tree.specs.declared.tree.MultiplyOperator.TheVariants as multiply_operator
 use Rattle.ob0_tree.specs.Tree.{Tree, addend, adds, compares, end, expression, factor, items, more, multiplier, multiplies, negation, none, one, parenthesised, product, relates, simple, sum, term}
-use Rattle.ob0_scope_rules.specs.Names.{Label}
-use Rattle.ob0_types_rules.specs.Expressions.{evaluate}
-use Rattle.ob0_types_rules.specs.Typing.{add_type, complement_type, multiply_type, relation_type, sign_type}
-use Rattle.ob0_types_rules.specs.WellTyped.{Typed}
-use Rattle.ob0_values.specs.Values.{Outcome, Shape, Value, array_shape, boolean_shape, ends, gives, integer_shape, record_shape, ◌>>=◌}
+use Rattle.ob0_language_names.specs.Names.{Label}
+use Rattle.ob0_language_types.specs.Expressions.{evaluate}
+use Rattle.ob0_language_types.specs.Typing.{add_type, complement_type, multiply_type, relation_type, sign_type}
+use Rattle.ob0_language_types.specs.WellTyped.{Typed}
+use Rattle.ob0_language_values.specs.Values.{Outcome, Shape, Value, array_shape, boolean_shape, ends, gives, integer_shape, record_shape, ◌>>=◌}
 use Rattle.ob0_run_machine.specs.Lowered as lowered
 use Rattle.ob0_run_cells.specs.Cells.{size}
 use Rattle.ob0_run_cells.specs.Lowering.{Evaluated, Leads, NumberLeads, NumberMeans, RestOfChain, Slot, TruthLeads, TruthMeans, ValueAt, addends_left, multipliers_left, value_of_expression, value_of_factor, value_of_simple, value_of_term}

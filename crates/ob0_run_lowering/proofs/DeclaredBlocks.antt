@@ -3,22 +3,22 @@ use Rattle.std.proofs.Common.{◌≡◌, ℕ, suc, ◌+◌, ◌<◌, ◌≤◌, 
 use Rattle.std.proofs.lemmas.Bool.{ltb-false, ltb-true}
 use Rattle.std.proofs.lemmas.List.{append-nil}
 use Rattle.ob0_tree.specs.Tree.{Tree, block, body, declares, declares_procedure, end, formals, has_body, is_module, items, maybe, module_text, more, procedure}
-use Rattle.ob0_scope_rules.specs.Names.{Label, Name, as_labels, as_names, declared}
-use Rattle.ob0_scope_rules.specs.Parts.{block_procedures, block_statements, formal_names, formal_sections, module_block, named_types, section_types, section_variables, variable_names}
-use Rattle.ob0_scope_rules.specs.Scopes.{Scope, after_block, after_names, after_procedure, after_procedures, as_label, declare_names, first_procedure, numbered, relabel_block, relabel_formals, relabel_procedures}
-use Rattle.ob0_scope_rules.proofs.Ordinals.{le-after_names, le-after_block, le-after_procedure, le-after_procedures}
-use Rattle.ob0_types_rules.specs.Bindings.{block_bindings, module_bindings, object_bound, procedures_bindings}
-use Rattle.ob0_types_rules.specs.ConstantValues.{Known, no_constant}
-use Rattle.ob0_types_rules.specs.Declarations.{after_variables, formals_constructors, procedure_constructors}
-use Rattle.ob0_types_rules.specs.Environments.{from_binding, outermost}
-use Rattle.ob0_types_rules.specs.Expressions.{Object}
-use Rattle.ob0_types_rules.specs.WellTyped.{Signature, TypeEnvironment, TypedParameter, WellTyped, bind_names, bind_typed, block_fits, fits_over, heading, procedures_fit}
-use Rattle.ob0_values.specs.Values.{Shape}
-use Rattle.ob0_types_rules.proofs.Bound.{bind_typed-append, newest-if}
-use Rattle.ob0_types_rules.proofs.ConstantsDeclared.{Binds, Entered, FitParts, Knows, Opened, all_known, binds-append, binds-wider, block-listed, block-opened, block-parts, block-evaluates, bound-elsewhere, bound-first, knows-all, opened-above, opened-binds, opened-grown, opened-since, outermost-binds, predeclared-below, procedure-entered, procedure-parts, procedures-listed, procedures-evaluate}
-use Rattle.ob0_types_rules.proofs.Literals.{some_inverse}
-use Rattle.ob0_types_rules.proofs.Proved.{fits_by_ordinal-holds}
-use Rattle.ob0_types_rules.proofs.TypesByOrdinal.{TypeNoted, TypedBelow, TypedBelow-weaken, typed_by_ordinal, typed_outermost, typed_scope}
+use Rattle.ob0_language_names.specs.Names.{Label, Name, as_labels, as_names, declared}
+use Rattle.ob0_language_names.specs.Parts.{block_procedures, block_statements, formal_names, formal_sections, module_block, named_types, section_types, section_variables, variable_names}
+use Rattle.ob0_language_names.specs.Scopes.{Scope, after_block, after_names, after_procedure, after_procedures, as_label, declare_names, first_procedure, numbered, relabel_block, relabel_formals, relabel_procedures}
+use Rattle.ob0_language_names.proofs.Ordinals.{le-after_names, le-after_block, le-after_procedure, le-after_procedures}
+use Rattle.ob0_language_types.specs.Bindings.{block_bindings, module_bindings, object_bound, procedures_bindings}
+use Rattle.ob0_language_types.specs.ConstantValues.{Known, no_constant}
+use Rattle.ob0_language_types.specs.Declarations.{after_variables, formals_constructors, procedure_constructors}
+use Rattle.ob0_language_types.specs.Environments.{from_binding, outermost}
+use Rattle.ob0_language_types.specs.Expressions.{Object}
+use Rattle.ob0_language_types.specs.WellTyped.{Signature, TypeEnvironment, TypedParameter, WellTyped, bind_names, bind_typed, block_fits, fits_over, heading, procedures_fit}
+use Rattle.ob0_language_values.specs.Values.{Shape}
+use Rattle.ob0_language_types.proofs.Bound.{bind_typed-append, newest-if}
+use Rattle.ob0_language_types.proofs.ConstantsDeclared.{Binds, Entered, FitParts, Knows, Opened, all_known, binds-append, binds-wider, block-listed, block-opened, block-parts, block-evaluates, bound-elsewhere, bound-first, knows-all, opened-above, opened-binds, opened-grown, opened-since, outermost-binds, predeclared-below, procedure-entered, procedure-parts, procedures-listed, procedures-evaluate}
+use Rattle.ob0_language_types.proofs.Literals.{some_inverse}
+use Rattle.ob0_language_types.proofs.Proved.{fits_by_ordinal-holds}
+use Rattle.ob0_language_types.proofs.TypesByOrdinal.{TypeNoted, TypedBelow, TypedBelow-weaken, typed_by_ordinal, typed_outermost, typed_scope}
 use Rattle.ob0_run_lowering.specs.KnownBlocks.{AreDeclared, BlockDeclared, ProceduresDeclared}
 
 -- what an environment has, a list of bindings has too

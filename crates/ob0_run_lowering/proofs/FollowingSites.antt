@@ -11,14 +11,14 @@ use Rattle.ob0_run_lowering.specs.declared.scene.Site.TheVariants as site
 use Rattle.ob0_tree.specs.Tree.{Tree, further_section, items, more, then_section}
 use Rattle.ob0_tree.specs.View.{names_of, section_of}
 use Rattle.ob0_tree.specs.declared.tree.Section.{Section}
-use Rattle.ob0_types_rules.specs.InLabels.{in_labels}
-use Rattle.ob0_types_rules.proofs.Parts.{section-mode, section-names}
-use Rattle.ob0_scope_rules.specs.Parts.{names_listed}
-use Rattle.ob0_scope_rules.specs.Resolution.{Resolution}
+use Rattle.ob0_scope_table.specs.InLabels.{in_labels}
+use Rattle.ob0_types_table.proofs.LabelledParts.{section-mode, section-names}
+use Rattle.ob0_language_names.specs.Parts.{names_listed}
+use Rattle.ob0_scope_table.specs.Resolution.{Resolution}
 use Rattle.ob0_types_table.specs.Tables.{mode_of}
-use Rattle.ob0_scope_rules.specs.Names.{Label, Name, as_names}
-use Rattle.ob0_scope_rules.specs.Scopes.{as_label}
-use Rattle.ob0_types_rules.specs.WellTyped.{by_place, by_value}
+use Rattle.ob0_language_names.specs.Names.{Label, Name, as_names}
+use Rattle.ob0_language_names.specs.Scopes.{as_label}
+use Rattle.ob0_language_types.specs.WellTyped.{by_place, by_value}
 use Rattle.ob0_run_lowering.specs.Placed.{AllWithin, Follows, IsRestored, LocatesAll, IsFrame, IsNextSite, Places, LocatesAs, before_all, place_each, place_one, place_sections, put_at, put_site, slots_at}
 use Rattle.ob0_run_lowering.specs.declared.visible_sites.Frame.{Frame}
 use Rattle.ob0_run_lowering.specs.declared.visible_sites.Hidden.{Hidden}

@@ -3,14 +3,14 @@ use Rattle.std.proofs.Common.{◌≡◌, ◌&&◌, true, Some, sym, ap, ◌∙�
 use Rattle.ob0_tree.specs.Tree.{Tree, begins, branches, else_branch, else_part, elsif_branch, elsif_part, empty, end, expression, further_statement, items, maybe, more, none, one, repeat_loop, runs, sequence, statement, then_statement, while_loop}
 use Rattle.ob0_tree.specs.View.{expression_of}
 use Rattle.ob0_tree.specs.declared.tree.Expression.{Expression}
-use Rattle.ob0_scope_rules.specs.Names.{Label, as_labels}
-use Rattle.ob0_types_rules.specs.InLabels.{in_labels}
-use Rattle.ob0_types_rules.specs.Environments.{meanings}
-use Rattle.ob0_types_rules.specs.Typing.{type_of}
-use Rattle.ob0_types_rules.specs.WellTyped.{body_fits, condition_fits, else_fits, elsifs_fit, sequence_fits, statement_fits, statements_fit}
-use Rattle.ob0_values.specs.Values.{boolean_shape}
-use Rattle.ob0_run_rules.specs.Runs.{execute}
-use Rattle.ob0_types_rules.proofs.Conditions.{agree-true, both_true}
+use Rattle.ob0_language_names.specs.Names.{Label, as_labels}
+use Rattle.ob0_scope_table.specs.InLabels.{in_labels}
+use Rattle.ob0_language_types.specs.Environments.{meanings}
+use Rattle.ob0_language_types.specs.Typing.{type_of}
+use Rattle.ob0_language_types.specs.WellTyped.{body_fits, condition_fits, else_fits, elsifs_fit, sequence_fits, statement_fits, statements_fit}
+use Rattle.ob0_language_values.specs.Values.{boolean_shape}
+use Rattle.ob0_language_runs.specs.Runs.{execute}
+use Rattle.ob0_language_types.proofs.Conditions.{agree-true, both_true}
 use Rattle.ob0_run_machine.specs.declared.code.Truth.{Truth}
 use Rattle.ob0_run_machine.specs.Lowered as lowered
 use Rattle.ob0_run_machine.specs.View.{truth_of}

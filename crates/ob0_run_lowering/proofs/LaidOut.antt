@@ -4,9 +4,9 @@ use Rattle.std.proofs.lemmas.Bool.Decides.{nat_tests}
 use Rattle.std.proofs.lemmas.Option.{slice_get_past}
 use Rattle.std.proofs.lemmas.List.{drop_all, drop_more, get_or_past, take_all}
 use Rattle.std.proofs.Math.Seq.{take-suc}
-use Rattle.ob0_scope_rules.specs.Names.{Name, same_name}
+use Rattle.ob0_language_names.specs.Names.{Name, same_name}
 use Rattle.ob0_run_machine.specs.Evaluation as machine
-use Rattle.ob0_types_rules.specs.Expressions.{a_constant}
+use Rattle.ob0_language_types.specs.Expressions.{a_constant}
 use Rattle.ob0_types_table.specs.KnownTables.{Tables, declared_in, shapes_of}
 use Rattle.ob0_types_table.specs.FieldPlaces.{field_selected, place_of_field}
 use Rattle.ob0_types_table.specs.Tables.{fields_shape, made_shape, no_shape, object_in, only_array, only_record, shapes_from, type_shape}
@@ -14,7 +14,7 @@ use Rattle.ob0_types_table.proofs.Tables.{shapes_from-push}
 use Rattle.ob0_types_table.specs.declared.known.FieldOf.{FieldOf}
 use Rattle.ob0_types_table.specs.declared.known.TypeEntry as code
 use Rattle.ob0_types_table.specs.declared.known.Field.{Field}
-use Rattle.ob0_values.specs.Values.{FieldShapes, Shape, array_shape, boolean_shape, integer_shape, next_field_shape, no_field_shape, number, record_shape}
+use Rattle.ob0_language_values.specs.Values.{FieldShapes, Shape, array_shape, boolean_shape, integer_shape, next_field_shape, no_field_shape, number, record_shape}
 use Rattle.ob0_run_cells.specs.Cells.{field_offset, field_sizes, size}
 use Rattle.ob0_run_lowering.specs.Layouts.{AreLaidOut, HasLayout, LayOut, offsets_from}
 use Rattle.ob0_run_lowering.specs.declared.types.Layout.{Layout}

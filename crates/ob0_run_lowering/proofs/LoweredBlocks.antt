@@ -10,21 +10,21 @@ use Rattle.ob0_tree.specs.View.{procedure_of as tree_procedure_of}
 use Rattle.ob0_tree.specs.declared.tree.Block as tree_block
 use Rattle.ob0_tree.specs.declared.tree.Procedure as tree
 use Rattle.ob0_tree.proofs.Viewed.{block_parts}
-use Rattle.ob0_types_rules.specs.InLabels.{in_labels, label_in}
-use Rattle.ob0_types_rules.proofs.Parts.{procedure_parts, split}
-use Rattle.ob0_scope_rules.specs.Resolution.{Resolution, ordinal_in}
-use Rattle.ob0_scope_rules.specs.Names.{Label, Name, as_labels, as_names}
-use Rattle.ob0_scope_rules.specs.Parts.{constant_names, formal_sections, module_block, named_types, section_constants, section_types, section_variables}
-use Rattle.ob0_scope_rules.specs.Scopes.{as_label, numbered}
+use Rattle.ob0_scope_table.specs.InLabels.{in_labels, label_in}
+use Rattle.ob0_types_table.proofs.LabelledParts.{procedure_parts, split}
+use Rattle.ob0_scope_table.specs.Resolution.{Resolution, ordinal_in}
+use Rattle.ob0_language_names.specs.Names.{Label, Name, as_labels, as_names}
+use Rattle.ob0_language_names.specs.Parts.{constant_names, formal_sections, module_block, named_types, section_constants, section_types, section_variables}
+use Rattle.ob0_language_names.specs.Scopes.{as_label, numbered}
 use Rattle.ob0_types_table.specs.KnownTables.{Tables, declared_in}
-use Rattle.ob0_types_rules.specs.Bindings.{declared_object}
-use Rattle.ob0_types_rules.proofs.ConstantsDeclared.{FitParts, block-parts, procedure-parts}
-use Rattle.ob0_types_rules.specs.Declarations.{after_types, after_variables, declare_first, formals_constructors, procedure_constructors}
-use Rattle.ob0_types_rules.specs.Environments.{outermost}
-use Rattle.ob0_types_rules.specs.WellTyped.{TypeEnvironment, TypedParameter, WellTyped, bind_typed, block_fits, body_fits, declare_typed, fits_over, heading, procedures_fit}
-use Rattle.ob0_types_rules.proofs.Proved.{fits_by_ordinal-holds}
-use Rattle.ob0_types_rules.proofs.Literals.{some_inverse}
-use Rattle.ob0_types_rules.proofs.TypedElsewhere.{then_some}
+use Rattle.ob0_language_types.specs.Bindings.{declared_object}
+use Rattle.ob0_language_types.proofs.ConstantsDeclared.{FitParts, block-parts, procedure-parts}
+use Rattle.ob0_language_types.specs.Declarations.{after_types, after_variables, declare_first, formals_constructors, procedure_constructors}
+use Rattle.ob0_language_types.specs.Environments.{outermost}
+use Rattle.ob0_language_types.specs.WellTyped.{TypeEnvironment, TypedParameter, WellTyped, bind_typed, block_fits, body_fits, declare_typed, fits_over, heading, procedures_fit}
+use Rattle.ob0_language_types.proofs.Proved.{fits_by_ordinal-holds}
+use Rattle.ob0_language_types.proofs.Literals.{some_inverse}
+use Rattle.ob0_language_types.proofs.TypedElsewhere.{then_some}
 use Rattle.ob0_run_machine.specs.Lowered as lowered
 use Rattle.ob0_run_machine.specs.View.{procedure_of, program_of, sequence_of}
 use Rattle.ob0_run_machine.specs.declared.code.Routine.{Routine}

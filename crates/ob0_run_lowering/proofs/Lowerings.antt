@@ -5,18 +5,18 @@ use Rattle.ob0_scan.specs.Scanned.{IsScan, Scanned}
 use Rattle.ob0_scan.specs.declared.lexeme.Token.{Token}
 use Rattle.ob0_tree.specs.Places.{value_at, value_in, value_of}
 use Rattle.ob0_tree.specs.Tree.{Tree, expression, items, selector}
-use Rattle.ob0_scope_rules.specs.Names.{Label, as_written, declared}
+use Rattle.ob0_language_names.specs.Names.{Label, as_written, declared}
 use Rattle.ob0_types_table.specs.KnownTables.{declared_in, shapes_of}
 use Rattle.ob0_types_table.specs.Tables.{formal_in, mode_of, type_shape}
 use Rattle.ob0_types_table.specs.declared.known.Formal.{Formal}
-use Rattle.ob0_types_rules.specs.InLabels.{in_labels, label_in}
-use Rattle.ob0_types_rules.proofs.Numbers.{small_number}
-use Rattle.ob0_types_rules.specs.Expressions.{Object, a_constant, a_procedure, a_standard, a_type, a_variable}
-use Rattle.ob0_types_rules.specs.Typing.{lone_designator, type_at, type_of}
-use Rattle.ob0_types_rules.specs.WellTyped as typing
-use Rattle.ob0_types_rules.specs.WellTyped.{Mode, Signature, Typed, agree, argument_fits, by_place, by_value, variable_type}
-use Rattle.ob0_types_rules.proofs.Conditions.{same_shape-true}
-use Rattle.ob0_values.specs.Values.{Shape, array_shape, boolean_shape, integer_shape, number, record_shape}
+use Rattle.ob0_scope_table.specs.InLabels.{in_labels, label_in}
+use Rattle.ob0_types_table.proofs.TokenNumbers.{small_number}
+use Rattle.ob0_language_types.specs.Expressions.{Object, a_constant, a_procedure, a_standard, a_type, a_variable}
+use Rattle.ob0_language_types.specs.Typing.{lone_designator, type_at, type_of}
+use Rattle.ob0_language_types.specs.WellTyped as typing
+use Rattle.ob0_language_types.specs.WellTyped.{Mode, Signature, Typed, agree, argument_fits, by_place, by_value, variable_type}
+use Rattle.ob0_language_types.proofs.Conditions.{same_shape-true}
+use Rattle.ob0_language_values.specs.Values.{Shape, array_shape, boolean_shape, integer_shape, number, record_shape}
 use Rattle.ob0_run_machine.specs.Evaluation as machine
 use Rattle.ob0_run_machine.specs.Lowered as lowered
 use Rattle.ob0_run_machine.specs.View.{argument_of, number_of, place_of, truth_of}

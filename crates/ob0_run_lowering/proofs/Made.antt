@@ -8,9 +8,9 @@ use Rattle.ob0_tree.specs.View as view
 use Rattle.ob0_tree.specs.View.{else_in, elsif_of, expression_of, further_statement_of, items_of, sequence_listed}
 use Rattle.ob0_tree.specs.declared.tree.Elsif.{Elsif}
 use Rattle.ob0_tree.specs.declared.tree.Statement.{Statement}
-use Rattle.ob0_scope_rules.specs.Names.{Label}
-use Rattle.ob0_scope_rules.specs.Resolution.{Resolution}
-use Rattle.ob0_types_rules.specs.InLabels.{in_labels}
+use Rattle.ob0_language_names.specs.Names.{Label}
+use Rattle.ob0_scope_table.specs.Resolution.{Resolution}
+use Rattle.ob0_scope_table.specs.InLabels.{in_labels}
 use Rattle.ob0_run_machine.specs.declared.code.Branch as branch
 use Rattle.ob0_run_machine.specs.declared.code.Conditional.{out-roll-Conditional, roll-Conditional}
 use Rattle.ob0_run_machine.specs.declared.code.Instruction as code

@@ -1,18 +1,18 @@
 -- Where what is in scope is placed, and what the code's table has of it.
 use Rattle.std.proofs.Common.{◌≡◌, ℕ, suc, ◌+◌, ◌-◌, ◌≤◌, ◌==◌, Bool, true, false, List, [], ◌∷◌, ◌++◌, map, Some, None, Option, option_and_then, if◌then◌else◌, refl, sym, ap, ◌∙◌, subst, arith, eqb-true, true≢false}
 use Rattle.ob0_tree.specs.Tree.{Tree, block, constant, declares_constant, declares_type, declares_variable, end, further_section, items, more, section, then_section, type_name, variable}
-use Rattle.ob0_scope_rules.specs.Names.{Label, Name, as_labels, as_names, as_written, declared, same_label}
-use Rattle.ob0_scope_rules.specs.Parts.{block_constants, block_types, constant_names, named_types, names_listed, section_names, section_type}
-use Rattle.ob0_scope_rules.specs.Scopes.{as_label}
+use Rattle.ob0_language_names.specs.Names.{Label, Name, as_labels, as_names, as_written, declared, same_label}
+use Rattle.ob0_language_names.specs.Parts.{block_constants, block_types, constant_names, named_types, names_listed, section_names, section_type}
+use Rattle.ob0_language_names.specs.Scopes.{as_label}
 use Rattle.ob0_types_table.specs.KnownTables.{Tables, declared_in}
-use Rattle.ob0_types_rules.specs.Declarations.{declare_constants, declare_first, declare_types}
-use Rattle.ob0_types_rules.specs.Environments.{from_binding, meanings, newest}
-use Rattle.ob0_types_rules.specs.Expressions.{Object, a_constant, a_procedure, a_standard, a_type, a_variable}
-use Rattle.ob0_types_rules.specs.Typing.{constant_value, constructors, denoted, type_declared}
-use Rattle.ob0_types_rules.specs.WellTyped.{Mode, Signature, TypeEnvironment, TypedParameter, bind_names, bind_typed, by_place, by_value, declare_typed, section_mode, typed_parameters}
-use Rattle.ob0_types_rules.proofs.Literals.{some_inverse}
-use Rattle.ob0_types_rules.proofs.TypedElsewhere.{then_some}
-use Rattle.ob0_values.specs.Values.{Shape}
+use Rattle.ob0_language_types.specs.Declarations.{declare_constants, declare_first, declare_types}
+use Rattle.ob0_language_types.specs.Environments.{from_binding, meanings, newest}
+use Rattle.ob0_language_types.specs.Expressions.{Object, a_constant, a_procedure, a_standard, a_type, a_variable}
+use Rattle.ob0_language_types.specs.Typing.{constant_value, constructors, denoted, type_declared}
+use Rattle.ob0_language_types.specs.WellTyped.{Mode, Signature, TypeEnvironment, TypedParameter, bind_names, bind_typed, by_place, by_value, declare_typed, section_mode, typed_parameters}
+use Rattle.ob0_language_types.proofs.Literals.{some_inverse}
+use Rattle.ob0_language_types.proofs.TypedElsewhere.{then_some}
+use Rattle.ob0_language_values.specs.Values.{Shape}
 use Rattle.ob0_run_cells.specs.Activations.{Placed, Placing, Whereabouts, at_target, first_slot, first_target, from_name, hide_names, in_slot, inward, inward_slot, inward_whereabouts, nowhere, place_names, place_parameter, place_parameters, place_variables, slot_of, slots_in, target_of, targets_in}
 use Rattle.ob0_run_cells.specs.Cells.{size}
 use Rattle.ob0_run_cells.specs.LoweredStatements.{Target}

@@ -2,9 +2,9 @@
 -- Rule: none; for contracts of lowering.
 use Rattle.std.specs.Prelude.{◌≡◌, ℕ, ◌≤◌, true, List, length, Some, slice_get}
 use Rattle.ob0_tree.specs.Tree.{Tree, block, body, items, maybe, procedure}
-use Rattle.ob0_scope_rules.specs.Names.{Label, as_labels}
+use Rattle.ob0_language_names.specs.Names.{Label, as_labels}
 use Rattle.ob0_types_table.specs.KnownTables.{Tables, declared_in}
-use Rattle.ob0_types_rules.specs.WellTyped.{TypeEnvironment, block_fits, procedures_fit}
+use Rattle.ob0_language_types.specs.WellTyped.{TypeEnvironment, block_fits, procedures_fit}
 use Rattle.ob0_run_machine.specs.Lowered as lowered
 use Rattle.ob0_run_machine.specs.View.{procedure_of, sequence_of}
 use Rattle.ob0_run_machine.specs.declared.code.Routine.{Routine}

@@ -2,13 +2,13 @@
 -- Rule: none; for contracts of lowering.
 use Rattle.std.specs.Prelude.{◌≡◌, ℕ, ◌+◌, List, [], ◌∷◌, Some, Option}
 use Rattle.ob0_tree.specs.Tree.{Tree, block, declares, declares_procedure, end, has_body, item, items, more, procedure}
-use Rattle.ob0_scope_rules.specs.Names.{Label, as_labels, declared}
-use Rattle.ob0_scope_rules.specs.Parts.{formal_sections, procedure_formals, procedure_name}
-use Rattle.ob0_types_rules.specs.Declaring.{declare_block}
-use Rattle.ob0_types_rules.specs.Declarations.{after_variables, formals_constructors, procedure_constructors}
-use Rattle.ob0_types_rules.specs.Expressions.{Object}
-use Rattle.ob0_types_rules.specs.WellTyped.{Signature, TypeEnvironment, TypedParameter, bind_typed, heading, typed_parameters}
-use Rattle.ob0_values.specs.Values.{Shape}
+use Rattle.ob0_language_names.specs.Names.{Label, as_labels, declared}
+use Rattle.ob0_language_names.specs.Parts.{formal_sections, procedure_formals, procedure_name}
+use Rattle.ob0_language_types.specs.Declaring.{declare_block}
+use Rattle.ob0_language_types.specs.Declarations.{after_variables, formals_constructors, procedure_constructors}
+use Rattle.ob0_language_types.specs.Expressions.{Object}
+use Rattle.ob0_language_types.specs.WellTyped.{Signature, TypeEnvironment, TypedParameter, bind_typed, heading, typed_parameters}
+use Rattle.ob0_language_values.specs.Values.{Shape}
 
 -- what declarations are, by their ordinals
 abbrev pub Objects : Type 0

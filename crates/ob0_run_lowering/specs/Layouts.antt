@@ -3,7 +3,7 @@
 use Rattle.std.specs.Prelude.{◌≡◌, ℕ, ◌+◌, List, [], ◌∷◌, Some, None, Option}
 use Rattle.std.specs.Borrow.{Bor}
 use Rattle.ob0_types_table.specs.Tables.{no_shape}
-use Rattle.ob0_values.specs.Values.{FieldShapes, Shape, array_shape, next_field_shape, no_field_shape, record_shape}
+use Rattle.ob0_language_values.specs.Values.{FieldShapes, Shape, array_shape, next_field_shape, no_field_shape, record_shape}
 use Rattle.ob0_run_cells.specs.Cells.{field_sizes, size}
 use Rattle.ob0_run_lowering.specs.declared.types.Layout.{Layout}
 use Rattle.ob0_run_lowering.specs.declared.types.Layout.TheVariants as layout

@@ -6,9 +6,9 @@ use Rattle.std.specs.declared.alloc.Global.{Global}
 use Rattle.std.specs.declared.vec.Vec.{Vec}
 use Rattle.ob0_tree.specs.Tree.{Tree, body, else_part, elsif_part, empty, expression, further_statement, items, maybe, sequence, statement}
 use Rattle.ob0_tree.specs.declared.tree.Expression.{Expression}
-use Rattle.ob0_scope_rules.specs.Names.{Label, as_labels}
-use Rattle.ob0_types_rules.specs.Environments.{meanings}
-use Rattle.ob0_types_rules.specs.WellTyped.{Signature, TypeEnvironment, Typed, arguments_fit, body_fits, condition_fits, else_fits, elsifs_fit, sequence_fits, statement_fits, statements_fit}
+use Rattle.ob0_language_names.specs.Names.{Label, as_labels}
+use Rattle.ob0_language_types.specs.Environments.{meanings}
+use Rattle.ob0_language_types.specs.WellTyped.{Signature, TypeEnvironment, Typed, arguments_fit, body_fits, condition_fits, else_fits, elsifs_fit, sequence_fits, statement_fits, statements_fit}
 use Rattle.ob0_run_machine.specs.Lowered as lowered
 use Rattle.ob0_run_cells.specs.Activations.{BodyMeans, Placing, slots_in, targets_in}
 use Rattle.ob0_run_cells.specs.LoweredStatements.{ArgumentsMean, ElseMeans, ElsifsMean, FurtherMean, SequenceMeans, StatementMeans, Target}

@@ -2,8 +2,8 @@
 -- Rule: none; for contracts of lowering, against docs/LANGUAGE.md, Runs 6.
 use Rattle.std.specs.Prelude.{ℕ, ◌≤◌}
 use Rattle.ob0_tree.specs.Tree.{Tree, module_text}
-use Rattle.ob0_scope_rules.specs.Names.{Name, as_labels}
-use Rattle.ob0_scope_rules.specs.Scopes.{numbered}
+use Rattle.ob0_language_names.specs.Names.{Name, as_labels}
+use Rattle.ob0_language_names.specs.Scopes.{numbered}
 use Rattle.ob0_run_machine.specs.Lowered as lowered
 use Rattle.ob0_run_cells.specs.Activations.{ProgramMeans}
 

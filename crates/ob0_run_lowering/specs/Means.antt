@@ -2,14 +2,14 @@
 -- Rule: none; for contracts of lowering.
 use Rattle.std.specs.Prelude.{◌≡◌, ℕ, true, Some}
 use Rattle.ob0_tree.specs.Tree.{Tree, expression, items, selector}
-use Rattle.ob0_scope_rules.specs.Names.{Label}
+use Rattle.ob0_language_names.specs.Names.{Label}
 use Rattle.ob0_types_table.specs.KnownTables.{shapes_of}
 use Rattle.ob0_types_table.specs.Tables.{formal_in, type_shape}
 use Rattle.ob0_types_table.specs.declared.known.Formal.{Formal}
-use Rattle.ob0_types_rules.specs.InLabels.{in_labels, label_in}
-use Rattle.ob0_types_rules.specs.Typing.{lone_designator, type_of}
-use Rattle.ob0_types_rules.specs.WellTyped.{Typed, argument_fits, variable_type}
-use Rattle.ob0_values.specs.Values.{Shape, Value, boolean_shape, integer_shape}
+use Rattle.ob0_scope_table.specs.InLabels.{in_labels, label_in}
+use Rattle.ob0_language_types.specs.Typing.{lone_designator, type_of}
+use Rattle.ob0_language_types.specs.WellTyped.{Typed, argument_fits, variable_type}
+use Rattle.ob0_language_values.specs.Values.{Shape, Value, boolean_shape, integer_shape}
 use Rattle.ob0_run_machine.specs.View.{argument_of, number_of, place_of, truth_of}
 use Rattle.ob0_run_machine.specs.declared.code.Argument.{Argument}
 use Rattle.ob0_run_machine.specs.declared.code.Number.{Number}

@@ -3,13 +3,13 @@
 -- Rule: none; for contracts of lowering.
 use Rattle.std.specs.Prelude.{◌≡◌, ℕ, zero, suc, ◌+◌, ◌≤◌, List, [], ◌∷◌, ◌++◌, length, if◌then◌else◌, ◌==◌, Some, None, Option}
 use Rattle.ob0_tree.specs.Tree.{Tree, declares_variable, end, further_section, items, more, then_section, variable}
-use Rattle.ob0_scope_rules.specs.Names.{Label, as_labels, declared}
-use Rattle.ob0_scope_rules.specs.Parts.{names_listed, section_names}
+use Rattle.ob0_language_names.specs.Names.{Label, as_labels, declared}
+use Rattle.ob0_language_names.specs.Parts.{names_listed, section_names}
 use Rattle.ob0_types_table.specs.KnownTables.{Tables}
-use Rattle.ob0_types_rules.specs.Expressions.{Object, a_constant, a_procedure, a_standard, a_type, a_variable}
-use Rattle.ob0_types_rules.specs.Typing.{type_declared}
-use Rattle.ob0_types_rules.specs.WellTyped.{Mode, Signature, TypeEnvironment, by_place, by_value, section_mode}
-use Rattle.ob0_values.specs.Values.{Shape}
+use Rattle.ob0_language_types.specs.Expressions.{Object, a_constant, a_procedure, a_standard, a_type, a_variable}
+use Rattle.ob0_language_types.specs.Typing.{type_declared}
+use Rattle.ob0_language_types.specs.WellTyped.{Mode, Signature, TypeEnvironment, by_place, by_value, section_mode}
+use Rattle.ob0_language_values.specs.Values.{Shape}
 use Rattle.ob0_run_cells.specs.Activations.{Placed, Placing, Whereabouts, at_target, from_name, in_slot, nowhere}
 use Rattle.ob0_run_cells.specs.Cells.{size}
 use Rattle.ob0_run_cells.specs.LoweredStatements.{Target}

@@ -4,11 +4,11 @@
 use Rattle.std.specs.Prelude.{◌≡◌, ℕ, ◌-◌, List, slice_index_or, Some, None, Option, true, ℤ, pos}
 use Rattle.ob0_tree.specs.Places.{value_at}
 use Rattle.ob0_run_machine.specs.Evaluation as machine
-use Rattle.ob0_scope_rules.specs.Names.{Label, as_written, declared, label_text}
+use Rattle.ob0_language_names.specs.Names.{Label, as_written, declared, label_text}
 use Rattle.ob0_types_table.specs.KnownTables.{Tables, declared_in}
-use Rattle.ob0_types_rules.specs.Expressions.{Object, a_constant, a_procedure, a_variable}
-use Rattle.ob0_types_rules.specs.WellTyped.{Signature, Typed}
-use Rattle.ob0_values.specs.Values.{Shape, number}
+use Rattle.ob0_language_types.specs.Expressions.{Object, a_constant, a_procedure, a_variable}
+use Rattle.ob0_language_types.specs.WellTyped.{Signature, Typed}
+use Rattle.ob0_language_values.specs.Values.{Shape, number}
 use Rattle.ob0_run_cells.specs.Activations.{Whereabouts, at_target, in_slot, nowhere, slot_of, target_of}
 use Rattle.ob0_run_cells.specs.LoweredStatements.{Target}
 use Rattle.ob0_run_cells.specs.Lowering.{Slot, held, by_reference, of_module}

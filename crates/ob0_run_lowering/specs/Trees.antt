@@ -2,12 +2,12 @@
 -- Rule: none; for contracts of lowering.
 use Rattle.std.specs.Prelude.{List, pos, Some, None, Option, option_and_then}
 use Rattle.ob0_tree.specs.Tree.{Tree, addend, adds, compares, designator, end, expression, factor, field, index, integer, item, items, more, multiplier, multiplies, negation, none, one, parenthesised, product, relates, selector, simple, sum, term}
-use Rattle.ob0_scope_rules.specs.Names.{Label, label_text}
+use Rattle.ob0_language_names.specs.Names.{Label, label_text}
 use Rattle.ob0_types_table.specs.Tables.{type_shape}
-use Rattle.ob0_types_rules.specs.Expressions.{Object, a_constant, a_procedure, a_standard, a_type, a_variable}
-use Rattle.ob0_types_rules.specs.Typing.{constant_of}
-use Rattle.ob0_types_rules.specs.WellTyped.{Signature}
-use Rattle.ob0_values.specs.Values.{Shape}
+use Rattle.ob0_language_types.specs.Expressions.{Object, a_constant, a_procedure, a_standard, a_type, a_variable}
+use Rattle.ob0_language_types.specs.Typing.{constant_of}
+use Rattle.ob0_language_types.specs.WellTyped.{Signature}
+use Rattle.ob0_language_values.specs.Values.{Shape}
 use Rattle.ob0_run_machine.specs.Lowered as lowered
 use Rattle.ob0_run_machine.specs.View.{number_of, place_of, truth_of}
 use Rattle.ob0_run_cells.specs.Lowering.{slot_place}

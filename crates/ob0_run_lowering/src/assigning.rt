@@ -3,7 +3,7 @@
 
 ghost use Rattle.std.specs.Prelude.{◌≡◌, IfOk};
 ghost use Rattle.ob0_tree.specs.View.{assignment_of};
-ghost use Rattle.ob0_types_rules.specs.InLabels.{in_labels};
+ghost use Rattle.ob0_scope_table.specs.InLabels.{in_labels};
 ghost use Rattle.ob0_run_machine.specs.Lowered as machine;
 ghost use Rattle.ob0_run_machine.specs.View.{number_of, operation_of, place_of, statement_of, variable_of};
 ghost use Rattle.ob0_run_lowering.specs.LoweredBodies.{StatementLowers};

@@ -4,12 +4,12 @@
 ghost use Rattle.std.specs.Prelude.{◌≡◌, IfOk, Some, map, option_map, slice_get};
 ghost use Rattle.ob0_tree.specs.View.{arguments_of, call_of};
 ghost use Rattle.ob0_tree.specs.Tree.{calls};
-ghost use Rattle.ob0_scope_rules.specs.Names.{Label};
+ghost use Rattle.ob0_language_names.specs.Names.{Label};
 ghost use Rattle.ob0_types_table.specs.KnownTables.{shapes_of};
 ghost use Rattle.ob0_types_table.specs.Tables.{formal_in, standard_of};
-ghost use Rattle.ob0_types_rules.specs.Designators.{all_in_labels};
-ghost use Rattle.ob0_types_rules.specs.InLabels.{in_labels, label_in};
-ghost use Rattle.ob0_types_rules.specs.Expressions.{a_procedure, a_standard, reads, writes};
+ghost use Rattle.ob0_types_table.specs.Designators.{all_in_labels};
+ghost use Rattle.ob0_scope_table.specs.InLabels.{in_labels, label_in};
+ghost use Rattle.ob0_language_types.specs.Expressions.{a_procedure, a_standard, reads, writes};
 ghost use Rattle.ob0_run_machine.specs.View.{argument_of, statement_of};
 ghost use Rattle.ob0_run_lowering.specs.Scenes.{object_at};
 ghost use Rattle.ob0_run_lowering.specs.LoweredBodies.{ArgumentsLower, StatementLowers, given_in};

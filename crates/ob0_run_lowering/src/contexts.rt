@@ -3,7 +3,7 @@
 ghost use Rattle.std.specs.Prelude.{◌≡◌};
 
 use crate::Types;
-use ob0_scope_rules::Resolved;
+use ob0_scope_table::Resolved;
 use ob0_types_table::TypeId;
 use std::alloc::Global;
 
@@ -17,10 +17,10 @@ pub(crate) struct LoweringContext<'g, 'k, 't> {
 
 impl<'g, 'k, 't> LoweringContext<'g, 'k, 't> {
     ghost use Rattle.std.specs.Prelude.{option_map};
-    ghost use Rattle.ob0_types_rules.specs.InLabels.{label_in};
+    ghost use Rattle.ob0_scope_table.specs.InLabels.{label_in};
     ghost use Rattle.ob0_types_table.specs.KnownTables.{shapes_of};
     ghost use Rattle.ob0_types_table.specs.Tables.{type_shape};
-    ghost use Rattle.ob0_types_rules.specs.Typing.{type_declared};
+    ghost use Rattle.ob0_language_types.specs.Typing.{type_declared};
     ghost use Rattle.ob0_run_lowering.specs.Scenes.{object_at};
     ghost use Rattle.ob0_run_lowering.specs.Placed.{declared_size};
 

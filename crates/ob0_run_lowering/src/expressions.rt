@@ -3,7 +3,7 @@
 ghost use Rattle.std.specs.Prelude.{IfOk};
 ghost use Rattle.ob0_tree.specs.View.{expression_of};
 ghost use Rattle.ob0_tree.specs.declared.tree.Designator.{out-Designator};
-ghost use Rattle.ob0_types_rules.specs.Selected.{selectors_in};
+ghost use Rattle.ob0_language_types.specs.Selected.{selectors_in};
 ghost use Rattle.ob0_run_lowering.specs.Means.{Locates, LocatesAlone, Lowers, LowersArgument, LowersNumber, LowersTruth};
 ghost use Rattle.ob0_run_lowering.specs.Parts.{IsNumberOf, IsTypedPlaceOf, IsTruthOf, IsValueOf};
 ghost use Rattle.ob0_run_lowering.specs.Rows.{IsFlat};
@@ -14,7 +14,7 @@ use crate::lowered::{Lowered, TypedPlace};
 use crate::scene::Scene;
 use ob0_run_machine::code::{Argument, Number, Place, Truth, Variable};
 use ob0_tree::{Designator, Expression};
-use ob0_types_rules::designated::lone_designator;
+use ob0_types_table::designated::lone_designator;
 use ob0_types_table::{Formal, TypeId};
 use std::alloc::{AllocError, Global};
 

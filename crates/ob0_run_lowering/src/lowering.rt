@@ -4,14 +4,14 @@ ghost use Rattle.std.specs.Prelude.{◌≡◌, IfOk, Some, option_and_then, opti
 ghost use Rattle.ob0_tree.specs.Places.{value_at};
 ghost use Rattle.ob0_tree.specs.View.{compound_of, designator_of, expression_of, factor_of, selector_of, simple_of, term_of};
 ghost use Rattle.ob0_tree.specs.declared.tree.Designator.{out-Designator};
-ghost use Rattle.ob0_scope_rules.specs.Names.{label_text};
+ghost use Rattle.ob0_language_names.specs.Names.{label_text};
 ghost use Rattle.ob0_types_table.specs.KnownTables.{shapes_of};
 ghost use Rattle.ob0_types_table.specs.Tables.{type_shape};
-ghost use Rattle.ob0_types_rules.specs.Bindings.{variable_of};
-ghost use Rattle.ob0_types_rules.specs.InLabels.{in_labels, label_in};
-ghost use Rattle.ob0_types_rules.specs.Selected.{selectors_in};
-ghost use Rattle.ob0_types_rules.specs.Typing.{constant_of};
-ghost use Rattle.ob0_values.specs.Scalars.{scalar_value};
+ghost use Rattle.ob0_language_types.specs.Bindings.{variable_of};
+ghost use Rattle.ob0_scope_table.specs.InLabels.{in_labels, label_in};
+ghost use Rattle.ob0_language_types.specs.Selected.{selectors_in};
+ghost use Rattle.ob0_language_types.specs.Typing.{constant_of};
+ghost use Rattle.ob0_language_values.specs.Scalars.{scalar_value};
 ghost use Rattle.ob0_run_machine.specs.View.{number_of};
 ghost use Rattle.ob0_run_lowering.specs.Rows.{IsFlat};
 ghost use Rattle.ob0_run_lowering.specs.Codes.{a_number, constant_code, element_found, element_of, field_found, code_at_place, code_at};
@@ -24,12 +24,12 @@ use crate::operators::{
 };
 use crate::places::{content, element};
 use crate::scene::Scene;
+use ob0_language_values::Scalar;
 use ob0_run_machine::code::{Number, Place, Truth};
 use ob0_tree::{
     Comparison, Compound, Designator, Expression, Factor, Selector, Simple, Term, text_at,
 };
 use ob0_types_table::{Object, Parts, TypeId, number_at};
-use ob0_values::Scalar;
 use std::alloc::{AllocError, Global};
 
 fn constant(value: Scalar) -> Lowered

@@ -7,7 +7,7 @@ ghost use Rattle.ob0_run_cells.specs.Lowering as slots;
 
 use crate::types::Types;
 use ob0_run_machine::code::{Place, Variable};
-use ob0_scope_rules::Resolved;
+use ob0_scope_table::Resolved;
 use ob0_types_table::Object;
 
 /// Where a declaration is. `depth` says how deep an activation is: 0 for the module's, 1 for those of the module's own
@@ -57,7 +57,7 @@ pub struct Scene<'s, 'k, 't> {
 
 impl<'s, 'k, 't> Scene<'s, 'k, 't> {
     ghost use Rattle.std.specs.Prelude.{option_and_then};
-    ghost use Rattle.ob0_types_rules.specs.InLabels.{label_in};
+    ghost use Rattle.ob0_scope_table.specs.InLabels.{label_in};
     ghost use Rattle.ob0_types_table.specs.KnownTables.{shapes_of};
     ghost use Rattle.ob0_types_table.specs.Tables.{object_in};
     ghost use Rattle.ob0_run_lowering.specs.Scenes.{object_at, seen_from, slot_at, target_at, whereabouts};

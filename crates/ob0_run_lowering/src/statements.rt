@@ -3,7 +3,7 @@
 ghost use Rattle.std.specs.Prelude.{◌≡◌, ◌++◌, IfOk, OnOk, option_map, option_to_list};
 ghost use Rattle.ob0_tree.specs.View as view;
 ghost use Rattle.ob0_tree.specs.View.{body_of, if_of, sequence_in};
-ghost use Rattle.ob0_types_rules.specs.InLabels.{in_labels};
+ghost use Rattle.ob0_scope_table.specs.InLabels.{in_labels};
 ghost use Rattle.ob0_run_machine.specs.View.{sequence_of, statement_of};
 ghost use Rattle.ob0_run_lowering.specs.LoweredBodies.{BodyLowers, CodeLowers, SequenceLowers, StatementLowers};
 

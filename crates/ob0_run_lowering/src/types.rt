@@ -3,16 +3,16 @@
 ghost use Rattle.std.specs.Prelude.{◌≡◌, ◌≤◌, ◌+◌, ◌*◌, ◌^◌, ℕ, ℤ, Some, true, IfOk, List, MatchResult, slice_index_or};
 ghost use Rattle.ob0_run_cells.specs.Cells.{field_offset, size, step_offset};
 ghost use Rattle.ob0_run_machine.specs.Evaluation as machine;
-ghost use Rattle.ob0_scope_rules.specs.Names.{Name};
+ghost use Rattle.ob0_language_names.specs.Names.{Name};
 ghost use Rattle.ob0_types_table.specs.FieldPlaces.{field_selected};
 ghost use Rattle.ob0_types_table.specs.KnownTables.{declared_in, shapes_of};
 ghost use Rattle.ob0_types_table.specs.Tables.{fields_shape, made_shape, no_shape, only_array, only_record, type_shape};
-ghost use Rattle.ob0_types_rules.specs.Expressions.{a_constant};
-ghost use Rattle.ob0_values.specs.Values as values;
+ghost use Rattle.ob0_language_types.specs.Expressions.{a_constant};
+ghost use Rattle.ob0_language_values.specs.Values as values;
 ghost use Rattle.ob0_run_lowering.specs.Layouts.{AreLaidOut, LayOut, HasLayout, RecordAt};
 
+use ob0_language_values::Scalar;
 use ob0_types_table::{Field, FieldOf, Known, TypeEntry, TypeId};
-use ob0_values::Scalar;
 use std::alloc::{AllocError, Global};
 use std::marker::Model;
 
@@ -181,8 +181,8 @@ impl<'k> Model for Types<'k> {
     ghost use Rattle.std.specs.Prelude.{◌≡◌, ℕ, ℤ, Some, true};
     ghost use Rattle.ob0_run_machine.specs.Evaluation as machine;
     ghost use Rattle.ob0_types_table.specs.KnownTables.{Tables, declared_in, shapes_of};
-    ghost use Rattle.ob0_types_rules.specs.Expressions.{a_constant};
-    ghost use Rattle.ob0_values.specs.Values.{number};
+    ghost use Rattle.ob0_language_types.specs.Expressions.{a_constant};
+    ghost use Rattle.ob0_language_values.specs.Values.{number};
     ghost use Rattle.ob0_run_lowering.specs.Layouts.{LayOut};
 
     ghost Value = { Tables };
@@ -196,7 +196,7 @@ impl<'k> Model for Types<'k> {
 
 impl<'k> Types<'k> {
     ghost use Rattle.ob0_types_table.specs.KnownTables.{shapes_of};
-    ghost use Rattle.ob0_values.specs.Values.{at_field};
+    ghost use Rattle.ob0_language_values.specs.Values.{at_field};
 
     /// The sizes of all types, each found once.
     ///

@@ -63,8 +63,8 @@ impl Frame {
 impl VisibleSites {
     ghost use Rattle.std.specs.Prelude.{[], Some};
     ghost use Rattle.ob0_tree.specs.View.{formals_of, items_of, further_section_of, names_of, variable_of, variables_of};
-    ghost use Rattle.ob0_scope_rules.specs.Parts.{formal_sections, names_listed, section_variables};
-    ghost use Rattle.ob0_types_rules.specs.InLabels.{in_labels, label_in};
+    ghost use Rattle.ob0_language_names.specs.Parts.{formal_sections, names_listed, section_variables};
+    ghost use Rattle.ob0_scope_table.specs.InLabels.{in_labels, label_in};
     ghost use Rattle.ob0_run_lowering.specs.Placed.{Follows, IsRestored, Places, declared_size, place_each, place_one, put_at, slots_at};
     ghost use Rattle.ob0_run_lowering.specs.Placed as placed;
     ghost use Rattle.ob0_types_table.specs.Tables.{mode_of};

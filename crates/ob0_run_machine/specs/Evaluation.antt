@@ -2,8 +2,8 @@
 -- Rule: none; for contracts of the machine: what lowered expressions mean,
 -- by the rules of docs/LANGUAGE.md, Runs 2 to 4.
 use Rattle.std.specs.Prelude.{ℕ, suc, zero, ◌+◌, ◌*◌, ◌%◌, ◌^◌, Bool, true, false, not, ◌&&◌, List, [], ◌∷◌, Option, None, Some, ℤ, pos, negsuc, ◌+ℤ◌, ◌-ℤ◌, ◌*ℤ◌, neg_ℤ, if◌then◌else◌, nat_lt, slice_index_or, int_lt, int_le, drop}
-use Rattle.ob0_run_division.specs.Division as division
-use Rattle.ob0_run_division.specs.Division.{divided}
+use Rattle.ob0_language_values.specs.Division as division
+use Rattle.ob0_language_values.specs.Division.{divided}
 use Rattle.ob0_run_machine.specs.Lowered.{Place, in_module, here, outside, passed, element, part, Number, literal, cell, negative, operation, Operator, sum, difference, product, quotient, remainder, Comparator, equal, not_equal, less, less_equal, greater, greater_equal, Truth, constant, flag, negation, both, either, related, same, different}
 
 infixl 20 ◌>>=◌

@@ -36,7 +36,7 @@ fn of_division(number: Option<i32>) -> Result<i32, Ending>
 pub(crate) fn divide(left: i32, right: i32) -> Result<i32, Ending>
     ensures { outcome_of_result result ≡ operate quotient left right }
 {
-    of_division(ob0_run_division::divide(left, right))
+    of_division(ob0_language_values::divide(left, right))
 }
 
 /// MOD, the rest from 0 on, for a divisor from 1 on.
@@ -44,7 +44,7 @@ pub(crate) fn divide(left: i32, right: i32) -> Result<i32, Ending>
 pub(crate) fn modulo(left: i32, right: i32) -> Result<i32, Ending>
     ensures { outcome_of_result result ≡ operate remainder left right }
 {
-    of_division(ob0_run_division::modulo(left, right))
+    of_division(ob0_language_values::modulo(left, right))
 }
 
 /// The sum; the end Overflow where it isn't of 32 bits. So are the difference and the product.

@@ -5,11 +5,11 @@ use Rattle.std.specs.Option.{option_or}
 use Rattle.ob0_tree.specs.Tree.{Tree, module_text}
 use Rattle.ob0_scope.specs.declared.capturing.FirstCapture as reported
 use Rattle.ob0_scope.specs.declared.capturing.FirstCapture.TheVariants as reports
-use Rattle.ob0_scope_rules.specs.Names.{Name, same_name}
-use Rattle.ob0_scope_rules.specs.Occurrences.{Free, at_declaration, at_occurrence, bindings, blocks_in, declares_ordinal, first_captured, first_difference, is_duplicate, names_another}
-use Rattle.ob0_scope_rules.specs.Parts.{module_block}
+use Rattle.ob0_language_names.specs.Names.{Name, same_name}
+use Rattle.ob0_language_names.specs.Occurrences.{Free, at_declaration, at_occurrence, bindings, blocks_in, declares_ordinal, first_captured, first_difference, is_duplicate, names_another}
+use Rattle.ob0_language_names.specs.Parts.{module_block}
 use Rattle.ob0_scope.specs.Renames.{namesake, namesake_in, other_named, place_of}
-use Rattle.ob0_scope_rules.specs.Scopes.{Scope, renamed}
+use Rattle.ob0_language_names.specs.Scopes.{Scope, renamed}
 use Rattle.ob0_scope.proofs.FirstCaptures.{captured_where_not_free-holds}
 
 other_is : (own : Scope Name) (d : ℕ) (new : Name) → is_some (other_named own d new) ≡ names_another own d new

@@ -11,11 +11,11 @@ use Rattle.ob0_tree.specs.declared.tree.Fields.{Fields}
 use Rattle.ob0_tree.specs.Tree.{Tree, block, body, constants, declares, declares_procedure, formals, has_body, items, maybe, procedure, type_names, variables}
 use Rattle.ob0_tree.specs.Places.{text_at}
 use Rattle.ob0_tree.specs.View.{fields_of, further_fields_of_group, items_of, record_listed}
-use Rattle.ob0_scope_rules.specs.DeclaredOnce.{block_names, groups_fields, is_among, procedure_names}
-use Rattle.ob0_scope_rules.specs.DeclaredTwice.{again, block_twice, closing_other, duplicate_at, fields_twice, formals_twice, group_twice, groups_twice, procedure_twice, procedures_twice, types_twice, unless, variables_twice}
-use Rattle.ob0_scope_rules.specs.Names.{Name, same_name}
-use Rattle.ob0_scope_rules.specs.Parts.{constant_names, formal_names, formal_sections, named_types, section_constants, section_types, section_variables, variable_names}
-use Rattle.ob0_scope_rules.proofs.NameEquality.{same_name-comm}
+use Rattle.ob0_language_names.specs.DeclaredOnce.{block_names, groups_fields, is_among, procedure_names}
+use Rattle.ob0_scope_table.specs.DeclaredTwice.{again, block_twice, closing_other, duplicate_at, fields_twice, formals_twice, group_twice, groups_twice, procedure_twice, procedures_twice, types_twice, unless, variables_twice}
+use Rattle.ob0_language_names.specs.Names.{Name, same_name}
+use Rattle.ob0_language_names.specs.Parts.{constant_names, formal_names, formal_sections, named_types, section_constants, section_types, section_variables, variable_names}
+use Rattle.ob0_language_names.proofs.NameEquality.{same_name-comm}
 
 -- what is collected, with what is left, is what was there at first with all
 pub record Gathering {A B : Type 0} (f : List A → List B) (xs : List A) (start : List B) (done : ℕ) (out : List B) : Type 0 where

@@ -1,11 +1,11 @@
 -- A first capture is named exactly where a new name isn't free.
 use Rattle.std.proofs.Common.{List, None, Option, Some, [], ap, arith, eq-eqb, eqb-true, false, if◌then◌else◌, length, option_map, refl, suc, sym, true, ℕ, ◌∙◌, ◌∷◌, ◌≡◌}
 use Rattle.ob0_tree.specs.Tree.{Tree, module_text}
-use Rattle.ob0_scope_rules.specs.Occurrences.{Free, at_declaration, at_occurrence, bindings, first_difference, is_duplicate, same_binding}
-use Rattle.ob0_scope_rules.specs.RenamingLaws.{CapturedWhereNotFree}
-use Rattle.ob0_scope_rules.specs.Scopes.{as_label, renamed, same_ordinal}
-use Rattle.ob0_scope_rules.proofs.OccurrenceNames.{as_many-module}
-use Rattle.ob0_scope_rules.specs.Names.{Label, Name, as_names, as_written, declared}
+use Rattle.ob0_language_names.specs.Occurrences.{Free, at_declaration, at_occurrence, bindings, first_difference, is_duplicate, same_binding}
+use Rattle.ob0_language_names.specs.RenamingLaws.{CapturedWhereNotFree}
+use Rattle.ob0_language_names.specs.Scopes.{as_label, renamed, same_ordinal}
+use Rattle.ob0_language_names.proofs.OccurrenceNames.{as_many-module}
+use Rattle.ob0_language_names.specs.Names.{Label, Name, as_names, as_written, declared}
 use Rattle.std.proofs.lemmas.Slice.Eq.{bytes_eq-Decides}
 
 pub same_binding-equal : (a b : Label) → same_binding a b ≡ true → a ≡ b

@@ -1,10 +1,10 @@
 -- Labels made of other labels: the tree with the ones is the tree with the others, mapped.
 use Rattle.std.proofs.Common.{◌≡◌, ℕ, suc, ◌∷◌, Some, None, refl}
 use Rattle.ob0_tree.specs.Tree.{Sort, Tree, mapped, block, constant, constants, formals, further_name, further_section, item, items, maybe, module_text, names, procedure, section, type_name, type_names, variable, variables, adds, array_type, assigns, begins, branches, calls, compares, declares, declares_constant, declares_constants, declares_procedure, declares_type, declares_types, declares_variable, declares_variables, designator, else_branch, elsif_branch, empty, end, field, has_body, index, integer, is_module, listed, more, multiplies, named_type, negation, no_arguments, no_fields, no_formals, none, one, parenthesised, product, record_type, relates, repeat_loop, runs, some_arguments, some_fields, some_formals, sum, then_argument, then_fields, then_name, then_section, then_statement, value_section, variable_section, while_loop}
-use Rattle.ob0_scope_rules.specs.Mapping.{with_names}
-use Rattle.ob0_scope_rules.specs.Names.{Naming}
-use Rattle.ob0_scope_rules.specs.Parts.{formal_names, formal_sections, names_listed, procedure_name, section_names}
-use Rattle.ob0_scope_rules.specs.Scopes.{Labels, Scope, after_names, after_procedure, body_scope, declare_names, first_procedure, first_type, first_variable, label_of, predeclared_scope, procedures_scope, relabel_block, relabel_constant_section, relabel_constants, relabel_formals, relabel_further, relabel_names, relabel_procedure, relabel_procedures, relabel_section, relabel_sections, relabel_type_section, relabel_types, relabel_uses, relabel_variable_section, relabel_variables, relabelled, types_scope, variables_scope}
+use Rattle.ob0_language_names.specs.Mapping.{with_names}
+use Rattle.ob0_language_names.specs.Names.{Naming}
+use Rattle.ob0_language_names.specs.Parts.{formal_names, formal_sections, names_listed, procedure_name, section_names}
+use Rattle.ob0_language_names.specs.Scopes.{Labels, Scope, after_names, after_procedure, body_scope, declare_names, first_procedure, first_type, first_variable, label_of, predeclared_scope, procedures_scope, relabel_block, relabel_constant_section, relabel_constants, relabel_formals, relabel_further, relabel_names, relabel_procedure, relabel_procedures, relabel_section, relabel_sections, relabel_type_section, relabel_types, relabel_uses, relabel_variable_section, relabel_variables, relabelled, types_scope, variables_scope}
 
 fused-uses : {N M K : Type 0} {s : Sort} (f : M → K) (look keep : N → M) (t : Tree N s) → with_names (λ x. f (look x)) (λ x. f (keep x)) t ≡ mapped f (λ n. n) (with_names look keep t)
 fused-uses f look keep none = refl

@@ -12,14 +12,14 @@ use Rattle.ob0_tree.specs.declared.tree.Role.TheVariants as role
 use Rattle.ob0_tree.specs.Tree.{occurrences}
 use Rattle.ob0_tree.specs.Parsed.{Parsed, IsParsed, tree_of}
 use Rattle.ob0_tree.specs.Places.{text_at}
-use Rattle.ob0_scope_rules.specs.DeclaredTwice.{twice_in}
-use Rattle.ob0_scope_rules.specs.Names.{Name, as_names}
-use Rattle.ob0_scope_rules.specs.Resolution.{AreFaultsOf, IsNumbering, IsResolution, is_of_declarations, is_of_occurrences, is_unbound, label_at, ordinal_in, span_at, unbound_at, unbound_in, undeclared_at, with_ordinal}
-use Rattle.ob0_scope_rules.specs.Scopes.{as_label}
+use Rattle.ob0_scope_table.specs.DeclaredTwice.{twice_in}
+use Rattle.ob0_language_names.specs.Names.{Name, as_names}
+use Rattle.ob0_scope_table.specs.Resolution.{AreFaultsOf, IsNumbering, IsResolution, is_of_declarations, is_of_occurrences, is_unbound, label_at, ordinal_in, span_at, unbound_at, unbound_in, undeclared_at, with_ordinal}
+use Rattle.ob0_language_names.specs.Scopes.{as_label}
 use Rattle.ob0_scope_numbering.specs.Marks.{with_marks}
 use Rattle.ob0_scope_numbering.specs.Marking.{Visit, started, visit_module}
 use Rattle.ob0_scope_numbering.specs.Written.{as_in}
-use Rattle.ob0_scope_rules.proofs.Bound.{bindings_by_table}
+use Rattle.ob0_scope_table.proofs.Bound.{bindings_by_table}
 use Rattle.ob0_scope_numbering.proofs.Passing.{HasMarks, at_start, module_passed}
 use Rattle.ob0_scope_numbering.proofs.Tables.{kept_elsewhere, marks_are_there, none_at}
 use Rattle.ob0_scope.proofs.TwiceOnce.{twice_alone, twice_where}

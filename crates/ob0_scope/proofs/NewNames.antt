@@ -5,15 +5,15 @@ use Rattle.std.proofs.lemmas.Cmp.{nat_list_eq_equiv}
 use Rattle.std.proofs.lemmas.List.Folds.{list_any-append}
 use Rattle.std.proofs.lemmas.Slice.Eq.{bytes_eq-Decides}
 use Rattle.ob0_tree.specs.Tree.{Sort, Tree, mapped, occurrences, block, constant, constants, formals, further_name, further_section, item, items, maybe, module_text, names, procedure, section, type_name, type_names, variable, variables, adds, array_type, assigns, begins, branches, calls, compares, declares, declares_constant, declares_constants, declares_procedure, declares_type, declares_types, declares_variable, declares_variables, designator, else_branch, elsif_branch, empty, end, field, has_body, index, integer, is_module, listed, more, multiplies, named_type, negation, no_arguments, no_fields, no_formals, none, one, parenthesised, product, record_type, relates, repeat_loop, runs, some_arguments, some_fields, some_formals, sum, then_argument, then_fields, then_name, then_section, then_statement, value_section, variable_section, while_loop}
-use Rattle.ob0_scope_rules.specs.Mapping.{with_names}
-use Rattle.ob0_scope_rules.specs.Names.{Label, Name, as_names, as_written, declared, same_name}
-use Rattle.ob0_scope_rules.specs.Occurrences.{Free, bindings, blocks_in, blocks_in_procedure, blocks_in_procedures, declares_ordinal, names_another}
-use Rattle.ob0_scope_rules.specs.Parts.{constant_names, formal_names, formal_sections, further_names, named_types, names_listed, procedure_name, section_constants, section_names, section_types, section_variables, variable_names}
-use Rattle.ob0_scope_rules.specs.Scopes.{Labels, Scope, after_names, after_procedure, as_label, body_scope, declare_names, declare_procedure_names, first_procedure, first_type, first_variable, label_names, label_of, ordinal_of, predeclared_scope, procedures_scope, relabel_block, relabel_constant_section, relabel_constants, relabel_formals, relabel_names, relabel_procedure, relabel_procedures, relabel_section, relabel_sections, relabel_type_section, relabel_types, relabel_uses, relabel_variable_section, relabel_variables, renamed, same_ordinal, types_scope, variables_scope}
-use Rattle.ob0_scope_rules.proofs.DistinctNames.{new_name}
-use Rattle.ob0_scope_rules.proofs.Relabelled.{constants-section, formals-section, names-relabel, section_names-relabel, types-section, variables-section}
-use Rattle.ob0_scope_rules.proofs.RenamedDeclarations.{constants-labels, sections-labels, types-labels, variables-labels}
-use Rattle.ob0_scope_rules.proofs.Renaming.{after_listed, after_procedure-relabel, after_section, after_sections, first_procedure-relabel, first_type-relabel, first_variable-relabel, names-twice}
+use Rattle.ob0_language_names.specs.Mapping.{with_names}
+use Rattle.ob0_language_names.specs.Names.{Label, Name, as_names, as_written, declared, same_name}
+use Rattle.ob0_language_names.specs.Occurrences.{Free, bindings, blocks_in, blocks_in_procedure, blocks_in_procedures, declares_ordinal, names_another}
+use Rattle.ob0_language_names.specs.Parts.{constant_names, formal_names, formal_sections, further_names, named_types, names_listed, procedure_name, section_constants, section_names, section_types, section_variables, variable_names}
+use Rattle.ob0_language_names.specs.Scopes.{Labels, Scope, after_names, after_procedure, as_label, body_scope, declare_names, declare_procedure_names, first_procedure, first_type, first_variable, label_names, label_of, ordinal_of, predeclared_scope, procedures_scope, relabel_block, relabel_constant_section, relabel_constants, relabel_formals, relabel_names, relabel_procedure, relabel_procedures, relabel_section, relabel_sections, relabel_type_section, relabel_types, relabel_uses, relabel_variable_section, relabel_variables, renamed, same_ordinal, types_scope, variables_scope}
+use Rattle.ob0_language_names.proofs.DistinctNames.{new_name}
+use Rattle.ob0_language_names.proofs.Relabelled.{constants-section, formals-section, names-relabel, section_names-relabel, types-section, variables-section}
+use Rattle.ob0_language_names.proofs.RenamedDeclarations.{constants-labels, sections-labels, types-labels, variables-labels}
+use Rattle.ob0_language_names.proofs.Renaming.{after_listed, after_procedure-relabel, after_section, after_sections, first_procedure-relabel, first_type-relabel, first_variable-relabel, names-twice}
 
 same-turned : (x y : Name) → same_name x y ≡ same_name y x
 same-turned x y = nat_list_eq_equiv.symm x y

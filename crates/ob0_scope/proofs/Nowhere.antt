@@ -5,8 +5,8 @@ use Rattle.std.proofs.lemmas.Option.{slice_get_past}
 use Rattle.ob0_scan.specs.Scanned.{Scanned}
 use Rattle.ob0_tree.specs.Parsed.{Parsed, named_tree_of, tree_of}
 use Rattle.ob0_tree.specs.Places.{text_at, text_in, value_at}
-use Rattle.ob0_scope_rules.specs.Names.{Name, same_name}
-use Rattle.ob0_scope_rules.specs.Occurrences.{Free, first_captured}
+use Rattle.ob0_language_names.specs.Names.{Name, same_name}
+use Rattle.ob0_language_names.specs.Occurrences.{Free, first_captured}
 use Rattle.ob0_scope.specs.declared.capturing.FirstCapture as reported
 use Rattle.ob0_scope.specs.Renames.{IsNowhere, namesake}
 use Rattle.ob0_scope.proofs.Captured.{free_where_none, no_namesake}

@@ -15,14 +15,14 @@ use Rattle.ob0_tree.specs.Places.{text_at, value_at}
 use Rattle.ob0_tree.specs.Tree.{Sort, Tree, identifiers, mapped, spell}
 use Rattle.ob0_tree.specs.declared.tree.Role.{Role}
 use Rattle.ob0_tree.specs.declared.tree.Role.TheVariants as role
-use Rattle.ob0_scope_rules.specs.Names.{Label, as_names, declared, same_label}
-use Rattle.ob0_scope_rules.specs.Occurrences.{label_ordinal}
-use Rattle.ob0_scope_rules.specs.Resolution.{IsResolution, Resolution, label_at, ordinal_in, span_at}
-use Rattle.ob0_scope_rules.specs.Spans.{span_in}
-use Rattle.ob0_scope_rules.specs.Scopes.{as_label, same_ordinal}
+use Rattle.ob0_language_names.specs.Names.{Label, as_names, declared, same_label}
+use Rattle.ob0_language_names.specs.Occurrences.{label_ordinal}
+use Rattle.ob0_scope_table.specs.Resolution.{IsResolution, Resolution, label_at, ordinal_in, span_at}
+use Rattle.ob0_scope_table.specs.Spans.{span_in}
+use Rattle.ob0_language_names.specs.Scopes.{as_label, same_ordinal}
 use Rattle.ob0_scope.specs.declared.naming.Named as named
 use Rattle.ob0_scope.specs.Listing.{is_identifier, is_name_on}
-use Rattle.ob0_scope_rules.specs.Spans.{is_on}
+use Rattle.ob0_scope_table.specs.Spans.{is_on}
 use Rattle.ob0_scope.specs.NamesAtPlaces.{BoundIdentifier, is_declaring, name_on, named_by, refers, bound_identifiers, tokens_bound}
 
 names_mapped : {N M : Type 0} (f : N → M) (g : ℕ → ℕ) (xs : List (Terminal N)) → lexeme_names (map (relabelled f g) xs) ≡ map f (lexeme_names xs)

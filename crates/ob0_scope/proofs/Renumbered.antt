@@ -4,18 +4,18 @@ use Rattle.std.specs.List.{position_from}
 use Rattle.ob0_tree.specs.Parsed.{named_tree_of, tree_of}
 use Rattle.ob0_tree.specs.Places.{text_at, value_at}
 use Rattle.ob0_tree.specs.Tree.{mapped, occurrences}
-use Rattle.ob0_scope_rules.specs.Names.{Label, Name, as_names, as_written}
-use Rattle.ob0_scope_rules.specs.Occurrences.{bindings, first_difference, label_ordinal, same_binding}
+use Rattle.ob0_language_names.specs.Names.{Label, Name, as_names, as_written}
+use Rattle.ob0_language_names.specs.Occurrences.{bindings, first_difference, label_ordinal, same_binding}
 use Rattle.ob0_scope.specs.Renames.{IsRenumbering, is_bound_alike, renamed_in}
-use Rattle.ob0_scope_rules.specs.Resolution.{IsResolution, Resolution, bound_at, label_at, ordinal_in, with_ordinal}
-use Rattle.ob0_scope_rules.specs.Scopes.{as_label, numbered, renamed, same_ordinal}
+use Rattle.ob0_scope_table.specs.Resolution.{IsResolution, Resolution, bound_at, label_at, ordinal_in, with_ordinal}
+use Rattle.ob0_language_names.specs.Scopes.{as_label, numbered, renamed, same_ordinal}
 use Rattle.ob0_scope_numbering.specs.Marks.{with_marks}
 use Rattle.ob0_scope_numbering.specs.Marking.{Visit, started, visit_module}
 use Rattle.ob0_scope_numbering.specs.Written.{name_at, spelled_by}
-use Rattle.ob0_scope_rules.proofs.Bound.{bindings_by_table}
+use Rattle.ob0_scope_table.proofs.Bound.{bindings_by_table}
 use Rattle.ob0_scope.proofs.FirstCaptures.{same_binding-refl}
 use Rattle.ob0_scope.proofs.Fused.{mapped-mapped, relabelled-mapped}
-use Rattle.ob0_scope_rules.proofs.OccurrencesMapped.{occurrences-mapped}
+use Rattle.ob0_language_names.proofs.OccurrencesMapped.{occurrences-mapped}
 use Rattle.ob0_scope_numbering.proofs.Passing.{at_start, module_passed}
 use Rattle.ob0_scope_numbering.proofs.Tables.{marks_in_table}
 

@@ -15,13 +15,13 @@ use Rattle.ob0_tree.specs.Parsed.{named_tree_of, parsed_by, tree_of}
 use Rattle.ob0_tree.specs.Places.{text_at, text_in, value_at}
 use Rattle.ob0_tree.specs.Tree.{Tree, identifiers, mapped, module_text, occurrences}
 use Rattle.ob0_tree.proofs.Leaves.{leaves_are_identifiers}
-use Rattle.ob0_scope_rules.specs.Bindings.{resolution_by}
-use Rattle.ob0_scope_rules.specs.DeclaredOnce.{declared_once}
-use Rattle.ob0_scope_rules.specs.DeclaredTwice.{twice_in}
-use Rattle.ob0_scope_rules.specs.Names.{Name, as_names}
-use Rattle.ob0_scope_rules.specs.Resolution.{AreFaultsOf, IsNumbering, IsResolution, is_of_declarations, is_of_occurrences, ordinal_in, undeclared_at, with_ordinal}
-use Rattle.ob0_scope_rules.specs.Scopes.{Labels, as_label, relabelled}
-use Rattle.ob0_scope_rules.specs.declared.resolved.Bindings.{Bindings}
+use Rattle.ob0_scope_table.specs.Bindings.{resolution_by}
+use Rattle.ob0_language_names.specs.DeclaredOnce.{declared_once}
+use Rattle.ob0_scope_table.specs.DeclaredTwice.{twice_in}
+use Rattle.ob0_language_names.specs.Names.{Name, as_names}
+use Rattle.ob0_scope_table.specs.Resolution.{AreFaultsOf, IsNumbering, IsResolution, is_of_declarations, is_of_occurrences, ordinal_in, undeclared_at, with_ordinal}
+use Rattle.ob0_language_names.specs.Scopes.{Labels, as_label, relabelled}
+use Rattle.ob0_scope_table.specs.declared.resolved.Bindings.{Bindings}
 use Rattle.ob0_scope_numbering.specs.Marking.{started}
 use Rattle.ob0_scope.specs.Respelled.{AreNamedAlike, BindingsStay}
 use Rattle.ob0_scope_numbering.specs.Written.{as_in}

@@ -6,18 +6,18 @@ use Rattle.std.specs.Option.{option_or}
 use Rattle.ob0_tree.specs.Parsed.{named_tree_of, tree_of}
 use Rattle.ob0_tree.specs.Places.{value_at}
 use Rattle.ob0_tree.specs.Tree.{Tree, block, constant, constants, declares, declares_constant, declares_constants, declares_procedure, declares_type, declares_types, declares_variable, declares_variables, end, formals, further_name, further_section, has_body, is_module, item, items, listed, mapped, maybe, module_text, more, names, no_formals, none, one, procedure, section, some_formals, then_name, then_section, type_name, type_names, value_section, variable, variable_section, variables}
-use Rattle.ob0_scope_rules.specs.DeclaredOnce.{block_names, procedure_names}
-use Rattle.ob0_scope_rules.specs.Names.{Name, as_names, same_name}
-use Rattle.ob0_scope_rules.specs.Occurrences.{blocks_in, blocks_in_procedure, blocks_in_procedures, declares_ordinal}
-use Rattle.ob0_scope_rules.specs.Parts.{constant_names, formal_names, formal_sections, further_names, module_block, named_types, names_listed, procedure_name, section_constants, section_names, section_types, section_variables, variable_names}
+use Rattle.ob0_language_names.specs.DeclaredOnce.{block_names, procedure_names}
+use Rattle.ob0_language_names.specs.Names.{Name, as_names, same_name}
+use Rattle.ob0_language_names.specs.Occurrences.{blocks_in, blocks_in_procedure, blocks_in_procedures, declares_ordinal}
+use Rattle.ob0_language_names.specs.Parts.{constant_names, formal_names, formal_sections, further_names, module_block, named_types, names_listed, procedure_name, section_constants, section_names, section_types, section_variables, variable_names}
 use Rattle.ob0_scope.specs.Renames.{namesake, namesake_in, other_named}
-use Rattle.ob0_scope_rules.specs.Resolution.{IsResolution, Resolution, bound_at, ordinal_in, with_ordinal}
-use Rattle.ob0_scope_rules.specs.Scopes.{Scope, after_names, after_procedure, body_scope, declare_names, first_procedure, predeclared_scope, procedures_scope, relabel_block, relabel_formals, relabel_procedure, relabel_procedures, relabelled, same_ordinal}
+use Rattle.ob0_scope_table.specs.Resolution.{IsResolution, Resolution, bound_at, ordinal_in, with_ordinal}
+use Rattle.ob0_language_names.specs.Scopes.{Scope, after_names, after_procedure, body_scope, declare_names, first_procedure, predeclared_scope, procedures_scope, relabel_block, relabel_formals, relabel_procedure, relabel_procedures, relabelled, same_ordinal}
 use Rattle.ob0_scope.specs.Searching.{BlockSearch, found_in_block, found_in_procedure, found_in_procedures, is_sought, last_other, other_among}
 use Rattle.ob0_scope.proofs.Finding.{or_assoc}
-use Rattle.ob0_scope_rules.proofs.DistinctNames.{labels_in, onto, onto-append}
-use Rattle.ob0_scope_rules.proofs.RenamedDeclarations.{labels_in-block, labels_in-names, sections-labels}
-use Rattle.ob0_scope_rules.proofs.Relabelled.{formals-section}
+use Rattle.ob0_language_names.proofs.DistinctNames.{labels_in, onto, onto-append}
+use Rattle.ob0_language_names.proofs.RenamedDeclarations.{labels_in-block, labels_in-names, sections-labels}
+use Rattle.ob0_language_names.proofs.Relabelled.{formals-section}
 
 -- names of a tree with other leaves
 

@@ -13,19 +13,19 @@ use Rattle.ob0_tree.specs.Order.{Ascending, names_only}
 use Rattle.ob0_tree.specs.Parsed.{named_tree_of, tree_of}
 use Rattle.ob0_tree.specs.Places.{text_at, value_at}
 use Rattle.ob0_tree.specs.Tree.{Sort, Tree, mapped, occurrences, identifiers, block, constant, constants, declares, declares_constant, declares_constants, declares_procedure, declares_type, declares_types, declares_variable, declares_variables, end, formals, further_name, further_section, has_body, is_module, item, items, listed, maybe, module_text, more, names, no_formals, none, one, procedure, section, some_formals, then_name, then_section, type_name, type_names, value_section, variable, variable_section, variables}
-use Rattle.ob0_scope_rules.specs.Names.{Label, Name, Naming, as_names, same_name}
-use Rattle.ob0_scope_rules.specs.Occurrences.{label_ordinal}
-use Rattle.ob0_scope_rules.specs.Parts.{constant_names, formal_names, formal_sections, further_names, named_types, names_listed, procedure_name, section_constants, section_names, section_types, section_variables, variable_names}
-use Rattle.ob0_scope_rules.specs.Resolution.{IsResolution, Resolution, ordinal_in}
-use Rattle.ob0_scope_rules.specs.Scopes.{Labels, Scope, after_block, after_names, after_procedure, after_procedures, as_label, declare_names, declare_procedure_names, label_of, ordinal_of, predeclared_scope, relabel_block, relabel_constant_section, relabel_constants, relabel_formals, relabel_procedure, relabel_procedures, relabel_section, relabel_sections, relabel_type_section, relabel_types, relabel_uses, relabel_variable_section, relabel_variables, relabelled, same_ordinal}
-use Rattle.ob0_scope_rules.specs.SeenNames.{looking_for, ordinals_seen, sees}
+use Rattle.ob0_language_names.specs.Names.{Label, Name, Naming, as_names, same_name}
+use Rattle.ob0_language_names.specs.Occurrences.{label_ordinal}
+use Rattle.ob0_language_names.specs.Parts.{constant_names, formal_names, formal_sections, further_names, named_types, names_listed, procedure_name, section_constants, section_names, section_types, section_variables, variable_names}
+use Rattle.ob0_scope_table.specs.Resolution.{IsResolution, Resolution, ordinal_in}
+use Rattle.ob0_language_names.specs.Scopes.{Labels, Scope, after_block, after_names, after_procedure, after_procedures, as_label, declare_names, declare_procedure_names, label_of, ordinal_of, predeclared_scope, relabel_block, relabel_constant_section, relabel_constants, relabel_formals, relabel_procedure, relabel_procedures, relabel_section, relabel_sections, relabel_type_section, relabel_types, relabel_uses, relabel_variable_section, relabel_variables, relabelled, same_ordinal}
+use Rattle.ob0_language_names.specs.SeenNames.{looking_for, ordinals_seen, sees}
 use Rattle.ob0_scope_numbering.specs.Marks.{first_at}
 use Rattle.ob0_scope_numbering.specs.Marks.{with_marks}
 use Rattle.ob0_scope_numbering.specs.Marking.{Visit, started, visit_module}
 use Rattle.ob0_scope_numbering.specs.Written.{Writing, name_at}
 use Rattle.ob0_scope.proofs.Fused.{relabelled-mapped}
-use Rattle.ob0_scope_rules.proofs.OccurrenceNames.{occurrences-with_names}
-use Rattle.ob0_scope_rules.proofs.OccurrencesMapped.{occurrences-mapped}
+use Rattle.ob0_language_names.proofs.OccurrenceNames.{occurrences-with_names}
+use Rattle.ob0_language_names.proofs.OccurrencesMapped.{occurrences-mapped}
 use Rattle.ob0_scope_numbering.proofs.Passing.{at_start, module_passed, tokens_of}
 use Rattle.ob0_scope_numbering.proofs.Tables.{kept_below, marks_in_table}
 

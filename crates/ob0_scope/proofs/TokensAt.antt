@@ -10,7 +10,7 @@ use Rattle.ob0_scan.specs.declared.lexeme.LexemeKind.{LexemeKind}
 use Rattle.ob0_scan.specs.declared.lexeme.LexemeKind.TheVariants as lexeme
 use Rattle.ob0_scan.specs.declared.lexeme.Token.{Token}
 use Rattle.ob0_scan.proofs.AtLexemes.{Full, full}
-use Rattle.ob0_scope_rules.specs.Spans.{is_on}
+use Rattle.ob0_scope_table.specs.Spans.{is_on}
 use Rattle.ob0_scope.specs.Listing.{TokensAreApart, is_identifier, is_name_on}
 
 -- ---- the tokens of a text

@@ -11,10 +11,10 @@ use Rattle.ob0_tree.specs.Parsed.{tree_of}
 use Rattle.ob0_tree.specs.Places.{text_at, value_at}
 use Rattle.ob0_tree.specs.Tree.{identifiers, mapped}
 use Rattle.ob0_tree.proofs.Leaves.{leaves_ascend}
-use Rattle.ob0_scope_rules.specs.Names.{as_names}
-use Rattle.ob0_scope_rules.specs.Occurrences.{label_ordinal}
-use Rattle.ob0_scope_rules.specs.Resolution.{IsResolution, Resolution, declaring_only, label_at, ordinal_in, token_declaring}
-use Rattle.ob0_scope_rules.specs.Scopes.{as_label, same_ordinal}
+use Rattle.ob0_language_names.specs.Names.{as_names}
+use Rattle.ob0_language_names.specs.Occurrences.{label_ordinal}
+use Rattle.ob0_scope_table.specs.Resolution.{IsResolution, Resolution, declaring_only, label_at, ordinal_in, token_declaring}
+use Rattle.ob0_language_names.specs.Scopes.{as_label, same_ordinal}
 use Rattle.ob0_scope.specs.Listing.{first_token, omitted_token, tokens_from, tokens_with}
 use Rattle.ob0_scope_numbering.specs.Marking.{started, visit_module}
 use Rattle.ob0_scope_numbering.specs.Marks.{OrdinalMark, with_marks}

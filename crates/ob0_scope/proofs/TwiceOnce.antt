@@ -8,12 +8,12 @@ use Rattle.ob0_scan.specs.Scanned.{Scanned}
 use Rattle.ob0_tree.specs.Parsed.{Parsed, named_tree_of, tree_of}
 use Rattle.ob0_tree.specs.Places.{text_at, value_at}
 use Rattle.ob0_tree.specs.Tree.{Sort, Tree, mapped, array_type, block, body, constant, constants, declares, declares_constant, declares_constants, declares_procedure, declares_type, declares_types, declares_variable, declares_variables, end, fields, formals, further_fields, further_name, further_section, has_body, is_module, item, items, listed, maybe, module_text, more, named_type, names, no_fields, no_formals, none, one, procedure, record_type, section, some_fields, some_formals, then_fields, then_name, then_section, type_name, type_names, value_section, variable, variable_section, variables, written_type}
-use Rattle.ob0_scope_rules.specs.DeclaredOnce.{are_distinct, block_names, block_once, declared_once, fields_once, formals_once, group_fields, group_once, groups_fields, groups_once, is_among, procedure_names, procedure_once, procedures_once, types_once, variables_once}
-use Rattle.ob0_scope_rules.specs.DeclaredTwice.{again, block_twice, closing_other, duplicate_at, end_name_at, fields_twice, formals_twice, group_twice, groups_twice, module_twice, procedure_twice, procedures_twice, twice_in, types_twice, unless, variables_twice}
-use Rattle.ob0_scope_rules.specs.Names.{Name, same_name}
-use Rattle.ob0_scope_rules.specs.Parts.{constant_names, formal_names, formal_sections, further_names, named_types, names_listed, section_constants, section_names, section_type, section_types, section_variables, variable_names}
-use Rattle.ob0_scope_rules.specs.Resolution.{is_of_declarations}
-use Rattle.ob0_scope_rules.proofs.NameEquality.{same_name-comm}
+use Rattle.ob0_language_names.specs.DeclaredOnce.{are_distinct, block_names, block_once, declared_once, fields_once, formals_once, group_fields, group_once, groups_fields, groups_once, is_among, procedure_names, procedure_once, procedures_once, types_once, variables_once}
+use Rattle.ob0_scope_table.specs.DeclaredTwice.{again, block_twice, closing_other, duplicate_at, end_name_at, fields_twice, formals_twice, group_twice, groups_twice, module_twice, procedure_twice, procedures_twice, twice_in, types_twice, unless, variables_twice}
+use Rattle.ob0_language_names.specs.Names.{Name, same_name}
+use Rattle.ob0_language_names.specs.Parts.{constant_names, formal_names, formal_sections, further_names, named_types, names_listed, section_constants, section_names, section_type, section_types, section_variables, variable_names}
+use Rattle.ob0_scope_table.specs.Resolution.{is_of_declarations}
+use Rattle.ob0_language_names.proofs.NameEquality.{same_name-comm}
 
 and_true : (b : Bool) → (b && true) ≡ b
 and_true true = refl

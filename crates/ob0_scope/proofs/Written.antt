@@ -9,10 +9,10 @@ use Rattle.ob0_tree.specs.Places.{text_at, value_at}
 use Rattle.ob0_tree.specs.Tree.{identifiers}
 use Rattle.ob0_tree.specs.declared.tree.Role.{Role}
 use Rattle.ob0_tree.specs.declared.tree.Role.TheVariants as role
-use Rattle.ob0_scope_rules.specs.Names.{Name}
+use Rattle.ob0_language_names.specs.Names.{Name}
 use Rattle.ob0_scope.specs.Renames.{renamed_in}
-use Rattle.ob0_scope_rules.specs.Resolution.{IsResolution, Resolution, ordinal_in}
-use Rattle.ob0_scope_rules.specs.Scopes.{same_ordinal}
+use Rattle.ob0_scope_table.specs.Resolution.{IsResolution, Resolution, ordinal_in}
+use Rattle.ob0_language_names.specs.Scopes.{same_ordinal}
 use Rattle.ob0_scope_numbering.specs.Written.{name_at}
 use Rattle.ob0_scope.proofs.Renumbered.{renamed_spelled}
 use Rattle.ob0_scope.specs.NamesAtPlaces.{IsRenamedAt, is_among, tokens_bound}

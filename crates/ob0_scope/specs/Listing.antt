@@ -4,8 +4,8 @@ use Rattle.std.specs.Prelude.{ℕ, ◌+◌, ◌<◌, ◌≤◌, Bool, true, fals
 use Rattle.ob0_scan.specs.declared.lexeme.Token.{Token}
 use Rattle.ob0_scan.specs.declared.lexeme.TokenKind.{TokenKind}
 use Rattle.ob0_scan.specs.declared.lexeme.TokenKind.TheVariants as kind
-use Rattle.ob0_scope_rules.specs.Scopes.{same_ordinal}
-use Rattle.ob0_scope_rules.specs.Spans.{is_on}
+use Rattle.ob0_language_names.specs.Scopes.{same_ordinal}
+use Rattle.ob0_scope_table.specs.Spans.{is_on}
 
 -- a token is an identifier
 abbrev pub is_identifier : TokenKind → Bool

@@ -8,11 +8,11 @@ use Rattle.ob0_tree.specs.Order.{leaves}
 use Rattle.ob0_tree.specs.Parsed.{Parsed, named_tree_of, tree_of}
 use Rattle.ob0_tree.specs.Places.{text_at, value_at}
 use Rattle.ob0_tree.specs.Tree.{identifiers, mapped}
-use Rattle.ob0_scope_rules.specs.Names.{Label, Name, declared, same_label}
-use Rattle.ob0_scope_rules.specs.Occurrences.{label_ordinal}
-use Rattle.ob0_scope_rules.specs.Resolution.{span_at}
-use Rattle.ob0_scope_rules.specs.Spans.{is_on}
-use Rattle.ob0_scope_rules.specs.Scopes.{numbered, renamed}
+use Rattle.ob0_language_names.specs.Names.{Label, Name, declared, same_label}
+use Rattle.ob0_language_names.specs.Occurrences.{label_ordinal}
+use Rattle.ob0_scope_table.specs.Resolution.{span_at}
+use Rattle.ob0_scope_table.specs.Spans.{is_on}
+use Rattle.ob0_language_names.specs.Scopes.{numbered, renamed}
 use Rattle.ob0_scope.specs.declared.naming.Named as named
 
 -- an identifier: what it is where it is, its token, and what it is bound to

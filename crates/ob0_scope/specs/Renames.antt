@@ -8,11 +8,11 @@ use Rattle.ob0_scan.specs.Scanned.{Scanned}
 use Rattle.ob0_tree.specs.Places.{text_at, value_at}
 use Rattle.ob0_scope.specs.declared.capturing.FirstCapture as reported
 use Rattle.ob0_scope.specs.declared.capturing.FirstCapture.TheVariants as reports
-use Rattle.ob0_scope_rules.specs.Names.{Name, as_names, same_name}
-use Rattle.ob0_scope_rules.specs.Occurrences.{Capture, at_declaration, at_occurrence, blocks_in, declares_ordinal}
-use Rattle.ob0_scope_rules.specs.Parts.{module_block}
-use Rattle.ob0_scope_rules.specs.Resolution.{Resolution, ordinal_in}
-use Rattle.ob0_scope_rules.specs.Scopes.{Scope, as_label, numbered, renamed}
+use Rattle.ob0_language_names.specs.Names.{Name, as_names, same_name}
+use Rattle.ob0_language_names.specs.Occurrences.{Capture, at_declaration, at_occurrence, blocks_in, declares_ordinal}
+use Rattle.ob0_language_names.specs.Parts.{module_block}
+use Rattle.ob0_scope_table.specs.Resolution.{Resolution, ordinal_in}
+use Rattle.ob0_language_names.specs.Scopes.{Scope, as_label, numbered, renamed}
 use Rattle.ob0_scope_numbering.specs.Written.{Writing, name_at}
 
 -- the newest of these declarations that has the name and isn't d

@@ -5,9 +5,9 @@ use Rattle.ob0_scan.specs.Reused.{kinds, names_in}
 use Rattle.ob0_scan.specs.Scanned.{Scanned}
 use Rattle.ob0_tree.specs.Parsed.{IsParsed, parsed_by}
 use Rattle.ob0_tree.specs.declared.tree.ModuleTree.{ModuleTree}
-use Rattle.ob0_scope_rules.specs.Bindings.{resolution_by}
-use Rattle.ob0_scope_rules.specs.Resolution.{IsResolution}
-use Rattle.ob0_scope_rules.specs.declared.resolved.Bindings.{Bindings}
+use Rattle.ob0_scope_table.specs.Bindings.{resolution_by}
+use Rattle.ob0_scope_table.specs.Resolution.{IsResolution}
+use Rattle.ob0_scope_table.specs.declared.resolved.Bindings.{Bindings}
 
 -- the tokens of two texts are of the same kinds, one after the other, and the identifiers are written alike
 pub record AreNamedAlike (old new : Scanned) : Type 0 where

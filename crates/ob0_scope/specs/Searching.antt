@@ -6,11 +6,11 @@ use Rattle.std.specs.Option.{option_or}
 use Rattle.ob0_scan.specs.Scanned.{Scanned}
 use Rattle.ob0_tree.specs.Places.{text_at}
 use Rattle.ob0_tree.specs.Tree.{Tree, block, declares, declares_procedure, end, has_body, item, items, more, procedure}
-use Rattle.ob0_scope_rules.specs.DeclaredOnce.{block_names}
-use Rattle.ob0_scope_rules.specs.Names.{Name, same_name}
-use Rattle.ob0_scope_rules.specs.Parts.{formal_names, formal_sections}
-use Rattle.ob0_scope_rules.specs.Resolution.{ordinal_in}
-use Rattle.ob0_scope_rules.specs.Scopes.{same_ordinal}
+use Rattle.ob0_language_names.specs.DeclaredOnce.{block_names}
+use Rattle.ob0_language_names.specs.Names.{Name, same_name}
+use Rattle.ob0_language_names.specs.Parts.{formal_names, formal_sections}
+use Rattle.ob0_scope_table.specs.Resolution.{ordinal_in}
+use Rattle.ob0_language_names.specs.Scopes.{same_ordinal}
 
 -- A text with the ordinals of its identifiers by token, the declaration of which the block is sought, and the name.
 pub record BlockSearch : Type 0 where

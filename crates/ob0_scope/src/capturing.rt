@@ -4,17 +4,17 @@ ghost use Rattle.std.specs.Prelude.{◌≡◌, ◌↔◌, IfOk, None, not, optio
 ghost use Rattle.std.specs.List.{position_from};
 ghost use Rattle.ob0_tree.specs.Parsed.{named_tree_of};
 ghost use Rattle.ob0_tree.specs.View.{block_of, procedure_of};
-ghost use Rattle.ob0_scope_rules.specs.Occurrences.{Free, bindings, first_captured, first_difference};
+ghost use Rattle.ob0_language_names.specs.Occurrences.{Free, bindings, first_captured, first_difference};
 ghost use Rattle.ob0_scope.specs.declared.capturing.FirstCapture.TheVariants.{Occurrence};
 ghost use Rattle.ob0_scope.specs.Renames.{IsNowhere, is_bound_alike, namesake, other_of, place_of};
-ghost use Rattle.ob0_scope_rules.specs.Resolution.{ordinal_in};
-ghost use Rattle.ob0_scope_rules.specs.Scopes.{renamed};
+ghost use Rattle.ob0_scope_table.specs.Resolution.{ordinal_in};
+ghost use Rattle.ob0_language_names.specs.Scopes.{renamed};
 ghost use Rattle.ob0_scope.specs.Searching.{found_in_block, found_in_procedure, is_other, is_sought, other_among};
 
 use crate::checks::{add_block, add_formals};
 use crate::renamed::renumber;
 use ob0_scan::Tokens;
-use ob0_scope_rules::{OrdinalEntry, PREDECLARED, Resolved, ordinal_at};
+use ob0_scope_table::{OrdinalEntry, PREDECLARED, Resolved, ordinal_at};
 use ob0_tree::{Block, Procedure, text_at};
 use std::alloc::{AllocError, Global};
 use std::marker::Model;

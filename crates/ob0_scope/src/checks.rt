@@ -3,13 +3,13 @@
 ghost use Rattle.std.specs.Prelude.{◌≡◌, ◌++◌, [], IfOk, OnOk, map};
 ghost use Rattle.ob0_tree.specs.Places.{text_at};
 ghost use Rattle.ob0_tree.specs.View.{items_of, names_of, type_of, record_in, fields_of, constants_of, types_of, variables_of, formals_of, procedure_of, block_of};
-ghost use Rattle.ob0_scope_rules.specs.Names.{same_name};
-ghost use Rattle.ob0_scope_rules.specs.Parts.{names_listed, constant_names, named_types, variable_names, formal_names, formal_sections, section_constants, section_types, section_variables};
-ghost use Rattle.ob0_scope_rules.specs.DeclaredOnce.{block_names, group_fields, is_among, procedure_names};
-ghost use Rattle.ob0_scope_rules.specs.DeclaredTwice.{again, block_twice, closing_other, duplicate_at, fields_twice, formals_twice, group_twice, procedure_twice, twice_in, types_twice, unless, variables_twice};
+ghost use Rattle.ob0_language_names.specs.Names.{same_name};
+ghost use Rattle.ob0_language_names.specs.Parts.{names_listed, constant_names, named_types, variable_names, formal_names, formal_sections, section_constants, section_types, section_variables};
+ghost use Rattle.ob0_language_names.specs.DeclaredOnce.{block_names, group_fields, is_among, procedure_names};
+ghost use Rattle.ob0_scope_table.specs.DeclaredTwice.{again, block_twice, closing_other, duplicate_at, fields_twice, formals_twice, group_twice, procedure_twice, twice_in, types_twice, unless, variables_twice};
 
 use ob0_scan::{Code, Fault, Tokens};
-use ob0_scope_rules::token_span;
+use ob0_scope_table::token_span;
 use ob0_tree::{
     Block, Constant, Fields, Module, Names, Procedure, RecordType, Section, TypeDeclaration,
     Variables, WrittenType, text_at,

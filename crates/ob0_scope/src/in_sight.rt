@@ -2,14 +2,14 @@
 
 ghost use Rattle.std.specs.Prelude.{◌≡◌, IfOk, map, length, replicate, None};
 ghost use Rattle.ob0_tree.specs.Parsed.{named_tree_of};
-ghost use Rattle.ob0_scope_rules.specs.Resolution.{ordinal_in};
-ghost use Rattle.ob0_scope_rules.specs.SeenNames.{ordinals_seen};
+ghost use Rattle.ob0_scope_table.specs.Resolution.{ordinal_in};
+ghost use Rattle.ob0_language_names.specs.SeenNames.{ordinals_seen};
 ghost use Rattle.ob0_scope_numbering.specs.Marks.{first_at};
 ghost use Rattle.ob0_scope_numbering.specs.Marks.{with_marks};
 
 use crate::renamed::ordinals_of;
 use ob0_scope_numbering::{Writing, number};
-use ob0_scope_rules::{OrdinalEntry, Resolved};
+use ob0_scope_table::{OrdinalEntry, Resolved};
 use std::alloc::{AllocError, Global};
 
 /// For each occurrence of a module, in text order, the ordinal of the declaration to which `name` would be bound in its

@@ -6,11 +6,11 @@ ghost use Rattle.std.specs.List.Sorted.{IsNonDecreasingBy, IsPartitionPoint};
 ghost use Rattle.ob0_scan.specs.declared.lexeme.Token as token;
 ghost use Rattle.ob0_tree.specs.Order.{AreIdentifiers, Ascending};
 ghost use Rattle.ob0_scope.specs.Listing.{TokensAreApart, first_token, is_identifier, is_name_on, omitted_token, tokens_from};
-ghost use Rattle.ob0_scope_rules.specs.Scopes.{same_ordinal};
+ghost use Rattle.ob0_language_names.specs.Scopes.{same_ordinal};
 ghost use Rattle.ob0_scope.specs.NamesAtPlaces.{IsRenamedAt, name_on, tokens_bound};
 
 use ob0_scan::{Token, TokenKind};
-use ob0_scope_rules::{OrdinalEntry, Resolved};
+use ob0_scope_table::{OrdinalEntry, Resolved};
 use std::alloc::{AllocError, Global};
 
 /// An identifier that is bound to a declaration: its token, and the declaration's ordinal.

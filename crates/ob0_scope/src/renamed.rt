@@ -2,13 +2,13 @@
 
 ghost use Rattle.std.specs.Prelude.{◌≡◌, IfOk, map};
 ghost use Rattle.ob0_tree.specs.Parsed.{named_tree_of};
-ghost use Rattle.ob0_scope_rules.specs.Occurrences.{bindings, label_ordinal};
-ghost use Rattle.ob0_scope_rules.specs.Scopes.{renamed};
+ghost use Rattle.ob0_language_names.specs.Occurrences.{bindings, label_ordinal};
+ghost use Rattle.ob0_language_names.specs.Scopes.{renamed};
 ghost use Rattle.ob0_scope.specs.Renames.{IsRenumbering};
-ghost use Rattle.ob0_scope_rules.specs.Resolution.{IsResolution, ordinal_in};
+ghost use Rattle.ob0_scope_table.specs.Resolution.{IsResolution, ordinal_in};
 
 use ob0_scope_numbering::{Writing, number};
-use ob0_scope_rules::{OrdinalEntry, Resolved, ordinal_at};
+use ob0_scope_table::{OrdinalEntry, Resolved, ordinal_at};
 use std::alloc::{AllocError, Global};
 
 /// For each occurrence of the module, in text order, the ordinal of the declaration to which it would be bound if the

@@ -1,13 +1,13 @@
 //! Binds the names of a module to their declarations.
 
 ghost use Rattle.std.specs.Prelude.{◌≡◌, IfOk};
-ghost use Rattle.ob0_scope_rules.specs.Resolution.{IsResolution};
-ghost use Rattle.ob0_scope_rules.specs.Bindings.{resolution_by};
+ghost use Rattle.ob0_scope_table.specs.Resolution.{IsResolution};
+ghost use Rattle.ob0_scope_table.specs.Bindings.{resolution_by};
 
 use crate::checks::check;
 use crate::table::report_undeclared;
 use ob0_scope_numbering::{Writing, number};
-use ob0_scope_rules::{Bindings, Resolved};
+use ob0_scope_table::{Bindings, Resolved};
 use ob0_tree::Module;
 use std::alloc::{AllocError, Global};
 

@@ -1,10 +1,10 @@
 //! What is wrong with the occurrences.
 
 ghost use Rattle.std.specs.Prelude.{◌≡◌, ◌++◌, OnOk};
-ghost use Rattle.ob0_scope_rules.specs.Resolution.{undeclared_at};
+ghost use Rattle.ob0_scope_table.specs.Resolution.{undeclared_at};
 
 use ob0_scan::{Code, Fault, Tokens};
-use ob0_scope_rules::{OrdinalEntry, ordinal_at, token_span};
+use ob0_scope_table::{OrdinalEntry, ordinal_at, token_span};
 use std::alloc::AllocError;
 
 /// Reports each occurrence that a table binds to nothing.

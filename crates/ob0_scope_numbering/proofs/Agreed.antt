@@ -5,9 +5,9 @@ use Rattle.ob0_tree.specs.declared.tree.Role.{Role}
 use Rattle.ob0_tree.specs.declared.tree.Role.TheVariants as role
 use Rattle.ob0_tree.specs.Tree.{Sort, Tree, identifiers, mapped, adds, array_type, assigns, begins, branches, calls, compares, declares, declares_constant, declares_constants, declares_procedure, declares_type, declares_types, declares_variable, declares_variables, designator, else_branch, elsif_branch, empty, end, field, has_body, index, integer, is_module, listed, more, multiplies, named_type, negation, no_arguments, no_fields, no_formals, none, one, parenthesised, product, record_type, relates, repeat_loop, runs, some_arguments, some_fields, some_formals, sum, then_argument, then_fields, then_name, then_section, then_statement, value_section, variable_section, while_loop}
 use Rattle.ob0_scope_numbering.specs.Written.{Writing, name_at}
-use Rattle.ob0_scope_rules.specs.Names.{Name, as_names}
-use Rattle.ob0_scope_rules.specs.Scopes.{Labels, Scope, ordinal_of, relabel_uses}
-use Rattle.ob0_scope_rules.proofs.Peeling.{Two}
+use Rattle.ob0_language_names.specs.Names.{Name, as_names}
+use Rattle.ob0_language_names.specs.Scopes.{Labels, Scope, ordinal_of, relabel_uses}
+use Rattle.ob0_language_names.proofs.Peeling.{Two}
 
 -- what a table has at an identifier of a part that declares nothing
 abbrev pub Fits : (ℕ → Option ℕ) → Writing → Scope Name → Role → ℕ → Type 0

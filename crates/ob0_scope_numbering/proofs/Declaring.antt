@@ -3,7 +3,7 @@ use Rattle.std.proofs.Common.{◌≡◌, ℕ, List, [], ◌∷◌, refl, ap}
 use Rattle.ob0_tree.specs.Tree.{one, then_name}
 use Rattle.ob0_tree.specs.declared.tree.Section.{Section}
 use Rattle.ob0_tree.specs.View.{items_of, formals_listed, further_section_of}
-use Rattle.ob0_scope_rules.specs.Parts.{further_names}
+use Rattle.ob0_language_names.specs.Parts.{further_names}
 use Rattle.ob0_scope_numbering.specs.Tabling.{Visit, visible_from, visit_formals, visit_sections}
 
 pub names_further : (xs : List ℕ) → further_names (items_of then_name xs) ≡ xs

@@ -14,10 +14,10 @@ use Rattle.ob0_tree.specs.Order.{Ascending, names_only}
 use Rattle.ob0_tree.specs.Parsed.{IsParsed, Parsed, tree_of}
 use Rattle.ob0_tree.specs.Tree.{identifiers}
 use Rattle.ob0_tree.proofs.Leaves.{leaves_ascend}
-use Rattle.ob0_scope_rules.specs.Entries.{greatest, kept}
-use Rattle.ob0_scope_rules.specs.Names.{as_names}
-use Rattle.ob0_scope_rules.specs.Resolution.{ordinal_in}
-use Rattle.ob0_scope_rules.specs.Scopes.{as_label}
+use Rattle.ob0_scope_table.specs.Entries.{greatest, kept}
+use Rattle.ob0_language_names.specs.Names.{as_names}
+use Rattle.ob0_scope_table.specs.Resolution.{ordinal_in}
+use Rattle.ob0_language_names.specs.Scopes.{as_label}
 use Rattle.ob0_scope_numbering.specs.Marking.{started, visit_module}
 use Rattle.ob0_scope_numbering.specs.Marks.{OrdinalMark, with_marks}
 use Rattle.ob0_scope_numbering.specs.Written.{Writing}

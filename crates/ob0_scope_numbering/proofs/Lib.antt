@@ -4,3 +4,6 @@ pub mod Passing
 pub mod Tables
 mod Kept
 mod Tabled
+pub mod Going
+pub mod NewestNames
+pub mod Shadows

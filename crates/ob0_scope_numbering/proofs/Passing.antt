@@ -10,16 +10,16 @@ use Rattle.ob0_tree.specs.Places.{value_at}
 use Rattle.ob0_scope_numbering.specs.Written.{Writing, name_at, spelled_by}
 use Rattle.ob0_tree.proofs.Occurring.{looked_up_only, looked_up_only-append}
 use Rattle.ob0_scope_numbering.specs.Marks.{OrdinalMark}
-use Rattle.ob0_scope_rules.specs.Names.{Name, as_names, same_name}
-use Rattle.ob0_scope_rules.specs.Parts.{constant_names, formal_names, formal_sections, further_names, module_block, named_types, names_listed, procedure_name, section_constants, section_names, section_types, section_variables, variable_names}
-use Rattle.ob0_scope_rules.specs.Resolution.{declaring_only}
-use Rattle.ob0_scope_rules.specs.Scopes.{Labels, Scope, after_block, after_names, after_procedure, after_procedures, body_scope, declare_names, declare_procedure_names, ordinal_of, predeclared_scope, relabel_block, relabel_constant_section, relabel_constants, relabel_formals, relabel_further, relabel_names, relabel_procedure, relabel_procedures, relabel_section, relabel_sections, relabel_type_section, relabel_types, relabel_uses, relabel_variable_section, relabel_variables, relabelled}
+use Rattle.ob0_language_names.specs.Names.{Name, as_names, same_name}
+use Rattle.ob0_language_names.specs.Parts.{constant_names, formal_names, formal_sections, further_names, module_block, named_types, names_listed, procedure_name, section_constants, section_names, section_types, section_variables, variable_names}
+use Rattle.ob0_scope_table.specs.Resolution.{declaring_only}
+use Rattle.ob0_language_names.specs.Scopes.{Labels, Scope, after_block, after_names, after_procedure, after_procedures, body_scope, declare_names, declare_procedure_names, ordinal_of, predeclared_scope, relabel_block, relabel_constant_section, relabel_constants, relabel_formals, relabel_further, relabel_names, relabel_procedure, relabel_procedures, relabel_section, relabel_sections, relabel_type_section, relabel_types, relabel_uses, relabel_variable_section, relabel_variables, relabelled}
 use Rattle.ob0_scope_numbering.specs.Marking.{Visit, started, leave_block, after_heading, found, found_all, left_to, marked, numbered_all, numbered_at, visible_from, used, visit_block, visit_constant, visit_constant_section, visit_constants, visit_formals, visit_module, visit_procedure, visit_procedures, visit_section, visit_sections, visit_type, visit_type_section, visit_types, visit_variable, visit_variable_section, visit_variables}
 use Rattle.ob0_scope_numbering.proofs.Agreed.{AllFit, agreed}
-use Rattle.ob0_scope_rules.proofs.Ordinals.{after_names-append, declare_names-append, le-after_block, le-after_names}
-use Rattle.ob0_scope_rules.proofs.OccurrenceNames.{length-map}
-use Rattle.ob0_scope_rules.proofs.Peeling.{Two}
-use Rattle.ob0_scope_rules.proofs.Plain.{IsPlain, declares_nothing, declaring_only-append}
+use Rattle.ob0_language_names.proofs.Ordinals.{after_names-append, declare_names-append, le-after_block, le-after_names}
+use Rattle.ob0_language_names.proofs.OccurrenceNames.{length-map}
+use Rattle.ob0_language_names.proofs.Peeling.{Two}
+use Rattle.ob0_scope_table.proofs.Plain.{IsPlain, declares_nothing, declaring_only-append}
 
 -- a table has each mark's ordinal at its token
 abbrev pub HasMarks : (ℕ → Option ℕ) → List OrdinalMark → Type 0

@@ -7,10 +7,10 @@ use Rattle.ob0_tree.specs.Tree.{Sort, Tree, block, constant, constants, declares
 use Rattle.ob0_tree.specs.Parsed.{IsParsed, Parsed, tree_of}
 use Rattle.ob0_scope_numbering.specs.Marking as listing
 use Rattle.ob0_scope_numbering.specs.Marks.{OrdinalMark}
-use Rattle.ob0_scope_rules.specs.Entries.{kept}
-use Rattle.ob0_scope_rules.specs.Names.{as_names}
-use Rattle.ob0_scope_rules.specs.Parts.{names_listed}
-use Rattle.ob0_scope_rules.specs.Scopes.{ordinal_of}
+use Rattle.ob0_scope_table.specs.Entries.{kept}
+use Rattle.ob0_language_names.specs.Names.{as_names}
+use Rattle.ob0_language_names.specs.Parts.{names_listed}
+use Rattle.ob0_language_names.specs.Scopes.{ordinal_of}
 use Rattle.ob0_scope_numbering.specs.Tabling as tabling
 use Rattle.ob0_scope_numbering.specs.Tabling.{module_numbered}
 use Rattle.ob0_scope_numbering.specs.Written.{Writing, name_at}

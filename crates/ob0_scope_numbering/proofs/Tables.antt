@@ -11,9 +11,9 @@ use Rattle.ob0_tree.proofs.Leaves.{leaves_ascend}
 use Rattle.ob0_scope_numbering.specs.Marking.{Visit, started, visit_module}
 use Rattle.ob0_scope_numbering.specs.Marks.{OrdinalMark, with_marks}
 use Rattle.ob0_scope_numbering.specs.Written.{Writing}
-use Rattle.ob0_scope_rules.specs.Names.{as_names}
-use Rattle.ob0_scope_rules.specs.Scopes.{as_label}
-use Rattle.ob0_scope_rules.specs.Resolution.{ordinal_in}
+use Rattle.ob0_language_names.specs.Names.{as_names}
+use Rattle.ob0_language_names.specs.Scopes.{as_label}
+use Rattle.ob0_scope_table.specs.Resolution.{ordinal_in}
 use Rattle.ob0_scope_numbering.proofs.Passing.{HasMarks, at_start, module_passed, tokens_of}
 
 ascends_to : (low : ℕ) (xs : List ℕ) (high : ℕ) → Ascending low xs high → low ≤ high

@@ -4,8 +4,8 @@ use Rattle.std.specs.Prelude.{ℕ, List, [], ◌∷◌, ◌++◌, Option}
 use Rattle.ob0_scope_numbering.specs.Marks.{OrdinalMark}
 use Rattle.ob0_tree.specs.declared.tree.Role.{Role}
 use Rattle.ob0_tree.specs.Tree.{Sort, Tree, block, constant, constants, formals, further_section, item, items, maybe, module_text, procedure, section, type_name, type_names, variable, variables}
-use Rattle.ob0_scope_rules.specs.Names.{as_names}
-use Rattle.ob0_scope_rules.specs.Scopes.{predeclared_scope}
+use Rattle.ob0_language_names.specs.Names.{as_names}
+use Rattle.ob0_language_names.specs.Scopes.{predeclared_scope}
 use Rattle.ob0_scope_numbering.specs.Visiting as visit
 use Rattle.ob0_scope_numbering.specs.Written.{Writing}
 

@@ -6,9 +6,9 @@ use Rattle.ob0_tree.specs.declared.tree.Role.TheVariants as role
 use Rattle.ob0_tree.specs.Tree.{Sort, Tree, block, constant, constants, declares, declares_constant, declares_constants, declares_procedure, declares_type, declares_types, declares_variable, declares_variables, end, formals, further_section, has_body, is_module, item, items, maybe, module_text, more, no_formals, none, one, procedure, section, some_formals, then_section, type_name, type_names, value_section, variable, variable_section, variables}
 use Rattle.ob0_tree.specs.Visited.{visited, visited_all}
 use Rattle.ob0_scope_numbering.specs.Written.{Writing, name_at}
-use Rattle.ob0_scope_rules.specs.Names.{Name, as_names}
-use Rattle.ob0_scope_rules.specs.Parts.{names_listed}
-use Rattle.ob0_scope_rules.specs.Scopes.{Scope, declare_names, ordinal_of}
+use Rattle.ob0_language_names.specs.Names.{Name, as_names}
+use Rattle.ob0_language_names.specs.Parts.{names_listed}
+use Rattle.ob0_language_names.specs.Scopes.{Scope, declare_names, ordinal_of}
 
 -- How identifiers are written, the names that are visible, the tokens that declare, the tokens of the occurrences, and
 -- the ordinals of the identifiers so far.

@@ -4,18 +4,18 @@ ghost use Rattle.std.specs.Prelude.{◌≡◌, ◌+◌, ◌<◌, ◌^◌, [], On
 ghost use Rattle.ob0_tree.specs.declared.tree.Role.TheVariants as roles;
 ghost use Rattle.ob0_tree.specs.Parsed.{tree_of};
 ghost use Rattle.ob0_tree.specs.View.{names_of, constant_of, constants_of, type_declaration_of, types_of, variable_of, variables_of, section_of, formals_of, procedure_of, block_of};
-ghost use Rattle.ob0_scope_rules.specs.Names.{as_names};
-ghost use Rattle.ob0_scope_rules.specs.Parts.{names_listed};
-ghost use Rattle.ob0_scope_rules.specs.Resolution.{ordinal_in};
-ghost use Rattle.ob0_scope_rules.specs.Scopes.{ordinal_of, predeclared_scope};
-ghost use Rattle.ob0_scope_visible.specs.Shadowing.{with_scope};
+ghost use Rattle.ob0_language_names.specs.Names.{as_names};
+ghost use Rattle.ob0_language_names.specs.Parts.{names_listed};
+ghost use Rattle.ob0_scope_table.specs.Resolution.{ordinal_in};
+ghost use Rattle.ob0_language_names.specs.Scopes.{ordinal_of, predeclared_scope};
+ghost use Rattle.ob0_scope_numbering.specs.Shadowing.{with_scope};
 ghost use Rattle.ob0_scope_numbering.specs.Written.{is_renamed, name_at};
 ghost use Rattle.ob0_scope_numbering.specs.Tabling.{marked, numbered_at, numbered_all, visible, visible_from, left_to, found, visit_constant, visit_constant_section, visit_type, visit_type_section, visit_variable, visit_variable_section, visit_section, visit_formals, visit_procedure, visit_block, visit_module, started, module_numbered};
 
+use crate::visible::Visible;
 use crate::writing::{Writing, is_renamed};
 use ob0_scan::Tokens;
-use ob0_scope_rules::{OrdinalEntry, PREDECLARED, ordinal_at};
-use ob0_scope_visible::Visible;
+use ob0_scope_table::{OrdinalEntry, PREDECLARED, ordinal_at};
 use ob0_tree::walk::{Visitor, body, expression, written_type};
 use ob0_tree::{
     Block, Constant, Module, Names, Procedure, Role, Section, TypeDeclaration, Variables, text_at,

@@ -4,7 +4,7 @@ ghost use Rattle.std.specs.Prelude.{◌≡◌};
 ghost use Rattle.ob0_scope_numbering.specs.Written.{as_in, is_renamed};
 
 use ob0_scan::Tokens;
-use ob0_scope_rules::OrdinalEntry;
+use ob0_scope_table::OrdinalEntry;
 use std::marker::Model;
 
 /// A text, and a name that is in place of each identifier of one declaration, if there is one.

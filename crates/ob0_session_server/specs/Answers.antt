@@ -17,15 +17,15 @@ use Rattle.ob0_rpc.specs.Writing.{Writes}
 use Rattle.ob0_rpc.specs.declared.clients.Client.{Client}
 use Rattle.ob0_rpc.specs.declared.incoming.RpcFault.{RpcFault}
 use Rattle.ob0_rpc.specs.declared.incoming.RpcFault.TheVariants.{NotJson, NotAMessage}
-use Rattle.ob0_session_edits.specs.Actions.{RequestedActions, AnswersActions}
+use Rattle.ob0_session_answers.specs.Actions.{RequestedActions, AnswersActions}
 use Rattle.ob0_session_server.specs.Units.{unit_for}
-use Rattle.ob0_session_edits.specs.Diagnostics.{Diagnoses}
-use Rattle.ob0_session_edits.specs.Formatted.{AnswersFormatting}
-use Rattle.ob0_session_queries.specs.Questions.{AnswersName}
-use Rattle.ob0_session_edits.specs.Renamed.{RequestedRename, AnswersRenaming}
+use Rattle.ob0_session_answers.specs.Diagnostics.{Diagnoses}
+use Rattle.ob0_session_answers.specs.Formatted.{AnswersFormatting}
+use Rattle.ob0_session_answers.specs.Questions.{AnswersName}
+use Rattle.ob0_session_answers.specs.Renamed.{RequestedRename, AnswersRenaming}
 use Rattle.ob0_session_json.specs.Shapes.{Diagnostic, capabilities, edit_refused, publication}
-use Rattle.ob0_session_queries.specs.declared.questions.NameQuestion.{NameQuestion}
-use Rattle.ob0_session_queries.specs.declared.questions.NameQuestion.TheVariants.{Hover, Definition, References, PrepareRename}
+use Rattle.ob0_session_answers.specs.declared.questions.NameQuestion.{NameQuestion}
+use Rattle.ob0_session_answers.specs.declared.questions.NameQuestion.TheVariants.{Hover, Definition, References, PrepareRename}
 use Rattle.ob0_session_server.specs.declared.server.Phase.{Phase}
 use Rattle.ob0_session_server.specs.declared.server.Phase.TheVariants.{Starting, Running, ShutDown, Ended}
 

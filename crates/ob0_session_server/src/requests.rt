@@ -6,13 +6,13 @@ ghost use Rattle.ob0_session_server.specs.Answers.{SaysReply, answers_name, diag
 
 use ob0_analysis::Analysis;
 use ob0_rpc::{Client, DocumentPosition, Id};
+use ob0_session_answers::actions::{ActionsRequest, code_actions};
+use ob0_session_answers::diagnostics::diagnostics;
+use ob0_session_answers::formatting::format_document;
+use ob0_session_answers::renaming::{RenameRequest, rename_symbol};
+use ob0_session_answers::{NameQuestion, answer_question};
 use ob0_session_documents::DocumentRequest;
-use ob0_session_edits::actions::{ActionsRequest, code_actions};
-use ob0_session_edits::diagnostics::diagnostics;
-use ob0_session_edits::formatting::format_document;
-use ob0_session_edits::renaming::{RenameRequest, rename_symbol};
 use ob0_session_json::publication::publication;
-use ob0_session_queries::{NameQuestion, answer_question};
 use ob0_text::{Indent, Range, TextStore};
 use std::alloc::{AllocError, Global};
 

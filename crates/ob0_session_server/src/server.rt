@@ -11,11 +11,11 @@ use ob0_rpc::{
     Client, ClientNotification, ClientRequest, DocumentPosition, Id, Incoming, RpcFault, error,
     notice, read, request, result_of,
 };
+use ob0_session_answers::NameQuestion;
 use ob0_session_documents::{AnalysedDocuments, RequestOutcome};
 use ob0_session_json::capabilities::initialize_answer;
 use ob0_session_json::publication::publication;
 use ob0_session_json::refusals::refuse;
-use ob0_session_queries::NameQuestion;
 use ob0_text::{Change, Documents, Indent, Range, TextStore, Unit};
 use serde_json::Value;
 use std::alloc::{AllocError, Global};

@@ -4,9 +4,10 @@ ghost use Rattle.std.specs.Prelude.{⊤};
 
 use crate::asking::{faults_of, is_said};
 use ob0_analysis::{Analysis, Question};
+use ob0_edits::rename_in;
 use ob0_inline::{inline_all, inline_here};
 use ob0_layout::format;
-use ob0_rename::{rename, rename_in};
+use ob0_rename::rename;
 use ob0_text::{Edit, EditRefusal, Indent, PatchFault, Position, TextStore, Whole, patch};
 use ob0_types::WellTyped;
 use std::alloc::{AllocError, Global};

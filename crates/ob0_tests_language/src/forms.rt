@@ -3,7 +3,7 @@
 
 use ob0_parse::parse;
 use ob0_scan::{Tokens, scan};
-use ob0_scope_rules::OrdinalEntry;
+use ob0_scope_table::OrdinalEntry;
 use ob0_tree::{Expression, Fields, Module, Statement};
 use std::alloc::Global;
 use std::mem::size_of;

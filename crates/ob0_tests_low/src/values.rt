@@ -1,8 +1,8 @@
 //! Worked rows of numbers and truth values.
 
+use ob0_language_values::scalar::{add, apply_sign, multiply, negate, relate};
+use ob0_language_values::{OperatorFault, Scalar};
 use ob0_tree::{AddOperator, MultiplyOperator, Relation, Sign};
-use ob0_values::scalar::{add, apply_sign, multiply, negate, relate};
-use ob0_values::{OperatorFault, Scalar};
 use std::process::Abort;
 
 fn number(number: i32) -> Scalar {

@@ -3,9 +3,9 @@ use Rattle.std.proofs.Common.{◌≤◌, ◌≡◌, ◌↔◌, ◌+◌, ◌&&◌
 use Rattle.std.proofs.lemmas.List.{nil_from_length}
 use Rattle.std.specs.List.{filter, list_any}
 use Rattle.ob0_scan.specs.declared.fault.Fault.{Fault}
-use Rattle.ob0_scope_rules.specs.Names.{as_names}
-use Rattle.ob0_scope_rules.specs.DeclaredOnce.{declared_once}
-use Rattle.ob0_scope_rules.specs.Resolution.{IsResolution, Resolution, is_of_declarations}
+use Rattle.ob0_language_names.specs.Names.{as_names}
+use Rattle.ob0_language_names.specs.DeclaredOnce.{declared_once}
+use Rattle.ob0_scope_table.specs.Resolution.{IsResolution, Resolution, is_of_declarations}
 use Rattle.ob0_tree.specs.Parsed.{named_tree_of}
 use Rattle.ob0_types_check.specs.DeclarationFaults.{reported_module}
 use Rattle.ob0_types_check.specs.ModuleLaws.{HasDeclarations, ModulesFit}
@@ -13,7 +13,7 @@ use Rattle.ob0_types_check.specs.WellTypedLaws.{NoFaultInModules}
 use Rattle.ob0_types.specs.FaultOrder.{AreFirstOf, faults_in}
 use Rattle.ob0_types.specs.CheckedModules.{IsChecked, IsReported}
 use Rattle.ob0_types_table.specs.KnownTables.{Tables}
-use Rattle.ob0_types_rules.specs.WellTyped.{WellTyped, fits_over}
+use Rattle.ob0_language_types.specs.WellTyped.{WellTyped, fits_over}
 
 length-nil : (xs : List Fault) → xs ≡ [] → length xs ≡ 0
 length-nil xs e = ap length e

@@ -3,7 +3,7 @@
 use Rattle.ob0_types_table.specs.KnownTables.{shapes_of}
 use Rattle.ob0_types_table.specs.Tables.{type_shape}
 use Rattle.ob0_types.specs.declared.checked.Shape as declared
-use Rattle.ob0_values.specs.Values.{Shape}
+use Rattle.ob0_language_values.specs.Values.{Shape}
 
 -- what a type of a table means, with the types of its parts
 abbrev pub shape_of : declared.Shape → Shape

@@ -9,7 +9,7 @@ use Rattle.ob0_scan.specs.Scanned.{max_faults}
 use Rattle.ob0_scan.specs.declared.fault.Code.{Code}
 use Rattle.ob0_scan.specs.declared.fault.Code.TheVariants as code
 use Rattle.ob0_scan.specs.declared.fault.Fault.{Fault}
-use Rattle.ob0_scope_rules.specs.Resolution.{Resolution, is_of_declarations}
+use Rattle.ob0_scope_table.specs.Resolution.{Resolution, is_of_declarations}
 use Rattle.ob0_types_check.specs.DeclarationFaults.{reported_module}
 
 -- the numbers of the codes: of lexemes, of scopes, of types

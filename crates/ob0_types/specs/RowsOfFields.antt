@@ -1,7 +1,7 @@
 -- The identifiers of fields with their types.
 -- Rule: docs/PROTOCOL.md, Requests on documents 4 (a field with its type).
 use Rattle.std.specs.Prelude.{ℕ, Option, option_map, option_and_then}
-use Rattle.ob0_scope_rules.specs.Resolution.{Resolution}
+use Rattle.ob0_scope_table.specs.Resolution.{Resolution}
 use Rattle.ob0_types_fields.specs.FieldTypes.{TypedField, typed_field}
 use Rattle.ob0_types_fields.specs.Identifiers.{field_at}
 use Rattle.ob0_types.specs.DeclaredShapes.{shape_of}

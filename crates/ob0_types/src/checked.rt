@@ -1,6 +1,6 @@
 //! Checking a module, and what is known of a well-typed one.
 
-ghost use Rattle.ob0_scope_rules.specs.Resolution.{is_of_declarations};
+ghost use Rattle.ob0_scope_table.specs.Resolution.{is_of_declarations};
 ghost use Rattle.ob0_types.specs.CheckedModules.{AreTypesOf, IsChecked, checked_by};
 ghost use Rattle.ob0_types.specs.FaultOrder.{AreFirstOf};
 ghost use Rattle.std.specs.List.{filter};
@@ -8,13 +8,13 @@ ghost use Rattle.std.specs.Prelude.{◌≡◌, ◌≤◌, ◌↔◌, ◌++◌, [
 ghost use Rattle.ob0_types_fields.specs.Listed.{listed_by};
 ghost use Rattle.ob0_scan.specs.Scanned.{max_faults};
 
+use ob0_language_values::Scalar;
 use ob0_scan::{Code, Fault, MAX_FAULTS};
-use ob0_scope_rules::{PREDECLARED, Resolved};
+use ob0_scope_table::{PREDECLARED, Resolved};
 use ob0_types_check::laws::{modules_fit, no_fault_in_modules};
 use ob0_types_check::{Report, report_faults};
 use ob0_types_fields::{FieldList, typed_field};
 use ob0_types_table::{FieldOf, Known, Parts, TypeId};
-use ob0_values::Scalar;
 use std::alloc::{AllocError, Global};
 use std::borrow::Cow;
 use std::marker::Model;
@@ -61,7 +61,7 @@ pub struct WellTyped<'t> {
 
 impl<'t> Model for WellTyped<'t> {
     ghost use Rattle.ob0_types.specs.CheckedModules.{IsKnownOf};
-    ghost use Rattle.ob0_scope_rules.specs.Resolution.{Resolution};
+    ghost use Rattle.ob0_scope_table.specs.Resolution.{Resolution};
 
     ghost Value = { Resolution };
 
@@ -247,12 +247,12 @@ impl<'t> WellTyped<'t> {
     ghost use Rattle.ob0_types.specs.CheckedModules.{IsWellTyped};
     ghost use Rattle.ob0_types_check.specs.ModuleLaws.{HasDeclarations};
     ghost use Rattle.ob0_types_fields.specs.Listed.{AreFields};
-    ghost use Rattle.ob0_types_rules.specs.ConstantValues.{value_of_constant};
-    ghost use Rattle.ob0_types_rules.specs.Bindings.{declared_object};
+    ghost use Rattle.ob0_language_types.specs.ConstantValues.{value_of_constant};
+    ghost use Rattle.ob0_language_types.specs.Bindings.{declared_object};
     ghost use Rattle.ob0_types.specs.DeclaredShapes.{shape_of};
     ghost use Rattle.ob0_types.specs.RowsOfFields.{row_in, field_row_of};
-    ghost use Rattle.ob0_types_rules.specs.Typing.{type_declared};
-    ghost use Rattle.ob0_values.specs.Scalars.{scalar_value};
+    ghost use Rattle.ob0_language_types.specs.Typing.{type_declared};
+    ghost use Rattle.ob0_language_values.specs.Scalars.{scalar_value};
 
     /// The module with its faults: there are none.
     pub fn checked(&self) -> &'t Checked<'t>

@@ -3,21 +3,21 @@ use Rattle.std.proofs.Common.{◌≡◌, ℕ, suc, ◌+◌, true, ◌&&◌, List
 use Rattle.std.proofs.lemmas.Bool.{and_parts}
 use Rattle.std.proofs.Math.Seq.{take-append_seam}
 use Rattle.ob0_tree.specs.Tree.{Tree, block, body, declares, declares_procedure, end, formals, has_body, is_module, item, items, maybe, module_text, more, procedure}
-use Rattle.ob0_scope_rules.specs.Names.{Label, Name, Naming, as_labels, as_names, declared}
-use Rattle.ob0_scope_rules.specs.Parts.{constant_names, formal_names, formal_sections, module_block, named_types, section_constants, section_types, section_variables, variable_names}
-use Rattle.ob0_scope_rules.specs.Scopes.{Scope, after_block, after_names, after_procedure, after_procedures, as_label, declare_names, first_procedure, first_type, first_variable, numbered, procedures_scope, relabel_block, relabel_formals, relabel_procedures, relabel_sections, types_scope, variables_scope}
-use Rattle.ob0_scope_rules.proofs.Ordinals.{le-after_procedure}
-use Rattle.ob0_scope_rules.proofs.Relabelled.{formals-section, types-section, variables-section}
-use Rattle.ob0_types_rules.specs.Bindings.{block_bindings, for_some, module_bindings, procedure_bindings, procedures_bindings, since}
-use Rattle.ob0_types_rules.specs.Declaring.{declare_block, declare_procedure}
-use Rattle.ob0_types_rules.specs.Declarations.{after_variables, formals_constructors, procedure_constructors, types_constructors, variables_constructors}
-use Rattle.ob0_types_rules.specs.Environments.{outermost}
-use Rattle.ob0_types_rules.specs.Expressions.{a_procedure, a_variable}
-use Rattle.ob0_types_rules.specs.WellTyped.{TypeEnvironment, TypedParameter, bind_typed, block_fits, fits_over, heading, procedure_fits, procedures_fit, typed_parameters}
-use Rattle.ob0_types_rules.proofs.Agreeing.{Agree, HoldsOf}
-use Rattle.ob0_types_rules.proofs.Constructors.{formals_constructors-relabel, procedure_constructors-relabel, types_constructors-relabel, variables_constructors-relabel}
-use Rattle.ob0_types_rules.proofs.Literals.{some_inverse}
-use Rattle.ob0_types_rules.proofs.TypesByOrdinal.{TypeNoted, TypedBelow, TypedBelow-weaken, TypedWithin, bind_typed-by_name, bind_typed-by_ordinal, block_fits-agrees, declarations_typed, label_typed, label_typed-formals, noted_parameters, noted_parameters-within, parameters_typed, typed_by_name, typed_by_ordinal, typed_names, typed_outermost, typed_scope}
+use Rattle.ob0_language_names.specs.Names.{Label, Name, Naming, as_labels, as_names, declared}
+use Rattle.ob0_language_names.specs.Parts.{constant_names, formal_names, formal_sections, module_block, named_types, section_constants, section_types, section_variables, variable_names}
+use Rattle.ob0_language_names.specs.Scopes.{Scope, after_block, after_names, after_procedure, after_procedures, as_label, declare_names, first_procedure, first_type, first_variable, numbered, procedures_scope, relabel_block, relabel_formals, relabel_procedures, relabel_sections, types_scope, variables_scope}
+use Rattle.ob0_language_names.proofs.Ordinals.{le-after_procedure}
+use Rattle.ob0_language_names.proofs.Relabelled.{formals-section, types-section, variables-section}
+use Rattle.ob0_language_types.specs.Bindings.{block_bindings, for_some, module_bindings, procedure_bindings, procedures_bindings, since}
+use Rattle.ob0_language_types.specs.Declaring.{declare_block, declare_procedure}
+use Rattle.ob0_language_types.specs.Declarations.{after_variables, formals_constructors, procedure_constructors, types_constructors, variables_constructors}
+use Rattle.ob0_language_types.specs.Environments.{outermost}
+use Rattle.ob0_language_types.specs.Expressions.{a_procedure, a_variable}
+use Rattle.ob0_language_types.specs.WellTyped.{TypeEnvironment, TypedParameter, bind_typed, block_fits, fits_over, heading, procedure_fits, procedures_fit, typed_parameters}
+use Rattle.ob0_language_types.proofs.Agreeing.{Agree, HoldsOf}
+use Rattle.ob0_language_types.proofs.Constructors.{formals_constructors-relabel, procedure_constructors-relabel, types_constructors-relabel, variables_constructors-relabel}
+use Rattle.ob0_language_types.proofs.Literals.{some_inverse}
+use Rattle.ob0_language_types.proofs.TypesByOrdinal.{TypeNoted, TypedBelow, TypedBelow-weaken, TypedWithin, bind_typed-by_name, bind_typed-by_ordinal, block_fits-agrees, declarations_typed, label_typed, label_typed-formals, noted_parameters, noted_parameters-within, parameters_typed, typed_by_name, typed_by_ordinal, typed_names, typed_outermost, typed_scope}
 use Rattle.ob0_types_check.proofs.BoundModules.{held}
 
 -- the ordinals below n down to k, each once, the latest first

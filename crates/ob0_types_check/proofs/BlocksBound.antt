@@ -1,12 +1,12 @@
 -- What declarations bind, ordinal by ordinal, and what is known of each ordinal.
 use Rattle.std.proofs.Common.{◌≡◌, ℕ, suc, ◌<◌, ◌≤◌, false, List, [], ◌∷◌, ◌++◌, length, Option, Some, None, slice_index_or, refl, sym, ap, ◌∙◌, subst, append_assoc, arith}
-use Rattle.ob0_scope_rules.specs.Names.{Name}
-use Rattle.ob0_scope_rules.specs.Scopes.{Scope, after_names, declare_names}
-use Rattle.ob0_types_rules.specs.Bindings.{since}
-use Rattle.ob0_types_rules.specs.Expressions as meant
-use Rattle.ob0_types_rules.specs.WellTyped.{TypeEnvironment, TypedParameter, bind_typed}
+use Rattle.ob0_language_names.specs.Names.{Name}
+use Rattle.ob0_language_names.specs.Scopes.{Scope, after_names, declare_names}
+use Rattle.ob0_language_types.specs.Bindings.{since}
+use Rattle.ob0_language_types.specs.Expressions as meant
+use Rattle.ob0_language_types.specs.WellTyped.{TypeEnvironment, TypedParameter, bind_typed}
 use Rattle.ob0_types_table.specs.declared.types.TypeId.{TypeId}
-use Rattle.ob0_values.specs.Values.{Shape}
+use Rattle.ob0_language_values.specs.Values.{Shape}
 use Rattle.ob0_types_check.specs.Agreement.{MeansAlike, is_standard, shape_in}
 use Rattle.ob0_types_check.specs.Known.{Meaning}
 use Rattle.ob0_types_check.proofs.BindingsByOrdinal.{since-front}

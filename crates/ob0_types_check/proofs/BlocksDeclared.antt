@@ -3,16 +3,16 @@ use Rattle.std.proofs.Common.{◌≡◌, ℕ, suc, ◌+◌, ◌≤◌, true, Lis
 use Rattle.std.proofs.lemmas.List.{map-append}
 use Rattle.ob0_tree.specs.Places.{named, text_at, value_at}
 use Rattle.ob0_tree.specs.Tree.{Tree, constant, declares_constant, declares_type, declares_variable, end, items, mapped, more, type_name, variable}
-use Rattle.ob0_scope_rules.specs.Names.{Name, as_names}
-use Rattle.ob0_scope_rules.specs.Parts.{constant_names, named_types, names_listed, variable_names}
-use Rattle.ob0_scope_rules.specs.Scopes.{Scope, after_names, declare_names}
-use Rattle.ob0_scope_rules.proofs.Ordinals.{after_names-append, declare_names-append, le-after_names}
-use Rattle.ob0_types_rules.specs.Declarations.{declare_constants, declare_types, types_constructors, variables_constructors}
-use Rattle.ob0_types_rules.specs.Environments.{meanings}
-use Rattle.ob0_types_rules.specs.Expressions as meant
-use Rattle.ob0_types_rules.specs.Typing.{constant_value, constructors, denoted}
-use Rattle.ob0_types_rules.specs.WellTyped.{TypeEnvironment, bind_names, declare_typed}
-use Rattle.ob0_values.specs.Values.{Shape, Value}
+use Rattle.ob0_language_names.specs.Names.{Name, as_names}
+use Rattle.ob0_language_names.specs.Parts.{constant_names, named_types, names_listed, variable_names}
+use Rattle.ob0_language_names.specs.Scopes.{Scope, after_names, declare_names}
+use Rattle.ob0_language_names.proofs.Ordinals.{after_names-append, declare_names-append, le-after_names}
+use Rattle.ob0_language_types.specs.Declarations.{declare_constants, declare_types, types_constructors, variables_constructors}
+use Rattle.ob0_language_types.specs.Environments.{meanings}
+use Rattle.ob0_language_types.specs.Expressions as meant
+use Rattle.ob0_language_types.specs.Typing.{constant_value, constructors, denoted}
+use Rattle.ob0_language_types.specs.WellTyped.{TypeEnvironment, bind_names, declare_typed}
+use Rattle.ob0_language_values.specs.Values.{Shape, Value}
 use Rattle.ob0_types_check.specs.DeclarationFaults.{constant_declared, reported_constants, reported_types, reported_variables, type_declared, variables_declared}
 use Rattle.ob0_types_check.specs.Known.{Reported, a_constant, a_type, a_variable}
 use Rattle.ob0_types_check.specs.SoFar.{SoFar, TypedAfter, define, define_all, facts_at}

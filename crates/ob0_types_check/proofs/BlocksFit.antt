@@ -5,17 +5,17 @@ use Rattle.std.specs.List.{filter}
 use Rattle.ob0_tree.specs.Parsed.{tree_of}
 use Rattle.ob0_tree.specs.Places.{named, text_at, value_at}
 use Rattle.ob0_tree.specs.Tree.{Tree, begins, block, body, constants, declares, declares_procedure, end, formals, has_body, item, items, mapped, maybe, more, none, one, procedure, type_names, variables}
-use Rattle.ob0_scope_rules.specs.Names.{Name, as_names}
-use Rattle.ob0_scope_rules.specs.Parts.{constant_names, formal_names, formal_sections, module_block, named_types, procedure_formals, procedure_name, section_constants, section_types, section_variables, variable_names}
-use Rattle.ob0_scope_rules.specs.Resolution.{Resolution, is_of_occurrences}
-use Rattle.ob0_scope_rules.specs.Scopes.{Scope, after_block, after_names, after_procedure, after_procedures, first_procedure, first_type, first_variable, predeclared_scope}
-use Rattle.ob0_scope_rules.proofs.Ordinals.{le-after_names, le-after_procedure}
-use Rattle.ob0_types_rules.specs.Bindings.{block_bindings, for_some, procedure_bindings, procedures_bindings, since}
-use Rattle.ob0_types_rules.specs.Declarations.{after_types, after_variables, block_constructors, declare_constants, declare_first, declare_types, formals_constructors, procedure_constructors, procedures_constructors, types_constructors, variables_constructors}
-use Rattle.ob0_types_rules.specs.Environments.{meanings, outermost}
-use Rattle.ob0_types_rules.specs.Expressions as meant
-use Rattle.ob0_types_rules.specs.WellTyped.{Signature, TypeEnvironment, TypedParameter, bind_typed, block_fits, body_fits, by_place, by_value, declare_typed, fits_over, heading, some_and, procedure_fits, procedures_fit, sequence_fits, typed_parameters}
-use Rattle.ob0_values.specs.Values.{Shape, boolean_shape, integer_shape, truth}
+use Rattle.ob0_language_names.specs.Names.{Name, as_names}
+use Rattle.ob0_language_names.specs.Parts.{constant_names, formal_names, formal_sections, module_block, named_types, procedure_formals, procedure_name, section_constants, section_types, section_variables, variable_names}
+use Rattle.ob0_scope_table.specs.Resolution.{Resolution, is_of_occurrences}
+use Rattle.ob0_language_names.specs.Scopes.{Scope, after_block, after_names, after_procedure, after_procedures, first_procedure, first_type, first_variable, predeclared_scope}
+use Rattle.ob0_language_names.proofs.Ordinals.{le-after_names, le-after_procedure}
+use Rattle.ob0_language_types.specs.Bindings.{block_bindings, for_some, procedure_bindings, procedures_bindings, since}
+use Rattle.ob0_language_types.specs.Declarations.{after_types, after_variables, block_constructors, declare_constants, declare_first, declare_types, formals_constructors, procedure_constructors, procedures_constructors, types_constructors, variables_constructors}
+use Rattle.ob0_language_types.specs.Environments.{meanings, outermost}
+use Rattle.ob0_language_types.specs.Expressions as meant
+use Rattle.ob0_language_types.specs.WellTyped.{Signature, TypeEnvironment, TypedParameter, bind_typed, block_fits, body_fits, by_place, by_value, declare_typed, fits_over, heading, some_and, procedure_fits, procedures_fit, sequence_fits, typed_parameters}
+use Rattle.ob0_language_values.specs.Values.{Shape, boolean_shape, integer_shape, truth}
 use Rattle.ob0_types_check.specs.DeclarationFaults.{KnownHeading, after_heading, reported_block, reported_body, reported_constants, reported_module, reported_procedure, reported_procedures, reported_sections, reported_types, reported_variables}
 use Rattle.ob0_types_check.specs.Known.{Meaning, Reported, a_procedure}
 use Rattle.ob0_types_table.specs.declared.types.TypeId.{TypeId}

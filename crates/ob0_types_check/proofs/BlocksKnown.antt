@@ -6,18 +6,18 @@ use Rattle.std.specs.List.{filter}
 use Rattle.ob0_tree.specs.Parsed.{named_tree_of, tree_of}
 use Rattle.ob0_tree.specs.Places.{text_at, value_at}
 use Rattle.ob0_tree.specs.Tree.{Tree, block, is_module, module_text}
-use Rattle.ob0_scope_rules.specs.Names.{Label, Name, as_labels, as_names, declared}
-use Rattle.ob0_scope_rules.specs.Parts.{module_block}
-use Rattle.ob0_scope_rules.specs.Resolution.{is_of_occurrences}
-use Rattle.ob0_scope_rules.specs.Scopes.{after_block, as_label, numbered, predeclared_scope, relabel_block}
-use Rattle.ob0_types_rules.specs.Bindings.{block_bindings, declared_object, module_bindings, object_bound}
-use Rattle.ob0_types_rules.specs.Environments.{from_binding, outermost}
-use Rattle.ob0_types_rules.specs.Expressions as meant
-use Rattle.ob0_types_rules.specs.WellTyped.{Signature, TypeEnvironment, fits_over}
-use Rattle.ob0_types_rules.proofs.Bound.{newest-if}
-use Rattle.ob0_types_rules.proofs.TypesByOrdinal.{TypeNoted, typed_by_name, typed_by_ordinal, typed_outermost, typed_scope}
+use Rattle.ob0_language_names.specs.Names.{Label, Name, as_labels, as_names, declared}
+use Rattle.ob0_language_names.specs.Parts.{module_block}
+use Rattle.ob0_scope_table.specs.Resolution.{is_of_occurrences}
+use Rattle.ob0_language_names.specs.Scopes.{after_block, as_label, numbered, predeclared_scope, relabel_block}
+use Rattle.ob0_language_types.specs.Bindings.{block_bindings, declared_object, module_bindings, object_bound}
+use Rattle.ob0_language_types.specs.Environments.{from_binding, outermost}
+use Rattle.ob0_language_types.specs.Expressions as meant
+use Rattle.ob0_language_types.specs.WellTyped.{Signature, TypeEnvironment, fits_over}
+use Rattle.ob0_language_types.proofs.Bound.{newest-if}
+use Rattle.ob0_language_types.proofs.TypesByOrdinal.{TypeNoted, typed_by_name, typed_by_ordinal, typed_outermost, typed_scope}
 use Rattle.ob0_types_table.specs.declared.types.TypeId.{TypeId}
-use Rattle.ob0_values.specs.Values.{Shape}
+use Rattle.ob0_language_values.specs.Values.{Shape}
 use Rattle.ob0_types_check.specs.Agreement.{DeclarationAgrees, MeansAlike, is_standard, shape_in}
 use Rattle.ob0_types_check.specs.DeclarationFaults.{reported_block, reported_module}
 use Rattle.ob0_types_check.specs.Known.{Meaning}

@@ -3,18 +3,18 @@ use Rattle.std.proofs.Common.{◌≡◌, ℕ, suc, ◌+◌, ◌<◌, ◌≤◌, 
 use Rattle.std.proofs.lemmas.List.{map-append}
 use Rattle.ob0_tree.specs.Places.{named, text_at, value_at}
 use Rattle.ob0_tree.specs.Tree.{Tree, end, further_section, items, more, then_section, value_section, variable_section, written_type}
-use Rattle.ob0_scope_rules.specs.Names.{Name, as_names}
-use Rattle.ob0_scope_rules.specs.Parts.{formal_names, names_listed}
-use Rattle.ob0_scope_rules.specs.Scopes.{Scope, after_names, declare_names}
-use Rattle.ob0_scope_rules.proofs.Ordinals.{le-after_names}
+use Rattle.ob0_language_names.specs.Names.{Name, as_names}
+use Rattle.ob0_language_names.specs.Parts.{formal_names, names_listed}
+use Rattle.ob0_language_names.specs.Scopes.{Scope, after_names, declare_names}
+use Rattle.ob0_language_names.proofs.Ordinals.{le-after_names}
 use Rattle.ob0_types_table.specs.Tables.{mode_of}
 use Rattle.ob0_types_table.specs.declared.types.TypeId.{TypeId}
-use Rattle.ob0_types_rules.specs.Declarations.{formals_constructors}
-use Rattle.ob0_types_rules.specs.Environments.{meanings}
-use Rattle.ob0_types_rules.specs.Expressions as meant
-use Rattle.ob0_types_rules.specs.Typing.{constructors, denoted}
-use Rattle.ob0_types_rules.specs.WellTyped.{Mode, Signature, TypeEnvironment, TypedParameter, bind_names, bind_typed, by_place, by_value, typed_parameters}
-use Rattle.ob0_values.specs.Values.{Shape}
+use Rattle.ob0_language_types.specs.Declarations.{formals_constructors}
+use Rattle.ob0_language_types.specs.Environments.{meanings}
+use Rattle.ob0_language_types.specs.Expressions as meant
+use Rattle.ob0_language_types.specs.Typing.{constructors, denoted}
+use Rattle.ob0_language_types.specs.WellTyped.{Mode, Signature, TypeEnvironment, TypedParameter, bind_names, bind_typed, by_place, by_value, typed_parameters}
+use Rattle.ob0_language_values.specs.Values.{Shape}
 use Rattle.ob0_types_check.specs.DeclarationFaults.{KnownHeading, reported_parameters, reported_section, reported_sections, with_parameters}
 use Rattle.ob0_types_check.specs.Known.{KnownFormal, Meaning, Reported, a_variable}
 use Rattle.ob0_types_check.specs.SoFar.{SoFar, TypedAfter, define, define_all}

@@ -4,18 +4,18 @@ use Rattle.ob0_scan.specs.declared.fault.Code.TheVariants as code
 use Rattle.ob0_scan.specs.Scanned.{Scanned}
 use Rattle.ob0_tree.specs.Parsed.{named_tree_of, tree_of}
 use Rattle.ob0_tree.specs.Tree.{Tree, begins, block, body, constant, constants, declares, declares_constant, declares_constants, declares_procedure, declares_type, declares_types, declares_variable, declares_variables, end, formals, further_section, has_body, is_module, item, items, maybe, module_text, more, no_formals, none, occurrences, one, procedure, section, some_formals, then_section, type_name, type_names, value_section, variable, variable_section, variables}
-use Rattle.ob0_scope_rules.specs.Names.{Label, Naming, as_labels, as_written, declared}
-use Rattle.ob0_scope_rules.specs.Occurrences.{bindings}
-use Rattle.ob0_scope_rules.specs.Parts.{formal_sections, names_listed, procedure_formals, procedure_name, section_constants, section_names, section_type, section_types, section_variables}
-use Rattle.ob0_scope_rules.specs.Resolution.{is_unbound, span_at, unbound_at}
-use Rattle.ob0_scope_rules.specs.Scopes.{numbered}
-use Rattle.ob0_types_rules.specs.Declarations.{after_types, after_variables, declare_constants, declare_first, declare_types, formals_constructors, procedure_constructors}
-use Rattle.ob0_types_rules.specs.Environments.{from_binding, meanings, newest, outermost}
-use Rattle.ob0_types_rules.specs.Expressions.{Object, a_constant, a_type, a_variable}
-use Rattle.ob0_types_rules.specs.Typing.{constant_value, constructors, denoted}
-use Rattle.ob0_types_rules.specs.WellTyped.{Signature, TypeEnvironment, TypedParameter, bind_names, bind_typed, block_fits, body_fits, declare_typed, fits_over, heading, some_and, procedure_fits, procedures_fit, section_mode, typed_parameters}
-use Rattle.ob0_types_rules.proofs.Proved.{fits_by_ordinal-holds}
-use Rattle.ob0_values.specs.Values.{Shape}
+use Rattle.ob0_language_names.specs.Names.{Label, Naming, as_labels, as_written, declared}
+use Rattle.ob0_language_names.specs.Occurrences.{bindings}
+use Rattle.ob0_language_names.specs.Parts.{formal_sections, names_listed, procedure_formals, procedure_name, section_constants, section_names, section_type, section_types, section_variables}
+use Rattle.ob0_scope_table.specs.Resolution.{is_unbound, span_at, unbound_at}
+use Rattle.ob0_language_names.specs.Scopes.{numbered}
+use Rattle.ob0_language_types.specs.Declarations.{after_types, after_variables, declare_constants, declare_first, declare_types, formals_constructors, procedure_constructors}
+use Rattle.ob0_language_types.specs.Environments.{from_binding, meanings, newest, outermost}
+use Rattle.ob0_language_types.specs.Expressions.{Object, a_constant, a_type, a_variable}
+use Rattle.ob0_language_types.specs.Typing.{constant_value, constructors, denoted}
+use Rattle.ob0_language_types.specs.WellTyped.{Signature, TypeEnvironment, TypedParameter, bind_names, bind_typed, block_fits, body_fits, declare_typed, fits_over, heading, some_and, procedure_fits, procedures_fit, section_mode, typed_parameters}
+use Rattle.ob0_language_types.proofs.Proved.{fits_by_ordinal-holds}
+use Rattle.ob0_language_values.specs.Values.{Shape}
 use Rattle.ob0_types_check.specs.WellTypedLaws.{NamesBound}
 use Rattle.ob0_types_check.proofs.BoundParts.{each-of-both, sequence-bound, type-bound, value-bound}
 use Rattle.ob0_types_check.proofs.DeclaredNames.{Each}

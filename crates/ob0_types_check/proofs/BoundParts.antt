@@ -1,12 +1,12 @@
 -- Each name in an expression that has a type, in a type that denotes one and in well-typed statements has a meaning.
 use Rattle.std.proofs.Common.{◌≡◌, ℕ, suc, ◌+◌, true, true≢false, List, [], ◌∷◌, ◌++◌, map, Option, Some, None, option_map, option_and_then, refl, sym, ◌∙◌}
-use Rattle.ob0_scope_rules.specs.Parts.{names_listed}
+use Rattle.ob0_language_names.specs.Parts.{names_listed}
 use Rattle.ob0_tree.specs.Tree.{Tree, addend, adds, arguments, array_type, assigns, branches, calls, compares, designator, else_branch, else_part, elsif_branch, elsif_part, empty, end, expression, factor, field, fields, further_argument, further_fields, further_statement, index, integer, items, maybe, more, multiplier, multiplies, named_type, negation, no_arguments, no_fields, none, occurrences, one, parenthesised, product, record_type, relates, repeat_loop, runs, selector, sequence, simple, some_arguments, some_fields, statement, sum, term, then_argument, then_fields, then_statement, while_loop, written_type}
-use Rattle.ob0_types_rules.specs.Arguments.{arguments_listed, further_arguments}
-use Rattle.ob0_types_rules.specs.Expressions.{Meanings, Object, a_constant, a_procedure, a_standard, a_type, a_variable, evaluate}
-use Rattle.ob0_types_rules.specs.Typing.{add_type, array_length, complement_type, constant_of, constant_value, constants_only, denoted, denoted_group, denoted_groups, lone_designator, element_type, field_type, given_value, group_constructors, multiply_type, object_type, relation_type, sign_type, type_at, type_of, type_of_addends, type_of_factor, type_of_multipliers, type_of_name, type_of_simple, type_of_term, with_fields, within_limits}
-use Rattle.ob0_types_rules.specs.WellTyped.{Formal, Mode, Signature, Typed, agree, argument_fits, arguments_fit, by_place, by_value, call_fits, condition_fits, else_fits, elsifs_fit, sequence_fits, signature_of, statement_fits, statements_fit, variable_type}
-use Rattle.ob0_values.specs.Values.{FieldShapes, Shape, Value, array_shape, boolean_shape, record_shape}
+use Rattle.ob0_language_types.specs.Arguments.{arguments_listed, further_arguments}
+use Rattle.ob0_language_types.specs.Expressions.{Meanings, Object, a_constant, a_procedure, a_standard, a_type, a_variable, evaluate}
+use Rattle.ob0_language_types.specs.Typing.{add_type, array_length, complement_type, constant_of, constant_value, constants_only, denoted, denoted_group, denoted_groups, lone_designator, element_type, field_type, given_value, group_constructors, multiply_type, object_type, relation_type, sign_type, type_at, type_of, type_of_addends, type_of_factor, type_of_multipliers, type_of_name, type_of_simple, type_of_term, with_fields, within_limits}
+use Rattle.ob0_language_types.specs.WellTyped.{Formal, Mode, Signature, Typed, agree, argument_fits, arguments_fit, by_place, by_value, call_fits, condition_fits, else_fits, elsifs_fit, sequence_fits, signature_of, statement_fits, statements_fit, variable_type}
+use Rattle.ob0_language_values.specs.Values.{FieldShapes, Shape, Value, array_shape, boolean_shape, record_shape}
 use Rattle.ob0_types_check.proofs.DeclaredNames.{Each}
 use Rattle.ob0_types_check.proofs.EqualShapes.{agree-equal, each-true}
 use Rattle.ob0_types_check.proofs.TypedOperands.{and-then}

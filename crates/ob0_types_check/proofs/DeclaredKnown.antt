@@ -6,14 +6,14 @@ use Rattle.ob0_tree.specs.Places.{text_at}
 use Rattle.ob0_tree.specs.Tree.{Sort, Tree, identifiers}
 use Rattle.ob0_tree.specs.declared.tree.Role.{Role}
 use Rattle.ob0_tree.specs.declared.tree.Role.TheVariants as role
-use Rattle.ob0_scope_rules.specs.Names.{Name, as_names, same_name}
-use Rattle.ob0_scope_rules.specs.Resolution.{ordinal_in}
-use Rattle.ob0_scope_rules.specs.Scopes.{Scope, after_names, ordinal_of}
+use Rattle.ob0_language_names.specs.Names.{Name, as_names, same_name}
+use Rattle.ob0_scope_table.specs.Resolution.{ordinal_in}
+use Rattle.ob0_language_names.specs.Scopes.{Scope, after_names, ordinal_of}
 use Rattle.ob0_types_table.specs.declared.types.TypeId.{TypeId}
-use Rattle.ob0_types_rules.specs.Environments.{from_binding, meanings, newest}
-use Rattle.ob0_types_rules.specs.Expressions as meant
-use Rattle.ob0_types_rules.specs.WellTyped.{Signature, TypeEnvironment, bind_names}
-use Rattle.ob0_values.specs.Values.{Shape}
+use Rattle.ob0_language_types.specs.Environments.{from_binding, meanings, newest}
+use Rattle.ob0_language_types.specs.Expressions as meant
+use Rattle.ob0_language_types.specs.WellTyped.{Signature, TypeEnvironment, bind_names}
+use Rattle.ob0_language_values.specs.Values.{Shape}
 use Rattle.ob0_types_check.specs.Known.{KnownFormal, Meaning, a_constant, a_procedure, a_type, a_variable}
 use Rattle.ob0_types_check.specs.SoFar.{SoFar, define, define_all, facts_at, with_declared}
 use Rattle.ob0_types_check.specs.Agreement.{Agrees, FormalsAgree, MeaningAgrees, MeansAlike, TableAgrees, TokensAgree, is_standard, shape_in}

@@ -8,13 +8,13 @@ use Rattle.ob0_tree.specs.declared.tree.Role.TheVariants as role
 use Rattle.ob0_tree.specs.Parsed.{tree_of}
 use Rattle.ob0_tree.specs.Places.{text_at}
 use Rattle.ob0_tree.specs.Tree.{Tree, block, constant, constants, declares, declares_constant, declares_constants, declares_procedure, declares_type, declares_types, declares_variable, declares_variables, end, formals, further_name, further_section, has_body, identifiers, item, items, listed, maybe, more, names, no_formals, none, occurrences, one, procedure, section, some_formals, then_name, then_section, type_name, type_names, value_section, variable, variable_section, variables}
-use Rattle.ob0_scope_rules.specs.Names.{as_names}
-use Rattle.ob0_scope_rules.specs.Parts.{constant_names, formal_names, formal_sections, further_names, module_block, named_types, names_listed, section_constants, section_names, section_types, section_variables, variable_names}
-use Rattle.ob0_scope_rules.specs.Resolution.{IsResolution, Resolution, declaring_only, is_of_occurrences, is_unbound, label_at, ordinal_in, span_at, unbound_at}
-use Rattle.ob0_scope_rules.specs.Scopes.{after_block, after_names, after_procedure, after_procedures, as_label, predeclared_scope}
-use Rattle.ob0_scope_rules.proofs.Bound.{bindings_by_table}
-use Rattle.ob0_scope_rules.proofs.Ordinals.{after_names-append}
-use Rattle.ob0_scope_rules.proofs.Plain.{Plain, declares_nothing, declaring_only-append}
+use Rattle.ob0_language_names.specs.Names.{as_names}
+use Rattle.ob0_language_names.specs.Parts.{constant_names, formal_names, formal_sections, further_names, module_block, named_types, names_listed, section_constants, section_names, section_types, section_variables, variable_names}
+use Rattle.ob0_scope_table.specs.Resolution.{IsResolution, Resolution, declaring_only, is_of_occurrences, is_unbound, label_at, ordinal_in, span_at, unbound_at}
+use Rattle.ob0_language_names.specs.Scopes.{after_block, after_names, after_procedure, after_procedures, as_label, predeclared_scope}
+use Rattle.ob0_scope_table.proofs.Bound.{bindings_by_table}
+use Rattle.ob0_language_names.proofs.Ordinals.{after_names-append}
+use Rattle.ob0_scope_table.proofs.Plain.{Plain, declares_nothing, declaring_only-append}
 use Rattle.ob0_types_check.proofs.DeclaredNames.{BlockPlaced, Each, IsBound, Numbering, block_placed}
 
 -- from one ordinal to another there are as many as declaring names

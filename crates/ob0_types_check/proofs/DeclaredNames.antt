@@ -4,15 +4,15 @@ use Rattle.std.proofs.lemmas.List.{map-append}
 use Rattle.ob0_scan.specs.Scanned.{Scanned}
 use Rattle.ob0_tree.specs.Places.{named, text_at, value_at}
 use Rattle.ob0_tree.specs.Tree.{Item, Sort, Tree, block, body, constant, constants, declares, declares_constant, declares_constants, declares_procedure, declares_type, declares_types, declares_variable, declares_variables, end, expression, formals, further_name, further_section, has_body, item, items, listed, mapped, maybe, more, names, no_formals, none, occurrences, one, procedure, section, some_formals, then_name, then_section, type_name, type_names, value_section, variable, variable_section, variables, written_type}
-use Rattle.ob0_scope_rules.specs.Names.{Name, as_names}
-use Rattle.ob0_scope_rules.specs.Parts.{block_constants, block_procedures, block_statements, block_types, block_variables, constant_names, formal_names, formal_sections, further_names, named_types, names_listed, procedure_block, procedure_formals, procedure_name, section_constants, section_names, section_type, section_types, section_variables, variable_names}
-use Rattle.ob0_scope_rules.specs.Resolution.{bound_at, ordinal_in, with_ordinal}
-use Rattle.ob0_scope_rules.specs.Scopes.{Scope, after_block, after_names, after_procedure, after_procedures, declare_names, declare_procedure_names, first_procedure, first_type, first_variable, label_names, label_of, ordinal_of, procedures_scope, relabel_block, relabel_constants, relabel_procedure, relabel_procedures, relabel_sections, relabel_types, relabel_uses, relabel_variables, types_scope, variables_scope}
-use Rattle.ob0_scope_rules.proofs.OccurrenceNames.{occurrences-with_names}
-use Rattle.ob0_scope_rules.proofs.OccurrencesMapped.{occurrences-mapped}
-use Rattle.ob0_scope_rules.proofs.Ordinals.{after_names-append, le-after_block, le-after_names, le-after_procedures}
-use Rattle.ob0_scope_rules.proofs.Peeling.{heads}
-use Rattle.ob0_scope_rules.proofs.Relabelled.{constants-section, formals-section, names-relabel, section_names-relabel, section_type-relabel, types-section, variables-section}
+use Rattle.ob0_language_names.specs.Names.{Name, as_names}
+use Rattle.ob0_language_names.specs.Parts.{block_constants, block_procedures, block_statements, block_types, block_variables, constant_names, formal_names, formal_sections, further_names, named_types, names_listed, procedure_block, procedure_formals, procedure_name, section_constants, section_names, section_type, section_types, section_variables, variable_names}
+use Rattle.ob0_scope_table.specs.Resolution.{bound_at, ordinal_in, with_ordinal}
+use Rattle.ob0_language_names.specs.Scopes.{Scope, after_block, after_names, after_procedure, after_procedures, declare_names, declare_procedure_names, first_procedure, first_type, first_variable, label_names, label_of, ordinal_of, procedures_scope, relabel_block, relabel_constants, relabel_procedure, relabel_procedures, relabel_sections, relabel_types, relabel_uses, relabel_variables, types_scope, variables_scope}
+use Rattle.ob0_language_names.proofs.OccurrenceNames.{occurrences-with_names}
+use Rattle.ob0_language_names.proofs.OccurrencesMapped.{occurrences-mapped}
+use Rattle.ob0_language_names.proofs.Ordinals.{after_names-append, le-after_block, le-after_names, le-after_procedures}
+use Rattle.ob0_language_names.proofs.Peeling.{heads}
+use Rattle.ob0_language_names.proofs.Relabelled.{constants-section, formals-section, names-relabel, section_names-relabel, section_type-relabel, types-section, variables-section}
 
 -- of each element
 abbrev pub Each : {A : Type 0} → (A → Type 0) → List A → Type 0

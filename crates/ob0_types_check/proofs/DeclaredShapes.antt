@@ -2,11 +2,11 @@
 use Rattle.std.proofs.Common.{◌≡◌, ℕ, zero, suc, ◌+◌, ◌*◌, max, true, ◌&&◌, List, [], ◌∷◌, ◌++◌, length, Option, Some, None, option_and_then, slice_get, nat_le, if◌then◌else◌, map, refl, sym, ap, ◌∙◌, subst, append_assoc, append-nil, arith}
 use Rattle.std.proofs.Math.Nat.{max_comm, mul_comm}
 use Rattle.ob0_tree.specs.Places.{text_at}
-use Rattle.ob0_scope_rules.specs.Names.{Name}
+use Rattle.ob0_language_names.specs.Names.{Name}
 use Rattle.ob0_types_table.specs.declared.types.TypeId.{TypeId}
 use Rattle.ob0_types_table.specs.declared.types.TypeId.TheVariants as type
-use Rattle.ob0_types_rules.specs.Typing.{depth, field_depth, field_scalars, scalars, with_fields, within_limits}
-use Rattle.ob0_values.specs.Values.{FieldShapes, Shape, array_shape, boolean_shape, integer_shape, next_field_shape, no_field_shape, record_shape}
+use Rattle.ob0_language_types.specs.Typing.{depth, field_depth, field_scalars, scalars, with_fields, within_limits}
+use Rattle.ob0_language_values.specs.Values.{FieldShapes, Shape, array_shape, boolean_shape, integer_shape, next_field_shape, no_field_shape, record_shape}
 use Rattle.ob0_types_check.specs.SoFar.{MadeType, PartTypes, Size, FieldSoFar, is_within, of_elements, of_fields, one_scalar, size_at, size_made}
 use Rattle.ob0_types_check.specs.WrittenTypeFaults.{Gathered, array_size, record_size, with_name, with_field_names}
 use Rattle.ob0_types_check.specs.Agreement.{EachMade, FieldsAgree, MadeAgrees, PartsAgree, TableAgrees, as_array, as_record, shape_in}

@@ -1,9 +1,9 @@
 -- Types that are the same are equal.
 use Rattle.std.proofs.Common.{◌≡◌, Bool, true, false, ◌&&◌, ◌==◌, Option, Some, None, refl, sym, ap, eqb-true}
 use Rattle.std.proofs.lemmas.Slice.Eq.{bytes_eq-Decides}
-use Rattle.ob0_scope_rules.specs.Names.{same_name}
-use Rattle.ob0_types_rules.specs.WellTyped.{agree, same_fields, same_shape}
-use Rattle.ob0_values.specs.Values.{FieldShapes, Shape, array_shape, boolean_shape, integer_shape, next_field_shape, no_field_shape, record_shape}
+use Rattle.ob0_language_names.specs.Names.{same_name}
+use Rattle.ob0_language_types.specs.WellTyped.{agree, same_fields, same_shape}
+use Rattle.ob0_language_values.specs.Values.{FieldShapes, Shape, array_shape, boolean_shape, integer_shape, next_field_shape, no_field_shape, record_shape}
 
 pub each-true : (a b : Bool) → (a && b) ≡ true → (a ≡ true) × (b ≡ true)
 each-true true true e = (refl, refl)

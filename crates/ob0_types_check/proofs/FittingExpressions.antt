@@ -8,12 +8,12 @@ use Rattle.ob0_tree.specs.declared.tree.Role.TheVariants as role
 use Rattle.ob0_tree.specs.declared.tree.Sign.{Sign}
 use Rattle.ob0_tree.specs.Places.{text_at, value_at}
 use Rattle.ob0_tree.specs.Tree.{Sort, Tree, addend, adds, compares, designator, end, expression, factor, field, identifiers, index, integer, item, items, mapped, more, multiplier, multiplies, negation, none, one, parenthesised, product, relates, selector, simple, sum, term}
-use Rattle.ob0_types_rules.specs.Expressions.{Meanings, a_variable, evaluate, evaluate_addends, evaluate_factor, evaluate_multipliers, evaluate_simple, evaluate_term}
-use Rattle.ob0_types_rules.specs.Selected.{both}
-use Rattle.ob0_types_rules.specs.Typing.{add_type, complement_type, constant_of, constants_only, element_type, field_type, given_value, multiply_type, object_type, relation_type, sign_type, type_at, type_of, type_of_addends, type_of_factor, type_of_multipliers, type_of_simple, type_of_term}
+use Rattle.ob0_language_types.specs.Expressions.{Meanings, a_variable, evaluate, evaluate_addends, evaluate_factor, evaluate_multipliers, evaluate_simple, evaluate_term}
+use Rattle.ob0_language_types.specs.Selected.{both}
+use Rattle.ob0_language_types.specs.Typing.{add_type, complement_type, constant_of, constants_only, element_type, field_type, given_value, multiply_type, object_type, relation_type, sign_type, type_at, type_of, type_of_addends, type_of_factor, type_of_multipliers, type_of_simple, type_of_term}
 use Rattle.ob0_types_table.specs.Operators.{product_value, sum_value}
-use Rattle.ob0_values.specs.Values.{Place, Shape, Value, boolean_shape, integer_shape, negate, number, relate}
-use Rattle.ob0_values.specs.Values.{apply_sign as with_sign}
+use Rattle.ob0_language_values.specs.Values.{Place, Shape, Value, boolean_shape, integer_shape, negate, number, relate}
+use Rattle.ob0_language_values.specs.Values.{apply_sign as with_sign}
 use Rattle.ob0_types_check.specs.ExpressionFaults.{reported_addends, reported_expression, reported_factor, reported_multipliers, reported_selectors, reported_simple, reported_term}
 use Rattle.ob0_types_check.specs.Known.{Facts, Operand}
 use Rattle.ob0_types_check.specs.Operations.{add_operands, complement_operand, element_selected, field_selected, multiply_operands, name_operand, relate_operands, sign_operand}

@@ -2,11 +2,11 @@
 use Rattle.std.proofs.Common.{◌≡◌, ℕ, Bool, true, false, true≢false, List, [], ◌∷◌, Option, Some, None, option_map, is_some, if◌then◌else◌, refl, sym, subst, subst₂}
 use Rattle.ob0_tree.specs.declared.tree.Role.{Role}
 use Rattle.ob0_tree.specs.declared.tree.Role.TheVariants as role
-use Rattle.ob0_types_rules.specs.Expressions as meant
-use Rattle.ob0_types_rules.specs.Expressions.{Object}
-use Rattle.ob0_types_rules.specs.Typing.{constant_of, constants_only, object_type, value_type}
-use Rattle.ob0_types_rules.specs.WellTyped.{Signature, Typed}
-use Rattle.ob0_values.specs.Values.{Shape, Value, boolean_shape, elements, integer_shape, members, number, truth}
+use Rattle.ob0_language_types.specs.Expressions as meant
+use Rattle.ob0_language_types.specs.Expressions.{Object}
+use Rattle.ob0_language_types.specs.Typing.{constant_of, constants_only, object_type, value_type}
+use Rattle.ob0_language_types.specs.WellTyped.{Signature, Typed}
+use Rattle.ob0_language_values.specs.Values.{Shape, Value, boolean_shape, elements, integer_shape, members, number, truth}
 use Rattle.ob0_types_check.specs.Known.{Facts, Meaning, Operand, a_constant, a_procedure, a_type, a_variable}
 use Rattle.ob0_types_check.specs.Operations.{a_constant_name, a_name, at_token, named_value, right}
 use Rattle.ob0_types_check.specs.Agreement.{MeansAlike, TokenAgrees, TokensAgree, TypesAgree}

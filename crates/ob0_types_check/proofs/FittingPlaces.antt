@@ -4,10 +4,10 @@ use Rattle.ob0_tree.specs.declared.tree.Role.{Role}
 use Rattle.ob0_tree.specs.declared.tree.Role.TheVariants as role
 use Rattle.ob0_tree.specs.Places.{value_at}
 use Rattle.ob0_tree.specs.Tree.{Sort, Tree, adds, compares, designator, end, expression, factor, identifiers, integer, items, mapped, more, multiplies, negation, none, one, parenthesised, product, relates, selector, sum}
-use Rattle.ob0_types_rules.specs.Expressions.{Meanings, a_variable}
-use Rattle.ob0_types_rules.specs.Typing.{lone_designator, type_at}
-use Rattle.ob0_types_rules.specs.WellTyped.{variable_type}
-use Rattle.ob0_values.specs.Values.{Shape}
+use Rattle.ob0_language_types.specs.Expressions.{Meanings, a_variable}
+use Rattle.ob0_language_types.specs.Typing.{lone_designator, type_at}
+use Rattle.ob0_language_types.specs.WellTyped.{variable_type}
+use Rattle.ob0_language_values.specs.Values.{Shape}
 use Rattle.ob0_types_check.specs.ExpressionFaults.{reported_expression, reported_factor, reported_selectors, reported_term}
 use Rattle.ob0_types_check.specs.Known.{Facts, Operand}
 use Rattle.ob0_types_check.specs.Operations.{add_operands, multiply_operands, name_operand, sign_operand}

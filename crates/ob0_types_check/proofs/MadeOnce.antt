@@ -1,6 +1,6 @@
 -- Each ARRAY and RECORD of the text makes one type: from one place to a later one, types are made by those between them alone.
 use Rattle.std.proofs.Common.{◌≡◌, ℕ, zero, suc, ◌+◌, ◌<◌, ◌≤◌, List, [], ◌∷◌, ◌++◌, length, slice_get, Some, refl, sym, ap, ◌∙◌, subst, arith, le_refl, le_trans, length-append}
-use Rattle.ob0_values.specs.Values.{Shape}
+use Rattle.ob0_language_values.specs.Values.{Shape}
 use Rattle.ob0_types_check.specs.WellTypedLaws.{EachOnce, constructor_of}
 use Rattle.ob0_types_check.proofs.Unreported.{some-same}
 

@@ -11,10 +11,10 @@ use Rattle.ob0_tree.specs.declared.tree.Relation.TheVariants as relation
 use Rattle.ob0_tree.specs.declared.tree.Sign.{Sign}
 use Rattle.ob0_tree.specs.declared.tree.Sign.TheVariants as sign
 use Rattle.ob0_tree.specs.Places.{text_at}
-use Rattle.ob0_types_rules.specs.Selected.{both}
-use Rattle.ob0_types_rules.specs.Typing.{add_type, complement_type, element_type, field_type, given_value, multiply_type, relation_type, shape_of_field, sign_type, value_type}
-use Rattle.ob0_values.specs.Values.{Overflow, Shape, Value, add, add_is_settled, boolean_shape, divided, divided_by, ends, gives, in_range, integer_shape, multiply, multiply_is_settled, negate, number, quotient, relate, remainder, truth}
-use Rattle.ob0_values.specs.Values as values
+use Rattle.ob0_language_types.specs.Selected.{both}
+use Rattle.ob0_language_types.specs.Typing.{add_type, complement_type, element_type, field_type, given_value, multiply_type, relation_type, shape_of_field, sign_type, value_type}
+use Rattle.ob0_language_values.specs.Values.{Overflow, Shape, Value, add, add_is_settled, boolean_shape, divided, divided_by, ends, gives, in_range, integer_shape, multiply, multiply_is_settled, negate, number, quotient, relate, remainder, truth}
+use Rattle.ob0_language_values.specs.Values as values
 use Rattle.ob0_types_check.specs.Known.{Facts, Form, Operand, Reported, a_record, a_scalar, an_array, unknown_form}
 use Rattle.ob0_types_check.specs.Operations.{add_operands, required, required_both, at_operand, complement_operand, element_in, element_selected, field_in, field_selected, fits, found_field, multiply_operands, relate_operands, sign_operand, comparison_type, required_by_add, required_by_equality, required_by_multiply, required_by_relation}
 use Rattle.ob0_types_check.specs.Agreement.{FormAgrees, TypesAgree}

@@ -1,5 +1,5 @@
 -- What declarations use of expressions and statements: where nothing is reported of them, they fit.
-use Rattle.ob0_scope_rules.specs.Names.{Name}
+use Rattle.ob0_language_names.specs.Names.{Name}
 use Rattle.ob0_types_check.specs.ReportLaws.{ConstantsFit, LengthsFit, StatementsFit, TypesOfTables}
 use Rattle.ob0_types_check.proofs.FittingStatements.{statements_fit-holds}
 use Rattle.ob0_types_check.proofs.Proved.{constants_fit-holds, lengths_fit-holds}

@@ -5,7 +5,7 @@ use Rattle.ob0_scan.specs.declared.fault.Fault.{Fault}
 use Rattle.ob0_tree.specs.Parsed.{named_tree_of}
 use Rattle.ob0_tree.specs.View.{block_of}
 use Rattle.ob0_tree.specs.declared.tree.Block.{Block}
-use Rattle.ob0_scope_rules.specs.Resolution.{IsResolution, Resolution, is_of_occurrences}
+use Rattle.ob0_scope_table.specs.Resolution.{IsResolution, Resolution, is_of_occurrences}
 use Rattle.ob0_types_table.specs.Tables.{AreEntriesInOrder}
 use Rattle.ob0_types_check.specs.DeclarationFaults.{reported_block, reported_module}
 use Rattle.ob0_types_check.specs.ModuleLaws.{DeclarationsKnown, HasDeclarations, KnowsDeclarations}

@@ -2,9 +2,9 @@
 use Rattle.std.proofs.Common.{◌≡◌, ℕ, Bool, true, false, if◌then◌else◌, List, [], ◌∷◌, ◌++◌, map, drop, refl, sym, ap, ◌∙◌}
 use Rattle.std.proofs.lemmas.List.{map-append}
 use Rattle.std.specs.List.{filter}
-use Rattle.ob0_scope_rules.specs.Resolution.{Resolution, is_of_occurrences}
+use Rattle.ob0_scope_table.specs.Resolution.{Resolution, is_of_occurrences}
 use Rattle.ob0_tree.specs.Parsed.{tree_of}
-use Rattle.ob0_scope_rules.specs.Parts.{formal_sections, further_names, module_block, names_listed, section_constants, section_types, section_variables}
+use Rattle.ob0_language_names.specs.Parts.{formal_sections, further_names, module_block, names_listed, section_constants, section_types, section_variables}
 use Rattle.ob0_types_table.specs.declared.known.Formal as formal
 use Rattle.ob0_types_table.specs.declared.types.TypeId.{TypeId}
 use Rattle.ob0_tree.specs.Tree.{Tree, begins, block, body, constant, constants, declares, declares_constant, declares_procedure, declares_type, declares_variable, end, expression, formals, further_section, has_body, item, items, maybe, more, names, none, one, procedure, sequence, then_name, then_section, type_name, type_names, value_section, variable, variable_section, variables, written_type}

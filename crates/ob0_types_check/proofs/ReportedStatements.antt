@@ -10,7 +10,7 @@ use Rattle.ob0_tree.specs.View.{elsif_of, expression_of, further_argument_of, fu
 use Rattle.ob0_tree.specs.View as view
 use Rattle.ob0_tree.specs.declared.tree.Expression.{Expression}
 use Rattle.ob0_tree.specs.declared.tree.Statement.{Statement}
-use Rattle.ob0_types_rules.specs.Arguments.{arguments_listed, further_arguments}
+use Rattle.ob0_language_types.specs.Arguments.{arguments_listed, further_arguments}
 use Rattle.ob0_types_check.specs.ExpressionFaults.{reported_expression, reported_selectors}
 use Rattle.ob0_types_check.specs.Known.{Facts, KnownFormal, a_procedure}
 use Rattle.ob0_types_check.specs.Operations.{a_name, required, at_token, ◌>>=◌}

@@ -3,7 +3,7 @@ use Rattle.std.proofs.Common.{◌≡◌, ℕ, suc, false, true, List, [], ◌∷
 use Rattle.ob0_tree.specs.Tree.{Tree, array_type, end, expression, fields, further_fields, item, items, more, named_type, names, no_fields, some_fields, then_fields, written_type}
 use Rattle.ob0_tree.specs.View.{fields_of, further_fields_of_group, items_of, record_listed}
 use Rattle.ob0_tree.specs.declared.tree.Fields.{Fields}
-use Rattle.ob0_scope_rules.specs.Parts.{names_listed}
+use Rattle.ob0_language_names.specs.Parts.{names_listed}
 use Rattle.ob0_types_check.specs.ExpressionFaults.{reported_expression}
 use Rattle.ob0_types_check.specs.Operations.{right, ◌>>=◌}
 use Rattle.ob0_types_check.specs.SoFar.{SoFar, facts_at}

@@ -4,11 +4,11 @@ use Rattle.std.proofs.Math.ListN.{get_or-map}
 use Rattle.std.proofs.lemmas.List.{length-map, length-set}
 use Rattle.std.proofs.lemmas.List.Elements.{All-cons}
 use Rattle.ob0_tree.specs.Tree.{Tree, module_text}
-use Rattle.ob0_scope_rules.specs.Names.{Name}
-use Rattle.ob0_types_rules.specs.Bindings.{declared_object}
-use Rattle.ob0_types_rules.specs.Expressions as meant
-use Rattle.ob0_types_rules.specs.Typing.{depth, scalars}
-use Rattle.ob0_types_rules.specs.WellTyped.{Signature, signature_of}
+use Rattle.ob0_language_names.specs.Names.{Name}
+use Rattle.ob0_language_types.specs.Bindings.{declared_object}
+use Rattle.ob0_language_types.specs.Expressions as meant
+use Rattle.ob0_language_types.specs.Typing.{depth, scalars}
+use Rattle.ob0_language_types.specs.WellTyped.{Signature, signature_of}
 use Rattle.ob0_types_table.specs.KnownTables.{declared_in, shapes_of}
 use Rattle.ob0_types_table.specs.Tables.{AreEntriesInOrder, IsEntry, IsTypeMade, fields_shape, formal_in, made_shape, no_shape, object_in, only_array, only_record, shapes_from, type_shape}
 use Rattle.ob0_types_table.specs.declared.known.Field.{Field}
@@ -20,7 +20,7 @@ use Rattle.ob0_types_table.specs.declared.known.TypeEntry.{TypeEntry}
 use Rattle.ob0_types_table.specs.declared.known.TypeEntry.TheVariants as made
 use Rattle.ob0_types_table.specs.declared.types.TypeId.{TypeId}
 use Rattle.ob0_types_table.specs.declared.types.TypeId.TheVariants as type
-use Rattle.ob0_values.specs.Values.{FieldShapes, Shape, array_shape, boolean_shape, integer_shape, next_field_shape, no_field_shape, record_shape}
+use Rattle.ob0_language_values.specs.Values.{FieldShapes, Shape, array_shape, boolean_shape, integer_shape, next_field_shape, no_field_shape, record_shape}
 use Rattle.ob0_types_check.specs.Agreement.{DeclarationAgrees, EachMade, FieldsAgree, FormalsAgree, MadeAgrees, MeaningAgrees, as_array, as_record, is_standard, shape_in}
 use Rattle.ob0_types_check.specs.ModuleLaws.{KnowsDeclarations}
 use Rattle.ob0_types_check.specs.SupposedFacts.{fields_in, formal_of, made_type_of, known_meaning, table_object, so_far_in, table_in, with_standards}

@@ -3,10 +3,10 @@ use Rattle.std.proofs.Common.{◌≡◌, ℕ, Bool, true, false, zero, suc, pos,
 use Rattle.ob0_tree.specs.declared.tree.Role.TheVariants as role
 use Rattle.ob0_tree.specs.Places.{value_at}
 use Rattle.ob0_tree.specs.Tree.{Tree, expression, identifiers, mapped}
-use Rattle.ob0_types_rules.specs.Expressions.{Meanings, evaluate}
-use Rattle.ob0_types_rules.specs.Typing.{array_length, constant_value, constants_only, given_value, type_of, value_type}
-use Rattle.ob0_types_rules.specs.WellTyped.{Signature, Typed}
-use Rattle.ob0_values.specs.Values.{Shape, Value, elements, integer_shape, members, number, truth}
+use Rattle.ob0_language_types.specs.Expressions.{Meanings, evaluate}
+use Rattle.ob0_language_types.specs.Typing.{array_length, constant_value, constants_only, given_value, type_of, value_type}
+use Rattle.ob0_language_types.specs.WellTyped.{Signature, Typed}
+use Rattle.ob0_language_values.specs.Values.{Shape, Value, elements, integer_shape, members, number, truth}
 use Rattle.ob0_types_check.specs.ExpressionFaults.{reported_expression}
 use Rattle.ob0_types_check.specs.Known.{Facts, Operand}
 use Rattle.ob0_types_check.specs.Operations.{required, right}

@@ -2,15 +2,15 @@
 use Rattle.std.proofs.Common.{length, arith, ◌≡◌, ℕ, suc, ◌+◌, true, false, List, [], ◌∷◌, ◌++◌, map, Option, Some, option_and_then, is_some, refl, sym, ap, ◌∙◌, le_refl}
 use Rattle.ob0_tree.specs.Places.{named, text_at, value_at}
 use Rattle.ob0_tree.specs.Tree.{Tree, begins, body, constant, declares_constant, declares_type, declares_variable, end, further_section, items, mapped, maybe, more, none, one, then_section, type_name, value_section, variable, variable_section}
-use Rattle.ob0_scope_rules.specs.Names.{Name, as_names}
-use Rattle.ob0_scope_rules.specs.Parts.{names_listed}
-use Rattle.ob0_scope_rules.specs.Scopes.{Scope, after_names}
-use Rattle.ob0_types_rules.specs.Declarations.{declare_constants, declare_types}
-use Rattle.ob0_types_rules.specs.Environments.{meanings}
-use Rattle.ob0_types_rules.specs.Expressions as meant
-use Rattle.ob0_types_rules.specs.Typing.{constant_value, constructors, denoted}
-use Rattle.ob0_types_rules.specs.WellTyped.{Mode, TypeEnvironment, TypedParameter, bind_names, body_fits, by_place, by_value, declare_typed, sequence_fits, typed_parameters}
-use Rattle.ob0_values.specs.Values.{Shape, Value}
+use Rattle.ob0_language_names.specs.Names.{Name, as_names}
+use Rattle.ob0_language_names.specs.Parts.{names_listed}
+use Rattle.ob0_language_names.specs.Scopes.{Scope, after_names}
+use Rattle.ob0_language_types.specs.Declarations.{declare_constants, declare_types}
+use Rattle.ob0_language_types.specs.Environments.{meanings}
+use Rattle.ob0_language_types.specs.Expressions as meant
+use Rattle.ob0_language_types.specs.Typing.{constant_value, constructors, denoted}
+use Rattle.ob0_language_types.specs.WellTyped.{Mode, TypeEnvironment, TypedParameter, bind_names, body_fits, by_place, by_value, declare_typed, sequence_fits, typed_parameters}
+use Rattle.ob0_language_values.specs.Values.{Shape, Value}
 use Rattle.ob0_types_check.specs.DeclarationFaults.{KnownHeading, reported_constants, reported_body, reported_sections, reported_types, reported_variables, constant_declared, reported_parameters, reported_section, type_declared, variables_declared, with_parameters}
 use Rattle.ob0_types_check.specs.Known.{Reported, a_constant, a_type, a_variable}
 use Rattle.ob0_types_check.specs.SoFar.{SoFar, TypedAfter, define, define_all, facts_at}

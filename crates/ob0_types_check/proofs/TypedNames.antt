@@ -3,13 +3,13 @@ use Rattle.std.proofs.Common.{◌≡◌, ℕ, Bool, true, false, true≢false, L
 use Rattle.ob0_scan.specs.declared.fault.Code.TheVariants as code
 use Rattle.ob0_tree.specs.declared.tree.Role.{Role}
 use Rattle.ob0_tree.specs.declared.tree.Role.TheVariants as role
-use Rattle.ob0_types_rules.specs.Expressions as meant
-use Rattle.ob0_types_rules.specs.Expressions.{Object}
-use Rattle.ob0_types_rules.specs.Typing.{constant_of, constants_only, object_type}
-use Rattle.ob0_types_rules.specs.WellTyped.{Signature, Typed, signature_of}
+use Rattle.ob0_language_types.specs.Expressions as meant
+use Rattle.ob0_language_types.specs.Expressions.{Object}
+use Rattle.ob0_language_types.specs.Typing.{constant_of, constants_only, object_type}
+use Rattle.ob0_language_types.specs.WellTyped.{Signature, Typed, signature_of}
 use Rattle.ob0_types_table.specs.declared.types.TypeId.{TypeId}
 use Rattle.ob0_types_table.specs.declared.types.TypeId.TheVariants as type
-use Rattle.ob0_values.specs.Values.{Shape, array_shape, boolean_shape, integer_shape, record_shape}
+use Rattle.ob0_language_values.specs.Values.{Shape, array_shape, boolean_shape, integer_shape, record_shape}
 use Rattle.ob0_types_check.specs.Known.{Facts, Meaning, a_constant, a_procedure, a_scalar, a_type, a_variable}
 use Rattle.ob0_types_check.specs.Operations.{a_name, at_token, named_value, right}
 use Rattle.ob0_types_check.specs.Agreement.{MeansAlike, TokenAgrees, TokensAgree, as_array, as_record, shape_in}

@@ -4,11 +4,11 @@ use Rattle.ob0_tree.specs.declared.tree.Role.{Role}
 use Rattle.ob0_tree.specs.declared.tree.Role.TheVariants as role
 use Rattle.ob0_tree.specs.Places.{value_at}
 use Rattle.ob0_tree.specs.Tree.{Sort, Tree, designator, expression, identifiers, items, mapped, selector}
-use Rattle.ob0_types_rules.specs.Expressions as meant
-use Rattle.ob0_types_rules.specs.Expressions.{Object}
-use Rattle.ob0_types_rules.specs.Typing.{object_type, type_at, type_of}
-use Rattle.ob0_types_rules.specs.WellTyped.{Signature, Typed, signature_of, variable_type}
-use Rattle.ob0_values.specs.Values.{Shape}
+use Rattle.ob0_language_types.specs.Expressions as meant
+use Rattle.ob0_language_types.specs.Expressions.{Object}
+use Rattle.ob0_language_types.specs.Typing.{object_type, type_at, type_of}
+use Rattle.ob0_language_types.specs.WellTyped.{Signature, Typed, signature_of, variable_type}
+use Rattle.ob0_language_values.specs.Values.{Shape}
 use Rattle.ob0_types_check.specs.ExpressionFaults.{reported_expression, reported_selectors}
 use Rattle.ob0_types_check.specs.Known.{Facts, Meaning, Operand, a_constant, a_procedure, a_type, a_variable}
 use Rattle.ob0_types_check.specs.Operations.{a_name}

@@ -2,15 +2,15 @@
 use Rattle.std.proofs.Common.{◌≡◌, ℕ, suc, ◌+◌, Bool, true, false, ◌&&◌, List, [], map, Option, Some, None, option_and_then, if◌then◌else◌, is_some, nat_le, refl, sym, ap, ◌∙◌, le_refl, length, arith}
 use Rattle.ob0_tree.specs.Places.{named, text_at, value_at}
 use Rattle.ob0_tree.specs.Tree.{Tree, array_type, end, fields, further_fields, items, mapped, more, named_type, no_fields, occurrences, record_type, some_fields, then_fields, written_type}
-use Rattle.ob0_scope_rules.specs.Names.{Name, as_names}
-use Rattle.ob0_scope_rules.specs.Parts.{names_listed}
-use Rattle.ob0_scope_rules.specs.Scopes.{Scope}
+use Rattle.ob0_language_names.specs.Names.{Name, as_names}
+use Rattle.ob0_language_names.specs.Parts.{names_listed}
+use Rattle.ob0_language_names.specs.Scopes.{Scope}
 use Rattle.ob0_types_table.specs.declared.types.TypeId.{TypeId}
-use Rattle.ob0_types_rules.specs.Environments.{meanings}
-use Rattle.ob0_types_rules.specs.Expressions as meant
-use Rattle.ob0_types_rules.specs.Typing.{array_length, constant_value, denoted, denoted_group, denoted_groups, depth, group_constructors, groups_constructors, scalars, type_of_name, with_fields, within_limits}
-use Rattle.ob0_types_rules.specs.WellTyped.{Signature, TypeEnvironment, Typed, signature_of}
-use Rattle.ob0_values.specs.Values.{FieldShapes, Shape, Value, array_shape, no_field_shape, record_shape}
+use Rattle.ob0_language_types.specs.Environments.{meanings}
+use Rattle.ob0_language_types.specs.Expressions as meant
+use Rattle.ob0_language_types.specs.Typing.{array_length, constant_value, denoted, denoted_group, denoted_groups, depth, group_constructors, groups_constructors, scalars, type_of_name, with_fields, within_limits}
+use Rattle.ob0_language_types.specs.WellTyped.{Signature, TypeEnvironment, Typed, signature_of}
+use Rattle.ob0_language_values.specs.Values.{FieldShapes, Shape, Value, array_shape, no_field_shape, record_shape}
 use Rattle.ob0_types_check.specs.ExpressionFaults.{reported_expression}
 use Rattle.ob0_types_check.specs.Known.{Meaning, Operand, Reported, a_constant, a_procedure, a_type, a_variable}
 use Rattle.ob0_types_check.specs.Operations.{right}

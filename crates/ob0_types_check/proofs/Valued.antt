@@ -6,10 +6,10 @@ use Rattle.ob0_tree.specs.declared.tree.Relation.{Relation}
 use Rattle.ob0_tree.specs.declared.tree.Sign.{Sign}
 use Rattle.ob0_tree.specs.Tree.{Tree, addend, adds, compares, designator, end, factor, field, index, item, items, more, multiplier, multiplies, negation, one, product, relates, selector, simple, sum, term}
 use Rattle.ob0_types_table.specs.Operators.{product_value, sum_value}
-use Rattle.ob0_types_rules.specs.Expressions.{Meanings, a_constant, element_step, evaluate, evaluate_addends, evaluate_factor, evaluate_multipliers, evaluate_simple, evaluate_term, follow, object_value}
-use Rattle.ob0_types_rules.specs.Selected.{both}
-use Rattle.ob0_types_rules.specs.Typing.{given_value, value_type}
-use Rattle.ob0_values.specs.Values.{Outcome, Place, Value, add, add_is_settled, at_path, elements, ends, gives, members, multiply, multiply_is_settled, negate, number, or_stuck, part, relate, apply_sign, truth, ◌>>=◌}
+use Rattle.ob0_language_types.specs.Expressions.{Meanings, a_constant, element_step, evaluate, evaluate_addends, evaluate_factor, evaluate_multipliers, evaluate_simple, evaluate_term, follow, object_value}
+use Rattle.ob0_language_types.specs.Selected.{both}
+use Rattle.ob0_language_types.specs.Typing.{given_value, value_type}
+use Rattle.ob0_language_values.specs.Values.{Outcome, Place, Value, add, add_is_settled, at_path, elements, ends, gives, members, multiply, multiply_is_settled, negate, number, or_stuck, part, relate, apply_sign, truth, ◌>>=◌}
 
 given_step : (o : Outcome Value) (next : Value → Outcome Value) → given_value (o >>= next) ≡ option_and_then (λ x. given_value (next x)) (given_value o)
 given_step (gives v) next = refl

@@ -2,7 +2,7 @@
 -- of types: where they agree.
 -- Rule: none; for laws: what is known against what names and types are.
 use Rattle.std.specs.Prelude.{◌≡◌, ℕ, Bool, true, false, List, [], ◌∷◌, ◌++◌, Option, Some, None, option_map, option_and_then, is_some, slice_get}
-use Rattle.ob0_scope_rules.specs.Names.{Name}
+use Rattle.ob0_language_names.specs.Names.{Name}
 use Rattle.ob0_types_table.specs.declared.types.TypeId.{TypeId}
 use Rattle.ob0_types_table.specs.declared.types.TypeId.TheVariants as type
 use Rattle.ob0_types_table.specs.Tables.{mode_of}
@@ -10,11 +10,11 @@ use Rattle.ob0_tree.specs.declared.tree.Role.{Role}
 use Rattle.ob0_tree.specs.declared.tree.Role.TheVariants as role
 use Rattle.ob0_tree.specs.Places.{text_at}
 use Rattle.ob0_tree.specs.Tree.{Sort, Tree, identifiers}
-use Rattle.ob0_types_rules.specs.Expressions as meant
-use Rattle.ob0_types_rules.specs.Typing as typing
-use Rattle.ob0_types_rules.specs.Typing.{shape_of_field, value_type}
-use Rattle.ob0_types_rules.specs.WellTyped.{Signature, Typed, signature_of}
-use Rattle.ob0_values.specs.Values.{FieldShapes, Shape, Value, array_shape, boolean_shape, integer_shape, next_field_shape, no_field_shape, record_shape}
+use Rattle.ob0_language_types.specs.Expressions as meant
+use Rattle.ob0_language_types.specs.Typing as typing
+use Rattle.ob0_language_types.specs.Typing.{shape_of_field, value_type}
+use Rattle.ob0_language_types.specs.WellTyped.{Signature, Typed, signature_of}
+use Rattle.ob0_language_values.specs.Values.{FieldShapes, Shape, Value, array_shape, boolean_shape, integer_shape, next_field_shape, no_field_shape, record_shape}
 use Rattle.ob0_types_check.specs.Known.{Facts, Form, KnownFormal, Meaning, Types, a_constant, a_procedure, a_record, a_scalar, a_type, a_variable, an_array, unknown_form}
 use Rattle.ob0_types_check.specs.SoFar.{MadeType, PartTypes, FieldSoFar, of_elements, of_fields}
 

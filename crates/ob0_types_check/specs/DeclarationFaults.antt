@@ -4,8 +4,8 @@
 use Rattle.std.specs.Prelude.{ℕ, Bool, true, false, List, [], ◌++◌, map}
 use Rattle.std.specs.List.{filter}
 use Rattle.ob0_scan.specs.declared.fault.Fault.{Fault}
-use Rattle.ob0_scope_rules.specs.Parts.{formal_sections, module_block, names_listed, section_constants, section_types, section_variables}
-use Rattle.ob0_scope_rules.specs.Resolution.{Resolution, is_of_occurrences}
+use Rattle.ob0_language_names.specs.Parts.{formal_sections, module_block, names_listed, section_constants, section_types, section_variables}
+use Rattle.ob0_scope_table.specs.Resolution.{Resolution, is_of_occurrences}
 use Rattle.ob0_types_table.specs.declared.types.TypeId.{TypeId}
 use Rattle.ob0_tree.specs.Parsed.{tree_of}
 use Rattle.ob0_tree.specs.Tree.{Tree, begins, block, body, constant, declares, declares_constant, declares_procedure, declares_type, declares_variable, end, further_section, has_body, item, items, maybe, more, names, none, one, procedure, then_section, type_name, value_section, variable, variable_section, written_type}

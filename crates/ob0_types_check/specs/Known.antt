@@ -4,8 +4,8 @@
 use Rattle.std.specs.Prelude.{ℕ, Bool, List, Option}
 use Rattle.ob0_scan.specs.declared.fault.Fault.{Fault}
 use Rattle.ob0_scan.specs.Scanned.{Scanned}
-use Rattle.ob0_scope_rules.specs.Names.{Name}
-use Rattle.ob0_values.specs.Values.{Value}
+use Rattle.ob0_language_names.specs.Names.{Name}
+use Rattle.ob0_language_values.specs.Values.{Value}
 
 -- what a type is made of, as far as that is known
 pub data Form (T : Type 0) : Type 0 where

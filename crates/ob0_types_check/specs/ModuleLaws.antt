@@ -2,16 +2,16 @@
 -- and each declaration is known.
 -- Rule: none; laws of reported faults.
 use Rattle.std.specs.Prelude.{◌≡◌, ℕ, ◌<◌, ◌≤◌, true, false, List, [], None, length, slice_index_or}
-use Rattle.ob0_scope_rules.specs.Names.{Name, as_labels, as_names}
-use Rattle.ob0_scope_rules.specs.Parts.{module_block}
-use Rattle.ob0_scope_rules.specs.Resolution.{IsResolution, Resolution}
+use Rattle.ob0_language_names.specs.Names.{Name, as_labels, as_names}
+use Rattle.ob0_language_names.specs.Parts.{module_block}
+use Rattle.ob0_scope_table.specs.Resolution.{IsResolution, Resolution}
 use Rattle.ob0_tree.specs.Parsed.{named_tree_of, tree_of}
 use Rattle.ob0_tree.specs.Tree.{Tree, module_text}
-use Rattle.ob0_types_rules.specs.Bindings.{declared_object, object_bound}
-use Rattle.ob0_types_rules.specs.Environments.{outermost}
-use Rattle.ob0_types_rules.specs.WellTyped.{fits_over}
+use Rattle.ob0_language_types.specs.Bindings.{declared_object, object_bound}
+use Rattle.ob0_language_types.specs.Environments.{outermost}
+use Rattle.ob0_language_types.specs.WellTyped.{fits_over}
 use Rattle.ob0_types_table.specs.KnownTables.{Tables, declared_in}
-use Rattle.ob0_values.specs.Values.{Shape}
+use Rattle.ob0_language_values.specs.Values.{Shape}
 use Rattle.ob0_types_check.specs.Agreement.{DeclarationAgrees, TableAgrees, is_standard, shape_in}
 use Rattle.ob0_types_check.specs.DeclarationFaults.{reported_block, reported_module}
 use Rattle.ob0_types_check.specs.SoFar.{SoFar, at_first}

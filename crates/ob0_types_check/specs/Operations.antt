@@ -14,12 +14,12 @@ use Rattle.ob0_tree.specs.declared.tree.Relation.{Relation}
 use Rattle.ob0_tree.specs.declared.tree.Relation.TheVariants as relation
 use Rattle.ob0_tree.specs.declared.tree.Sign.{Sign}
 use Rattle.ob0_tree.specs.Places.{text_at, value_at}
-use Rattle.ob0_scope_rules.specs.Resolution.{span_at}
+use Rattle.ob0_scope_table.specs.Resolution.{span_at}
 use Rattle.ob0_types_table.specs.Operators.{product_value, sum_value}
-use Rattle.ob0_types_rules.specs.Selected.{both}
-use Rattle.ob0_types_rules.specs.Typing.{given_value}
-use Rattle.ob0_values.specs.Values.{Value, elements, members, negate, number, relate, truth}
-use Rattle.ob0_values.specs.Values.{apply_sign as with_sign}
+use Rattle.ob0_language_types.specs.Selected.{both}
+use Rattle.ob0_language_types.specs.Typing.{given_value}
+use Rattle.ob0_language_values.specs.Values.{Value, elements, members, negate, number, relate, truth}
+use Rattle.ob0_language_values.specs.Values.{apply_sign as with_sign}
 use Rattle.ob0_types_check.specs.Known.{Facts, Form, Meaning, Operand, Reported, Types, a_constant, a_procedure, a_record, a_scalar, a_type, a_variable, an_array, unknown_form}
 
 -- the same after faults that were reported before

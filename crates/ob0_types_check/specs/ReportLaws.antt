@@ -4,10 +4,10 @@
 use Rattle.std.specs.Prelude.{◌≡◌, ℕ, Bool, true, false, List, [], Option, Some, is_some}
 use Rattle.ob0_tree.specs.Places.{value_at}
 use Rattle.ob0_tree.specs.Tree.{Tree, expression, mapped, sequence}
-use Rattle.ob0_types_rules.specs.Expressions.{Meanings, evaluate}
-use Rattle.ob0_types_rules.specs.Typing.{array_length, constant_value, constants_only, lone_designator, given_value, type_of, value_type}
-use Rattle.ob0_types_rules.specs.WellTyped.{Typed, sequence_fits, variable_type}
-use Rattle.ob0_values.specs.Values.{Shape, Value}
+use Rattle.ob0_language_types.specs.Expressions.{Meanings, evaluate}
+use Rattle.ob0_language_types.specs.Typing.{array_length, constant_value, constants_only, lone_designator, given_value, type_of, value_type}
+use Rattle.ob0_language_types.specs.WellTyped.{Typed, sequence_fits, variable_type}
+use Rattle.ob0_language_values.specs.Values.{Shape, Value}
 use Rattle.ob0_types_check.specs.ExpressionFaults.{reported_expression}
 use Rattle.ob0_types_check.specs.Known.{Operand}
 use Rattle.ob0_types_check.specs.Operations.{◌>>=◌}

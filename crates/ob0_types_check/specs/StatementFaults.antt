@@ -5,7 +5,7 @@ use Rattle.std.specs.Prelude.{ℕ, nat_eq, ◌&&◌, not, List, [], ◌∷◌, �
 use Rattle.ob0_scan.specs.declared.fault.Code.TheVariants as code
 use Rattle.ob0_scan.specs.declared.fault.Fault.{Fault}
 use Rattle.ob0_tree.specs.Tree.{Tree, assigns, branches, calls, else_branch, else_part, elsif_branch, elsif_part, empty, end, expression, further_statement, items, maybe, more, none, one, repeat_loop, runs, selector, sequence, statement, then_statement, while_loop}
-use Rattle.ob0_types_rules.specs.Arguments.{arguments_listed}
+use Rattle.ob0_language_types.specs.Arguments.{arguments_listed}
 use Rattle.ob0_types_check.specs.Known.{Facts, KnownFormal, Meaning, Operand, Reported, a_constant, a_procedure, a_type, a_variable}
 use Rattle.ob0_types_check.specs.ExpressionFaults.{reported_expression, reported_selectors}
 use Rattle.ob0_types_check.specs.Operations.{a_name, required, at_operand, at_token, right, ◌>>=◌}

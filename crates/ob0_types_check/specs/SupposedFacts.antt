@@ -2,8 +2,8 @@
 -- Rule: none; for contracts: what the reporting walk knows.
 use Rattle.std.specs.Prelude.{◌≡◌, ℕ, ◌-◌, ◌^◌, Bool, List, map, ◌++◌, min, slice_get, slice_index_or, slice_set, string_bytes, Option, Some, None, option_and_then, option_map}
 use Rattle.ob0_scan.specs.declared.fault.Fault.{Fault}
-use Rattle.ob0_scope_rules.specs.Names.{Name}
-use Rattle.ob0_scope_rules.specs.Resolution.{ordinal_in}
+use Rattle.ob0_language_names.specs.Names.{Name}
+use Rattle.ob0_scope_table.specs.Resolution.{ordinal_in}
 use Rattle.ob0_types_table.specs.FieldIndex.{first_field_type}
 use Rattle.ob0_types_table.specs.declared.known.Field.{Field}
 use Rattle.ob0_types_table.specs.declared.known.Formal as formal
@@ -15,7 +15,7 @@ use Rattle.ob0_types_table.specs.declared.known.Object.TheVariants as kind
 use Rattle.ob0_types_table.specs.declared.known.Standard.TheVariants as standards
 use Rattle.ob0_types_table.specs.declared.types.TypeId.{TypeId}
 use Rattle.ob0_types_table.specs.declared.types.TypeId.TheVariants as type
-use Rattle.ob0_values.specs.Scalars.{scalar_value}
+use Rattle.ob0_language_values.specs.Scalars.{scalar_value}
 use Rattle.ob0_types_check.specs.declared.reporting.expressions.Operand as operand
 use Rattle.ob0_types_check.specs.declared.reporting.supposed.Meaning as meaning
 use Rattle.ob0_types_check.specs.declared.reporting.supposed.Meaning.TheVariants as declared

@@ -3,8 +3,8 @@
 use Rattle.std.specs.Prelude.{ℕ, Option, Some, None, if◌then◌else◌}
 use Rattle.ob0_scan.specs.declared.fault.Code.TheVariants as code
 use Rattle.ob0_tree.specs.Tree.{Tree, expression}
-use Rattle.ob0_types_rules.specs.Typing.{array_length}
-use Rattle.ob0_values.specs.Values.{Value}
+use Rattle.ob0_language_types.specs.Typing.{array_length}
+use Rattle.ob0_language_values.specs.Values.{Value}
 use Rattle.ob0_types_check.specs.ExpressionFaults.{reported_expression}
 use Rattle.ob0_types_check.specs.Known.{Facts, Meaning, Operand, Reported, a_constant, a_procedure, a_type, a_variable}
 use Rattle.ob0_types_check.specs.Operations.{required, at_operand, at_token, right, ◌>>=◌}

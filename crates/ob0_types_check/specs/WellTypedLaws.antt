@@ -3,14 +3,14 @@
 -- Rule: docs/LANGUAGE.md, Types 8; laws of reported faults.
 use Rattle.std.specs.Prelude.{◌≡◌, ℕ, Bool, true, false, [], List, Option, Some, None, option_and_then, is_some, slice_get}
 use Rattle.std.specs.List.{filter}
-use Rattle.ob0_scope_rules.specs.Names.{as_names}
-use Rattle.ob0_scope_rules.specs.Resolution.{IsResolution, Resolution, is_of_occurrences}
+use Rattle.ob0_language_names.specs.Names.{as_names}
+use Rattle.ob0_scope_table.specs.Resolution.{IsResolution, Resolution, is_of_occurrences}
 use Rattle.ob0_tree.specs.Parsed.{named_tree_of}
 use Rattle.ob0_tree.specs.Places.{value_at}
 use Rattle.ob0_tree.specs.Tree.{Tree, designator, expression, items, mapped, selector, sequence}
-use Rattle.ob0_types_rules.specs.Typing.{array_length, constant_value, type_of}
-use Rattle.ob0_types_rules.specs.WellTyped.{Typed, fits_over, sequence_fits, variable_type}
-use Rattle.ob0_values.specs.Values.{Shape, array_shape, boolean_shape, integer_shape, record_shape}
+use Rattle.ob0_language_types.specs.Typing.{array_length, constant_value, type_of}
+use Rattle.ob0_language_types.specs.WellTyped.{Typed, fits_over, sequence_fits, variable_type}
+use Rattle.ob0_language_values.specs.Values.{Shape, array_shape, boolean_shape, integer_shape, record_shape}
 use Rattle.ob0_types_check.specs.DeclarationFaults.{reported_module}
 use Rattle.ob0_types_check.specs.ExpressionFaults.{reported_expression}
 use Rattle.ob0_types_check.specs.Operations.{◌>>=◌}

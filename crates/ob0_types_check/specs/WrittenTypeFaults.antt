@@ -2,7 +2,7 @@
 -- parts from left to right, then that the whole is too large.
 -- Rule: docs/LANGUAGE.md, Faults of scopes and types 2, 4, 10, `TypeTooLarge`.
 use Rattle.std.specs.Prelude.{ℕ, suc, ◌+◌, ◌*◌, max, true, false, List, [], ◌∷◌, ◌++◌, length, Option, Some, None}
-use Rattle.ob0_scope_rules.specs.Parts.{names_listed}
+use Rattle.ob0_language_names.specs.Parts.{names_listed}
 use Rattle.ob0_types_table.specs.declared.types.TypeId.{TypeId}
 use Rattle.ob0_types_table.specs.declared.types.TypeId.TheVariants as type
 use Rattle.ob0_tree.specs.Places.{text_at}

@@ -3,7 +3,7 @@
 ghost use Rattle.ob0_types_check.specs.ModuleLaws.{DeclarationsKnown, ModulesFit};
 ghost use Rattle.ob0_types_check.specs.ReportLaws.{ConstantsFit, ExpressionsFit, LengthsFit, StatementsFit, TypesOfTables};
 ghost use Rattle.ob0_types_check.specs.WellTypedLaws.{NamesBound, NoFaultInConstants, NoFaultInExpressions, NoFaultInLengths, NoFaultInModules, NoFaultInStatements, NoFaultInTargets};
-ghost use Rattle.ob0_scope_rules.specs.Names.{Name};
+ghost use Rattle.ob0_language_names.specs.Names.{Name};
 
 /// What is known of an expression of which nothing is reported is its type and its value.
 pub fn expressions_fit()

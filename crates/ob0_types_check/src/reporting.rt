@@ -12,7 +12,7 @@ mod written_types;
 
 ghost use Rattle.std.specs.Prelude.{◌≡◌, ◌++◌, [], IfOk, OnOk, MatchOption, map, option_map, None};
 ghost use Rattle.std.specs.List.{filter};
-ghost use Rattle.ob0_scope_rules.specs.Resolution.{is_of_occurrences};
+ghost use Rattle.ob0_scope_table.specs.Resolution.{is_of_occurrences};
 ghost use Rattle.ob0_tree.specs.Parsed.{named_tree_of};
 ghost use Rattle.ob0_types_table.specs.Tables.{AreEntriesInOrder};
 ghost use Rattle.ob0_types_check.specs.ModuleLaws.{HasDeclarations};
@@ -24,7 +24,7 @@ use crate::laws::declarations_known;
 use crate::reporting::objects::{define_standards, objects_of};
 use crate::reporting::supposed::{Meaning, Supposed, predeclared_meanings};
 use ob0_scan::{Code, Fault};
-use ob0_scope_rules::Resolved;
+use ob0_scope_table::Resolved;
 use ob0_types_table::Known;
 use std::alloc::{AllocError, Global};
 

@@ -1,10 +1,10 @@
 -- An expression of one factor selects what the factor does; a list without length is empty.
 use Rattle.std.proofs.Common.{◌≡◌, ℕ, ◌==◌, ◌++◌, Bool, true, List, [], ◌∷◌, length, None, refl, sym, ◌∙◌, append-nil, arith, eqb-true}
 use Rattle.ob0_tree.specs.Tree.{Tree, compares, end, factor, none, product, sum}
-use Rattle.ob0_types_rules.specs.Expressions.{Meanings}
-use Rattle.ob0_types_rules.specs.WellTyped.{Signature}
+use Rattle.ob0_language_types.specs.Expressions.{Meanings}
+use Rattle.ob0_language_types.specs.WellTyped.{Signature}
 use Rattle.ob0_types_fields.specs.Owned.{marked_tree}
-use Rattle.ob0_values.specs.Values.{Shape}
+use Rattle.ob0_language_values.specs.Values.{Shape}
 
 -- a list without length
 pub is_nothing : {A : Type 0} (xs : List A) (n : ℕ) (b : Bool) → n ≡ length xs → b ≡ (n == 0) → b ≡ true → xs ≡ []

@@ -3,11 +3,11 @@ use Rattle.std.proofs.Common.{◌≡◌, ℕ, ◌&&◌, if◌then◌else◌, ◌
 use Rattle.ob0_tree.specs.Tree.{mapped}
 use Rattle.ob0_tree.specs.Parsed.{named_tree_of, tree_of}
 use Rattle.ob0_tree.specs.Places.{text_at, value_at}
-use Rattle.ob0_scope_rules.specs.Names.{Name, same_name}
-use Rattle.ob0_scope_rules.specs.Resolution.{ordinal_in}
-use Rattle.ob0_types_fields.specs.Fields.{refielded}
+use Rattle.ob0_language_names.specs.Names.{Name, same_name}
+use Rattle.ob0_scope_table.specs.Resolution.{ordinal_in}
+use Rattle.ob0_language_fields.specs.Fields.{refielded}
 use Rattle.ob0_types_fields.specs.Owners.{RenamedByToken, of_records}
-use Rattle.ob0_types_fields.specs.Renaming.{one_renamed}
+use Rattle.ob0_language_fields.specs.Renaming.{one_renamed}
 
 -- how fields of known records are written where one is renamed
 abbrev in_record : ℕ → Name → Name → ℕ → Name → Name

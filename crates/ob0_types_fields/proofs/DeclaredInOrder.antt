@@ -2,23 +2,23 @@
 use Rattle.std.proofs.Common.{◌≡◌, ℕ, suc, ◌+◌, ◌<◌, ◌≤◌, cond, List, [], ◌∷◌, ◌++◌, Some, None, Option, refl, sym, ap, ◌∙◌, subst, append_assoc, arith, le_refl, eq-eqb}
 use Rattle.std.proofs.lemmas.Bool.{ne_eqb}
 use Rattle.ob0_tree.specs.Tree.{Tree, block, constant, declares, declares_constant, declares_type, declares_variable, end, has_body, items, more, type_name, variable}
-use Rattle.ob0_scope_rules.specs.Names.{Label, Name, as_labels, as_names, as_written, declared, same_label}
-use Rattle.ob0_scope_rules.specs.Parts.{block_constants, block_types, block_variables, constant_names, named_types, names_listed, section_constants, section_types, section_variables, variable_names}
-use Rattle.ob0_scope_rules.specs.Scopes.{Scope, after_names, as_label, declare_names, first_procedure, first_type, first_variable, label_names, relabel_block, relabel_constants, relabel_names, relabel_types, relabel_uses, relabel_variables, types_scope, variables_scope}
-use Rattle.ob0_scope_rules.proofs.Ordinals.{after_names-append}
-use Rattle.ob0_scope_rules.proofs.Relabelled.{constants-section, names-relabel, types-section, variables-section}
-use Rattle.ob0_types_rules.specs.Bindings.{object_bound}
-use Rattle.ob0_types_rules.specs.Declaring.{declare_block}
-use Rattle.ob0_types_rules.specs.Declarations.{after_types, declare_constants, declare_first, declare_types}
-use Rattle.ob0_types_rules.specs.Environments.{from_binding, meanings}
-use Rattle.ob0_types_rules.specs.Expressions.{Object, a_constant, a_type, a_variable}
-use Rattle.ob0_types_rules.specs.Typing.{constant_value, constructors, denoted}
-use Rattle.ob0_types_rules.specs.WellTyped.{Signature, TypeEnvironment, TypedParameter, bind_names, bind_typed, declare_typed, heading}
-use Rattle.ob0_values.specs.Values.{Shape}
-use Rattle.ob0_types_rules.proofs.Bound.{newest-if}
-use Rattle.ob0_types_rules.proofs.Literals.{some_inverse}
-use Rattle.ob0_types_rules.proofs.TypedElsewhere.{then_some}
-use Rattle.ob0_types_rules.proofs.TypesByOrdinal.{label_typed, typed_names}
+use Rattle.ob0_language_names.specs.Names.{Label, Name, as_labels, as_names, as_written, declared, same_label}
+use Rattle.ob0_language_names.specs.Parts.{block_constants, block_types, block_variables, constant_names, named_types, names_listed, section_constants, section_types, section_variables, variable_names}
+use Rattle.ob0_language_names.specs.Scopes.{Scope, after_names, as_label, declare_names, first_procedure, first_type, first_variable, label_names, relabel_block, relabel_constants, relabel_names, relabel_types, relabel_uses, relabel_variables, types_scope, variables_scope}
+use Rattle.ob0_language_names.proofs.Ordinals.{after_names-append}
+use Rattle.ob0_language_names.proofs.Relabelled.{constants-section, names-relabel, types-section, variables-section}
+use Rattle.ob0_language_types.specs.Bindings.{object_bound}
+use Rattle.ob0_language_types.specs.Declaring.{declare_block}
+use Rattle.ob0_language_types.specs.Declarations.{after_types, declare_constants, declare_first, declare_types}
+use Rattle.ob0_language_types.specs.Environments.{from_binding, meanings}
+use Rattle.ob0_language_types.specs.Expressions.{Object, a_constant, a_type, a_variable}
+use Rattle.ob0_language_types.specs.Typing.{constant_value, constructors, denoted}
+use Rattle.ob0_language_types.specs.WellTyped.{Signature, TypeEnvironment, TypedParameter, bind_names, bind_typed, declare_typed, heading}
+use Rattle.ob0_language_values.specs.Values.{Shape}
+use Rattle.ob0_language_types.proofs.Bound.{newest-if}
+use Rattle.ob0_language_types.proofs.Literals.{some_inverse}
+use Rattle.ob0_language_types.proofs.TypedElsewhere.{then_some}
+use Rattle.ob0_language_types.proofs.TypesByOrdinal.{label_typed, typed_names}
 
 -- bindings of ordinals from below hi down to lo, each less than the one before
 abbrev pub Descends : ℕ → TypeEnvironment Label → ℕ → Type 0

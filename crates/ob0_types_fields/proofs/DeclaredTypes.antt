@@ -4,27 +4,27 @@ use Rattle.std.proofs.Common.{◌≡◌, ℕ, ◌+◌, true, List, [], ◌∷◌
 use Rattle.ob0_tree.specs.Parsed.{named_tree_of, tree_of}
 use Rattle.ob0_tree.specs.Places.{text_at}
 use Rattle.ob0_tree.specs.Tree.{Tree, block, body, constant, declares, declares_constant, declares_procedure, declares_type, declares_types, declares_variable, declares_variables, end, formals, further_section, has_body, item, items, listed, maybe, module_text, more, no_formals, none, one, procedure, section, some_formals, then_section, type_name, type_names, value_section, variable, variable_section, variables, written_type}
-use Rattle.ob0_scope_rules.specs.Names.{Label, as_labels, as_names}
-use Rattle.ob0_scope_rules.specs.Parts.{block_constants, block_statements, block_types, block_variables, formal_sections, further_names, module_block, section_type, section_types, section_variables}
-use Rattle.ob0_scope_rules.specs.Resolution.{IsResolution, Resolution, ordinal_in}
-use Rattle.ob0_scope_rules.specs.Scopes.{as_label}
-use Rattle.ob0_types_rules.specs.Bindings.{block_bindings, declared_object, module_bindings, procedures_bindings, since}
-use Rattle.ob0_types_rules.specs.Declaring.{declare_block}
-use Rattle.ob0_types_rules.specs.InLabels.{in_labels, label_in}
-use Rattle.ob0_types_rules.proofs.Bound.{since-append}
-use Rattle.ob0_types_rules.specs.Declarations.{after_types, after_variables, declare_constants, declare_first, declare_types, formals_constructors, procedure_constructors}
-use Rattle.ob0_types_rules.specs.Environments.{meanings, outermost}
-use Rattle.ob0_types_rules.specs.Expressions.{Meanings, Object, a_constant, a_type, a_variable}
-use Rattle.ob0_types_rules.specs.Typing.{constant_value, constructors, denoted}
-use Rattle.ob0_types_rules.specs.WellTyped.{Formal, Mode, Signature, TypeEnvironment, TypedParameter, WellTyped, bind_names, bind_typed, block_fits, by_place, by_value, declare_typed, fits_over, heading, procedures_fit, typed_parameters}
-use Rattle.ob0_types_rules.proofs.Literals.{some_inverse}
-use Rattle.ob0_types_rules.proofs.Proved.{fits_by_ordinal-holds}
-use Rattle.ob0_types_rules.proofs.TypedElsewhere.{then_some}
+use Rattle.ob0_language_names.specs.Names.{Label, as_labels, as_names}
+use Rattle.ob0_language_names.specs.Parts.{block_constants, block_statements, block_types, block_variables, formal_sections, further_names, module_block, section_type, section_types, section_variables}
+use Rattle.ob0_scope_table.specs.Resolution.{IsResolution, Resolution, ordinal_in}
+use Rattle.ob0_language_names.specs.Scopes.{as_label}
+use Rattle.ob0_language_types.specs.Bindings.{block_bindings, declared_object, module_bindings, procedures_bindings, since}
+use Rattle.ob0_language_types.specs.Declaring.{declare_block}
+use Rattle.ob0_scope_table.specs.InLabels.{in_labels, label_in}
+use Rattle.ob0_language_types.proofs.Bound.{since-append}
+use Rattle.ob0_language_types.specs.Declarations.{after_types, after_variables, declare_constants, declare_first, declare_types, formals_constructors, procedure_constructors}
+use Rattle.ob0_language_types.specs.Environments.{meanings, outermost}
+use Rattle.ob0_language_types.specs.Expressions.{Meanings, Object, a_constant, a_type, a_variable}
+use Rattle.ob0_language_types.specs.Typing.{constant_value, constructors, denoted}
+use Rattle.ob0_language_types.specs.WellTyped.{Formal, Mode, Signature, TypeEnvironment, TypedParameter, WellTyped, bind_names, bind_typed, block_fits, by_place, by_value, declare_typed, fits_over, heading, procedures_fit, typed_parameters}
+use Rattle.ob0_language_types.proofs.Literals.{some_inverse}
+use Rattle.ob0_language_types.proofs.Proved.{fits_by_ordinal-holds}
+use Rattle.ob0_language_types.proofs.TypedElsewhere.{then_some}
 use Rattle.ob0_types_fields.proofs.DeclaredInOrder.{Right, at_label, right_split}
 use Rattle.ob0_types_fields.proofs.OwnedModules.{bind_typed-append, bindings_right, block-listed, block-parts, procedure-parts}
 use Rattle.ob0_types_fields.specs.FieldTypes.{first_listed}
 use Rattle.ob0_types_fields.specs.Owned.{token_objects}
-use Rattle.ob0_values.specs.Values.{Shape}
+use Rattle.ob0_language_values.specs.Values.{Shape}
 
 abbrev parameter_of : Mode → Shape → Label → TypedParameter Label
 parameter_of m s x = record { name = x; formal = record { mode = m; shape = s } }

@@ -6,10 +6,10 @@ use Rattle.ob0_tree.specs.declared.tree.TypeDeclaration.{TypeDeclaration}
 use Rattle.ob0_tree.specs.declared.tree.Variables.{Variables}
 use Rattle.ob0_tree.specs.declared.tree.Procedure.{Procedure}
 use Rattle.ob0_tree.specs.View.{further_section_of, items_of, procedure_of, type_declaration_of, variable_of}
-use Rattle.ob0_types_rules.specs.Declarations.{formals_constructors, procedures_constructors, types_constructors, variables_constructors}
-use Rattle.ob0_types_rules.specs.Expressions.{Meanings}
-use Rattle.ob0_types_rules.specs.WellTyped.{Signature}
-use Rattle.ob0_values.specs.Values.{Shape}
+use Rattle.ob0_language_types.specs.Declarations.{formals_constructors, procedures_constructors, types_constructors, variables_constructors}
+use Rattle.ob0_language_types.specs.Expressions.{Meanings}
+use Rattle.ob0_language_types.specs.WellTyped.{Signature}
+use Rattle.ob0_language_values.specs.Values.{Shape}
 use Rattle.ob0_types_fields.specs.Owned.{marked_procedures, marked_sections, marked_types, marked_variables}
 
 pub record OverTypes (k : ℕ) (start : List (ℕ × ℕ)) (xs : List TypeDeclaration) (done : ℕ) (out : List (ℕ × ℕ)) (next : ℕ) : Type 0 where

@@ -3,7 +3,7 @@ use Rattle.std.proofs.Common.{◌≡◌, ℕ, ◌+◌, ◌≤◌, List, ◌++◌
 use Rattle.std.proofs.lemmas.List.{drop_all}
 use Rattle.ob0_tree.specs.declared.tree.Procedure.{Procedure}
 use Rattle.ob0_tree.specs.View.{items_of, procedure_of}
-use Rattle.ob0_types_rules.specs.Declarations.{procedures_constructors}
+use Rattle.ob0_language_types.specs.Declarations.{procedures_constructors}
 use Rattle.ob0_types_fields.specs.Identifiers.{declared_in_procedures}
 
 pub record OverDeclaring (k : ℕ) (start : List (ℕ × ℕ)) (xs : List Procedure) (done : ℕ) (out : List (ℕ × ℕ)) (next : ℕ) : Type 0 where

@@ -6,14 +6,14 @@ use Rattle.ob0_scan.specs.Scanned.{Scanned}
 use Rattle.ob0_tree.specs.Parsed.{tree_of}
 use Rattle.ob0_tree.specs.Places.{text_at, value_at}
 use Rattle.ob0_tree.specs.Tree.{Tree, item, items, maybe, array_type, block, declares, declares_procedure, declares_type, declares_variable, end, fields, formals, further_fields, further_name, further_section, has_body, listed, mapped, more, named_type, names, no_fields, procedure, record_type, section, some_fields, then_fields, then_name, then_section, type_name, value_section, variable, variable_section, written_type}
-use Rattle.ob0_scope_rules.specs.DeclaredOnce.{group_fields, groups_fields}
-use Rattle.ob0_scope_rules.specs.Names.{Name, same_name}
-use Rattle.ob0_scope_rules.specs.Parts.{formal_sections, further_names, module_block, names_listed, section_type, section_types, section_variables}
-use Rattle.ob0_types_rules.specs.Declarations.{after_formals, after_types, after_variables, procedure_constructors}
-use Rattle.ob0_types_rules.specs.Typing.{constructors, group_constructors}
+use Rattle.ob0_language_names.specs.DeclaredOnce.{group_fields, groups_fields}
+use Rattle.ob0_language_names.specs.Names.{Name, same_name}
+use Rattle.ob0_language_names.specs.Parts.{formal_sections, further_names, module_block, names_listed, section_type, section_types, section_variables}
+use Rattle.ob0_language_types.specs.Declarations.{after_formals, after_types, after_variables, procedure_constructors}
+use Rattle.ob0_language_types.specs.Typing.{constructors, group_constructors}
 use Rattle.ob0_types_fields.specs.Identifiers.{DuplicateByToken, declared_fields, declared_in_block, declared_in_procedure, declared_in_procedures, first, is_field, tokens_among}
 use Rattle.ob0_types_fields.specs.Owned.{marked_group, marked_groups, marked_sections, marked_type, marked_types, marked_variables}
-use Rattle.ob0_types_fields.specs.Renaming.{RecordFields, names_another_field, records_in_block, records_in_group, records_in_groups, records_in_procedure, records_in_procedures, records_in_sections, records_in_type, records_in_types, records_in_variables}
+use Rattle.ob0_language_fields.specs.Renaming.{RecordFields, names_another_field, records_in_block, records_in_group, records_in_groups, records_in_procedure, records_in_procedures, records_in_sections, records_in_type, records_in_types, records_in_variables}
 use Rattle.ob0_types_fields.proofs.OwnedTypes.{counted_formals_section, counted_group, counted_procedure, counted_section, counted_type, counted_type_section, counted_variable_section, sections_mapped, types_mapped, variables_mapped}
 
 any-append : {A : Type 0} (p : A → Bool) (xs ys : List A) → list_any p (xs ++ ys) ≡ (list_any p xs || list_any p ys)

@@ -1,10 +1,10 @@
 -- In a numbered tree the names of fields are bound to nothing.
 use Rattle.std.proofs.Common.{ℕ, suc, None, List, [], ◌∷◌}
 use Rattle.ob0_tree.specs.Tree.{Tree, array_type, block, declares, declares_procedure, declares_type, declares_types, declares_variable, declares_variables, end, fields, formals, further_fields, further_name, further_section, has_body, is_module, item, items, listed, maybe, module_text, more, named_type, names, no_fields, no_formals, none, one, procedure, record_type, section, some_fields, some_formals, then_fields, then_name, then_section, type_name, type_names, value_section, variable, variable_section, variables, written_type}
-use Rattle.ob0_scope_rules.specs.Mapping.{with_names}
-use Rattle.ob0_scope_rules.specs.Names.{Label, Name, as_names, as_written, declared}
-use Rattle.ob0_scope_rules.specs.Parts.{formal_names, formal_sections, further_names, module_block, names_listed, procedure_name, section_names, section_type, section_types, section_variables}
-use Rattle.ob0_scope_rules.specs.Scopes.{Scope, after_names, after_procedure, as_label, declare_names, first_procedure, first_type, first_variable, label_of, numbered, predeclared_scope, procedures_scope, relabel_block, relabel_formals, relabel_procedure, relabel_procedures, relabel_section, relabel_sections, relabel_type_section, relabel_types, relabel_uses, relabel_variable_section, relabel_variables, types_scope, variables_scope}
+use Rattle.ob0_language_names.specs.Mapping.{with_names}
+use Rattle.ob0_language_names.specs.Names.{Label, Name, as_names, as_written, declared}
+use Rattle.ob0_language_names.specs.Parts.{formal_names, formal_sections, further_names, module_block, names_listed, procedure_name, section_names, section_type, section_types, section_variables}
+use Rattle.ob0_language_names.specs.Scopes.{Scope, after_names, after_procedure, as_label, declare_names, first_procedure, first_type, first_variable, label_of, numbered, predeclared_scope, procedures_scope, relabel_block, relabel_formals, relabel_procedure, relabel_procedures, relabel_section, relabel_sections, relabel_type_section, relabel_types, relabel_uses, relabel_variable_section, relabel_variables, types_scope, variables_scope}
 
 abbrev pub IsWritten : Label → Type 0
 IsWritten (declared k) = ⊥

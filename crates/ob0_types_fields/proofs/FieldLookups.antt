@@ -1,11 +1,11 @@
 -- A record has a type for a name exactly where it has a place for it, and then the name selects a field of it.
 use Rattle.std.proofs.Common.{◌≡◌, ℕ, suc, Bool, true, false, if◌then◌else◌, Option, Some, None, option_map, refl, sym, ap, ◌∙◌}
-use Rattle.ob0_scope_rules.specs.Names.{Name, same_name}
-use Rattle.ob0_types_rules.specs.Typing.{shape_of_field}
+use Rattle.ob0_language_names.specs.Names.{Name, same_name}
+use Rattle.ob0_language_types.specs.Typing.{shape_of_field}
 use Rattle.ob0_types_table.specs.declared.known.FieldOf.{FieldOf}
 use Rattle.ob0_types_table.specs.FieldPlaces.{place_of_field}
 use Rattle.ob0_types_fields.specs.Owned.{marked_field, owner}
-use Rattle.ob0_values.specs.Values.{FieldShapes, Shape, next_field_shape, no_field_shape, record_shape}
+use Rattle.ob0_language_values.specs.Values.{FieldShapes, Shape, next_field_shape, no_field_shape, record_shape}
 
 -- the record with the ordinal k, where a field has a place in it
 abbrev owner_with : ℕ → Option ℕ → Option ℕ

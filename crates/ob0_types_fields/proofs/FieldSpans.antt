@@ -12,9 +12,9 @@ use Rattle.ob0_scan.specs.declared.lexeme.Token.{Token}
 use Rattle.ob0_scan.specs.Lexed.{Lexeme}
 use Rattle.ob0_scan.specs.Scanned.{IsScan, Scanned, span_from, token_at, tokens_from}
 use Rattle.ob0_tree.specs.Order.{Ascending}
-use Rattle.ob0_scope_rules.specs.Resolution.{span_at}
-use Rattle.ob0_scope_rules.specs.Spans.{span_in}
-use Rattle.ob0_scope_rules.specs.Spans.{is_on}
+use Rattle.ob0_scope_table.specs.Resolution.{span_at}
+use Rattle.ob0_scope_table.specs.Spans.{span_in}
+use Rattle.ob0_scope_table.specs.Spans.{is_on}
 use Rattle.ob0_types_fields.specs.Identifiers.{AreInTextOrder, field_on, firsts}
 
 -- ---- the tokens of a text

@@ -11,10 +11,10 @@ use Rattle.ob0_tree.specs.Parsed.{IsParsed, tree_of}
 use Rattle.ob0_tree.specs.Places.{text_at, value_at}
 use Rattle.ob0_tree.specs.Tree.{mapped}
 use Rattle.ob0_tree.proofs.Leaves.{ascending_lower, leaves_are_identifiers, leaves_ascend}
-use Rattle.ob0_scope_rules.specs.Names.{Name, same_name}
-use Rattle.ob0_scope_rules.specs.Resolution.{Resolution, ordinal_in, span_at}
-use Rattle.ob0_scope_rules.specs.Spans.{is_on}
-use Rattle.ob0_scope_rules.specs.Scopes.{same_ordinal}
+use Rattle.ob0_language_names.specs.Names.{Name, same_name}
+use Rattle.ob0_scope_table.specs.Resolution.{Resolution, ordinal_in, span_at}
+use Rattle.ob0_scope_table.specs.Spans.{is_on}
+use Rattle.ob0_language_names.specs.Scopes.{same_ordinal}
 use Rattle.ob0_types_fields.specs.Identifiers.{AreInTextOrder, RenamedAtTokens, field_identifiers, field_on, field_tokens, firsts, is_field, tokens_among}
 use Rattle.ob0_types_fields.specs.Owned.{fields_among, owned_tokens, with_fields_at}
 use Rattle.ob0_types_fields.specs.Owners.{is_of_field}

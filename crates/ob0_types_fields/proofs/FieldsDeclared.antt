@@ -13,16 +13,16 @@ use Rattle.ob0_tree.specs.Places.{text_at, value_at}
 use Rattle.ob0_tree.specs.Tree.{Sort, Tree, mapped, spell}
 use Rattle.ob0_tree.proofs.Leaves.{leaves_spelled, lexeme_names}
 use Rattle.ob0_tree.proofs.Mapped.{spell_mapped}
-use Rattle.ob0_scope_rules.specs.Names as written
-use Rattle.ob0_scope_rules.specs.Names.{same_name}
-use Rattle.ob0_scope_rules.specs.Resolution.{IsResolution, Resolution}
-use Rattle.ob0_types_rules.specs.Bindings.{declared_object}
-use Rattle.ob0_types_rules.specs.WellTyped.{WellTyped}
-use Rattle.ob0_types_fields.specs.Renaming.{RecordFields, is_duplicate_field, names_another_field, one_renamed, records}
-use Rattle.ob0_types_fields.proofs.AgreeingFields.{NamesAgree, RecordsAgree}
-use Rattle.ob0_types_fields.proofs.AgreeingModules.{module-alike}
-use Rattle.ob0_types_fields.proofs.Bare.{refielded-bare}
-use Rattle.ob0_types_fields.proofs.Bare.{bare}
+use Rattle.ob0_language_names.specs.Names as written
+use Rattle.ob0_language_names.specs.Names.{same_name}
+use Rattle.ob0_scope_table.specs.Resolution.{IsResolution, Resolution}
+use Rattle.ob0_language_types.specs.Bindings.{declared_object}
+use Rattle.ob0_language_types.specs.WellTyped.{WellTyped}
+use Rattle.ob0_language_fields.specs.Renaming.{RecordFields, is_duplicate_field, names_another_field, one_renamed, records}
+use Rattle.ob0_language_fields.proofs.AgreeingFields.{NamesAgree, RecordsAgree}
+use Rattle.ob0_language_fields.proofs.AgreeingModules.{module-alike}
+use Rattle.ob0_language_fields.proofs.Bare.{refielded-bare}
+use Rattle.ob0_language_fields.proofs.Bare.{bare}
 use Rattle.ob0_types_fields.specs.Identifiers.{FieldsDeclared, declaring_field, field_identifiers, field_tokens, is_field, tokens_among}
 use Rattle.ob0_types_fields.specs.Owned.{fields_among, owned_tokens, token_objects}
 use Rattle.ob0_types_fields.proofs.DuplicateFields.{duplicate_by_token-holds}

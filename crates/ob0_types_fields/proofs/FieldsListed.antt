@@ -8,25 +8,25 @@ use Rattle.ob0_tree.specs.Order.{names_only}
 use Rattle.ob0_tree.specs.Parsed.{Parsed, named_tree_of, tree_of}
 use Rattle.ob0_tree.specs.Places.{text_at, value_at}
 use Rattle.ob0_tree.specs.Tree.{Sort, Tree, addend, adds, arguments, array_type, assigns, begins, block, body, branches, calls, compares, constant, constants, declares, declares_constant, declares_constants, declares_procedure, declares_type, declares_types, declares_variable, declares_variables, designator, else_branch, else_part, elsif_branch, elsif_part, empty, end, expression, factor, field, fields, formals, further_argument, further_fields, further_name, further_section, further_statement, has_body, identifiers, index, integer, is_module, item, items, listed, mapped, maybe, module_text, more, multiplier, multiplies, named_type, names, negation, no_arguments, no_fields, no_formals, none, one, parenthesised, procedure, product, record_type, relates, repeat_loop, runs, section, selector, sequence, simple, some_arguments, some_fields, some_formals, statement, sum, term, then_argument, then_fields, then_name, then_section, then_statement, type_name, type_names, value_section, variable, variable_section, variables, while_loop, written_type}
-use Rattle.ob0_scope_rules.specs.Mapping.{with_names}
-use Rattle.ob0_scope_rules.specs.Names.{Name, as_names}
-use Rattle.ob0_scope_rules.specs.Parts.{formal_sections, names_listed, procedure_formals, procedure_name, section_constants, section_names, section_type, section_types, section_variables}
-use Rattle.ob0_scope_rules.specs.Resolution.{ordinal_in}
-use Rattle.ob0_types_rules.specs.Declarations.{after_formals, after_types, after_variables, declare_constants, declare_first, declare_types, procedure_constructors}
-use Rattle.ob0_types_rules.specs.Environments.{meanings, outermost}
-use Rattle.ob0_types_rules.specs.Expressions.{Meanings, Object, a_constant, a_procedure, a_standard, a_type, a_variable, evaluate}
-use Rattle.ob0_types_rules.specs.Typing.{add_type, array_length, complement_type, constant_of, constant_value, constants_only, constructors, denoted, denoted_group, denoted_groups, element_type, given_value, group_constructors, multiply_type, object_type, relation_type, sign_type, type_at, type_of, type_of_addends, type_of_factor, type_of_multipliers, type_of_simple, type_of_term, value_type, with_fields, within_limits}
-use Rattle.ob0_types_rules.specs.WellTyped.{Signature, TypeEnvironment, Typed, TypedParameter, WellTyped, bind_names, bind_typed, block_fits, declare_typed, fits_over, heading, procedure_fits, procedures_fit, section_mode, typed_parameters}
-use Rattle.ob0_values.specs.Values.{FieldShapes, Shape, Value, array_shape, boolean_shape, elements, integer_shape, members, number, record_shape, truth}
-use Rattle.ob0_types_fields.specs.Fields.{FieldNames, type_after, refield, refield_block, refield_formals, refield_group, refield_groups, refield_procedure, refield_procedures, refield_section, refield_sections, refield_type, refield_type_section, refield_types, refield_variable_section, refield_variables, refielded}
+use Rattle.ob0_language_names.specs.Mapping.{with_names}
+use Rattle.ob0_language_names.specs.Names.{Name, as_names}
+use Rattle.ob0_language_names.specs.Parts.{formal_sections, names_listed, procedure_formals, procedure_name, section_constants, section_names, section_type, section_types, section_variables}
+use Rattle.ob0_scope_table.specs.Resolution.{ordinal_in}
+use Rattle.ob0_language_types.specs.Declarations.{after_formals, after_types, after_variables, declare_constants, declare_first, declare_types, procedure_constructors}
+use Rattle.ob0_language_types.specs.Environments.{meanings, outermost}
+use Rattle.ob0_language_types.specs.Expressions.{Meanings, Object, a_constant, a_procedure, a_standard, a_type, a_variable, evaluate}
+use Rattle.ob0_language_types.specs.Typing.{add_type, array_length, complement_type, constant_of, constant_value, constants_only, constructors, denoted, denoted_group, denoted_groups, element_type, given_value, group_constructors, multiply_type, object_type, relation_type, sign_type, type_at, type_of, type_of_addends, type_of_factor, type_of_multipliers, type_of_simple, type_of_term, value_type, with_fields, within_limits}
+use Rattle.ob0_language_types.specs.WellTyped.{Signature, TypeEnvironment, Typed, TypedParameter, WellTyped, bind_names, bind_typed, block_fits, declare_typed, fits_over, heading, procedure_fits, procedures_fit, section_mode, typed_parameters}
+use Rattle.ob0_language_values.specs.Values.{FieldShapes, Shape, Value, array_shape, boolean_shape, elements, integer_shape, members, number, record_shape, truth}
+use Rattle.ob0_language_fields.specs.Fields.{FieldNames, type_after, refield, refield_block, refield_formals, refield_group, refield_groups, refield_procedure, refield_procedures, refield_section, refield_sections, refield_type, refield_type_section, refield_types, refield_variable_section, refield_variables, refielded}
 use Rattle.ob0_types_fields.specs.Owners.{of_records}
-use Rattle.ob0_types_fields.specs.Renaming.{RecordFields, records}
-use Rattle.ob0_types_fields.proofs.AgreeingFields.{NamesAgree, RecordsAgree}
-use Rattle.ob0_types_fields.proofs.AgreeingModules.{module-alike}
-use Rattle.ob0_types_fields.proofs.NamesMeant.{parameter_of}
-use Rattle.ob0_types_rules.specs.Bindings.{declared_object}
-use Rattle.ob0_types_rules.proofs.Conditions.{both_true, hold-true, of_some}
-use Rattle.ob0_types_rules.proofs.TypedElsewhere.{then_some}
+use Rattle.ob0_language_fields.specs.Renaming.{RecordFields, records}
+use Rattle.ob0_language_fields.proofs.AgreeingFields.{NamesAgree, RecordsAgree}
+use Rattle.ob0_language_fields.proofs.AgreeingModules.{module-alike}
+use Rattle.ob0_language_fields.proofs.NamesMeant.{parameter_of}
+use Rattle.ob0_language_types.specs.Bindings.{declared_object}
+use Rattle.ob0_language_types.proofs.Conditions.{both_true, hold-true, of_some}
+use Rattle.ob0_language_types.proofs.TypedElsewhere.{then_some}
 use Rattle.ob0_types_fields.specs.Identifiers.{FieldsListed, written_fields}
 use Rattle.ob0_types_fields.specs.Owned.{HasOwners, fields_among, owned_tokens, token_objects}
 use Rattle.ob0_types_fields.proofs.MappedIdentifiers.{beside_role, both, identifiers-mapped}

@@ -4,8 +4,8 @@ use Rattle.std.proofs.lemmas.List.{drop_all}
 use Rattle.ob0_tree.specs.declared.tree.Fields.{Fields}
 use Rattle.ob0_tree.specs.Tree.{then_name}
 use Rattle.ob0_tree.specs.View.{further_fields_of_group, items_of}
-use Rattle.ob0_scope_rules.specs.Parts.{further_names}
-use Rattle.ob0_types_rules.specs.Typing.{groups_constructors}
+use Rattle.ob0_language_names.specs.Parts.{further_names}
+use Rattle.ob0_language_types.specs.Typing.{groups_constructors}
 use Rattle.ob0_types_fields.specs.Owned.{marked_groups}
 
 -- the names that are left, and those that were noted

@@ -1,9 +1,4 @@
-pub mod NamesMeant
-pub mod Bare
-pub mod AgreeingFields
-pub mod AgreeingModules
 pub mod ByToken
-pub mod WorkedFields
 pub mod OwnedStatements
 pub mod OwnedTypes
 pub mod DeclaredInOrder

@@ -4,10 +4,10 @@ use Rattle.std.proofs.lemmas.List.{nil_from_length}
 use Rattle.std.proofs.lemmas.List.Elements.{All-head}
 use Rattle.ob0_tree.specs.Parsed.{Parsed, named_tree_of, tree_of}
 use Rattle.ob0_tree.specs.Places.{text_at}
-use Rattle.ob0_scope_rules.specs.Resolution.{IsResolution, Resolution}
-use Rattle.ob0_types_rules.specs.Bindings.{declared_object}
+use Rattle.ob0_scope_table.specs.Resolution.{IsResolution, Resolution}
+use Rattle.ob0_language_types.specs.Bindings.{declared_object}
 use Rattle.ob0_types_table.specs.KnownTables.{Tables, declared_in}
-use Rattle.ob0_types_rules.specs.WellTyped.{WellTyped}
+use Rattle.ob0_language_types.specs.WellTyped.{WellTyped}
 use Rattle.ob0_types_fields.specs.Identifiers.{declared_fields, declaring_field, field_identifiers, first, tokens_among}
 use Rattle.ob0_types_fields.specs.Listed.{AreFields, listed_by}
 use Rattle.ob0_types_fields.specs.Owned.{marked_module, token_objects}

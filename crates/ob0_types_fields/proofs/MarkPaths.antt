@@ -4,11 +4,11 @@ use Rattle.std.proofs.lemmas.List.{drop_more}
 use Rattle.ob0_tree.specs.declared.tree.Selector.{Selector}
 use Rattle.ob0_tree.specs.Tree.{Tree, field, index, item, items, more, selector}
 use Rattle.ob0_tree.specs.View.{items_of, selector_of}
-use Rattle.ob0_types_rules.specs.Expressions.{Meanings}
-use Rattle.ob0_types_rules.specs.WellTyped.{Signature}
+use Rattle.ob0_language_types.specs.Expressions.{Meanings}
+use Rattle.ob0_language_types.specs.WellTyped.{Signature}
 use Rattle.ob0_types_fields.specs.Owned.{marked_path, after_selector}
 use Rattle.ob0_types_fields.specs.Walk.{marked_at}
-use Rattle.ob0_values.specs.Values.{Shape}
+use Rattle.ob0_language_values.specs.Values.{Shape}
 
 path_more : {P : Type 0} (m : Meanings ℕ Shape P) (base : Option Shape) (a : Tree ℕ (item selector)) (rest : Tree ℕ (items selector))
     → marked_path m base (more a rest) ≡ marked_at m base a ++ marked_path m (after_selector m base a) rest

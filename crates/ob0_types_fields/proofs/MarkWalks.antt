@@ -3,10 +3,10 @@ use Rattle.std.proofs.Common.{◌≡◌, ℕ, ◌≤◌, List, ◌++◌, length,
 use Rattle.std.proofs.lemmas.List.{drop_all}
 use Rattle.ob0_tree.specs.Tree.{Tree, Item, item}
 use Rattle.ob0_tree.specs.View.{items_of}
-use Rattle.ob0_types_rules.specs.Expressions.{Meanings}
-use Rattle.ob0_types_rules.specs.WellTyped.{Signature}
+use Rattle.ob0_language_types.specs.Expressions.{Meanings}
+use Rattle.ob0_language_types.specs.WellTyped.{Signature}
 use Rattle.ob0_types_fields.specs.Owned.{marked_tree}
-use Rattle.ob0_values.specs.Values.{Shape}
+use Rattle.ob0_language_values.specs.Values.{Shape}
 
 -- what was found, with the identifiers of the items that are left, is what was there at first with those of all
 pub record Walking {A : Type 0} {i : Item} (f : A → Tree ℕ (item i)) (m : Meanings ℕ Shape Signature) (start : List (ℕ × ℕ)) (xs : List A) (done : ℕ) (out : List (ℕ × ℕ)) : Type 0 where

@@ -3,11 +3,11 @@ use Rattle.std.proofs.Common.{◌≡◌, ℕ, suc, ◌+◌, List, [], ◌∷◌,
 use Rattle.ob0_tree.specs.declared.tree.Role.{Role}
 use Rattle.ob0_tree.specs.declared.tree.Role.TheVariants as role
 use Rattle.ob0_tree.specs.Tree.{Sort, Tree, item, adds, array_type, assigns, begins, branches, calls, compares, declares, declares_constant, declares_constants, declares_procedure, declares_type, declares_types, declares_variable, declares_variables, designator, else_branch, elsif_branch, empty, end, field, has_body, identifiers, index, integer, is_module, listed, more, multiplies, named_type, negation, no_arguments, no_fields, no_formals, none, one, parenthesised, product, record_type, relates, repeat_loop, runs, some_arguments, some_fields, some_formals, sum, then_argument, then_fields, then_name, then_section, then_statement, value_section, variable_section, while_loop, block, written_type, fields, further_fields, section, further_section, formals, type_name, type_names, variable, variables, procedure, module_text, items, maybe, selector, Item}
-use Rattle.ob0_scope_rules.specs.Parts.{formal_sections, names_listed, section_type, section_types, section_variables}
-use Rattle.ob0_types_rules.specs.Declarations.{after_formals, after_types, after_variables, procedure_constructors}
-use Rattle.ob0_types_rules.specs.Expressions.{Meanings}
-use Rattle.ob0_types_rules.specs.Typing.{constructors, element_type, field_type, group_constructors, object_type}
-use Rattle.ob0_values.specs.Values.{Shape, integer_shape}
+use Rattle.ob0_language_names.specs.Parts.{formal_sections, names_listed, section_type, section_types, section_variables}
+use Rattle.ob0_language_types.specs.Declarations.{after_formals, after_types, after_variables, procedure_constructors}
+use Rattle.ob0_language_types.specs.Expressions.{Meanings}
+use Rattle.ob0_language_types.specs.Typing.{constructors, element_type, field_type, group_constructors, object_type}
+use Rattle.ob0_language_values.specs.Values.{Shape, integer_shape}
 use Rattle.ob0_types_fields.specs.Owned.{fields_among, marked_field, marked_tree, marked_block, marked_group, marked_groups, marked_module, marked_path, marked_procedures, marked_sections, marked_type, marked_types, marked_variables, owned, owned_block, owned_formals, owned_group, owned_groups, owned_module, owned_procedure, owned_procedures, owned_section, owned_sections, owned_type, owned_type_section, owned_types, owned_variable_section, owned_variables, owner, after_selector, unowned, unowned_among}
 
 among-append : (xs ys : List (ℕ × Option ℕ)) → fields_among (xs ++ ys) ≡ fields_among xs ++ fields_among ys

@@ -5,36 +5,36 @@ use Rattle.std.proofs.lemmas.Bool.{and_parts}
 use Rattle.ob0_tree.specs.Tree.{Tree, block, body, constants, declares, declares_procedure, end, formals, has_body, is_module, item, items, Item, mapped, maybe, more, occurrences, procedure, type_names, variables}
 use Rattle.ob0_tree.specs.Parsed.{Parsed, named_tree_of, tree_of}
 use Rattle.ob0_tree.specs.Places.{text_at, value_at}
-use Rattle.ob0_scope_rules.specs.Names.{Label, Name, as_labels, as_names, declared, same_name}
-use Rattle.ob0_scope_rules.specs.Occurrences.{label_ordinal}
-use Rattle.ob0_scope_rules.specs.Parts.{block_procedures, block_statements, block_variables, formal_names, formal_sections, module_block, procedure_block, section_types, section_variables}
-use Rattle.ob0_scope_rules.specs.Resolution.{Resolution, ordinal_in}
-use Rattle.ob0_scope_rules.specs.Scopes.{Scope, after_block, after_names, after_procedure, after_procedures, as_label, declare_names, declare_procedure_names, first_procedure, first_type, first_variable, numbered, ordinal_of, procedures_scope, relabel_block, relabel_formals, relabel_procedures, relabel_sections, relabel_uses, types_scope, variables_scope, label_of}
-use Rattle.ob0_scope_rules.proofs.OccurrenceNames.{occurrences-with_names}
-use Rattle.ob0_scope_rules.proofs.OccurrencesMapped.{occurrences-mapped}
-use Rattle.ob0_scope_rules.proofs.Ordinals.{le-after_procedure}
-use Rattle.ob0_scope_rules.proofs.Peeling.{heads}
-use Rattle.ob0_scope_rules.proofs.Relabelled.{formals-section, types-section, variables-section}
-use Rattle.ob0_types_rules.specs.Bindings.{block_bindings, declared_object, for_some, module_bindings, procedure_bindings, procedures_bindings, since}
-use Rattle.ob0_types_rules.specs.Declaring.{declare_block, declare_procedure}
-use Rattle.ob0_types_rules.specs.Declarations.{after_formals, after_types, after_variables, declare_first, formals_constructors, procedure_constructors, types_constructors, variables_constructors}
-use Rattle.ob0_types_rules.specs.Environments.{from_binding, meanings, newest, outermost}
-use Rattle.ob0_types_rules.specs.Expressions.{Meanings, Object, a_procedure, a_variable}
-use Rattle.ob0_types_rules.specs.Typing.{object_type}
-use Rattle.ob0_types_rules.specs.WellTyped.{Signature, TypeEnvironment, Typed, TypedParameter, WellTyped, bind_typed, block_fits, body_fits, declare_typed, fits_over, heading, some_and, procedure_fits, procedures_fit, typed_parameters}
-use Rattle.ob0_values.specs.Values.{Shape}
-use Rattle.ob0_types_rules.proofs.Agreeing.{Agree, HoldsOf}
-use Rattle.ob0_types_rules.proofs.Constructors.{formals_constructors-relabel, procedure_constructors-relabel, types_constructors-relabel, variables_constructors-relabel}
-use Rattle.ob0_types_rules.proofs.Bound.{headed_bindings, since-append}
-use Rattle.ob0_types_rules.proofs.Literals.{some_inverse}
-use Rattle.ob0_types_rules.proofs.Proved.{fits_by_ordinal-holds}
-use Rattle.ob0_types_rules.proofs.TypesByOrdinal.{TypeNoted, TypedBelow, TypedBelow-weaken, TypedWithin, bind_typed-by_name, bind_typed-by_ordinal, body_fits-agrees, declarations_typed, label_typed, label_typed-formals, noted_parameters, noted_parameters-within, parameters_typed, typed_by_name, typed_by_ordinal, typed_names, typed_outermost, typed_scope}
-use Rattle.ob0_types_fields.specs.Fields.{types_after_heading, types_after_procedures, types_after_variables, parameters_of, refield, refield_block, refield_procedures, refield_variable_section}
+use Rattle.ob0_language_names.specs.Names.{Label, Name, as_labels, as_names, declared, same_name}
+use Rattle.ob0_language_names.specs.Occurrences.{label_ordinal}
+use Rattle.ob0_language_names.specs.Parts.{block_procedures, block_statements, block_variables, formal_names, formal_sections, module_block, procedure_block, section_types, section_variables}
+use Rattle.ob0_scope_table.specs.Resolution.{Resolution, ordinal_in}
+use Rattle.ob0_language_names.specs.Scopes.{Scope, after_block, after_names, after_procedure, after_procedures, as_label, declare_names, declare_procedure_names, first_procedure, first_type, first_variable, numbered, ordinal_of, procedures_scope, relabel_block, relabel_formals, relabel_procedures, relabel_sections, relabel_uses, types_scope, variables_scope, label_of}
+use Rattle.ob0_language_names.proofs.OccurrenceNames.{occurrences-with_names}
+use Rattle.ob0_language_names.proofs.OccurrencesMapped.{occurrences-mapped}
+use Rattle.ob0_language_names.proofs.Ordinals.{le-after_procedure}
+use Rattle.ob0_language_names.proofs.Peeling.{heads}
+use Rattle.ob0_language_names.proofs.Relabelled.{formals-section, types-section, variables-section}
+use Rattle.ob0_language_types.specs.Bindings.{block_bindings, declared_object, for_some, module_bindings, procedure_bindings, procedures_bindings, since}
+use Rattle.ob0_language_types.specs.Declaring.{declare_block, declare_procedure}
+use Rattle.ob0_language_types.specs.Declarations.{after_formals, after_types, after_variables, declare_first, formals_constructors, procedure_constructors, types_constructors, variables_constructors}
+use Rattle.ob0_language_types.specs.Environments.{from_binding, meanings, newest, outermost}
+use Rattle.ob0_language_types.specs.Expressions.{Meanings, Object, a_procedure, a_variable}
+use Rattle.ob0_language_types.specs.Typing.{object_type}
+use Rattle.ob0_language_types.specs.WellTyped.{Signature, TypeEnvironment, Typed, TypedParameter, WellTyped, bind_typed, block_fits, body_fits, declare_typed, fits_over, heading, some_and, procedure_fits, procedures_fit, typed_parameters}
+use Rattle.ob0_language_values.specs.Values.{Shape}
+use Rattle.ob0_language_types.proofs.Agreeing.{Agree, HoldsOf}
+use Rattle.ob0_language_types.proofs.Constructors.{formals_constructors-relabel, procedure_constructors-relabel, types_constructors-relabel, variables_constructors-relabel}
+use Rattle.ob0_language_types.proofs.Bound.{headed_bindings, since-append}
+use Rattle.ob0_language_types.proofs.Literals.{some_inverse}
+use Rattle.ob0_language_types.proofs.Proved.{fits_by_ordinal-holds}
+use Rattle.ob0_language_types.proofs.TypesByOrdinal.{TypeNoted, TypedBelow, TypedBelow-weaken, TypedWithin, bind_typed-by_name, bind_typed-by_ordinal, body_fits-agrees, declarations_typed, label_typed, label_typed-formals, noted_parameters, noted_parameters-within, parameters_typed, typed_by_name, typed_by_ordinal, typed_names, typed_outermost, typed_scope}
+use Rattle.ob0_language_fields.specs.Fields.{types_after_heading, types_after_procedures, types_after_variables, parameters_of, refield, refield_block, refield_procedures, refield_variable_section}
 use Rattle.ob0_types_fields.specs.Owners.{of_records}
 use Rattle.ob0_types_fields.specs.Owned.{HasOwners, OwnersByDeclaration, owned, owned_block, owned_formals, owned_procedure, owned_procedures, owned_type_section, owned_variable_section, token_objects, unowned}
 use Rattle.ob0_types_fields.proofs.OwnedStatements.{Alike, SameTypes, owned-alike, owners_split, recorded, recorded-alike, recorded-mapped, unowned-all}
 use Rattle.ob0_types_fields.proofs.OwnedTypes.{counted_formals_section, counted_procedure, counted_type_section, counted_variable_section, formals-owned, type_section-owned, variable_section-owned}
-use Rattle.ob0_types_fields.proofs.NamesMeant.{object_in}
+use Rattle.ob0_language_fields.proofs.NamesMeant.{object_in}
 use Rattle.ob0_types_fields.proofs.Selecting.{body-selects, here}
 use Rattle.ob0_types_fields.proofs.DeclaredInOrder.{Descends, Grown, Right, block_grows, bound_right, descends_join, heading_grows, right_join, right_split}
 

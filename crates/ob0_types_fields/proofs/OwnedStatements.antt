@@ -3,12 +3,12 @@ use Rattle.std.proofs.Common.{◌≡◌, ℕ, List, [], ◌∷◌, ◌++◌, Non
 use Rattle.ob0_tree.specs.declared.tree.Role.{Role}
 use Rattle.ob0_tree.specs.declared.tree.Role.TheVariants as role
 use Rattle.ob0_tree.specs.Tree.{Sort, Tree, Item, item, adds, array_type, assigns, begins, branches, calls, compares, declares, declares_constant, declares_constants, declares_procedure, declares_type, declares_types, declares_variable, declares_variables, designator, else_branch, elsif_branch, empty, end, field, has_body, identifiers, index, integer, is_module, listed, mapped, more, multiplies, named_type, negation, no_arguments, no_fields, no_formals, none, occurrences, one, parenthesised, product, record_type, relates, repeat_loop, runs, some_arguments, some_fields, some_formals, sum, then_argument, then_fields, then_name, then_section, then_statement, value_section, variable_section, while_loop}
-use Rattle.ob0_scope_rules.specs.Names.{Name}
-use Rattle.ob0_types_rules.specs.Expressions.{Meanings}
-use Rattle.ob0_types_rules.specs.Typing.{field_type, object_type}
-use Rattle.ob0_types_rules.specs.WellTyped.{Typed}
-use Rattle.ob0_values.specs.Values.{Shape}
-use Rattle.ob0_types_fields.specs.Fields.{type_after, selected_record, refield}
+use Rattle.ob0_language_names.specs.Names.{Name}
+use Rattle.ob0_language_types.specs.Expressions.{Meanings}
+use Rattle.ob0_language_types.specs.Typing.{field_type, object_type}
+use Rattle.ob0_language_types.specs.WellTyped.{Typed}
+use Rattle.ob0_language_values.specs.Values.{Shape}
+use Rattle.ob0_language_fields.specs.Fields.{type_after, selected_record, refield}
 use Rattle.ob0_types_fields.specs.Owners.{of_records}
 use Rattle.ob0_types_fields.specs.Owned.{HasOwners, owned, owner, after_selector, unowned, unowned_among}
 

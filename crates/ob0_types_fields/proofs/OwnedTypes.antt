@@ -1,12 +1,12 @@
 -- Declarations with their fields under other names are those with each token written by a table of owners.
 use Rattle.std.proofs.Common.{◌≡◌, ℕ, suc, ◌+◌, ◌++◌, map, Some, Option, refl, ap, ◌∙◌, sym}
 use Rattle.ob0_tree.specs.Tree.{Tree, item, items, maybe, array_type, block, declares, declares_procedure, declares_type, declares_types, declares_variable, declares_variables, end, fields, formals, further_fields, further_name, further_section, has_body, listed, mapped, more, named_type, names, no_fields, no_formals, none, one, procedure, record_type, section, some_fields, some_formals, then_fields, then_name, then_section, type_name, type_names, value_section, variable, variable_section, variables, written_type}
-use Rattle.ob0_scope_rules.specs.Mapping.{with_names}
-use Rattle.ob0_scope_rules.specs.Names.{Name}
-use Rattle.ob0_scope_rules.specs.Parts.{formal_sections, further_names, names_listed, section_type, section_types, section_variables}
-use Rattle.ob0_types_rules.specs.Declarations.{block_constructors, formals_constructors, procedure_constructors, procedures_constructors, types_constructors, variables_constructors}
-use Rattle.ob0_types_rules.specs.Typing.{constructors, group_constructors, groups_constructors}
-use Rattle.ob0_types_fields.specs.Fields.{refield_formals, refield_group, refield_groups, refield_section, refield_sections, refield_type, refield_type_section, refield_types, refield_variable_section, refield_variables}
+use Rattle.ob0_language_names.specs.Mapping.{with_names}
+use Rattle.ob0_language_names.specs.Names.{Name}
+use Rattle.ob0_language_names.specs.Parts.{formal_sections, further_names, names_listed, section_type, section_types, section_variables}
+use Rattle.ob0_language_types.specs.Declarations.{block_constructors, formals_constructors, procedure_constructors, procedures_constructors, types_constructors, variables_constructors}
+use Rattle.ob0_language_types.specs.Typing.{constructors, group_constructors, groups_constructors}
+use Rattle.ob0_language_fields.specs.Fields.{refield_formals, refield_group, refield_groups, refield_section, refield_sections, refield_type, refield_type_section, refield_types, refield_variable_section, refield_variables}
 use Rattle.ob0_types_fields.specs.Owners.{of_records}
 use Rattle.ob0_types_fields.specs.Owned.{HasOwners, owned_formals, owned_group, owned_groups, owned_section, owned_sections, owned_type, owned_type_section, owned_types, owned_variable_section, owned_variables, unowned}
 use Rattle.ob0_types_fields.proofs.OwnedStatements.{owners_split, unowned-all}

@@ -1,20 +1,20 @@
 -- In statements that fit each selector that is a name selects a field of the record before it.
 use Rattle.std.proofs.Common.{◌≡◌, ℕ, suc, true, false, ◌&&◌, [], ◌∷◌, ◌++◌, if◌then◌else◌, Some, None, Option, option_and_then, option_map, sym, refl, ap, subst}
 use Rattle.ob0_tree.specs.Tree.{Tree, addend, adds, arguments, assigns, begins, body, branches, calls, compares, designator, else_branch, else_part, elsif_branch, elsif_part, empty, end, expression, factor, field, further_argument, further_statement, index, integer, items, mapped, maybe, more, multiplier, multiplies, negation, no_arguments, none, one, parenthesised, product, relates, repeat_loop, runs, selector, sequence, simple, some_arguments, statement, sum, term, then_argument, then_statement, while_loop}
-use Rattle.ob0_scope_rules.specs.Names.{Name, as_names, same_name}
-use Rattle.ob0_types_rules.specs.Arguments.{arguments_listed, further_arguments}
+use Rattle.ob0_language_names.specs.Names.{Name, as_names, same_name}
+use Rattle.ob0_language_types.specs.Arguments.{arguments_listed, further_arguments}
 use Rattle.ob0_types_table.specs.declared.known.FieldOf.{FieldOf}
-use Rattle.ob0_types_rules.specs.Expressions.{Meanings, Object}
+use Rattle.ob0_language_types.specs.Expressions.{Meanings, Object}
 use Rattle.ob0_types_table.specs.FieldPlaces.{place_of_field}
-use Rattle.ob0_types_rules.specs.Typing.{add_type, complement_type, lone_designator, element_type, field_type, multiply_type, object_type, relation_type, shape_of_field, sign_type, type_at, type_of, type_of_addends, type_of_factor, type_of_multipliers, type_of_simple, type_of_term}
-use Rattle.ob0_types_rules.specs.WellTyped.{Formal, Mode, Signature, TypeEnvironment, agree, argument_fits, arguments_fit, body_fits, by_place, by_value, condition_fits, else_fits, elsifs_fit, sequence_fits, signature_of, statement_fits, statements_fit, variable_type}
-use Rattle.ob0_types_rules.proofs.Conditions.{agree-true, both_true, call-typed, variable-typed}
-use Rattle.ob0_types_rules.proofs.TypedElsewhere.{then_some}
-use Rattle.ob0_values.specs.Values.{FieldShapes, Shape, array_shape, boolean_shape, integer_shape, next_field_shape, no_field_shape, record_shape}
-use Rattle.ob0_types_fields.specs.Fields.{selected_record}
+use Rattle.ob0_language_types.specs.Typing.{add_type, complement_type, lone_designator, element_type, field_type, multiply_type, object_type, relation_type, shape_of_field, sign_type, type_at, type_of, type_of_addends, type_of_factor, type_of_multipliers, type_of_simple, type_of_term}
+use Rattle.ob0_language_types.specs.WellTyped.{Formal, Mode, Signature, TypeEnvironment, agree, argument_fits, arguments_fit, body_fits, by_place, by_value, condition_fits, else_fits, elsifs_fit, sequence_fits, signature_of, statement_fits, statements_fit, variable_type}
+use Rattle.ob0_language_types.proofs.Conditions.{agree-true, both_true, call-typed, variable-typed}
+use Rattle.ob0_language_types.proofs.TypedElsewhere.{then_some}
+use Rattle.ob0_language_values.specs.Values.{FieldShapes, Shape, array_shape, boolean_shape, integer_shape, next_field_shape, no_field_shape, record_shape}
+use Rattle.ob0_language_fields.specs.Fields.{selected_record}
 use Rattle.ob0_types_fields.specs.Owned.{owned, owner}
-use Rattle.ob0_types_fields.proofs.AgreeingFields.{lone_designator-typed}
-use Rattle.ob0_types_fields.proofs.NamesMeant.{named, object_in}
+use Rattle.ob0_language_fields.proofs.AgreeingFields.{lone_designator-typed}
+use Rattle.ob0_language_fields.proofs.NamesMeant.{named, object_in}
 use Rattle.ob0_types_fields.proofs.OwnedStatements.{recorded}
 
 place-found : (fs : FieldShapes) (x : Name) (u : Shape) → shape_of_field fs x ≡ Some u → (i : ℕ) × (place_of_field fs x ≡ Some i)

@@ -8,21 +8,21 @@ use Rattle.std.specs.List.{AllByRecursion}
 use Rattle.ob0_tree.specs.Parsed.{named_tree_of, tree_of}
 use Rattle.ob0_tree.specs.Places.{text_at, value_at}
 use Rattle.ob0_tree.specs.Tree.{Tree, array_type, block, declares, declares_procedure, declares_type, declares_types, declares_variable, declares_variables, end, fields, formals, further_fields, further_name, further_section, has_body, item, items, listed, mapped, maybe, module_text, more, named_type, names, no_fields, no_formals, none, one, procedure, record_type, some_fields, some_formals, then_fields, then_name, then_section, type_name, type_names, value_section, variable, variable_section, variables, written_type}
-use Rattle.ob0_scope_rules.specs.DeclaredOnce.{are_distinct, block_once, fields_once, formals_once, group_fields, group_once, groups_fields, groups_once, is_among, procedure_once, procedures_once, types_once, variables_once}
-use Rattle.ob0_scope_rules.specs.Names.{Label, Name, as_labels, as_names, label_text, same_name}
-use Rattle.ob0_scope_rules.specs.Parts.{formal_names, formal_sections, further_names, module_block, names_listed, section_types, section_variables}
-use Rattle.ob0_scope_rules.specs.Resolution.{IsResolution, Resolution, ordinal_in}
-use Rattle.ob0_scope_rules.specs.Scopes.{as_label}
-use Rattle.ob0_types_rules.specs.Declarations.{after_formals, after_types, after_variables, block_constructors, formals_constructors, procedure_constructors, procedures_constructors, types_constructors, variables_constructors}
-use Rattle.ob0_types_rules.specs.Environments.{meanings}
-use Rattle.ob0_types_rules.specs.InLabels.{in_labels, label_in}
-use Rattle.ob0_types_rules.specs.Typing.{array_length, constant_value, constructors, denoted, denoted_group, denoted_groups, depth, element_type, group_constructors, groups_constructors, scalars, shape_of_field, type_declared, with_fields, within_limits}
-use Rattle.ob0_types_rules.specs.WellTyped.{TypeEnvironment, WellTyped}
-use Rattle.ob0_types_rules.proofs.Literals.{some_inverse}
-use Rattle.ob0_types_rules.proofs.TypedElsewhere.{then_some}
+use Rattle.ob0_language_names.specs.DeclaredOnce.{are_distinct, block_once, fields_once, formals_once, group_fields, group_once, groups_fields, groups_once, is_among, procedure_once, procedures_once, types_once, variables_once}
+use Rattle.ob0_language_names.specs.Names.{Label, Name, as_labels, as_names, label_text, same_name}
+use Rattle.ob0_language_names.specs.Parts.{formal_names, formal_sections, further_names, module_block, names_listed, section_types, section_variables}
+use Rattle.ob0_scope_table.specs.Resolution.{IsResolution, Resolution, ordinal_in}
+use Rattle.ob0_language_names.specs.Scopes.{as_label}
+use Rattle.ob0_language_types.specs.Declarations.{after_formals, after_types, after_variables, block_constructors, formals_constructors, procedure_constructors, procedures_constructors, types_constructors, variables_constructors}
+use Rattle.ob0_language_types.specs.Environments.{meanings}
+use Rattle.ob0_scope_table.specs.InLabels.{in_labels, label_in}
+use Rattle.ob0_language_types.specs.Typing.{array_length, constant_value, constructors, denoted, denoted_group, denoted_groups, depth, element_type, group_constructors, groups_constructors, scalars, shape_of_field, type_declared, with_fields, within_limits}
+use Rattle.ob0_language_types.specs.WellTyped.{TypeEnvironment, WellTyped}
+use Rattle.ob0_language_types.proofs.Literals.{some_inverse}
+use Rattle.ob0_language_types.proofs.TypedElsewhere.{then_some}
 use Rattle.ob0_types_table.specs.FieldPlaces.{place_of_field}
 use Rattle.ob0_types_table.specs.declared.known.FieldOf.{FieldOf}
-use Rattle.ob0_values.specs.Values.{FieldShapes, Shape, array_shape, integer_shape, next_field_shape, no_field_shape, record_shape}
+use Rattle.ob0_language_values.specs.Values.{FieldShapes, Shape, array_shape, integer_shape, next_field_shape, no_field_shape, record_shape}
 use Rattle.ob0_types_fields.specs.FieldTypes.{FieldsTyped, TypedField, constructed, typed_field_named, first_listed, typed_field}
 use Rattle.ob0_types_fields.specs.Identifiers.{declared_fields, declared_in_block, declared_in_procedure, declared_in_procedures, declaring_field, field_identifiers, first, is_field, tokens_among}
 use Rattle.ob0_types_fields.specs.Owned.{marked_group, marked_groups, marked_sections, marked_type, marked_types, marked_variables}

@@ -7,15 +7,15 @@ use Rattle.std.specs.List.{All}
 use Rattle.ob0_tree.specs.Tree.{Sort, Tree, names, array_type, declares, declares_procedure, declares_type, declares_types, declares_variable, declares_variables, end, has_body, is_module, listed, more, none, one, record_type, some_fields, some_formals, then_fields, then_section, value_section, variable_section}
 use Rattle.ob0_tree.specs.Parsed.{named_tree_of, tree_of}
 use Rattle.ob0_tree.specs.Places.{text_at}
-use Rattle.ob0_scope_rules.specs.Names.{Name}
-use Rattle.ob0_scope_rules.specs.Resolution.{IsResolution, Resolution}
-use Rattle.ob0_types_rules.specs.Bindings.{declared_object}
-use Rattle.ob0_types_rules.specs.Expressions.{Meanings, Object}
-use Rattle.ob0_types_rules.specs.Typing.{element_type, field_type, type_declared}
-use Rattle.ob0_types_rules.specs.WellTyped.{Signature, WellTyped}
+use Rattle.ob0_language_names.specs.Names.{Name}
+use Rattle.ob0_scope_table.specs.Resolution.{IsResolution, Resolution}
+use Rattle.ob0_language_types.specs.Bindings.{declared_object}
+use Rattle.ob0_language_types.specs.Expressions.{Meanings, Object}
+use Rattle.ob0_language_types.specs.Typing.{element_type, field_type, type_declared}
+use Rattle.ob0_language_types.specs.WellTyped.{Signature, WellTyped}
 use Rattle.ob0_types_table.specs.FieldPlaces.{field_selected}
 use Rattle.ob0_types_table.specs.declared.known.FieldOf.{FieldOf}
-use Rattle.ob0_values.specs.Values.{Shape, integer_shape}
+use Rattle.ob0_language_values.specs.Values.{Shape, integer_shape}
 use Rattle.ob0_types_fields.specs.Identifiers.{field_identifiers}
 use Rattle.ob0_types_fields.specs.Owned.{token_objects}
 

@@ -10,14 +10,14 @@ use Rattle.ob0_tree.specs.Order.{Ascending}
 use Rattle.ob0_tree.specs.Tree.{Tree, block, declares, declares_procedure, end, has_body, identifiers, item, items, mapped, more, procedure}
 use Rattle.ob0_tree.specs.Parsed.{Parsed, named_tree_of, tree_of}
 use Rattle.ob0_tree.specs.Places.{text_at, value_at}
-use Rattle.ob0_scope_rules.specs.Names.{Name, same_name}
-use Rattle.ob0_scope_rules.specs.Parts.{formal_sections, module_block, section_types, section_variables}
-use Rattle.ob0_scope_rules.specs.Resolution.{IsResolution, Resolution, span_at}
-use Rattle.ob0_scope_rules.specs.Spans.{is_on}
-use Rattle.ob0_types_rules.specs.Declarations.{after_formals, after_types, after_variables, procedure_constructors}
-use Rattle.ob0_types_rules.specs.WellTyped.{WellTyped}
+use Rattle.ob0_language_names.specs.Names.{Name, same_name}
+use Rattle.ob0_language_names.specs.Parts.{formal_sections, module_block, section_types, section_variables}
+use Rattle.ob0_scope_table.specs.Resolution.{IsResolution, Resolution, span_at}
+use Rattle.ob0_scope_table.specs.Spans.{is_on}
+use Rattle.ob0_language_types.specs.Declarations.{after_formals, after_types, after_variables, procedure_constructors}
+use Rattle.ob0_language_types.specs.WellTyped.{WellTyped}
 use Rattle.ob0_types_fields.specs.Owned.{fields_among, marked_sections, marked_types, marked_variables, owned_tokens}
-use Rattle.ob0_types_fields.specs.Renaming.{field_renamed, is_duplicate_field}
+use Rattle.ob0_language_fields.specs.Renaming.{field_renamed, is_duplicate_field}
 
 -- the identifiers of a module that are fields, in text order, each with the ordinal of its record
 abbrev pub field_identifiers : Resolution → List (ℕ × ℕ)

@@ -1,5 +1,3 @@
-pub mod Fields
-pub mod Renaming
 pub mod Owners
 pub mod Owned
 pub mod Identifiers

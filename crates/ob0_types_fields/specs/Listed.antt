@@ -2,7 +2,7 @@
 -- Rule: none; for contracts: fields in lists.
 use Rattle.std.specs.Prelude.{◌≡◌, ◌==◌, ℕ, List, [], length, if◌then◌else◌}
 use Rattle.ob0_tree.specs.Parsed.{tree_of}
-use Rattle.ob0_scope_rules.specs.Resolution.{Resolution}
+use Rattle.ob0_scope_table.specs.Resolution.{Resolution}
 use Rattle.ob0_types_table.specs.KnownTables.{Tables, declared_in}
 use Rattle.ob0_types_fields.specs.Identifiers.{declared_fields, field_identifiers}
 use Rattle.ob0_types_fields.specs.Owned.{marked_module, token_objects}

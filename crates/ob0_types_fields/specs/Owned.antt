@@ -7,16 +7,16 @@ use Rattle.ob0_tree.specs.declared.tree.Role.TheVariants as role
 use Rattle.ob0_tree.specs.Tree.{Sort, Tree, Item, item, items, selector, maybe, adds, array_type, assigns, begins, block, branches, calls, compares, declares, declares_procedure, declares_type, declares_types, declares_variable, declares_variables, designator, else_branch, elsif_branch, empty, end, field, fields, formals, further_fields, further_section, has_body, identifiers, index, integer, is_module, module_text, more, multiplies, named_type, negation, no_arguments, no_fields, no_formals, none, one, parenthesised, procedure, product, record_type, relates, repeat_loop, runs, section, some_arguments, some_fields, some_formals, sum, then_argument, then_fields, then_section, then_statement, type_name, type_names, value_section, variable, variable_section, variables, while_loop, written_type}
 use Rattle.ob0_tree.specs.Parsed.{named_tree_of, tree_of}
 use Rattle.ob0_tree.specs.Places.{text_at}
-use Rattle.ob0_scope_rules.specs.Names.{Name}
-use Rattle.ob0_scope_rules.specs.Parts.{formal_sections, names_listed, section_type, section_types, section_variables}
-use Rattle.ob0_scope_rules.specs.Resolution.{IsResolution, Resolution, ordinal_in}
-use Rattle.ob0_types_rules.specs.Bindings.{declared_object}
-use Rattle.ob0_types_rules.specs.Declarations.{after_formals, after_types, after_variables, procedure_constructors}
-use Rattle.ob0_types_rules.specs.Expressions.{Meanings, Object}
+use Rattle.ob0_language_names.specs.Names.{Name}
+use Rattle.ob0_language_names.specs.Parts.{formal_sections, names_listed, section_type, section_types, section_variables}
+use Rattle.ob0_scope_table.specs.Resolution.{IsResolution, Resolution, ordinal_in}
+use Rattle.ob0_language_types.specs.Bindings.{declared_object}
+use Rattle.ob0_language_types.specs.Declarations.{after_formals, after_types, after_variables, procedure_constructors}
+use Rattle.ob0_language_types.specs.Expressions.{Meanings, Object}
 use Rattle.ob0_types_table.specs.FieldPlaces.{field_selected}
-use Rattle.ob0_types_rules.specs.Typing.{constructors, element_type, field_type, group_constructors, object_type}
-use Rattle.ob0_types_rules.specs.WellTyped.{Signature, WellTyped}
-use Rattle.ob0_values.specs.Values.{Shape, integer_shape}
+use Rattle.ob0_language_types.specs.Typing.{constructors, element_type, field_type, group_constructors, object_type}
+use Rattle.ob0_language_types.specs.WellTyped.{Signature, WellTyped}
+use Rattle.ob0_language_values.specs.Values.{Shape, integer_shape}
 use Rattle.ob0_types_fields.specs.Owners.{AreOwners}
 
 -- identifiers none of which is a field

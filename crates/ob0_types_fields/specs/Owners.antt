@@ -5,11 +5,11 @@ use Rattle.ob0_scan.specs.Scanned.{Scanned}
 use Rattle.ob0_tree.specs.Tree.{mapped}
 use Rattle.ob0_tree.specs.Parsed.{Parsed, named_tree_of, tree_of}
 use Rattle.ob0_tree.specs.Places.{text_at, value_at}
-use Rattle.ob0_scope_rules.specs.Names.{Name, same_name}
-use Rattle.ob0_scope_rules.specs.Resolution.{ordinal_in}
-use Rattle.ob0_scope_rules.specs.Scopes.{same_ordinal}
-use Rattle.ob0_types_fields.specs.Fields.{FieldNames, refielded}
-use Rattle.ob0_types_fields.specs.Renaming.{field_renamed}
+use Rattle.ob0_language_names.specs.Names.{Name, same_name}
+use Rattle.ob0_scope_table.specs.Resolution.{ordinal_in}
+use Rattle.ob0_language_names.specs.Scopes.{same_ordinal}
+use Rattle.ob0_language_fields.specs.Fields.{FieldNames, refielded}
+use Rattle.ob0_language_fields.specs.Renaming.{field_renamed}
 
 -- the fields of known records rewritten
 abbrev pub of_records : (ℕ → Name → Name) → FieldNames

@@ -2,13 +2,13 @@
 -- Rule: none; for private contracts of a walk.
 use Rattle.std.specs.Prelude.{ℕ, List, Option}
 use Rattle.ob0_tree.specs.Tree.{Tree, field, index, item, selector}
-use Rattle.ob0_types_rules.specs.Expressions.{Meanings}
+use Rattle.ob0_language_types.specs.Expressions.{Meanings}
 use Rattle.ob0_types_table.specs.declared.known.RecordShape.{RecordShape}
 use Rattle.ob0_types_table.specs.declared.known.TypeEntry.TheVariants as made
 use Rattle.ob0_types_table.specs.KnownTables.{declared_in, shapes_of}
 use Rattle.ob0_types_table.specs.Tables.{made_shape}
-use Rattle.ob0_types_rules.specs.WellTyped.{Signature}
-use Rattle.ob0_values.specs.Values.{Shape}
+use Rattle.ob0_language_types.specs.WellTyped.{Signature}
+use Rattle.ob0_language_values.specs.Values.{Shape}
 use Rattle.ob0_types_fields.specs.declared.owning.Owning.{Owning}
 use Rattle.ob0_types_fields.specs.Owned.{marked_field, marked_tree, owner, token_objects}
 

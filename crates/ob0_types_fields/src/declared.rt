@@ -1,10 +1,10 @@
 //! The walk over types that finds the fields that records declare.
 
 ghost use Rattle.std.specs.Prelude.{◌≡◌, ◌≤◌, ◌++◌, ◌+◌, ◌^◌, IfOk, MatchResult, map};
-ghost use Rattle.ob0_scope_rules.specs.Parts.{formal_sections, names_listed, section_types, section_variables};
+ghost use Rattle.ob0_language_names.specs.Parts.{formal_sections, names_listed, section_types, section_variables};
 ghost use Rattle.ob0_tree.specs.View.{fields_of, formals_of, names_of, record_in, type_of, types_of, variables_of};
-ghost use Rattle.ob0_types_rules.specs.Declarations.{formals_constructors, types_constructors, variables_constructors};
-ghost use Rattle.ob0_types_rules.specs.Typing.{constructors, group_constructors};
+ghost use Rattle.ob0_language_types.specs.Declarations.{formals_constructors, types_constructors, variables_constructors};
+ghost use Rattle.ob0_language_types.specs.Typing.{constructors, group_constructors};
 ghost use Rattle.ob0_types_fields.specs.Owned.{marked_group, marked_sections, marked_type, marked_types, marked_variables};
 
 use ob0_tree::{

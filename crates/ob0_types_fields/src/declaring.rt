@@ -2,7 +2,7 @@
 
 ghost use Rattle.std.specs.Prelude.{◌≡◌, ◌++◌, ◌+◌, IfOk};
 ghost use Rattle.ob0_tree.specs.View.{block_of, procedure_of};
-ghost use Rattle.ob0_types_rules.specs.Declarations.{block_constructors, procedure_constructors};
+ghost use Rattle.ob0_language_types.specs.Declarations.{block_constructors, procedure_constructors};
 ghost use Rattle.ob0_types_fields.specs.Identifiers.{declared_in_block, declared_in_procedure};
 
 use crate::declared::{formals, types, variables};

@@ -2,14 +2,14 @@
 
 ghost use Rattle.std.specs.Prelude.{◌≡◌, List, None, option_and_then, option_map};
 ghost use Rattle.ob0_tree.specs.View.{block_of, fields_of, formals_of, procedure_of, record_in, section_of, type_of, types_of, variables_of};
-ghost use Rattle.ob0_types_rules.specs.Typing.{element_type, field_type, type_declared};
+ghost use Rattle.ob0_language_types.specs.Typing.{element_type, field_type, type_declared};
 ghost use Rattle.ob0_types_table.specs.KnownTables.{declared_in, shapes_of};
 ghost use Rattle.ob0_types_table.specs.Tables.{type_shape};
-ghost use Rattle.ob0_values.specs.Values.{Shape, integer_shape};
+ghost use Rattle.ob0_language_values.specs.Values.{Shape, integer_shape};
 ghost use Rattle.ob0_types_fields.specs.FieldTypes.{constructed, constructed_by, typed_field_by};
 ghost use Rattle.ob0_types_fields.specs.Search.{after_all, after_one, meanings_in, search_in, sought_in, type_in, typed_field_in};
 
-use ob0_scope_rules::Resolved;
+use ob0_scope_table::Resolved;
 use ob0_tree::{
     Block, FieldGroup, Fields, Procedure, RecordType, Section, TypeDeclaration, Variables,
     WrittenType, text_at,

@@ -3,6 +3,7 @@
 ghost use Rattle.ob0_types_fields.specs.FieldTypes.{FieldsTyped};
 ghost use Rattle.ob0_types_fields.specs.Identifiers.{DuplicateByToken, FieldsDeclared, FieldsListed, RenamedAtTokens};
 ghost use Rattle.ob0_types_fields.specs.Owned.{MarkedFields, OwnersByDeclaration, OwnersOfFields};
+ghost use Rattle.ob0_types_fields.specs.Owners.{RenamedByToken};
 
 /// In a well-typed module a table that has at each token the record whose field the token is, by what names are
 /// declared as, is a table of owners.
@@ -43,4 +44,9 @@ pub fn fields_listed()
 /// In a well-typed module each identifier that declares or selects a field is of a field that has a type.
 pub fn fields_typed()
     ensures { FieldsTyped }
+{}
+
+/// The module with a field renamed is the tree with the new name at the tokens of that field.
+pub fn renamed_by_token()
+    ensures { RenamedByToken }
 {}

@@ -2,16 +2,16 @@
 
 ghost use Rattle.std.specs.Prelude.{◌≡◌, ◌++◌, ◌+◌, IfOk, Some, option_and_then, option_map};
 ghost use Rattle.ob0_tree.specs.View.{expression_of, compound_of, simple_of, term_of, factor_of, designator_of, selector_of, assignment_of, call_of, arguments_in, statement_of, if_of, elsifs_in, sequence_in, body_of, block_of, procedure_of};
-ghost use Rattle.ob0_types_rules.specs.Declarations.{block_constructors, procedure_constructors};
+ghost use Rattle.ob0_language_types.specs.Declarations.{block_constructors, procedure_constructors};
 ghost use Rattle.ob0_types_table.specs.KnownTables.{shapes_of};
 ghost use Rattle.ob0_types_table.specs.Tables.{type_shape};
-ghost use Rattle.ob0_types_rules.specs.Typing.{element_type, field_type, object_type};
-ghost use Rattle.ob0_values.specs.Values.{integer_shape};
+ghost use Rattle.ob0_language_types.specs.Typing.{element_type, field_type, object_type};
+ghost use Rattle.ob0_language_values.specs.Values.{integer_shape};
 ghost use Rattle.ob0_types_fields.specs.Owned.{marked_field, marked_tree, marked_block, marked_procedure, owner, after_selector};
 ghost use Rattle.ob0_types_fields.specs.Walk.{marked_at, meaning_in, record_shape_in};
 
 use crate::declared::{formals, types, variables};
-use ob0_scope_rules::Resolved;
+use ob0_scope_table::Resolved;
 use ob0_tree::{
     Assignment, Block, Call, Compound, Designator, Elsif, Expression, Factor, If, Procedure,
     Repeat, Selector, Simple, Statement, Term, While, text_at,

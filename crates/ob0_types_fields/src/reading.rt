@@ -4,13 +4,13 @@ ghost use Rattle.std.specs.Prelude.{◌≡◌, ◌≤◌, IfOk, None, Some, fals
 ghost use Rattle.std.specs.List.{position_from};
 ghost use Rattle.std.specs.List.Sorted.{IsNonDecreasingBy, IsPartitionPoint};
 ghost use Rattle.ob0_tree.specs.Places.{text_at};
-ghost use Rattle.ob0_scope_rules.specs.Names.{same_name};
-ghost use Rattle.ob0_scope_rules.specs.Resolution.{span_at};
-ghost use Rattle.ob0_scope_rules.specs.Spans.{is_on};
+ghost use Rattle.ob0_language_names.specs.Names.{same_name};
+ghost use Rattle.ob0_scope_table.specs.Resolution.{span_at};
+ghost use Rattle.ob0_scope_table.specs.Spans.{is_on};
 ghost use Rattle.ob0_types_fields.specs.Identifiers.{AreInTextOrder, field_on, first, is_field, record_tokens, tokens_among};
 
 use ob0_scan::{Span, Tokens};
-use ob0_scope_rules::token_span;
+use ob0_scope_table::token_span;
 use ob0_tree::text_at;
 use std::alloc::{AllocError, Global};
 

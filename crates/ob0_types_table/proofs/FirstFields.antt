@@ -8,16 +8,16 @@ use Rattle.std.specs.Prelude.{String}
 use Rattle.std.specs.BTreeMap.{BTreeMap, UpdatesBy}
 use Rattle.std.specs.Cmp.Lexicographic.{slice_cmp}
 use Rattle.std.specs.Ordering.{nat_cmp}
-use Rattle.ob0_scope_rules.specs.Names.{Name, same_name}
-use Rattle.ob0_scope_rules.proofs.NameEquality.{same_name-comm}
+use Rattle.ob0_language_names.specs.Names.{Name, same_name}
+use Rattle.ob0_language_names.proofs.NameEquality.{same_name-comm}
 use Rattle.ob0_types_table.specs.declared.field_table.FirstOfName.{FirstOfName}
 use Rattle.ob0_types_table.specs.declared.known.Field.{Field}
 use Rattle.ob0_types_table.specs.declared.types.TypeId.{TypeId}
 use Rattle.ob0_types_table.specs.FieldIndex.{IsIndexFrom, first_from, first_field_type}
 use Rattle.ob0_types_table.specs.FieldPlaces.{place_of_field}
 use Rattle.ob0_types_table.specs.Tables.{fields_shape, type_shape}
-use Rattle.ob0_types_rules.specs.Typing.{shape_of_field}
-use Rattle.ob0_values.specs.Values.{Shape}
+use Rattle.ob0_language_types.specs.Typing.{shape_of_field}
+use Rattle.ob0_language_values.specs.Values.{Shape}
 
 either_type : (shapes : List Shape) (b : Bool) (k : ℕ) (t : TypeId) (o : Option FirstOfName)
     → option_map (type_shape shapes) (option_map (λ (e : FirstOfName). e.of) (cond b (Some (record { place = k; of = t })) o)) ≡ cond b (Some (type_shape shapes t)) (option_map (type_shape shapes) (option_map (λ (e : FirstOfName). e.of) o))

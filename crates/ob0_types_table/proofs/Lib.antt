@@ -2,3 +2,6 @@ pub mod Tables
 pub mod FirstFields
 pub mod Sighted
 pub mod SameShapes
+pub mod DesignatedAlone
+pub mod LabelledParts
+pub mod TokenNumbers

@@ -1,9 +1,9 @@
 -- A type is the same as itself.
 use Rattle.std.proofs.Common.{◌≡◌, true, Bool, ◌&&◌, ◌==◌, refl, ap, ◌∙◌, eq-eqb}
 use Rattle.std.proofs.lemmas.Cmp.{nat_list_eq_equiv}
-use Rattle.ob0_scope_rules.specs.Names.{same_name}
-use Rattle.ob0_values.specs.Values.{FieldShapes, Shape, array_shape, boolean_shape, integer_shape, next_field_shape, no_field_shape, record_shape}
-use Rattle.ob0_types_rules.specs.WellTyped.{same_fields, same_shape}
+use Rattle.ob0_language_names.specs.Names.{same_name}
+use Rattle.ob0_language_values.specs.Values.{FieldShapes, Shape, array_shape, boolean_shape, integer_shape, next_field_shape, no_field_shape, record_shape}
+use Rattle.ob0_language_types.specs.WellTyped.{same_fields, same_shape}
 
 two_true : (a b : Bool) → a ≡ true → b ≡ true → (a && b) ≡ true
 two_true a b h g = ap (λ z. z && b) h ∙ g

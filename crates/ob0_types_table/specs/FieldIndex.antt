@@ -3,7 +3,7 @@
 use Rattle.std.specs.Prelude.{◌≡◌, ℕ, suc, List, [], ◌∷◌, Option, Some, None, String, string_bytes, if◌then◌else◌}
 use Rattle.std.specs.declared.alloc.Global.{Global}
 use Rattle.std.specs.BTreeMap.{BTreeMap, get_by_text}
-use Rattle.ob0_scope_rules.specs.Names.{Name, same_name}
+use Rattle.ob0_language_names.specs.Names.{Name, same_name}
 use Rattle.ob0_types_table.specs.declared.field_table.FirstOfName.{FirstOfName}
 use Rattle.ob0_types_table.specs.declared.known.Field.{Field}
 use Rattle.ob0_types_table.specs.declared.types.TypeId.{TypeId}

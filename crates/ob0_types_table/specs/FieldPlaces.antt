@@ -1,9 +1,9 @@
 -- Which field of which record a name selects.
 -- Rule: none; for contracts: places of fields.
 use Rattle.std.specs.Prelude.{ℕ, suc, Some, None, Option, option_map, if◌then◌else◌}
-use Rattle.ob0_scope_rules.specs.Names.{Name, same_name}
+use Rattle.ob0_language_names.specs.Names.{Name, same_name}
 use Rattle.ob0_types_table.specs.declared.known.FieldOf.{FieldOf}
-use Rattle.ob0_values.specs.Values.{FieldShapes, Shape, array_shape, boolean_shape, integer_shape, next_field_shape, no_field_shape, record_shape}
+use Rattle.ob0_language_values.specs.Values.{FieldShapes, Shape, array_shape, boolean_shape, integer_shape, next_field_shape, no_field_shape, record_shape}
 
 -- the place of the first field of a name
 abbrev pub place_of_field : FieldShapes → Name → Option ℕ

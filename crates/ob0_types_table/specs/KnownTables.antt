@@ -1,12 +1,12 @@
 -- What is known of a module: the shapes of its types, and what its declarations are.
 -- Rule: none; for contracts of the table of types and declarations.
 use Rattle.std.specs.Prelude.{ℕ, List, [], None, Option, option_and_then, slice_index_or}
-use Rattle.ob0_values.specs.Values.{Shape}
+use Rattle.ob0_language_values.specs.Values.{Shape}
 use Rattle.ob0_types_table.specs.declared.known.TypeEntry as code
 use Rattle.ob0_types_table.specs.declared.known.Object as declaration
-use Rattle.ob0_types_rules.specs.Expressions.{Object}
+use Rattle.ob0_language_types.specs.Expressions.{Object}
 use Rattle.ob0_types_table.specs.Tables.{object_in, shapes_from}
-use Rattle.ob0_types_rules.specs.WellTyped.{Signature}
+use Rattle.ob0_language_types.specs.WellTyped.{Signature}
 
 -- the types that were made, and what was declared at each ordinal
 pub record Tables : Type 0 where

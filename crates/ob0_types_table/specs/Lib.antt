@@ -4,3 +4,4 @@ pub mod Tables
 pub mod KnownTables
 pub mod Parts
 pub mod Operators
+pub mod Designators

@@ -3,8 +3,8 @@
 use Rattle.std.specs.Prelude.{cond, Some, Option, option_and_then}
 use Rattle.ob0_tree.specs.declared.tree.AddOperator.{AddOperator}
 use Rattle.ob0_tree.specs.declared.tree.MultiplyOperator.{MultiplyOperator}
-use Rattle.ob0_types_rules.specs.Typing.{given_value}
-use Rattle.ob0_values.specs.Values.{Value, add, add_is_settled, multiply, multiply_is_settled}
+use Rattle.ob0_language_types.specs.Typing.{given_value}
+use Rattle.ob0_language_values.specs.Values.{Value, add, add_is_settled, multiply, multiply_is_settled}
 
 -- the value of a sum, where a left operand that settles it is enough
 abbrev pub sum_value : AddOperator → Option Value → Value → Option Value

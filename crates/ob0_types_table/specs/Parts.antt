@@ -9,7 +9,7 @@ use Rattle.ob0_types_table.specs.declared.type_parts.Parts.{Parts}
 use Rattle.ob0_types_table.specs.declared.type_parts.Parts.TheVariants as parts
 use Rattle.ob0_types_table.specs.declared.types.TypeId.{TypeId}
 use Rattle.ob0_types_table.specs.declared.types.TypeId.TheVariants as type
-use Rattle.ob0_values.specs.Values.{Shape, boolean_shape, integer_shape}
+use Rattle.ob0_language_values.specs.Values.{Shape, boolean_shape, integer_shape}
 
 -- the shape of a type with its parts
 abbrev pub parts_shape : List Shape → Parts → Shape

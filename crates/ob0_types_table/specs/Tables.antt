@@ -1,8 +1,8 @@
 -- What the checker's tables mean: types, shapes and declarations.
 -- Rule: none; for contracts: what the checker's tables mean.
 use Rattle.std.specs.Prelude.{◌≡◌, ℕ, ◌<◌, Bool, true, false, List, [], ◌∷◌, ◌++◌, map, length, slice_index_or, All, Some, None, Option, string_bytes}
-use Rattle.ob0_values.specs.Scalars.{scalar_value}
-use Rattle.ob0_values.specs.Values.{FieldShapes, Shape, array_shape, boolean_shape, integer_shape, next_field_shape, no_field_shape, record_shape}
+use Rattle.ob0_language_values.specs.Scalars.{scalar_value}
+use Rattle.ob0_language_values.specs.Values.{FieldShapes, Shape, array_shape, boolean_shape, integer_shape, next_field_shape, no_field_shape, record_shape}
 use Rattle.ob0_types_table.specs.declared.types.TypeId.{TypeId}
 use Rattle.ob0_types_table.specs.declared.types.TypeId.TheVariants as type
 use Rattle.ob0_types_table.specs.declared.known.TypeEntry as code
@@ -13,9 +13,9 @@ use Rattle.ob0_types_table.specs.declared.known.Standard as standard
 use Rattle.ob0_types_table.specs.declared.known.Standard.TheVariants as standards
 use Rattle.ob0_types_table.specs.declared.known.Object as declaration
 use Rattle.ob0_types_table.specs.declared.known.Object.TheVariants as kind
-use Rattle.ob0_types_rules.specs.Expressions.{Object, Standard, a_constant, a_procedure, a_standard, a_type, a_variable, reads, writes, writes_line}
-use Rattle.ob0_types_rules.specs.Typing.{depth, scalars}
-use Rattle.ob0_types_rules.specs.WellTyped.{Formal, Mode, Signature, by_place, by_value}
+use Rattle.ob0_language_types.specs.Expressions.{Object, Standard, a_constant, a_procedure, a_standard, a_type, a_variable, reads, writes, writes_line}
+use Rattle.ob0_language_types.specs.Typing.{depth, scalars}
+use Rattle.ob0_language_types.specs.WellTyped.{Formal, Mode, Signature, by_place, by_value}
 
 -- the shape of what has a fault
 abbrev pub no_shape : Shape

@@ -1,11 +1,11 @@
 //! The fields of a record, each found by its name in logarithmic time.
 
 ghost use Rattle.std.specs.Prelude.{◌≡◌, List, IfOk, option_map};
-ghost use Rattle.ob0_values.specs.Values as shape;
+ghost use Rattle.ob0_language_values.specs.Values as shape;
 ghost use Rattle.ob0_types_table.specs.FieldIndex.{IsIndex, first_field_type};
 ghost use Rattle.ob0_types_table.specs.FieldPlaces.{place_of_field};
 ghost use Rattle.ob0_types_table.specs.Tables.{fields_shape, type_shape};
-ghost use Rattle.ob0_types_rules.specs.Typing.{shape_of_field};
+ghost use Rattle.ob0_language_types.specs.Typing.{shape_of_field};
 
 use crate::known::Field;
 use crate::types::TypeId;

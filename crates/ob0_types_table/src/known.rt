@@ -1,13 +1,13 @@
 //! What is known of a module without faults: the shapes of its types, and what its declarations are.
 
 ghost use Rattle.std.specs.Prelude.{◌≡◌, List, option_map};
-ghost use Rattle.ob0_values.specs.Values as shape;
+ghost use Rattle.ob0_language_values.specs.Values as shape;
 ghost use Rattle.ob0_types_table.specs.FieldPlaces.{field_selected};
 ghost use Rattle.ob0_types_table.specs.Tables.{fields_shape};
 
 use crate::field_table::FieldTable;
 use crate::types::{TypeId, scalar_type};
-use ob0_values::Scalar;
+use ob0_language_values::Scalar;
 use std::marker::Model;
 
 /// The greatest length of an array, and the most scalars that a type may have.
@@ -126,9 +126,9 @@ impl Known {
     ghost use Rattle.std.specs.Prelude.{◌≡◌, [], length, option_map, option_and_then, slice_get, slice_index_or, MatchOption};
     ghost use Rattle.ob0_types_table.specs.KnownTables.{declared_in, shapes_of};
     ghost use Rattle.ob0_types_table.specs.Tables.{AreEntriesInOrder, CountsParts, made_shape, no_shape, object_in, type_shape};
-    ghost use Rattle.ob0_types_rules.specs.Typing.{constant_of, element_type, field_type, type_declared};
-    ghost use Rattle.ob0_values.specs.Scalars.{scalar_value};
-    ghost use Rattle.ob0_values.specs.Values.{integer_shape};
+    ghost use Rattle.ob0_language_types.specs.Typing.{constant_of, element_type, field_type, type_declared};
+    ghost use Rattle.ob0_language_values.specs.Scalars.{scalar_value};
+    ghost use Rattle.ob0_language_values.specs.Values.{integer_shape};
 
     /// What is known of a module, by the arrays and records that it makes and by what its declarations are.
     pub fn new(shapes: Vec<TypeEntry>, objects: Vec<Option<Object>>) -> Known

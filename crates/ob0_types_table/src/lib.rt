@@ -1,6 +1,8 @@
-//! What is known of a module: the table of its types and of what its declarations are; and the operators of constants.
+//! What is known of a module: the table of its types and of what its declarations are; the operators of constants; and
+//! which expressions are a designator alone.
 #![tactic(auto)]
 
+pub mod designated;
 mod entries;
 mod field_table;
 mod known;

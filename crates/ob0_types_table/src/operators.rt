@@ -2,17 +2,17 @@
 //! decides it, whatever the value of the other.
 
 ghost use Rattle.std.specs.Prelude.{◌≡◌, Some, option_and_then, option_map};
-ghost use Rattle.ob0_values.specs.Scalars.{scalar_value};
-ghost use Rattle.ob0_values.specs.Values as values;
+ghost use Rattle.ob0_language_values.specs.Scalars.{scalar_value};
+ghost use Rattle.ob0_language_values.specs.Values as values;
 ghost use Rattle.ob0_types_table.specs.Operators.{product_value, sum_value};
-ghost use Rattle.ob0_types_rules.specs.Selected.{both};
-ghost use Rattle.ob0_types_rules.specs.Typing.{given_value};
+ghost use Rattle.ob0_language_types.specs.Selected.{both};
+ghost use Rattle.ob0_language_types.specs.Typing.{given_value};
 
-use ob0_tree::{AddOperator, MultiplyOperator, Relation, Sign};
-use ob0_values::Scalar;
-use ob0_values::scalar::{
+use ob0_language_values::Scalar;
+use ob0_language_values::scalar::{
     add, add_is_settled, apply_sign, multiply, multiply_is_settled, negate, relate,
 };
+use ob0_tree::{AddOperator, MultiplyOperator, Relation, Sign};
 
 /// The truth value of a relation; None where a side has no value, or they don't fit.
 pub fn value_of_relation(

@@ -1,12 +1,12 @@
 //! What a type is to the checker.
 
 ghost use Rattle.std.specs.Prelude.{◌≡◌, List, Some};
-ghost use Rattle.ob0_values.specs.Scalars.{scalar_value};
-ghost use Rattle.ob0_values.specs.Values.{Shape};
+ghost use Rattle.ob0_language_values.specs.Scalars.{scalar_value};
+ghost use Rattle.ob0_language_values.specs.Values.{Shape};
 ghost use Rattle.ob0_types_table.specs.Tables.{type_shape};
-ghost use Rattle.ob0_types_rules.specs.Typing.{value_type};
+ghost use Rattle.ob0_language_types.specs.Typing.{value_type};
 
-use ob0_values::Scalar;
+use ob0_language_values::Scalar;
 
 /// A type: INTEGER, BOOLEAN, or the place of an array or record in the table of shapes.
 #[derive(Clone, Copy, PartialEq, Eq)]

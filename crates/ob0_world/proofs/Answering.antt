@@ -22,14 +22,14 @@ use Rattle.ob0_rpc.specs.Faults.{minus}
 use Rattle.ob0_rpc.specs.Messages.{ReadsContent, meaning, meaning_of}
 use Rattle.ob0_rpc.specs.Shapes.{result_message, error_message}
 use Rattle.ob0_rpc.specs.declared.clients.Client.{Client}
-use Rattle.ob0_session_edits.specs.Actions.{RequestedActions, ListsActions, Offers, wants_inlining, actions_offset, actions_value}
+use Rattle.ob0_session_answers.specs.Actions.{RequestedActions, ListsActions, Offers, wants_inlining, actions_offset, actions_value}
 use Rattle.ob0_session_server.specs.Answers as answers_of
 use Rattle.ob0_session_server.specs.Answers.{ServerState, Reply, SaysReply, Sends, Reaction, reacts, reaction_to, hears, reaction_to_call, reaction_to_request as requested_in, calls, answers_about, lays_out, renames, offers_actions, published, Answers, AnswersInState, AnswersGoingOn, says}
 use Rattle.ob0_analysis.specs.Diagnosed.{Complaint, IsWellTypedModule, Reports, ReportsFaults, complaint_of}
-use Rattle.ob0_session_edits.specs.Diagnostics.{Diagnoses, diagnostic_of}
+use Rattle.ob0_session_answers.specs.Diagnostics.{Diagnoses, diagnostic_of}
 use Rattle.ob0_analysis.specs.Texts.{utf8}
-use Rattle.ob0_session_edits.specs.Formatted.{AnswersFormatting}
-use Rattle.ob0_session_edits.specs.Renamed.{RequestedRename, AnswersRenaming}
+use Rattle.ob0_session_answers.specs.Formatted.{AnswersFormatting}
+use Rattle.ob0_session_answers.specs.Renamed.{RequestedRename, AnswersRenaming}
 use Rattle.ob0_session_json.specs.Shapes.{Diagnostic, diagnostic_value, edit_value, edits_value, document_edit, workspace_edit, publication}
 use Rattle.ob0_world_rules.specs.Answers.{Inlining, Here, Everywhere}
 use Rattle.ob0_session_server.specs.declared.server.Phase.TheVariants.{Running}

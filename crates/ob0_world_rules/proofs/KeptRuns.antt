@@ -5,8 +5,8 @@ use Rattle.ob0_text.specs.declared.edits.Edit.{Edit}
 use Rattle.ob0_text.specs.declared.position_types.Unit.{Unit}
 use Rattle.ob0_text.specs.Units.{width_of}
 use Rattle.ob0_text.specs.Patches.{patched}
-use Rattle.ob0_session_offers.specs.RunsKept.{RunsAsBefore}
-use Rattle.ob0_session_offers.specs.Texts.{utf8}
+use Rattle.ob0_edits.specs.RunsKept.{RunsAsBefore}
+use Rattle.ob0_edits.specs.Texts.{utf8}
 use Rattle.ob0_world_rules.specs.Edited.{Replacement, replacements}
 use Rattle.ob0_world_rules.proofs.EditedTexts.{edited_as_patched}
 use Rattle.ob0_world_rules.specs.Asks.{Ask, rename, inline_here, inline_all, format}

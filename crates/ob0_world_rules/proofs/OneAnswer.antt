@@ -3,9 +3,9 @@ use Rattle.std.proofs.Common.{◌≡◌, ◌∙◌, ℕ, List, sym, ap, inl, inr
 use Rattle.ob0_text.specs.declared.edits.Edit.{Edit}
 use Rattle.ob0_text.specs.declared.position_types.Position.{Position}
 use Rattle.ob0_text.specs.declared.position_types.Unit.{Unit}
-use Rattle.ob0_session_offers.specs.declared.inlining.Inlining.{Inlining}
-use Rattle.ob0_session_offers.specs.declared.inlining.Inlining.TheVariants.{Here, Everywhere}
-use Rattle.ob0_session_offers.specs.Inlinings.{IsNotInlinedIn}
+use Rattle.ob0_edits.specs.declared.inlining.Inlining.{Inlining}
+use Rattle.ob0_edits.specs.declared.inlining.Inlining.TheVariants.{Here, Everywhere}
+use Rattle.ob0_edits.specs.Inlinings.{IsNotInlinedIn}
 use Rattle.ob0_world_rules.specs.Edited.{replacements}
 use Rattle.ob0_world_rules.specs.Asks.{Ask, rename, inline_here, inline_all, format, indent_read}
 use Rattle.ob0_world_rules.specs.Answers.{place_at, InlinesAt, GivesEdits, Refuses}

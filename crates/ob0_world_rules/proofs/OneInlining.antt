@@ -14,18 +14,18 @@ use Rattle.ob0_tree.specs.Parsed.{Parsed, IsParsed, tree_of, named_tree_of}
 use Rattle.ob0_tree.specs.Places.{named}
 use Rattle.ob0_tree.specs.Tree.{Tree, identifiers, module_text, nesting, occurrences}
 use Rattle.ob0_tree.proofs.Leaves.{leaves_ascend, occurrences_ascend}
-use Rattle.ob0_edits.specs.Ranges.{range_of}
-use Rattle.ob0_edits.specs.Removed.{span_over, without_text}
-use Rattle.ob0_edits.specs.Replaced.{edit_at, parts, with_text_at}
-use Rattle.ob0_scope_rules.specs.Inlining.{inlined, inlined_everywhere, only}
-use Rattle.ob0_scope_rules.specs.Names.{declared, same_label}
-use Rattle.ob0_scope_rules.specs.Occurrences.{bindings}
-use Rattle.ob0_scope_rules.specs.Resolution.{declaring_only, token_declaring}
-use Rattle.ob0_values.specs.declared.scalar.Scalar.{Scalar}
-use Rattle.ob0_values.specs.declared.scalar.Scalar.TheVariants as scalar
-use Rattle.ob0_values.specs.Scalars.{scalar_value}
+use Rattle.ob0_edits_tokens.specs.Ranges.{range_of}
+use Rattle.ob0_edits_tokens.specs.Removed.{span_over, without_text}
+use Rattle.ob0_edits_tokens.specs.Replaced.{edit_at, parts, with_text_at}
+use Rattle.ob0_language_names.specs.Inlining.{inlined, inlined_everywhere, only}
+use Rattle.ob0_language_names.specs.Names.{declared, same_label}
+use Rattle.ob0_language_names.specs.Occurrences.{bindings}
+use Rattle.ob0_scope_table.specs.Resolution.{declaring_only, token_declaring}
+use Rattle.ob0_language_values.specs.declared.scalar.Scalar.{Scalar}
+use Rattle.ob0_language_values.specs.declared.scalar.Scalar.TheVariants as scalar
+use Rattle.ob0_language_values.specs.Scalars.{scalar_value}
 use Rattle.ob0_scope.specs.declared.naming.Named.{Named}
-use Rattle.ob0_types_rules.specs.ConstantValues.{value_of_constant}
+use Rattle.ob0_language_types.specs.ConstantValues.{value_of_constant}
 use Rattle.ob0_inline.specs.declared.constants.NamedConstant.{NamedConstant}
 use Rattle.ob0_inline.specs.declared.uses.Use.{Use}
 use Rattle.ob0_inline.specs.Declarations.{is_inside, is_semicolon}
@@ -33,10 +33,10 @@ use Rattle.ob0_inline.specs.Everywhere.{AnswersEverywhere, IsConstantAt, any_hid
 use Rattle.ob0_inline.specs.Uses.{AnswersHere, IsUseAt, is_predeclared_truth, refusal_here}
 use Rattle.ob0_inline.specs.Values.{value_factor, value_text}
 use Rattle.ob0_inline.proofs.UsesAreIdentifiers.{one_place}
-use Rattle.ob0_session_offers.specs.Inlinings.{InlinesIn, IsNotInlinedIn}
-use Rattle.ob0_session_offers.specs.declared.inlining.Inlining.{Inlining}
-use Rattle.ob0_session_offers.specs.declared.inlining.Inlining.TheVariants.{Here, Everywhere}
-use Rattle.ob0_session_offers.specs.Texts.{utf8}
+use Rattle.ob0_edits.specs.Inlinings.{InlinesIn, IsNotInlinedIn}
+use Rattle.ob0_edits.specs.declared.inlining.Inlining.{Inlining}
+use Rattle.ob0_edits.specs.declared.inlining.Inlining.TheVariants.{Here, Everywhere}
+use Rattle.ob0_edits.specs.Texts.{utf8}
 use Rattle.ob0_world_rules.specs.Edited.{replacements}
 use Rattle.ob0_world_rules.proofs.OneModule.{Same, same_module, one_named_tree, one_name, same_parts}
 

@@ -11,13 +11,13 @@ use Rattle.ob0_text.specs.declared.edits.Indent.{Indent}
 use Rattle.ob0_text.specs.declared.position_types.Unit.{Unit}
 use Rattle.ob0_text.specs.Units.{width_of}
 use Rattle.ob0_tree.specs.Tree.{Tree, module_text}
-use Rattle.ob0_scope_rules.specs.Names.{Name}
+use Rattle.ob0_language_names.specs.Names.{Name}
 use Rattle.ob0_layout.specs.Layout.{layout}
 use Rattle.ob0_layout.specs.Sites.{EditText, edit_text, edit_of, changed_sites, all_sites}
-use Rattle.ob0_layout_roles.specs.LineRoles.{line_roles}
-use Rattle.ob0_session_offers.specs.Diagnosed.{IsTextOf, IsWellTypedModule}
-use Rattle.ob0_session_offers.specs.Texts.{utf8}
-use Rattle.ob0_session_offers.specs.Layouts.{LaysOut, IsTooLongLaidOut, layout_changes, layout_of}
+use Rattle.ob0_layout.specs.LineRoles.{line_roles}
+use Rattle.ob0_edits.specs.Diagnosed.{IsTextOf, IsWellTypedModule}
+use Rattle.ob0_edits.specs.Texts.{utf8}
+use Rattle.ob0_edits.specs.Layouts.{LaysOut, IsTooLongLaidOut, layout_changes, layout_of}
 use Rattle.ob0_world_rules.specs.Edited.{Replacement, replacements}
 use Rattle.ob0_world_rules.proofs.Trees.{same_tree}
 

@@ -15,11 +15,11 @@ use Rattle.ob0_tree.specs.Order.{leaves}
 use Rattle.ob0_tree.specs.Parsed.{Parsed, IsParsed, tree_of, named_tree_of}
 use Rattle.ob0_tree.specs.Places.{lexemes, named}
 use Rattle.ob0_tree.specs.Tree.{Tree, module_text, identifiers}
-use Rattle.ob0_scope_rules.specs.Resolution.{span_at}
-use Rattle.ob0_scope_rules.specs.Scopes.{numbered}
+use Rattle.ob0_scope_table.specs.Resolution.{span_at}
+use Rattle.ob0_language_names.specs.Scopes.{numbered}
 use Rattle.ob0_parse_descent.proofs.Unique.{same}
-use Rattle.ob0_edits.specs.Replaced.{parts}
-use Rattle.ob0_scope_rules.specs.Spans.{is_on}
+use Rattle.ob0_edits_tokens.specs.Replaced.{parts}
+use Rattle.ob0_scope_table.specs.Spans.{is_on}
 use Rattle.ob0_scope.specs.NamesAtPlaces.{BoundIdentifier, name_on, named_by}
 use Rattle.ob0_scope.specs.declared.naming.Named.{Named}
 use Rattle.ob0_world_rules.specs.Edited.{Replacement, replacements}

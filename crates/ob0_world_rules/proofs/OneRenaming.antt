@@ -16,22 +16,22 @@ use Rattle.ob0_tree.specs.declared.tree.Role.TheVariants as role
 use Rattle.ob0_tree.specs.Parsed.{named_tree_of}
 use Rattle.ob0_tree.specs.Places.{named, text_at}
 use Rattle.ob0_tree.specs.Tree.{Tree, identifiers, module_text, occurrences}
-use Rattle.ob0_edits.specs.Replaced.{edit_at, parts, with_text_at}
-use Rattle.ob0_scope_rules.specs.Names.{Name, same_name}
-use Rattle.ob0_scope_rules.specs.Occurrences.{Capture, Free, at_declaration, at_occurrence, first_captured}
-use Rattle.ob0_scope_rules.specs.Parts.{module_block}
-use Rattle.ob0_scope_rules.specs.Resolution.{Resolution, declaring_only, span_at, token_declaring}
+use Rattle.ob0_edits_tokens.specs.Replaced.{edit_at, parts, with_text_at}
+use Rattle.ob0_language_names.specs.Names.{Name, same_name}
+use Rattle.ob0_language_names.specs.Occurrences.{Capture, Free, at_declaration, at_occurrence, first_captured}
+use Rattle.ob0_language_names.specs.Parts.{module_block}
+use Rattle.ob0_scope_table.specs.Resolution.{Resolution, declaring_only, span_at, token_declaring}
 use Rattle.ob0_scope.proofs.FirstCaptures.{captured_where_not_free-holds}
 use Rattle.ob0_scope.specs.Renames.{namesake}
 use Rattle.ob0_scope.specs.NamesAtPlaces.{refers}
-use Rattle.ob0_edits.specs.Ranges.{range_of}
-use Rattle.ob0_types_fields.specs.Renaming.{is_duplicate_field}
+use Rattle.ob0_edits_tokens.specs.Ranges.{range_of}
+use Rattle.ob0_language_fields.specs.Renaming.{is_duplicate_field}
 use Rattle.ob0_types_fields.specs.Identifiers.{declared_in_block, field_identifiers, field_on, first, tokens_among}
-use Rattle.ob0_session_offers.specs.Analysed.{IsModuleIn}
-use Rattle.ob0_session_offers.specs.Texts.{utf8}
+use Rattle.ob0_edits.specs.Analysed.{IsModuleIn}
+use Rattle.ob0_edits.specs.Texts.{utf8}
 use Rattle.ob0_rename.specs.Renaming.{Meant, Renaming, declaration, field_of, field_tokens_to_rename, meant, meant_by, nothing, occurrence_range, other_field_range, other_range, predeclared, text_with, tokens_to_rename}
 use Rattle.ob0_rename.specs.Answers.{AreEdits, IsRefused, IsRefusedTo, IsRefusedToField, IsRefusedToNamed, Renames, RenamesField, WritesName}
-use Rattle.ob0_rename.specs.InTexts.{IsRefusedIn, RenamesIn, renaming_of}
+use Rattle.ob0_edits.specs.Renamings.{IsRefusedIn, RenamesIn, renaming_of}
 use Rattle.ob0_world_rules.specs.Edited.{replacements}
 use Rattle.ob0_world_rules.proofs.OneModule.{Same, same_module, one_named_tree, one_name, identifiers_of, same_parts}
 use Rattle.ob0_world_rules.proofs.OneFields.{one_list_of_fields}

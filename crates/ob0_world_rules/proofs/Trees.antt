@@ -4,12 +4,12 @@ use Rattle.ob0_scan.specs.Scanned.{Scanned}
 use Rattle.ob0_scan.proofs.Spans.{one_scan}
 use Rattle.ob0_tree.specs.Module.{ModuleOf}
 use Rattle.ob0_tree.specs.Tree.{Tree, module_text, spell}
-use Rattle.ob0_scope_rules.specs.Names.{Name}
-use Rattle.ob0_run_rules.specs.EditLaws.{SameRuns}
+use Rattle.ob0_language_names.specs.Names.{Name}
+use Rattle.ob0_language_runs.specs.EditLaws.{SameRuns}
 use Rattle.ob0_parse_descent.proofs.Unique.{same}
-use Rattle.ob0_session_offers.specs.Diagnosed.{IsTextOf}
-use Rattle.ob0_session_offers.specs.RunsKept.{RunsAsBefore}
-use Rattle.ob0_session_offers.specs.Texts.{utf8}
+use Rattle.ob0_edits.specs.Diagnosed.{IsTextOf}
+use Rattle.ob0_edits.specs.RunsKept.{RunsAsBefore}
+use Rattle.ob0_edits.specs.Texts.{utf8}
 use Rattle.ob0_world_rules.specs.Language.{SameRun}
 
 pub one_tree : (s : Scanned) (a b : Tree Name module_text) → ModuleOf s a → ModuleOf s b → a ≡ b

@@ -9,11 +9,11 @@ use Rattle.ob0_text.specs.declared.refusals.EditRefusal.{EditRefusal}
 use Rattle.ob0_text.specs.OpenDocuments.{Document, InStep, OutOfStep}
 use Rattle.ob0_text.specs.Texts.{offset_of}
 use Rattle.ob0_text.specs.Units.{width_of}
-use Rattle.ob0_rename.specs.InTexts.{RenamesIn, IsRefusedIn}
-use Rattle.ob0_session_offers.specs.Inlinings.{InlinesIn, IsNotInlinedIn}
-use Rattle.ob0_session_offers.specs.Layouts.{LaysOut, IsTooLongLaidOut}
-pub use Rattle.ob0_session_offers.specs.declared.inlining.Inlining.{Inlining}
-pub use Rattle.ob0_session_offers.specs.declared.inlining.Inlining.TheVariants.{Here, Everywhere}
+use Rattle.ob0_edits.specs.Renamings.{RenamesIn, IsRefusedIn}
+use Rattle.ob0_edits.specs.Inlinings.{InlinesIn, IsNotInlinedIn}
+use Rattle.ob0_edits.specs.Layouts.{LaysOut, IsTooLongLaidOut}
+pub use Rattle.ob0_edits.specs.declared.inlining.Inlining.{Inlining}
+pub use Rattle.ob0_edits.specs.declared.inlining.Inlining.TheVariants.{Here, Everywhere}
 use Rattle.ob0_world_rules.specs.Language.{WellTypedText}
 use Rattle.ob0_world_rules.specs.Edited.{Replacement, replacements}
 use Rattle.ob0_world_rules.specs.Asks.{Ask, rename, inline_here, inline_all, format, indent_read}

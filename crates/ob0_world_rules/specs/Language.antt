@@ -2,10 +2,10 @@
 -- Rule: docs/LANGUAGE.md, Types 8, Runs.
 use Rattle.std.specs.Prelude.{ℕ, List}
 use Rattle.ob0_tree.specs.Tree.{Tree, module_text}
-use Rattle.ob0_scope_rules.specs.Names.{Name}
-use Rattle.ob0_run_rules.specs.EditLaws.{SameRuns}
-use Rattle.ob0_session_offers.specs.Diagnosed.{IsTextOf, IsWellTypedModule}
-use Rattle.ob0_session_offers.specs.Texts.{utf8}
+use Rattle.ob0_language_names.specs.Names.{Name}
+use Rattle.ob0_language_runs.specs.EditLaws.{SameRuns}
+use Rattle.ob0_edits.specs.Diagnosed.{IsTextOf, IsWellTypedModule}
+use Rattle.ob0_edits.specs.Texts.{utf8}
 
 -- A text is here the list of its characters.
 

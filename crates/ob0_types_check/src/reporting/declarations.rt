@@ -1,7 +1,7 @@
 //! Goes through declarations in text order, and says what each is from its place on.
 
 ghost use Rattle.std.specs.Prelude.{◌≡◌, ◌∷◌, ◌++◌, [], map, IfOk, OnOk};
-ghost use Rattle.ob0_scope_rules.specs.Parts.{formal_sections, section_constants, section_types, section_variables};
+ghost use Rattle.ob0_language_names.specs.Parts.{formal_sections, section_constants, section_types, section_variables};
 ghost use Rattle.ob0_tree.specs.View.{block_of, body_of, constant_of, constants_of, formals_of, further_section_of, items_of, procedure_of, type_declaration_of, types_of, variable_of, variables_of};
 ghost use Rattle.ob0_types_check.specs.DeclarationFaults.{constant_declared, reported_block, reported_body, reported_constants, reported_procedure, reported_procedures, reported_section, reported_sections, reported_types, reported_variables, type_declared, variables_declared};
 ghost use Rattle.ob0_types_check.specs.Known.{a_variable};

@@ -1,10 +1,10 @@
 //! Reports the faults of expressions, and finds their types and the values of constant ones on the same way.
 
 ghost use Rattle.std.specs.Prelude.{◌≡◌, ◌++◌, [], false, true, if◌then◌else◌, IfOk, OnOk, option_map};
-ghost use Rattle.ob0_values.specs.Scalars.{scalar_value};
+ghost use Rattle.ob0_language_values.specs.Scalars.{scalar_value};
 ghost use Rattle.ob0_types_table.specs.declared.types.TypeId.TheVariants as type;
 ghost use Rattle.ob0_tree.specs.View.{compound_of, expression_of, factor_of, selector_of, simple_of, term_of};
-ghost use Rattle.ob0_types_rules.specs.Selected.{selectors_in};
+ghost use Rattle.ob0_language_types.specs.Selected.{selectors_in};
 ghost use Rattle.ob0_types_check.specs.ExpressionFaults.{reported_expression, reported_factor, reported_selector, reported_selectors, reported_simple, reported_term};
 ghost use Rattle.ob0_types_check.specs.Operations.{ReportsAfter, a_constant_name, a_number, add_operands, required, required_both, at_operand, after_sign, complement_operand, element_in, element_selected, enclosed, field_in, field_selected, fits, joint_operand, multiply_operands, name_operand, part_of, relate_operands, sign_operand, comparison_type, required_by_add, required_by_equality, required_by_multiply, required_by_relation, value_type};
 ghost use Rattle.ob0_types_check.specs.TypeFaults.{operand_value, reported_constant};
@@ -12,13 +12,13 @@ ghost use Rattle.ob0_types_check.specs.SoFar.{same_type};
 ghost use Rattle.ob0_types_check.specs.SupposedFacts.{facts_in, form_in, operand_of, known_types};
 
 use crate::reporting::supposed::{Meaning, Supposed};
+use ob0_language_values::Scalar;
 use ob0_scan::{Code, Fault};
 use ob0_tree::{
     AddOperator, Comparison, Compound, Designator, Expression, Factor, MultiplyOperator, Relation,
     Selector, Sign, Simple, Term,
 };
 use ob0_types_table::{TypeId, number_at, operators};
-use ob0_values::Scalar;
 use std::alloc::AllocError;
 
 /// An expression, as far as it is known.

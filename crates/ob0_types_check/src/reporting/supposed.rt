@@ -9,11 +9,11 @@ ghost use Rattle.ob0_types_check.specs.SoFar.{define, is_within, make, predeclar
 ghost use Rattle.ob0_types_check.specs.SupposedFacts.{counted, supposed_meaning_at, elements_of, field_of, made_type_of, known_meaning, size_of, so_far_in};
 ghost use Rattle.ob0_types_check.specs.WrittenTypeFaults.{array_size, beside, ordinal_here, record_size};
 
+use ob0_language_values::Scalar;
 use ob0_scan::{Code, Fault, Span};
-use ob0_scope_rules::{Resolved, token_span};
+use ob0_scope_table::{Resolved, token_span};
 use ob0_tree::text_at;
 use ob0_types_table::{Formal, MAX_DEPTH, MAX_SCALARS, TypeEntry, TypeId, add_entry};
-use ob0_values::Scalar;
 use std::alloc::{AllocError, Global};
 
 /// What a declaration is.

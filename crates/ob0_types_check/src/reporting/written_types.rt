@@ -4,8 +4,8 @@ ghost use Rattle.std.specs.Prelude.{◌≡◌, ◌∷◌, ◌++◌, [], false, I
 ghost use Rattle.ob0_types_table.specs.declared.types.TypeId.TheVariants as type;
 ghost use Rattle.ob0_tree.specs.Tree.{array_type, some_fields};
 ghost use Rattle.ob0_tree.specs.View.{expression_of, fields_of, further_fields_of_group, items_of, names_of, record_in, type_of};
-ghost use Rattle.ob0_types_rules.specs.Typing.{array_length};
-ghost use Rattle.ob0_values.specs.Scalars.{scalar_value};
+ghost use Rattle.ob0_language_types.specs.Typing.{array_length};
+ghost use Rattle.ob0_language_values.specs.Scalars.{scalar_value};
 ghost use Rattle.ob0_types_check.specs.Known.{a_variable};
 ghost use Rattle.ob0_types_check.specs.Operations.{ReportsAfter};
 ghost use Rattle.ob0_types_check.specs.SoFar.{no_scalar};
@@ -17,10 +17,10 @@ ghost use Rattle.ob0_types_check.specs.WrittenTypeFaults as spec;
 use crate::reporting::Reporter;
 use crate::reporting::expressions::{Operand, same_type};
 use crate::reporting::supposed::{Meaning, NOTHING, Size, Supposed, sum};
+use ob0_language_values::Scalar;
 use ob0_scan::{Code, Fault};
 use ob0_tree::{ArrayType, FieldGroup, Fields, Names, RecordType, WrittenType};
 use ob0_types_table::{ArrayShape, Field, FieldTable, MAX_SCALARS, RecordShape, TypeEntry, TypeId};
-use ob0_values::Scalar;
 use std::alloc::{AllocError, Global};
 
 /// The length of an array, from 1 to 65,536.

@@ -1,7 +1,7 @@
 use Rattle.std.proofs.Common.{◌≡◌}
 use Rattle.std.proofs.lemmas.Result.{IfOk-weaker}
 use Rattle.ob0_run.specs.Outcomes.{run_of}
-use Rattle.ob0_run_rules.specs.Runs.{run}
+use Rattle.ob0_language_runs.specs.Runs.{run}
 use Rattle.ob0_commands.specs.TextRuns.{TextRunsAs}
 use Rattle.ob0_commands.proofs.running.execute_module.Goals as goal
 

@@ -1,5 +1,5 @@
 use Rattle.std.proofs.Common.{◌≡◌, IsSomeAnd, sym, ap, ◌∙◌, subst}
-use Rattle.ob0_scope_rules.specs.Resolution.{Resolution}
+use Rattle.ob0_scope_table.specs.Resolution.{Resolution}
 use Rattle.ob0_scope.specs.NamesAtPlaces.{name_on}
 use Rattle.ob0_inline.specs.Everywhere.{IsConstant}
 use Rattle.ob0_inline.proofs.AtConstants.{constant_named}

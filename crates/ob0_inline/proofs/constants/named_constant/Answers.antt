@@ -2,7 +2,7 @@ use Rattle.std.proofs.Common.{List, drop, sym, ap, ◌∙◌}
 use Rattle.std.specs.List.{position_from}
 use Rattle.ob0_scan.specs.declared.lexeme.Token.{Token}
 use Rattle.ob0_scan.specs.Scanned.{Scanned}
-use Rattle.ob0_values.specs.Scalars.{scalar_value}
+use Rattle.ob0_language_values.specs.Scalars.{scalar_value}
 use Rattle.ob0_inline.specs.Declarations.{is_semicolon}
 use Rattle.ob0_inline.proofs.Ended.{end_known, none_some, token_known}
 use Rattle.ob0_inline.proofs.constants.named_constant.Goals as goal

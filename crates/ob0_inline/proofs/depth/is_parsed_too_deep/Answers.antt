@@ -1,6 +1,6 @@
 use Rattle.std.proofs.Common.{sym, ap, ◌∙◌, subst, not, map}
 use Rattle.std.specs.Str.{IsUtf8}
-use Rattle.ob0_edits.specs.Words.{word_lexeme}
+use Rattle.ob0_edits_tokens.specs.Words.{word_lexeme}
 use Rattle.ob0_tree.specs.Tree.{nesting}
 use Rattle.ob0_inline.proofs.Depths.{not_shallow_is, same_bytes, lexemes_of_words}
 use Rattle.ob0_inline.proofs.depth.is_parsed_too_deep.Goals as goal

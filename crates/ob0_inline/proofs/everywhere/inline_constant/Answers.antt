@@ -1,8 +1,8 @@
 use Rattle.std.proofs.Common.{◌<◌, Err, length, inl, sym, ap, ◌∙◌, subst}
 use Rattle.ob0_scan.specs.Scanned.{Scanned}
 use Rattle.ob0_tree.specs.Parsed.{named_tree_of}
-use Rattle.ob0_scope_rules.specs.Resolution.{Resolution}
-use Rattle.ob0_edits.specs.Removed.{span_over}
+use Rattle.ob0_scope_table.specs.Resolution.{Resolution}
+use Rattle.ob0_edits_tokens.specs.Removed.{span_over}
 use Rattle.ob0_inline.specs.Declarations.{is_inside}
 use Rattle.ob0_inline.specs.Everywhere.{any_hidden}
 use Rattle.std.specs.List.{list_any}

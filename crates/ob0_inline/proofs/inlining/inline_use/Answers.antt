@@ -1,7 +1,7 @@
 use Rattle.std.proofs.Common.{Err, [], ◌∷◌, inl, sym, ap, ◌∙◌, subst}
-use Rattle.ob0_edits.specs.Replaced.{AreNames}
+use Rattle.ob0_edits_tokens.specs.Replaced.{AreNames}
 use Rattle.ob0_tree.specs.Parsed.{named_tree_of}
-use Rattle.ob0_scope_rules.specs.Resolution.{Resolution}
+use Rattle.ob0_scope_table.specs.Resolution.{Resolution}
 use Rattle.ob0_inline.specs.Uses.{is_predeclared_truth}
 use Rattle.ob0_inline.proofs.AtUses.{Made, Refused, answer_ok, answer_refused, answer_shadowed, are_names}
 use Rattle.ob0_inline.proofs.inlining.inline_use.Goals as goal

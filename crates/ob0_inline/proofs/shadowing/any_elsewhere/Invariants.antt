@@ -1,9 +1,9 @@
 use Rattle.std.proofs.Common.{◌≡◌, ◌&&◌, ◌-◌, ℕ, Bool, List, Option, not, length, option_and_then, slice_get}
 use Rattle.std.specs.List.{list_any, range_with_len}
 use Rattle.ob0_tree.specs.Parsed.{named_tree_of}
-use Rattle.ob0_scope_rules.specs.Occurrences.{binds}
-use Rattle.ob0_scope_rules.specs.Resolution.{Resolution}
-use Rattle.ob0_scope_rules.specs.Scopes.{same_ordinal}
+use Rattle.ob0_language_names.specs.Occurrences.{binds}
+use Rattle.ob0_scope_table.specs.Resolution.{Resolution}
+use Rattle.ob0_language_names.specs.Scopes.{same_ordinal}
 use Rattle.ob0_inline.proofs.shadowing.any_elsewhere.Given as goal
 
 -- an occurrence is bound to a constant, and by the list the name would be another one's there

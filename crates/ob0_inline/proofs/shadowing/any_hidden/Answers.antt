@@ -1,10 +1,10 @@
 use Rattle.std.proofs.Common.{◌≡◌, ◌&&◌, true, false, not, length, IfOk, sym, ap, ◌∙◌, subst}
 use Rattle.std.specs.List.{list_any, range_with_len}
 use Rattle.ob0_tree.specs.Parsed.{named_tree_of}
-use Rattle.ob0_scope_rules.specs.Occurrences.{bindings, binds}
-use Rattle.ob0_scope_rules.specs.Scopes.{same_ordinal}
-use Rattle.ob0_values.specs.declared.scalar.Scalar.{Scalar}
-use Rattle.ob0_values.specs.declared.scalar.Scalar.TheVariants as scalar
+use Rattle.ob0_language_names.specs.Occurrences.{bindings, binds}
+use Rattle.ob0_language_names.specs.Scopes.{same_ordinal}
+use Rattle.ob0_language_values.specs.declared.scalar.Scalar.{Scalar}
+use Rattle.ob0_language_values.specs.declared.scalar.Scalar.TheVariants as scalar
 use Rattle.ob0_inline.specs.Uses.{is_predeclared_truth}
 use Rattle.ob0_inline.proofs.AtConstants.{numbers_shown}
 use Rattle.ob0_inline.proofs.shadowing.any_hidden.Goals as goal

@@ -1,8 +1,8 @@
 use Rattle.std.proofs.Common.{◌&&◌, not, length, option_and_then, slice_get, ◌∙◌}
 use Rattle.std.specs.List.{list_any, range_with_len}
 use Rattle.ob0_tree.specs.Parsed.{named_tree_of}
-use Rattle.ob0_scope_rules.specs.Occurrences.{binds}
-use Rattle.ob0_scope_rules.specs.Scopes.{same_ordinal}
+use Rattle.ob0_language_names.specs.Occurrences.{binds}
+use Rattle.ob0_language_names.specs.Scopes.{same_ordinal}
 use Rattle.ob0_scope.proofs.SeenInPlaces.{sees_entry}
 use Rattle.ob0_inline.proofs.Ended.{as_many_bindings}
 use Rattle.ob0_inline.proofs.shadowing.is_hidden.Goals as goal

@@ -1,6 +1,6 @@
 use Rattle.std.proofs.Common.{List, Option, ℕ, option_and_then, slice_get, ap, ◌∙◌}
 use Rattle.ob0_tree.specs.Parsed.{named_tree_of}
-use Rattle.ob0_scope_rules.specs.Scopes.{same_ordinal}
+use Rattle.ob0_language_names.specs.Scopes.{same_ordinal}
 use Rattle.ob0_scope.proofs.SeenInPlaces.{sees_entry}
 use Rattle.ob0_inline.proofs.shadowing.is_seen.Goals as goal
 

@@ -1,6 +1,6 @@
 use Rattle.std.proofs.Common.{◌==◌, sym, ap, ◌∙◌}
 use Rattle.std.specs.List.{position_from}
-use Rattle.ob0_scope_rules.specs.Resolution.{Resolution}
+use Rattle.ob0_scope_table.specs.Resolution.{Resolution}
 use Rattle.ob0_scope.specs.NamesAtPlaces.{name_on}
 use Rattle.ob0_inline.proofs.AtUses.{no_use, use_found, use_is_one}
 use Rattle.ob0_inline.proofs.uses.use_at.Goals as goal

@@ -4,8 +4,8 @@ use Rattle.ob0_scan.specs.Scanned.{Scanned, Word}
 use Rattle.ob0_text.specs.declared.edits.Edit.{Edit}
 use Rattle.ob0_tree.specs.Parsed.{Parsed, tree_of}
 use Rattle.ob0_tree.specs.Tree.{nesting}
-use Rattle.ob0_edits.specs.Changed.{at_each, changed_words, words_of}
-use Rattle.ob0_edits.specs.Replaced.{LeavesWords, ReplacesName}
+use Rattle.ob0_edits_tokens.specs.Changed.{at_each, changed_words, words_of}
+use Rattle.ob0_edits_tokens.specs.Replaced.{LeavesWords, ReplacesName}
 use Rattle.ob0_inline.specs.Inlined.{inlined_at}
 use Rattle.ob0_inline.specs.Values.{value_words}
 use Rattle.ob0_inline.proofs.Shallower.{inlined_shallow}

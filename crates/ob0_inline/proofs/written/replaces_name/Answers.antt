@@ -1,8 +1,8 @@
 use Rattle.std.proofs.Common.{ℤ, pos, FitsSigned, w32, arith}
 use Rattle.std.proofs.lemmas.Int.{ints}
 use Rattle.std.specs.Prelude.{negsuc}
-use Rattle.ob0_edits.specs.Written.{IsInt32}
-use Rattle.ob0_edits.proofs.Values.{a_value}
+use Rattle.ob0_edits_tokens.specs.Written.{IsInt32}
+use Rattle.ob0_edits_tokens.proofs.Values.{a_value}
 use Rattle.ob0_inline.proofs.written.replaces_name.Goals as goal
 
 int32 : (z : ℤ) → FitsSigned w32 z → IsInt32 z

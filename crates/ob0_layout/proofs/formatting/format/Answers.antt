@@ -13,10 +13,10 @@ use Rattle.ob0_text.specs.Patches.{patched}
 use Rattle.ob0_layout.proofs.Patched.{gaps_patched}
 use Rattle.ob0_layout.proofs.Pieced.{changed_length}
 use Rattle.ob0_layout.proofs.Written.{changed_lie}
-use Rattle.ob0_layout_roles.proofs.Unnamed.{roles_mapped}
+use Rattle.ob0_layout.proofs.Unnamed.{roles_mapped}
 use Rattle.ob0_layout.specs.declared.sites.GapSite.{GapSite}
-use Rattle.ob0_layout_roles.specs.declared.line_role.LineRole.{LineRole}
-use Rattle.ob0_layout_roles.specs.LineRoles.{line_roles}
+use Rattle.ob0_layout.specs.declared.line_role.LineRole.{LineRole}
+use Rattle.ob0_layout.specs.LineRoles.{line_roles}
 use Rattle.ob0_layout.specs.Sites.{all_sites, changed_sites, edit_of, laid_len, LiesIn}
 use Rattle.ob0_layout.proofs.Ahead.{all_lie}
 use Rattle.ob0_layout.proofs.formatting.format.Goals as goal

@@ -1,4 +1,4 @@
-use Rattle.ob0_layout_roles.specs.LineRoles.{line_roles}
+use Rattle.ob0_layout.specs.LineRoles.{line_roles}
 use Rattle.ob0_layout.proofs.White.{laid_white, white_gaps}
 use Rattle.ob0_layout.proofs.laws.gaps_are_white_space.Goals as goal
 

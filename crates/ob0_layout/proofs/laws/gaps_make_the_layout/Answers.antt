@@ -1,5 +1,5 @@
 use Rattle.ob0_layout.specs.Layout.{laid_out}
-use Rattle.ob0_layout_roles.specs.LineRoles.{line_roles}
+use Rattle.ob0_layout.specs.LineRoles.{line_roles}
 use Rattle.ob0_layout.proofs.Patched as patches
 use Rattle.ob0_layout.proofs.Pieced as pieces
 use Rattle.ob0_layout.proofs.laws.gaps_make_the_layout.Goals as goal

@@ -2,7 +2,7 @@ use Rattle.std.proofs.Common.{◌++◌, [], ◌∷◌, ℕ, List, Some, None, le
 use Rattle.ob0_scan.specs.declared.lexeme.LexemeKind.TheVariants as lexeme
 use Rattle.ob0_scan.specs.declared.lexeme.Span.{Span}
 use Rattle.ob0_scan.specs.declared.lexeme.Token.{Token}
-use Rattle.ob0_layout_roles.specs.declared.line_role.LineRole.{LineRole}
+use Rattle.ob0_layout.specs.declared.line_role.LineRole.{LineRole}
 use Rattle.ob0_layout.specs.Layout.{comment_role}
 use Rattle.ob0_layout.specs.Sites.{all_sites, changed_sites, gap_before}
 use Rattle.ob0_layout.proofs.Ahead.{Sited, sited_at_start, sited_ends, comment_step, token_step, sited_moved, make_site, make_solid}

@@ -1,7 +1,7 @@
 use Rattle.std.proofs.Common.{◌-◌, length}
 use Rattle.ob0_tree.specs.Module.{max_nesting}
 use Rattle.ob0_tree.specs.View.{items_of, procedure_of}
-use Rattle.ob0_parse_kept.specs.KeptTokens.{AreKept}
+use Rattle.ob0_parse.specs.KeptTokens.{AreKept}
 use Rattle.ob0_parse_descent.proofs.Items.{Taking}
 use Rattle.ob0_parse.proofs.own_block.own_procedures.Given as goal
 

@@ -1,6 +1,6 @@
 use Rattle.std.proofs.Common.{Some, option_map, sym, ap, ◌∙◌}
 use Rattle.ob0_tree.specs.Parsed.{Parsed}
-use Rattle.ob0_scope_rules.specs.Resolution.{span_at, token_declaring}
+use Rattle.ob0_scope_table.specs.Resolution.{span_at, token_declaring}
 use Rattle.ob0_refs.proofs.declaration_spans.declared_at.Goals as goal
 
 pub returns-in-Some : goal.returns-in-Some

@@ -1,6 +1,6 @@
 use Rattle.std.proofs.Common.{map, ◌∙◌}
 use Rattle.std.proofs.lemmas.Result.{MatchResult-weaker}
-use Rattle.ob0_scope_rules.specs.Resolution.{span_at}
+use Rattle.ob0_scope_table.specs.Resolution.{span_at}
 use Rattle.ob0_refs.proofs.declaration_spans.references_to.Goals as goal
 
 pub returns : goal.returns

@@ -1,5 +1,5 @@
 use Rattle.std.proofs.Common.{Some, option_map, sym, ap, ◌∙◌}
-use Rattle.ob0_scope_rules.specs.Resolution.{Resolution}
+use Rattle.ob0_scope_table.specs.Resolution.{Resolution}
 use Rattle.ob0_types.specs.RowsOfFields.{row_in}
 use Rattle.ob0_refs.specs.Questions.{row_hover}
 use Rattle.ob0_refs.proofs.field_hovers.hover_field.Goals as goal

@@ -1,7 +1,7 @@
 use Rattle.std.proofs.Common.{◌+◌, ◌*◌}
 use Rattle.ob0_types_table.specs.KnownTables.{shapes_of}
 use Rattle.ob0_types_table.specs.Tables.{type_shape}
-use Rattle.ob0_types_rules.specs.Typing.{depth}
+use Rattle.ob0_language_types.specs.Typing.{depth}
 use Rattle.ob0_refs.proofs.typing.+types.Given as goal
 
 abbrev pub decreases-of_array : goal.decreases-of_array

@@ -1,6 +1,6 @@
 use Rattle.std.proofs.Common.{◌∙◌, ap, subst}
 use Rattle.ob0_scan.specs.Scanned.{IsScan}
-use Rattle.ob0_scope_rules.specs.Resolution.{Resolution}
+use Rattle.ob0_scope_table.specs.Resolution.{Resolution}
 use Rattle.ob0_rename.proofs.Spelled.{field_spelled}
 use Rattle.ob0_rename.proofs.fields.field_named_at.Goals as goal
 

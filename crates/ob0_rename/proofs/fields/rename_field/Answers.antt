@@ -4,12 +4,12 @@ use Rattle.ob0_text.specs.Units.{width_of}
 use Rattle.ob0_text.specs.declared.refusals.EditRefusal.TheVariants as refusal
 use Rattle.ob0_tree.specs.Parsed.{named_tree_of}
 use Rattle.ob0_tree.specs.Places.{text_at}
-use Rattle.ob0_scope_rules.specs.Names.{Name, same_name}
-use Rattle.ob0_scope_rules.specs.Resolution.{Resolution, span_at}
+use Rattle.ob0_language_names.specs.Names.{Name, same_name}
+use Rattle.ob0_scope_table.specs.Resolution.{Resolution, span_at}
 use Rattle.ob0_analysis.specs.CheckedModules.{IsWellTyped}
-use Rattle.ob0_edits.specs.Ranges.{range_of}
-use Rattle.ob0_edits.specs.Replaced.{AreNames}
-use Rattle.ob0_types_fields.specs.Renaming.{FieldFree}
+use Rattle.ob0_edits_tokens.specs.Ranges.{range_of}
+use Rattle.ob0_edits_tokens.specs.Replaced.{AreNames}
+use Rattle.ob0_language_fields.specs.Renaming.{FieldFree}
 use Rattle.ob0_types_fields.specs.Identifiers.{declaring_field}
 use Rattle.ob0_rename.specs.Answers.{AnswersForField, IsRefusedToField}
 use Rattle.ob0_rename.specs.Renaming.{field_tokens_to_rename}

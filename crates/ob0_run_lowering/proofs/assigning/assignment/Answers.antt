@@ -1,7 +1,7 @@
 use Rattle.std.proofs.Common.{◌≡◌, subst, sym}
 use Rattle.std.proofs.lemmas.Result.{IfOk-weaker}
 use Rattle.ob0_tree.specs.View.{assignment_of, expression_of, items_of, selector_of}
-use Rattle.ob0_types_rules.specs.InLabels.{in_labels}
+use Rattle.ob0_scope_table.specs.InLabels.{in_labels}
 use Rattle.ob0_run_machine.specs.Lowered as lowered
 use Rattle.ob0_run_machine.specs.View.{number_of, place_of, statement_of}
 use Rattle.ob0_run_lowering.specs.LoweredBodies.{StatementLowers}

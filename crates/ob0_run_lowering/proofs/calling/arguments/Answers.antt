@@ -3,7 +3,7 @@ use Rattle.std.proofs.lemmas.Result.{MatchResult-weaker}
 use Rattle.std.specs.declared.alloc.Global.{Global}
 use Rattle.std.specs.declared.vec.Vec.{Vec}
 use Rattle.ob0_tree.specs.declared.tree.Expression.{Expression}
-use Rattle.ob0_types_rules.specs.Designators.{all_in_labels}
+use Rattle.ob0_types_table.specs.Designators.{all_in_labels}
 use Rattle.ob0_run_machine.specs.declared.code.Argument.{Argument}
 use Rattle.ob0_run_machine.specs.View.{argument_of}
 use Rattle.ob0_run_lowering.specs.LoweredBodies.{ArgumentsLower, given_in}

@@ -1,11 +1,11 @@
 use Rattle.std.proofs.Common.{Some, map, sym, ap, ◌∙◌}
 use Rattle.std.proofs.lemmas.Result.{MatchResult-weaker}
 use Rattle.ob0_tree.specs.View.{arguments_of}
-use Rattle.ob0_types_rules.specs.InLabels.{in_labels, label_in}
+use Rattle.ob0_scope_table.specs.InLabels.{in_labels, label_in}
 use Rattle.ob0_types_table.specs.KnownTables.{shapes_of}
 use Rattle.ob0_types_table.specs.Tables.{formal_in, object_in}
-use Rattle.ob0_types_rules.specs.Expressions.{a_procedure}
-use Rattle.ob0_types_rules.specs.WellTyped.{signature_of}
+use Rattle.ob0_language_types.specs.Expressions.{a_procedure}
+use Rattle.ob0_language_types.specs.WellTyped.{signature_of}
 use Rattle.ob0_run_machine.specs.Lowered.{writes_line}
 use Rattle.ob0_run_lowering.proofs.Called.{uncallable}
 use Rattle.ob0_run_lowering.proofs.calling.call.Goals as goal

@@ -1,8 +1,8 @@
 use Rattle.std.proofs.Common.{List, map, sym, subst}
 use Rattle.ob0_tree.specs.Tree.{Tree, expression}
 use Rattle.ob0_tree.specs.View.{arguments_of}
-use Rattle.ob0_scope_rules.specs.Names.{Label}
-use Rattle.ob0_types_rules.specs.InLabels.{in_labels, label_in}
+use Rattle.ob0_language_names.specs.Names.{Label}
+use Rattle.ob0_scope_table.specs.InLabels.{in_labels, label_in}
 use Rattle.ob0_run_machine.specs.View.{argument_of}
 use Rattle.ob0_run_lowering.specs.LoweredBodies.{ArgumentsLower}
 use Rattle.ob0_run_lowering.proofs.Called.{called, given_listed, signature_in}

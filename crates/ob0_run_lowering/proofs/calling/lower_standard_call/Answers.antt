@@ -1,7 +1,7 @@
 use Rattle.std.proofs.Common.{Some, ap, ◌∙◌}
 use Rattle.std.proofs.lemmas.Result.{MatchResult-weaker}
 use Rattle.ob0_types_table.specs.Tables.{standard_of}
-use Rattle.ob0_types_rules.specs.Expressions.{a_standard}
+use Rattle.ob0_language_types.specs.Expressions.{a_standard}
 use Rattle.ob0_run_lowering.proofs.Called.{line_written}
 use Rattle.ob0_run_lowering.proofs.calling.lower_standard_call.Goals as goal
 

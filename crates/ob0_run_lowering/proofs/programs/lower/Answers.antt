@@ -2,11 +2,11 @@ use Rattle.std.proofs.Common.{◌≡◌, refl, sym, ap, ◌∙◌, subst}
 use Rattle.ob0_tree.specs.Parsed.{named_tree_of}
 use Rattle.ob0_tree.specs.Tree.{Tree, module_text}
 use Rattle.ob0_tree.specs.View.{block_of}
-use Rattle.ob0_scope_rules.specs.Names.{Name}
-use Rattle.ob0_scope_rules.specs.Parts.{module_block}
-use Rattle.ob0_scope_rules.specs.Scopes.{numbered}
-use Rattle.ob0_types_rules.specs.Bindings.{declared_object}
-use Rattle.ob0_types_rules.specs.InLabels.{in_labels}
+use Rattle.ob0_language_names.specs.Names.{Name}
+use Rattle.ob0_language_names.specs.Parts.{module_block}
+use Rattle.ob0_language_names.specs.Scopes.{numbered}
+use Rattle.ob0_language_types.specs.Bindings.{declared_object}
+use Rattle.ob0_scope_table.specs.InLabels.{in_labels}
 use Rattle.ob0_types_table.specs.KnownTables.{Tables, declared_in}
 use Rattle.ob0_run_lowering.proofs.LoweredBlocks.{program_means}
 use Rattle.ob0_run_lowering.proofs.programs.lower.Goals as goal

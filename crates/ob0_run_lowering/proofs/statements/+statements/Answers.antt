@@ -6,8 +6,8 @@ use Rattle.ob0_tree.specs.View.{assignment_of, else_in, elsif_of, expression_of,
 use Rattle.ob0_tree.specs.declared.tree.Elsif.{Elsif}
 use Rattle.ob0_tree.specs.declared.tree.If.{out-If}
 use Rattle.ob0_tree.specs.declared.tree.Statement as written
-use Rattle.ob0_scope_rules.specs.Names.{Label}
-use Rattle.ob0_types_rules.specs.InLabels.{in_labels}
+use Rattle.ob0_language_names.specs.Names.{Label}
+use Rattle.ob0_scope_table.specs.InLabels.{in_labels}
 use Rattle.ob0_run_machine.proofs.Viewed.{repeat_made, while_made}
 use Rattle.ob0_run_machine.specs.Lowered as lowered
 use Rattle.ob0_run_machine.specs.View as code

@@ -1,6 +1,6 @@
 use Rattle.ob0_tree.specs.View.{expression_of, sequence_listed}
 use Rattle.ob0_tree.specs.declared.tree.If.{out-If}
-use Rattle.ob0_types_rules.specs.InLabels.{in_labels}
+use Rattle.ob0_scope_table.specs.InLabels.{in_labels}
 use Rattle.ob0_run_lowering.proofs.Made.{BranchesMade, SequenceMade}
 use Rattle.ob0_run_lowering.proofs.statements.+statements.Given as goal
 

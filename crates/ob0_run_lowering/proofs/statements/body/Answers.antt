@@ -4,7 +4,7 @@ use Rattle.std.specs.declared.alloc.Global.{Global}
 use Rattle.std.specs.declared.vec.Vec.{Vec}
 use Rattle.ob0_tree.specs.View.{body_of, sequence_listed}
 use Rattle.ob0_tree.specs.declared.tree.Statement.{Statement}
-use Rattle.ob0_types_rules.specs.InLabels.{in_labels}
+use Rattle.ob0_scope_table.specs.InLabels.{in_labels}
 use Rattle.ob0_run_machine.specs.View.{sequence_of}
 use Rattle.ob0_run_lowering.specs.LoweredBodies.{BodyLowers}
 use Rattle.ob0_run_lowering.proofs.InScene.{no-body, some-body}

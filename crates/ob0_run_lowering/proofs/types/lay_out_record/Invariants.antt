@@ -1,5 +1,5 @@
 use Rattle.std.proofs.Common.{List}
-use Rattle.ob0_values.specs.Values.{Shape}
+use Rattle.ob0_language_values.specs.Values.{Shape}
 use Rattle.ob0_run_lowering.specs.Layouts.{LayOut}
 use Rattle.ob0_run_lowering.proofs.LaidOut.{LaidSoFar}
 use Rattle.ob0_run_lowering.proofs.types.lay_out_record.Given as goal

@@ -2,7 +2,7 @@ use Rattle.std.proofs.Common.{sym, ap, ◌∙◌}
 use Rattle.ob0_types_table.specs.FieldPlaces.{field_selected}
 use Rattle.ob0_types_table.specs.KnownTables.{shapes_of}
 use Rattle.ob0_types_table.specs.Tables.{type_shape}
-use Rattle.ob0_values.specs.Values.{at_field}
+use Rattle.ob0_language_values.specs.Values.{at_field}
 use Rattle.ob0_run_cells.specs.Cells.{step_offset}
 use Rattle.ob0_run_lowering.proofs.types.offset_in.Goals as goal
 

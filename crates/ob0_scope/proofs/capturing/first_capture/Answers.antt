@@ -2,7 +2,7 @@ use Rattle.std.proofs.Common.{ℕ, List, Option, not, option_map, sym, ap, ◌�
 use Rattle.std.specs.List.{position_from}
 use Rattle.ob0_scope.specs.declared.capturing.FirstCapture.TheVariants.{Occurrence}
 use Rattle.ob0_scope.specs.Renames.{is_bound_alike}
-use Rattle.ob0_scope_rules.specs.Resolution.{ordinal_in}
+use Rattle.ob0_scope_table.specs.Resolution.{ordinal_in}
 use Rattle.ob0_scope.proofs.Renumbered.{first_changed_is}
 use Rattle.ob0_scope.proofs.capturing.first_capture.Goals as goal
 

@@ -1,6 +1,6 @@
 use Rattle.std.proofs.Common.{◌≤◌, List, length, arith, ap, sym, subst, ◌∙◌}
 use Rattle.ob0_scan.specs.declared.lexeme.Token.{Token}
-use Rattle.ob0_scope_rules.specs.Names.{Name, same_name}
+use Rattle.ob0_language_names.specs.Names.{Name, same_name}
 use Rattle.ob0_scope.proofs.Nowhere.{nowhere, one_more}
 use Rattle.ob0_scope.proofs.capturing.is_nowhere.Goals as goal
 

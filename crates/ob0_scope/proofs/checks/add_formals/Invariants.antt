@@ -1,4 +1,4 @@
-use Rattle.ob0_scope_rules.specs.Parts.{formal_names}
+use Rattle.ob0_language_names.specs.Parts.{formal_names}
 use Rattle.ob0_tree.specs.View.{items_of, further_section_of}
 use Rattle.ob0_scope.proofs.Checking.{Gathering}
 use Rattle.ob0_scope.proofs.checks.add_formals.Given as goal

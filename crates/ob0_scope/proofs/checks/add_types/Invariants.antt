@@ -1,4 +1,4 @@
-use Rattle.ob0_scope_rules.specs.Parts.{named_types}
+use Rattle.ob0_language_names.specs.Parts.{named_types}
 use Rattle.ob0_tree.specs.View.{items_of, type_declaration_of}
 use Rattle.ob0_scope.proofs.Checking.{Gathering}
 use Rattle.ob0_scope.proofs.checks.add_types.Given as goal

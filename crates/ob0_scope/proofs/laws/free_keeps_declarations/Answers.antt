@@ -1,4 +1,4 @@
-use Rattle.ob0_scope_rules.proofs.RenamedDeclarations.{free_keeps_declarations-holds}
+use Rattle.ob0_language_names.proofs.RenamedDeclarations.{free_keeps_declarations-holds}
 use Rattle.ob0_scope.proofs.laws.free_keeps_declarations.Goals as goal
 
 pub returns : goal.returns

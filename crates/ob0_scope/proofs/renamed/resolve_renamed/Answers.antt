@@ -1,6 +1,6 @@
 use Rattle.std.proofs.Common.{map, ◌∙◌}
 use Rattle.std.proofs.lemmas.Result.{MatchResult-weaker}
-use Rattle.ob0_scope_rules.specs.Resolution.{ordinal_in}
+use Rattle.ob0_scope_table.specs.Resolution.{ordinal_in}
 use Rattle.ob0_scope.proofs.Renumbered.{ordinals_renamed}
 use Rattle.ob0_scope.proofs.renamed.resolve_renamed.Goals as goal
 

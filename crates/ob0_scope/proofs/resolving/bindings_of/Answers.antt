@@ -1,6 +1,6 @@
 use Rattle.std.proofs.Common.{◌++◌, refl, ap, ◌∙◌}
 use Rattle.ob0_scope_numbering.specs.Marking as listing
-use Rattle.ob0_scope_rules.specs.Resolution.{undeclared_at}
+use Rattle.ob0_scope_table.specs.Resolution.{undeclared_at}
 use Rattle.ob0_tree.specs.Parsed.{tree_of}
 use Rattle.ob0_scope_numbering.specs.Tabling.{Visit, module_numbered}
 use Rattle.ob0_scope_numbering.specs.Written.{as_in}

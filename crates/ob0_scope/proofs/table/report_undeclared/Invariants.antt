@@ -1,5 +1,5 @@
 use Rattle.std.proofs.Common.{◌≡◌, ◌++◌, drop}
-use Rattle.ob0_scope_rules.specs.Resolution.{undeclared_at}
+use Rattle.ob0_scope_table.specs.Resolution.{undeclared_at}
 use Rattle.ob0_scope.proofs.table.report_undeclared.Given as goal
 
 abbrev pub invariant-loop-token : goal.invariant-loop-token

@@ -1,6 +1,6 @@
 use Rattle.std.proofs.Common.{◌≡◌, ◌++◌, drop}
 use Rattle.std.specs.List.{filter}
-use Rattle.ob0_scope_rules.specs.Resolution.{is_of_declarations}
+use Rattle.ob0_scope_table.specs.Resolution.{is_of_declarations}
 use Rattle.ob0_types.proofs.checked.add_declarations.Given as goal
 
 abbrev pub invariant-loop-fault : goal.invariant-loop-fault

@@ -2,7 +2,7 @@ use Rattle.std.proofs.Common.{rules, refl, ◌≡◌, ◌↔◌, ◌++◌, [], l
 use Rattle.std.proofs.lemmas.List.Sorted.{answers_always}
 use Rattle.std.specs.List.{filter}
 use Rattle.std.specs.List.Sorted.{IsPermutation}
-use Rattle.ob0_scope_rules.specs.Resolution.{is_of_declarations}
+use Rattle.ob0_scope_table.specs.Resolution.{is_of_declarations}
 use Rattle.ob0_types.proofs.AllReported.{empty_alike}
 use Rattle.ob0_types.proofs.FaultNumbers.{sorted_by_key}
 use Rattle.ob0_types.proofs.checked.faults_of.Tie as tie

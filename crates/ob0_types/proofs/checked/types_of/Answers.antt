@@ -1,6 +1,6 @@
 use Rattle.std.proofs.Common.{◌≡◌, ◌↔◌, ◌++◌, [], subst, ap}
 use Rattle.std.specs.List.{filter}
-use Rattle.ob0_scope_rules.specs.Resolution.{is_of_declarations}
+use Rattle.ob0_scope_table.specs.Resolution.{is_of_declarations}
 use Rattle.ob0_types.specs.CheckedModules.{CheckedModule}
 use Rattle.ob0_types.specs.FaultOrder.{AreFirstOf}
 use Rattle.ob0_types.proofs.AllReported.{checked_reported}

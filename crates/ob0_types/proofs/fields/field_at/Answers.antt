@@ -3,7 +3,7 @@ use Rattle.std.specs.Prelude.{IfSome}
 use Rattle.ob0_scan.specs.Scanned.{Scanned}
 use Rattle.ob0_tree.specs.Order.{IsIdentifierToken}
 use Rattle.ob0_tree.specs.Parsed.{IsParsed}
-use Rattle.ob0_scope_rules.specs.Resolution.{Resolution}
+use Rattle.ob0_scope_table.specs.Resolution.{Resolution}
 use Rattle.ob0_types_fields.specs.Identifiers.{AreInTextOrder, field_at, field_identifiers, field_on}
 use Rattle.ob0_types_fields.proofs.FieldTokens.{field_is_identifier, fields_ascend, fields_are_identifiers}
 use Rattle.ob0_types.proofs.fields.field_at.Goals as goal

@@ -1,6 +1,6 @@
 use Rattle.std.proofs.Common.{List, ℕ, length, ◌∙◌, ap, sym, subst}
 use Rattle.ob0_tree.specs.Order.{AreIdentifiers, Ascending}
-use Rattle.ob0_scope_rules.specs.Resolution.{Resolution}
+use Rattle.ob0_scope_table.specs.Resolution.{Resolution}
 use Rattle.ob0_types_fields.specs.Identifiers.{field_identifiers, tokens_among}
 use Rattle.ob0_types_fields.proofs.FieldTokens.{fields_ascend, fields_are_identifiers, kept_ascend, kept_are_identifiers}
 use Rattle.ob0_types.proofs.fields.field_tokens.Goals as goal

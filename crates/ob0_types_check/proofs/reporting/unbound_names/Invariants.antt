@@ -1,6 +1,6 @@
 use Rattle.std.proofs.Common.{[]}
 use Rattle.std.specs.List.{filter}
-use Rattle.ob0_scope_rules.specs.Resolution.{is_of_occurrences}
+use Rattle.ob0_scope_table.specs.Resolution.{is_of_occurrences}
 use Rattle.ob0_types_check.proofs.Listed.{EachSoFar}
 use Rattle.ob0_types_check.proofs.reporting.unbound_names.Given as goal
 

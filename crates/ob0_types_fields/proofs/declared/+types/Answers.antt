@@ -3,8 +3,8 @@ use Rattle.ob0_tree.proofs.Viewed.{record_made}
 use Rattle.ob0_tree.specs.declared.tree.FieldGroup.{FieldGroup}
 use Rattle.ob0_tree.specs.Tree.{some_fields}
 use Rattle.ob0_tree.specs.View.{fields_of, names_of, type_of}
-use Rattle.ob0_scope_rules.specs.Parts.{names_listed}
-use Rattle.ob0_types_rules.specs.Typing.{constructors}
+use Rattle.ob0_language_names.specs.Parts.{names_listed}
+use Rattle.ob0_language_types.specs.Typing.{constructors}
 use Rattle.ob0_types_fields.specs.Owned.{marked_group, marked_type}
 use Rattle.ob0_types_fields.proofs.MarkWalks.{joined}
 use Rattle.ob0_types_fields.proofs.declared.+types.Goals as goal

@@ -1,5 +1,5 @@
 use Rattle.ob0_tree.specs.Parsed.{named_tree_of, tree_of}
-use Rattle.ob0_types_rules.specs.Bindings.{declared_object}
+use Rattle.ob0_language_types.specs.Bindings.{declared_object}
 use Rattle.ob0_types_fields.specs.Owned.{token_objects}
 use Rattle.ob0_types_fields.proofs.MarkedFields.{module-fields}
 use Rattle.ob0_types_fields.proofs.laws.marked_fields.Goals as goal

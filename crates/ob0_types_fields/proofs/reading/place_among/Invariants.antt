@@ -1,6 +1,6 @@
 use Rattle.std.proofs.Common.{◌≡◌, ◌≤◌, drop}
 use Rattle.std.specs.List.{position_from}
-use Rattle.ob0_scope_rules.specs.Names.{same_name}
+use Rattle.ob0_language_names.specs.Names.{same_name}
 use Rattle.ob0_tree.specs.Places.{text_at}
 use Rattle.ob0_types_fields.specs.Identifiers.{record_tokens}
 use Rattle.ob0_types_fields.proofs.reading.place_among.Given as goal

@@ -1,6 +1,6 @@
 use Rattle.std.proofs.Common.{pos, sym, ap, ◌∙◌, arith, w32}
 use Rattle.std.proofs.lemmas.Int.{ints, to_z-of_z}
-use Rattle.ob0_types_rules.proofs.Numbers.{small_number, value_at-past, value_at-read}
+use Rattle.ob0_types_table.proofs.TokenNumbers.{small_number, value_at-past, value_at-read}
 use Rattle.ob0_types_table.proofs.numbers.number_at.Goals as goal
 
 pub number_of-requires : goal.number_of-requires

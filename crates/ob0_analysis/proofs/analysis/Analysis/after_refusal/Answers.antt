@@ -1,4 +1,4 @@
-use Rattle.ob0_parse_kept.proofs.Carried.{kept_stay}
+use Rattle.ob0_parse.proofs.Carried.{kept_stay}
 use Rattle.ob0_parse.proofs.Stays.{refusal_stays}
 use Rattle.ob0_analysis.proofs.GivenBack.{given_back}
 use Rattle.ob0_analysis.proofs.analysis.Analysis.after_refusal.Goals as goal

@@ -1,6 +1,6 @@
 use Rattle.std.proofs.Common.{drop}
 use Rattle.ob0_tree.specs.View.{items_of, procedure_of}
-use Rattle.ob0_types_rules.specs.InLabels.{in_labels}
+use Rattle.ob0_scope_table.specs.InLabels.{in_labels}
 use Rattle.ob0_run_lowering.specs.Blocks.{Goes}
 use Rattle.ob0_run_lowering.proofs.programs.Lowering.+blocks.Given as goal
 

@@ -7,9 +7,9 @@ use Rattle.ob0_tree.specs.declared.tree.Simple.{out-Simple}
 use Rattle.ob0_tree.specs.declared.tree.Term.{out-Term}
 use Rattle.ob0_tree.specs.Tree.{compares, one, relates}
 use Rattle.ob0_tree.specs.View.{items_of, compound_of, expression_of, addend_of, multiplier_of, selector_of, factor_of, simple_of}
-use Rattle.ob0_types_rules.specs.InLabels.{in_labels}
+use Rattle.ob0_scope_table.specs.InLabels.{in_labels}
 use Rattle.ob0_types_table.specs.KnownTables.{shapes_of}
-use Rattle.ob0_types_rules.proofs.TreeParts.{addend_parts, compound_alone, compound_related}
+use Rattle.ob0_language_types.proofs.TreeParts.{addend_parts, compound_alone, compound_related}
 use Rattle.ob0_run_lowering.specs.Codes.{added, multiplied, related, signed}
 use Rattle.ob0_run_lowering.specs.Trees.{addends_code, code_of, expression_code, factor_code, found_of, multipliers_code, selected_place, simple_code, term_code}
 use Rattle.ob0_run_lowering.proofs.CodeChains.{added_fold, added_once, fold_ends, fold_goes_on, multiplied_fold, selected_fold}

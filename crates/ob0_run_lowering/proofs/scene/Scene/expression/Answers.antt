@@ -1,7 +1,7 @@
 use Rattle.std.proofs.Common.{◌≡◌}
 use Rattle.std.proofs.lemmas.Result.{IfOk-weaker}
 use Rattle.ob0_tree.specs.View.{expression_of}
-use Rattle.ob0_types_rules.specs.InLabels.{in_labels}
+use Rattle.ob0_scope_table.specs.InLabels.{in_labels}
 use Rattle.ob0_run_lowering.specs.Means.{Lowers}
 use Rattle.ob0_run_lowering.specs.Trees.{code_of, expression_code}
 use Rattle.ob0_run_lowering.proofs.Lowerings.{lowers-by}

@@ -2,8 +2,8 @@ use Rattle.std.proofs.Common.{option_map, sym, ap, ◌∙◌}
 use Rattle.std.proofs.lemmas.Result.{IfOk-weaker}
 use Rattle.ob0_tree.specs.View.{expression_of}
 use Rattle.ob0_tree.specs.declared.tree.Designator.{out-Designator}
-use Rattle.ob0_types_rules.specs.Selected.{selectors_in}
-use Rattle.ob0_types_rules.proofs.DesignatedAlone.{labelled_designator, parts_in}
+use Rattle.ob0_language_types.specs.Selected.{selectors_in}
+use Rattle.ob0_types_table.proofs.DesignatedAlone.{labelled_designator, parts_in}
 use Rattle.ob0_run_lowering.specs.Means.{Locates, LocatesAlone}
 use Rattle.ob0_run_lowering.proofs.Lowerings.{alone-by, alone-not}
 use Rattle.ob0_run_lowering.proofs.scene.Scene.locate_argument.Goals as goal

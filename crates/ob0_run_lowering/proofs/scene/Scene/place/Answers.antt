@@ -1,4 +1,4 @@
-use Rattle.ob0_types_rules.specs.Selected.{selectors_in}
+use Rattle.ob0_language_types.specs.Selected.{selectors_in}
 use Rattle.ob0_run_lowering.proofs.Lowerings.{locates-by}
 use Rattle.ob0_run_lowering.proofs.scene.Scene.place.Goals as goal
 

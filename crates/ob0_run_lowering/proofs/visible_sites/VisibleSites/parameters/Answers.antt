@@ -1,7 +1,7 @@
 use Rattle.std.proofs.Common.{IfOk, sym, subst}
 use Rattle.ob0_tree.specs.View.{formals_of}
-use Rattle.ob0_scope_rules.specs.Parts.{formal_sections}
-use Rattle.ob0_types_rules.specs.InLabels.{in_labels}
+use Rattle.ob0_language_names.specs.Parts.{formal_sections}
+use Rattle.ob0_scope_table.specs.InLabels.{in_labels}
 use Rattle.ob0_run_lowering.specs.Placed as placed
 use Rattle.ob0_run_lowering.specs.Placed.{Places, declared_size, slots_at}
 use Rattle.ob0_run_lowering.proofs.visible_sites.VisibleSites.parameters.Goals as goal

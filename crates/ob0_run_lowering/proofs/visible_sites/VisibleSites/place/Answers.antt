@@ -1,7 +1,7 @@
 use Rattle.std.proofs.Common.{◌≡◌, ◌+◌, ap, sym, ◌∙◌, subst, arith}
 use Rattle.ob0_tree.specs.Places.{text_at}
-use Rattle.ob0_scope_rules.specs.Resolution.{ordinal_in}
-use Rattle.ob0_types_rules.specs.InLabels.{label_in}
+use Rattle.ob0_scope_table.specs.Resolution.{ordinal_in}
+use Rattle.ob0_scope_table.specs.InLabels.{label_in}
 use Rattle.ob0_types_table.specs.Tables.{mode_of}
 use Rattle.ob0_run_lowering.specs.Scenes.{site_at}
 use Rattle.ob0_run_lowering.specs.declared.scene.Site.TheVariants as site

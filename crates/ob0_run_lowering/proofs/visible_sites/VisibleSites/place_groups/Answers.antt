@@ -1,8 +1,8 @@
 use Rattle.std.proofs.Common.{refl}
 use Rattle.ob0_tree.specs.View.{names_of}
-use Rattle.ob0_scope_rules.specs.Parts.{names_listed}
-use Rattle.ob0_types_rules.specs.InLabels.{in_labels}
-use Rattle.ob0_types_rules.specs.WellTyped.{by_value}
+use Rattle.ob0_language_names.specs.Parts.{names_listed}
+use Rattle.ob0_scope_table.specs.InLabels.{in_labels}
+use Rattle.ob0_language_types.specs.WellTyped.{by_value}
 use Rattle.ob0_run_lowering.specs.Placed.{declared_size, place_each, slots_at}
 use Rattle.ob0_run_lowering.proofs.FollowingSites.{as_deep, in_begins, in_ends, in_on}
 use Rattle.ob0_run_lowering.proofs.visible_sites.VisibleSites.place_groups.Goals as goal

@@ -1,5 +1,5 @@
 use Rattle.ob0_tree.specs.View.{items_of, variable_of}
-use Rattle.ob0_types_rules.specs.InLabels.{in_labels}
+use Rattle.ob0_scope_table.specs.InLabels.{in_labels}
 use Rattle.ob0_run_lowering.specs.Placed as placed
 use Rattle.ob0_run_lowering.specs.Placed.{declared_size, slots_at}
 use Rattle.ob0_run_lowering.proofs.FollowingSites.{InPlaces}

@@ -1,6 +1,6 @@
 use Rattle.std.proofs.Common.{◌∷◌, map, get_or, refl, sym, ap, ◌∙◌, arith, add-one}
-use Rattle.ob0_types_rules.specs.InLabels.{label_in}
-use Rattle.ob0_types_rules.proofs.Counted.{labels_listed}
+use Rattle.ob0_scope_table.specs.InLabels.{label_in}
+use Rattle.ob0_scope_table.proofs.Counted.{labels_listed}
 use Rattle.ob0_types_table.specs.Tables.{mode_of}
 use Rattle.ob0_run_lowering.specs.Placed.{declared_size, place_each, place_one, slots_at}
 use Rattle.ob0_run_lowering.proofs.FollowingSites.{as_deep, in_begins, in_ends, in_on, places_as}

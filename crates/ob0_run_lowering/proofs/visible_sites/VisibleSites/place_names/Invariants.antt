@@ -1,5 +1,5 @@
 use Rattle.std.proofs.Common.{◌∷◌, ◌+◌, map}
-use Rattle.ob0_types_rules.specs.InLabels.{label_in}
+use Rattle.ob0_scope_table.specs.InLabels.{label_in}
 use Rattle.ob0_types_table.specs.Tables.{mode_of}
 use Rattle.ob0_run_lowering.specs.Placed.{declared_size, place_each, slots_at}
 use Rattle.ob0_run_lowering.proofs.FollowingSites.{InPlaces}

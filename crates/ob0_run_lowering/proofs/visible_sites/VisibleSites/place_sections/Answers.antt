@@ -1,7 +1,7 @@
 use Rattle.std.proofs.Common.{refl}
 use Rattle.ob0_tree.specs.View.{further_section_of, items_of, names_of}
-use Rattle.ob0_scope_rules.specs.Parts.{names_listed}
-use Rattle.ob0_types_rules.specs.InLabels.{in_labels}
+use Rattle.ob0_language_names.specs.Parts.{names_listed}
+use Rattle.ob0_scope_table.specs.InLabels.{in_labels}
 use Rattle.ob0_types_table.specs.Tables.{mode_of}
 use Rattle.ob0_run_lowering.specs.Placed.{declared_size, place_each, slots_at}
 use Rattle.ob0_run_lowering.proofs.FollowingSites.{as_deep, in_begins, in_ends, in_on, section_step}

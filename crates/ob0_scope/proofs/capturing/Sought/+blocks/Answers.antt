@@ -3,7 +3,7 @@ use Rattle.std.specs.Option.{option_or}
 use Rattle.ob0_tree.specs.declared.tree.Block.{out-Block}
 use Rattle.ob0_tree.specs.View.{items_of, procedure_of}
 use Rattle.ob0_tree.proofs.Viewed.{block_parts}
-use Rattle.ob0_scope_rules.specs.DeclaredOnce.{block_names}
+use Rattle.ob0_language_names.specs.DeclaredOnce.{block_names}
 use Rattle.ob0_scope.specs.Searching.{found_in_block, found_in_procedures, other_among}
 use Rattle.ob0_scope.proofs.Finding.{all_found}
 use Rattle.ob0_scope.proofs.capturing.Sought.+blocks.Goals as goal

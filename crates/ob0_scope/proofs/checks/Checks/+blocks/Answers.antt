@@ -3,9 +3,9 @@ use Rattle.ob0_tree.specs.declared.tree.Block.{out-Block}
 use Rattle.ob0_tree.specs.declared.tree.Procedure.{out-Procedure, roll-out-Procedure}
 use Rattle.ob0_tree.specs.View.{block_of, body_of, constants_of, formals_of, items_of, procedure_of, types_of, variables_of}
 use Rattle.ob0_tree.proofs.Viewed.{block_parts, procedure_made}
-use Rattle.ob0_scope_rules.specs.DeclaredOnce.{procedure_names}
-use Rattle.ob0_scope_rules.specs.DeclaredTwice.{again, block_twice, procedure_twice, procedures_twice}
-use Rattle.ob0_scope_rules.specs.Parts.{formal_names, formal_sections, named_types, section_types, section_variables, variable_names}
+use Rattle.ob0_language_names.specs.DeclaredOnce.{procedure_names}
+use Rattle.ob0_scope_table.specs.DeclaredTwice.{again, block_twice, procedure_twice, procedures_twice}
+use Rattle.ob0_language_names.specs.Parts.{formal_names, formal_sections, named_types, section_types, section_variables, variable_names}
 use Rattle.ob0_scope.proofs.Checking.{block_reported, gathered, procedure_reported}
 use Rattle.ob0_scope.proofs.checks.Checks.+blocks.Goals as goal
 

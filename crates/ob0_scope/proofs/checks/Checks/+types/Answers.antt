@@ -1,8 +1,8 @@
 use Rattle.std.proofs.Common.{◌≡◌, [], ◌++◌, OnOk, refl, sym, ap, ◌∙◌, subst}
 use Rattle.ob0_tree.specs.View.{further_fields_of_group, items_of, type_of}
 use Rattle.ob0_tree.proofs.Viewed.{record_made}
-use Rattle.ob0_scope_rules.specs.DeclaredOnce.{groups_fields}
-use Rattle.ob0_scope_rules.specs.DeclaredTwice.{again, fields_twice, groups_twice}
+use Rattle.ob0_language_names.specs.DeclaredOnce.{groups_fields}
+use Rattle.ob0_scope_table.specs.DeclaredTwice.{again, fields_twice, groups_twice}
 use Rattle.ob0_scope.proofs.Checking.{gathered, record_reported}
 use Rattle.ob0_scope.proofs.checks.Checks.+types.Goals as goal
 

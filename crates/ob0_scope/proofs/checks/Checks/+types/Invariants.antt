@@ -1,5 +1,5 @@
-use Rattle.ob0_scope_rules.specs.DeclaredOnce.{groups_fields}
-use Rattle.ob0_scope_rules.specs.DeclaredTwice.{groups_twice}
+use Rattle.ob0_language_names.specs.DeclaredOnce.{groups_fields}
+use Rattle.ob0_scope_table.specs.DeclaredTwice.{groups_twice}
 use Rattle.ob0_tree.specs.View.{items_of, further_fields_of_group}
 use Rattle.ob0_scope.proofs.Checking.{Gathering}
 use Rattle.ob0_scope.proofs.checks.Checks.+types.Given as goal

@@ -1,9 +1,9 @@
 use Rattle.std.proofs.Common.{◌≡◌, ◌||◌, ◌++◌, ◌+◌, suc, map, not, take, get_or, refl, ap, ◌∙◌, add-one, sym}
 use Rattle.ob0_scan.specs.declared.fault.Fault.{Fault}
 use Rattle.ob0_tree.specs.Places.{text_at}
-use Rattle.ob0_scope_rules.specs.DeclaredOnce.{is_among}
-use Rattle.ob0_scope_rules.specs.DeclaredTwice.{unless}
-use Rattle.ob0_scope_rules.specs.Names.{same_name}
+use Rattle.ob0_language_names.specs.DeclaredOnce.{is_among}
+use Rattle.ob0_scope_table.specs.DeclaredTwice.{unless}
+use Rattle.ob0_language_names.specs.Names.{same_name}
 use Rattle.ob0_scope.proofs.Checking.{all_seen, one_further, sees_on}
 use Rattle.ob0_scope.proofs.checks.Checks.distinct_few.Goals as goal
 

@@ -1,6 +1,6 @@
 use Rattle.std.proofs.Common.{map, take}
 use Rattle.ob0_tree.specs.Places.{text_at}
-use Rattle.ob0_scope_rules.specs.DeclaredOnce.{is_among}
+use Rattle.ob0_language_names.specs.DeclaredOnce.{is_among}
 use Rattle.ob0_scope.proofs.Checking.{Seeing}
 use Rattle.ob0_scope.proofs.checks.Checks.distinct_few.Given as goal
 

@@ -1,4 +1,4 @@
-use Rattle.ob0_scope_rules.specs.DeclaredTwice.{formals_twice}
+use Rattle.ob0_scope_table.specs.DeclaredTwice.{formals_twice}
 use Rattle.ob0_tree.specs.View.{items_of, further_section_of}
 use Rattle.ob0_scope.proofs.Checking.{Gathering}
 use Rattle.ob0_scope.proofs.checks.Checks.formals.Given as goal

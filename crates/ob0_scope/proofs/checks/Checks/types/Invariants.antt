@@ -1,4 +1,4 @@
-use Rattle.ob0_scope_rules.specs.DeclaredTwice.{types_twice}
+use Rattle.ob0_scope_table.specs.DeclaredTwice.{types_twice}
 use Rattle.ob0_tree.specs.View.{items_of, type_declaration_of}
 use Rattle.ob0_scope.proofs.Checking.{Gathering}
 use Rattle.ob0_scope.proofs.checks.Checks.types.Given as goal

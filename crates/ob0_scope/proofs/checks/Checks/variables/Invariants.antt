@@ -1,4 +1,4 @@
-use Rattle.ob0_scope_rules.specs.DeclaredTwice.{variables_twice}
+use Rattle.ob0_scope_table.specs.DeclaredTwice.{variables_twice}
 use Rattle.ob0_tree.specs.View.{items_of, variable_of}
 use Rattle.ob0_scope.proofs.Checking.{Gathering}
 use Rattle.ob0_scope.proofs.checks.Checks.variables.Given as goal

@@ -1,7 +1,7 @@
 use Rattle.std.proofs.Common.{sym, ap, ◌∙◌}
 use Rattle.ob0_tree.specs.View.{items_of, constants_of, constant_of}
 use Rattle.ob0_scope_numbering.specs.Tabling.{visit_constant_section, visit_constants}
-use Rattle.ob0_scope_visible.proofs.Going.{gone_through}
+use Rattle.ob0_scope_numbering.proofs.Going.{gone_through}
 use Rattle.ob0_scope_numbering.proofs.numbering.Numbering.constants.Goals as goal
 
 pub returns-after-loop-c : goal.returns-after-loop-c

@@ -1,6 +1,6 @@
 use Rattle.ob0_tree.specs.View.{items_of, further_section_of}
 use Rattle.ob0_scope_numbering.specs.Tabling.{visit_sections}
-use Rattle.ob0_scope_visible.proofs.Going.{Going}
+use Rattle.ob0_scope_numbering.proofs.Going.{Going}
 use Rattle.ob0_scope_numbering.proofs.numbering.Numbering.heading.Given as goal
 
 abbrev pub invariant-loop-s : goal.invariant-loop-s

@@ -1,6 +1,6 @@
 use Rattle.std.proofs.Common.{◌∷◌, sym, ap, ◌∙◌}
 use Rattle.ob0_scope_numbering.specs.Tabling.{numbered_all}
-use Rattle.ob0_scope_visible.proofs.Going.{gone_through}
+use Rattle.ob0_scope_numbering.proofs.Going.{gone_through}
 use Rattle.ob0_scope_numbering.proofs.Declaring.{names_further}
 use Rattle.ob0_scope_numbering.proofs.numbering.Numbering.names.Goals as goal
 

@@ -1,5 +1,5 @@
 use Rattle.ob0_scope_numbering.specs.Tabling.{numbered_all}
-use Rattle.ob0_scope_visible.proofs.Going.{Going}
+use Rattle.ob0_scope_numbering.proofs.Going.{Going}
 use Rattle.ob0_scope_numbering.proofs.numbering.Numbering.names.Given as goal
 
 abbrev pub invariant-loop-name : goal.invariant-loop-name

@@ -1,7 +1,7 @@
 use Rattle.std.proofs.Common.{sym, ap, ◌∙◌}
 use Rattle.ob0_tree.specs.View.{items_of, types_of, type_declaration_of}
 use Rattle.ob0_scope_numbering.specs.Tabling.{visit_type_section, visit_types}
-use Rattle.ob0_scope_visible.proofs.Going.{gone_through}
+use Rattle.ob0_scope_numbering.proofs.Going.{gone_through}
 use Rattle.ob0_scope_numbering.proofs.numbering.Numbering.types.Goals as goal
 
 pub returns-after-loop-t : goal.returns-after-loop-t

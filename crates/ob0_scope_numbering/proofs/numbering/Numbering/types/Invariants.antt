@@ -1,6 +1,6 @@
 use Rattle.ob0_tree.specs.View.{items_of, type_declaration_of}
 use Rattle.ob0_scope_numbering.specs.Tabling.{visit_types}
-use Rattle.ob0_scope_visible.proofs.Going.{Going}
+use Rattle.ob0_scope_numbering.proofs.Going.{Going}
 use Rattle.ob0_scope_numbering.proofs.numbering.Numbering.types.Given as goal
 
 abbrev pub invariant-loop-t : goal.invariant-loop-t

@@ -1,7 +1,7 @@
 use Rattle.std.proofs.Common.{sym, ap, ◌∙◌}
 use Rattle.ob0_tree.specs.View.{items_of, variables_of, variable_of}
 use Rattle.ob0_scope_numbering.specs.Tabling.{visit_variable_section, visit_variables}
-use Rattle.ob0_scope_visible.proofs.Going.{gone_through}
+use Rattle.ob0_scope_numbering.proofs.Going.{gone_through}
 use Rattle.ob0_scope_numbering.proofs.numbering.Numbering.variable_section.Goals as goal
 
 pub returns-after-loop-v : goal.returns-after-loop-v

@@ -1,7 +1,7 @@
 use Rattle.std.proofs.Common.{ap, ◌∙◌, arith}
 use Rattle.ob0_tree.specs.Parsed.{named_tree_of}
-use Rattle.ob0_types_rules.specs.Typing.{constant_of}
-use Rattle.ob0_types_rules.proofs.ConstantsDeclared.{constant-declared, predeclared-none}
+use Rattle.ob0_language_types.specs.Typing.{constant_of}
+use Rattle.ob0_language_types.proofs.ConstantsDeclared.{constant-declared, predeclared-none}
 use Rattle.ob0_types.proofs.checked.WellTyped.constant.Goals as goal
 
 pub returns-then-declaration-lt-PREDECLARED : goal.returns-then-declaration-lt-PREDECLARED

@@ -1,6 +1,6 @@
 use Rattle.std.proofs.Common.{◌≡◌, ℕ, Option, option_map, sym, ap, ◌∙◌}
 use Rattle.ob0_tree.specs.Parsed.{named_tree_of}
-use Rattle.ob0_scope_rules.specs.Resolution.{Resolution}
+use Rattle.ob0_scope_table.specs.Resolution.{Resolution}
 use Rattle.ob0_types_table.specs.KnownTables.{Tables, declared_in, shapes_of}
 use Rattle.ob0_types_fields.specs.FieldTypes.{TypedField, typed_field, typed_field_by}
 use Rattle.ob0_types_fields.specs.Search.{typed_field_in}

@@ -1,5 +1,5 @@
 use Rattle.std.proofs.Common.{subst}
-use Rattle.ob0_scope_rules.specs.Resolution.{Resolution}
+use Rattle.ob0_scope_table.specs.Resolution.{Resolution}
 use Rattle.ob0_types_fields.specs.Listed.{AreFields}
 use Rattle.ob0_types.proofs.checked.WellTyped.fields.Goals as goal
 

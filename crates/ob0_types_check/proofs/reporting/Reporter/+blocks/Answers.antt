@@ -4,7 +4,7 @@ use Rattle.ob0_tree.proofs.Viewed.{block_parts}
 use Rattle.ob0_tree.specs.declared.tree.Block.{out-Block}
 use Rattle.ob0_tree.specs.declared.tree.Procedure.{out-Procedure}
 use Rattle.ob0_tree.specs.View.{block_of, body_of, constants_of, items_of, procedure_of, types_of, variables_of}
-use Rattle.ob0_scope_rules.specs.Parts.{section_types, section_variables}
+use Rattle.ob0_language_names.specs.Parts.{section_types, section_variables}
 use Rattle.ob0_types_check.specs.DeclarationFaults.{after_heading, reported_block, reported_body, reported_procedures, reported_types, reported_variables}
 use Rattle.ob0_types_check.specs.Operations.{◌>>=◌}
 use Rattle.ob0_types_check.specs.SupposedFacts.{so_far_in}

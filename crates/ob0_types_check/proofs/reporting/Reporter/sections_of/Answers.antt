@@ -1,6 +1,6 @@
 use Rattle.std.proofs.Common.{sym, ap, ◌∙◌}
 use Rattle.std.proofs.lemmas.Result.{on_ok_weaker}
-use Rattle.ob0_scope_rules.specs.Parts.{formal_sections}
+use Rattle.ob0_language_names.specs.Parts.{formal_sections}
 use Rattle.ob0_tree.specs.View.{formals_of, further_section_of, items_of}
 use Rattle.ob0_types_check.specs.DeclarationFaults.{reported_sections}
 use Rattle.ob0_types_check.specs.SupposedFacts.{heading_in}

@@ -1,5 +1,5 @@
 use Rattle.std.proofs.Common.{sym, ap, ◌∙◌}
-use Rattle.ob0_scope_rules.specs.Parts.{section_variables}
+use Rattle.ob0_language_names.specs.Parts.{section_variables}
 use Rattle.ob0_tree.specs.View.{variables_of}
 use Rattle.ob0_types_check.specs.DeclarationFaults.{reported_variables}
 use Rattle.ob0_types_check.specs.SupposedFacts.{so_far_in}

@@ -2,8 +2,8 @@ use Rattle.std.proofs.Common.{◌≡◌, ℕ, ◌+◌, ◌++◌, IfOk, Result, O
 use Rattle.ob0_tree.proofs.Viewed.{block_parts}
 use Rattle.ob0_tree.specs.declared.tree.Block.{out-Block}
 use Rattle.ob0_tree.specs.View.{block_of, body_of, items_of, procedure_of, types_of, variables_of}
-use Rattle.ob0_scope_rules.specs.Parts.{section_types, section_variables}
-use Rattle.ob0_types_rules.specs.Declarations.{block_constructors, procedures_constructors, types_constructors, variables_constructors}
+use Rattle.ob0_language_names.specs.Parts.{section_types, section_variables}
+use Rattle.ob0_language_types.specs.Declarations.{block_constructors, procedures_constructors, types_constructors, variables_constructors}
 use Rattle.ob0_types_fields.specs.Owned.{marked_tree, marked_block, marked_procedures, marked_types, marked_variables}
 use Rattle.ob0_types_fields.specs.Walk.{meaning_in}
 use Rattle.ob0_types_fields.proofs.DeclaredWalks.{procedures_end}

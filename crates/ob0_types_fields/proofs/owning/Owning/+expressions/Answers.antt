@@ -3,7 +3,7 @@ use Rattle.std.specs.Vec.{vec_len}
 use Rattle.ob0_tree.proofs.Viewed.{designator_made, simple_parts, term_parts}
 use Rattle.ob0_tree.specs.declared.tree.Simple.{out-Simple}
 use Rattle.ob0_tree.specs.declared.tree.Term.{out-Term}
-use Rattle.ob0_types_rules.specs.Typing.{object_type}
+use Rattle.ob0_language_types.specs.Typing.{object_type}
 use Rattle.ob0_types_fields.specs.Owned.{marked_tree, marked_path}
 use Rattle.ob0_types_fields.specs.Walk.{meaning_in}
 use Rattle.ob0_tree.specs.View.{items_of, compound_of, expression_of, addend_of, multiplier_of, selector_of, term_of, factor_of}

@@ -1,11 +1,11 @@
 use Rattle.std.proofs.Common.{◌≡◌, ◌++◌, IfOk, Option, Some, option_and_then, option_map, sym, ap, ◌∙◌, subst}
-use Rattle.ob0_types_rules.specs.Typing.{field_type}
+use Rattle.ob0_language_types.specs.Typing.{field_type}
 use Rattle.ob0_types_table.specs.KnownTables.{shapes_of}
 use Rattle.ob0_types_table.specs.Parts.{parts_shape}
 use Rattle.ob0_types_table.specs.Tables.{type_shape}
 use Rattle.ob0_types_fields.specs.Owned.{marked_field, owner}
 use Rattle.ob0_types_fields.specs.Walk.{meaning_in, record_shape_in}
-use Rattle.ob0_values.specs.Values.{Shape}
+use Rattle.ob0_language_values.specs.Values.{Shape}
 use Rattle.ob0_types_fields.proofs.owning.Owning.select.Goals as goal
 
 pub returns-in-Record-clause-found : goal.returns-in-Record-clause-found

@@ -1,6 +1,6 @@
 use Rattle.std.proofs.Common.{◌≡◌, ◌++◌, Some, None, option_map, sym, ap, ◌∙◌, append-nil}
 use Rattle.ob0_tree.specs.Places.{text_at}
-use Rattle.ob0_types_rules.specs.Typing.{shape_of_field}
+use Rattle.ob0_language_types.specs.Typing.{shape_of_field}
 use Rattle.ob0_types_table.specs.KnownTables.{shapes_of}
 use Rattle.ob0_types_table.specs.Tables.{fields_shape, type_shape}
 use Rattle.ob0_types_fields.specs.Walk.{meaning_in}

@@ -2,7 +2,7 @@ use Rattle.std.proofs.Common.{option_map, ap, ◌∙◌}
 use Rattle.ob0_types_table.specs.FieldIndex.{first_field_type}
 use Rattle.ob0_types_table.specs.declared.field_table.FirstOfName.{FirstOfName}
 use Rattle.ob0_types_table.specs.Tables.{fields_shape, type_shape}
-use Rattle.ob0_types_rules.specs.Typing.{shape_of_field}
+use Rattle.ob0_language_types.specs.Typing.{shape_of_field}
 use Rattle.ob0_types_table.proofs.FirstFields.{first_from-shape, first_from-type}
 use Rattle.ob0_types_table.proofs.field_table.FieldTable.find.Goals as goal
 

@@ -9,7 +9,7 @@ use Rattle.ob0_tree.specs.declared.tree.Simple.{out-Simple}
 use Rattle.ob0_tree.specs.declared.tree.Term.{out-Term}
 use Rattle.ob0_tree.specs.Tree.{compares, one, relates}
 use Rattle.ob0_tree.specs.View.{addend_of, compound_of, expression_of, factor_of, items_of, multiplier_of, selector_of, simple_of, term_of}
-use Rattle.ob0_types_rules.proofs.TreeParts.{addend_parts, compound_alone, compound_related}
+use Rattle.ob0_language_types.proofs.TreeParts.{addend_parts, compound_alone, compound_related}
 use Rattle.ob0_types_check.specs.ExpressionFaults.{reported_addends, reported_expression, reported_factor, reported_multipliers, reported_selector, reported_selectors, reported_simple, reported_term}
 use Rattle.ob0_types_check.specs.Operations.{add_operands, complement_operand, element_selected, enclosed, multiply_operands, relate_operands, right, sign_operand, ◌>>=◌}
 use Rattle.ob0_types_check.specs.SupposedFacts.{facts_in, operand_of}

@@ -1,7 +1,7 @@
 use Rattle.std.proofs.Common.{◌++◌, false, map, sym, ap, ◌∙◌}
 use Rattle.std.proofs.lemmas.Result.{on_ok_weaker}
 use Rattle.ob0_tree.specs.View.{arguments_of, expression_of}
-use Rattle.ob0_types_rules.specs.Arguments.{arguments_listed}
+use Rattle.ob0_language_types.specs.Arguments.{arguments_listed}
 use Rattle.ob0_types_check.specs.StatementFaults.{reported_call}
 use Rattle.ob0_types_check.specs.SupposedFacts.{facts_in}
 use Rattle.ob0_types_check.proofs.ReportedStatements.{all_listed, called_reported}

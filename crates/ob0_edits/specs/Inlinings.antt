@@ -1,0 +1,53 @@
+-- A constant is inlined, here or everywhere: the edits, and what they leave.
+-- Rule: docs/PROTOCOL.md, Requests on documents 7, 9, 10.
+use Rattle.std.specs.Prelude.{◌≡◌, ℕ, List, Option, Some, None, Result, Ok, Err, Vec}
+use Rattle.std.specs.declared.alloc.Global.{Global}
+use Rattle.ob0_text.specs.Patches.{patched}
+use Rattle.ob0_text.specs.Units.{width_of}
+use Rattle.ob0_text.specs.declared.edits.Edit.{Edit}
+use Rattle.ob0_text.specs.declared.position_types.Unit.{Unit}
+use Rattle.ob0_text.specs.declared.refusals.EditRefusal.{EditRefusal}
+use Rattle.ob0_text.specs.declared.refusals.EditRefusal.TheVariants.{Memory}
+use Rattle.ob0_tree.specs.Parsed.{Parsed}
+use Rattle.ob0_inline.specs.Everywhere.{AnswersEverywhere}
+use Rattle.ob0_inline.specs.Uses.{AnswersHere}
+use Rattle.ob0_analysis.specs.Texts.{utf8}
+use Rattle.ob0_analysis.specs.Analysed.{IsReadAs}
+use Rattle.ob0_analysis.specs.RunsKept.{RunsAsBefore}
+use Rattle.ob0_edits.specs.declared.inlining.Inlining.{Inlining}
+use Rattle.ob0_edits.specs.declared.inlining.Inlining.TheVariants.{Here, Everywhere}
+
+-- the answer of an inliner at a place in bytes of a module
+abbrev pub AnswersInlining : Inlining
+    → Unit
+    → List ℕ
+    → Parsed
+    → ℕ
+    → Result (Vec Edit Global) EditRefusal
+    → Type 0
+AnswersInlining Here unit text m offset answer = AnswersHere unit text m offset answer
+AnswersInlining Everywhere unit text m offset answer = AnswersEverywhere unit text m offset answer
+
+-- the edits that inline, or none where they are refused; running out of memory isn't a refusal
+abbrev pub Inlines : Inlining → Unit → List ℕ → Parsed → ℕ → Option (Vec Edit Global) → Type 0
+Inlines how unit text m offset (Some edits) = AnswersInlining how unit text m offset (Ok edits)
+Inlines how unit text m offset None =
+    (refusal : EditRefusal)
+    × ¬ (refusal ≡ Memory)
+    × AnswersInlining how unit text m offset (Err refusal)
+
+-- These edits inline. Made at once they leave a text whose module runs as before.
+pub record InlinesIn (how : Inlining) (unit : Unit) (text : List ℕ) (offset : ℕ)
+    (edits : Vec Edit Global) : Type 0 where
+  pub module_read : Parsed
+  pub read : IsReadAs (utf8 text) module_read
+  pub inlines : Inlines how unit text module_read offset (Some edits)
+  pub after : List ℕ
+  pub made : patched (width_of unit) text edits.items ≡ Some after
+  pub runs : RunsAsBefore (utf8 text) (utf8 after)
+
+-- there are no edits that inline
+pub record IsNotInlinedIn (how : Inlining) (unit : Unit) (text : List ℕ) (offset : ℕ) : Type 0 where
+  pub module_read : Parsed
+  pub read : IsReadAs (utf8 text) module_read
+  pub refused : Inlines how unit text module_read offset None

@@ -1,0 +1,48 @@
+-- A text is laid out: the edits, and what they leave.
+-- Rule: docs/PROTOCOL.md, Requests on documents 8, 10.
+use Rattle.std.specs.Prelude.{◌≡◌, ◌<◌, ℕ, List, Some, map, length}
+use Rattle.ob0_scan.specs.Scanned.{max_text}
+use Rattle.ob0_text.specs.Patches.{patched}
+use Rattle.ob0_text.specs.Units.{width_of}
+use Rattle.ob0_text.specs.declared.edits.Edit.{Edit}
+use Rattle.ob0_text.specs.declared.edits.Indent.{Indent}
+use Rattle.ob0_text.specs.declared.position_types.Unit.{Unit}
+use Rattle.ob0_layout.specs.Layout.{layout}
+use Rattle.ob0_layout.specs.Sites.{EditText, edit_text, edit_of, changed_sites, all_sites}
+use Rattle.ob0_layout.specs.LineRoles.{line_roles}
+use Rattle.ob0_analysis.specs.Diagnosed.{IsTextOf, IsWellTypedModule}
+use Rattle.ob0_analysis.specs.Texts.{utf8}
+use Rattle.ob0_analysis.specs.RunsKept.{RunsAsBefore}
+
+-- the layout of a module's text
+abbrev pub layout_of : {text : List ℕ} → Indent → IsWellTypedModule text → List ℕ
+layout_of indent m = layout indent m.tree m.text_of.scan.scan.lexemes
+
+-- what is to be said of the gaps that change, at positions of a unit
+abbrev pub layout_changes : {text : List ℕ}
+    → Unit
+    → Indent
+    → List ℕ
+    → IsWellTypedModule text
+    → List EditText
+layout_changes unit indent characters m =
+    let source = m.text_of.scanned in
+    map (edit_of indent (width_of unit) characters) (changed_sites indent source.text
+    (all_sites (line_roles 0 m.tree) m.text_of.scan.scan.lexemes))
+
+-- These edits lay out a text: one for each gap that changes, which it replaces. Made at once they
+-- leave the layout, a text of the same module, which runs as before.
+pub record LaysOut (unit : Unit) (indent : Indent) (text : List ℕ)
+    (edits : List Edit) : Type 0 where
+  pub before : IsWellTypedModule (utf8 text)
+  pub changes : map edit_text edits ≡ layout_changes unit indent text before
+  pub after : List ℕ
+  pub made : patched (width_of unit) text edits ≡ Some after
+  pub laid_out : utf8 after ≡ layout_of indent before
+  pub same_module : IsTextOf before.tree (utf8 after)
+  pub runs : RunsAsBefore (utf8 text) (utf8 after)
+
+-- the layout of the text is longer than a text may be
+pub record IsTooLongLaidOut (indent : Indent) (text : List ℕ) : Type 0 where
+  pub before : IsWellTypedModule (utf8 text)
+  pub long : max_text < length (layout_of indent before)

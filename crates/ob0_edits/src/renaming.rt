@@ -1,0 +1,61 @@
+//! Renaming in a text, by its analysis.
+
+ghost use Rattle.std.specs.Prelude.{◌≡◌, IfOk};
+ghost use Rattle.std.specs.Str.{chars};
+ghost use Rattle.ob0_edits.specs.Renamings.{FindsNewName, Settles, renaming_of};
+
+use ob0_analysis::{Analysis, Question, WellTyped, ask};
+use ob0_rename::rename;
+use ob0_text::{Edit, EditRefusal, Position, TextStore};
+use std::alloc::{AllocError, Global};
+
+/// Another name for what is named at a place of the text in a store.
+#[derive(Drop)]
+struct NewName<'a, T: TextStore> {
+    store: &'a T,
+    place: Position,
+    new: &'a str,
+}
+
+impl<'a, T: TextStore> Question for NewName<'a, T> {
+    type Answer = Result<Vec<Edit>, EditRefusal>;
+
+    ghost is_about = { λ q text. T.content q.store.now ≡ chars text };
+
+    ghost answers = { λ q names outcome. Settles (renaming_of (T.unit_of q.store.now)
+        (T.content q.store.now) names q.place q.new.now) outcome };
+
+    fn answer(
+        &self,
+        alloc: Global,
+        module: &WellTyped<'_>,
+    ) -> Result<Result<Vec<Edit>, EditRefusal>, AllocError> {
+        match rename(alloc, self.store, module, self.place, self.new) {
+            Ok(edits) => Ok(Ok(edits)),
+            Err(refusal) => {
+                if refusal == EditRefusal::Memory {
+                    Err(AllocError)
+                } else {
+                    Ok(Err(refusal))
+                }
+            }
+        }
+    }
+}
+
+/// The edits that write `new` for what is named at a place of the text in a store, or why there are none. None for a
+/// text that isn't a well-typed module. Out of memory is never the reason: it is an error of its own.
+pub fn rename_in<T: TextStore>(
+    alloc: Global,
+    store: &T,
+    analysis: &Analysis,
+    place: Position,
+    new: &str,
+) -> Result<Option<Result<Vec<Edit>, EditRefusal>>, AllocError>
+    requires { T.content store.now ≡ chars analysis.now }
+    ensures { IfOk result
+        (λ found. FindsNewName (T.unit_of store.now) (T.content store.now) place new.now found) }
+{
+    let question = NewName { store, place, new };
+    ask(alloc, analysis, &question)
+}

@@ -1,0 +1,64 @@
+-- The text with another one at the places of identifiers is scanned, and has the expected words.
+use Rattle.std.proofs.Common.{◌≡◌, ℕ, suc, ◌≤◌, List, [], ◌∷◌, length, get_or, drop, map, refl, sym, ap, ap₂, ◌∙◌}
+use Rattle.std.specs.Prelude.{Some}
+use Rattle.std.specs.Str.{IsUtf8, chars}
+use Rattle.ob0_scan.specs.Lexed.{Lexeme, Lexed}
+use Rattle.ob0_scan.specs.Scanned.{Word, Scanned, IsScan, IsRangeOf, tokens_from, comments_from, max_text}
+use Rattle.ob0_scan.proofs.Borders.{lexed_by_next_bytes}
+use Rattle.ob0_scan.proofs.Spans.{scan_words, scan_token_ranges}
+use Rattle.ob0_text.specs.declared.edits.Edit.{Edit}
+use Rattle.ob0_text.specs.declared.position_types.Range.{Range}
+use Rattle.ob0_text.specs.declared.position_types.Unit as counting
+use Rattle.ob0_text.specs.Units.{width_of}
+use Rattle.ob0_text.specs.Patches.{Cut, cut_at, cuts_of, patched_by_cuts}
+use Rattle.ob0_edits_tokens.specs.Changed.{words_of, changed_words, at_each}
+use Rattle.ob0_edits_tokens.specs.Replaced.{AreNames, span_at, cut_of, with_text_at, ReplacesName, parts, edit_at, LeavesWords}
+use Rattle.ob0_edits_tokens.specs.Ranges.{range_of}
+use Rattle.ob0_edits_tokens.proofs.Swaps.{Chain, AllClear, Swapped, swapped}
+use Rattle.ob0_edits_tokens.proofs.TextCuts.{AreSame, same_cut, patched_by_same}
+
+-- the scan that lexemes give
+abbrev pub scan_of : List ℕ → List Lexeme → Scanned
+scan_of text ls = record { text = text; tokens = tokens_from 0 ls; comments = comments_from 0 ls }
+
+module _ (unit : counting.Unit) (s : Scanned) (scan : IsScan s) (new : List ℕ) (ws : List Word) (replaces : ReplacesName new ws) (good : IsUtf8 new) (places : List ℕ) (names : AreNames s.tokens 0 places) where
+  result : Swapped s.text s.tokens new ws replaces 0 0 scan.lexemes places
+  result =
+      let apart = (lexed_by_next_bytes s.text scan.lexemes).0 scan.lexed in
+      swapped s.text s.tokens new ws replaces 0 0 scan.lexemes places [] scan.tokens refl (sym apart.0) apart.1 names
+
+  -- the cuts at the places, in bytes and in characters
+  abbrev pub char_cut : ℕ → Cut
+  char_cut p = cut_at (width_of unit) (chars s.text) (range_of (width_of unit) (chars s.text) (span_at s.tokens p)) (chars new)
+
+  pub same_cuts : (least at : ℕ) (qs : List ℕ) → AreNames s.tokens least qs → Chain at (map (cut_of s.tokens new) qs) → AllClear s.text (map (cut_of s.tokens new) qs)
+      → AreSame unit s.text scan.utf8 (map (cut_of s.tokens new) qs) (map char_cut qs)
+  unfolding AreSame
+  same_cuts least at [] here chain clear = tt
+  same_cuts least at (q ∷ qs) here chain clear =
+      let range : IsRangeOf s.text (span_at s.tokens q) = scan_token_ranges s scan q _ here.1 in
+      (same_cut unit s.text scan.utf8 (span_at s.tokens q) new good range.start range.end chain.1 clear.0, same_cuts (suc q) (span_at s.tokens q).end qs here.3 chain.2 clear.1)
+
+  made : IsUtf8 (with_text_at s places new) × (patched_by_cuts (chars s.text) (map char_cut places) ≡ Some (chars (with_text_at s places new)))
+  made = patched_by_same unit s.text scan.utf8 (map (cut_of s.tokens new) places) (map char_cut places) (same_cuts 0 0 places names result.chain result.clear) result.chain
+
+  pub cuts_of_parts : (edits : List Edit) (qs : List ℕ) → map parts edits ≡ map (edit_at unit (chars s.text) s.tokens new) qs → cuts_of (width_of unit) (chars s.text) edits ≡ map char_cut qs
+  cuts_of_parts [] [] e = refl
+  cuts_of_parts [] (q ∷ qs) e = absurd (cc)
+  cuts_of_parts (x ∷ xs) [] e = absurd (cc)
+  cuts_of_parts (x ∷ xs) (q ∷ qs) e =
+      let head : parts x ≡ edit_at unit (chars s.text) s.tokens new q = ap (λ t. get_or t 0 (parts x)) e in
+      ap₂ (λ c cs. c ∷ cs) (ap (λ (p : Range × List ℕ). cut_at (width_of unit) (chars s.text) p.0 (chars p.1)) head) (cuts_of_parts xs qs (ap (drop 1) e))
+
+  pub leaves_words : (edits : List Edit) → map parts edits ≡ map (edit_at unit (chars s.text) s.tokens new) places → length (with_text_at s places new) ≤ max_text
+      → LeavesWords unit (chars s.text) edits (changed_words (at_each places ws) 0 (words_of s))
+  leaves_words edits e short =
+      let lexed : Lexed (with_text_at s places new) result.lexemes = (lexed_by_next_bytes (with_text_at s places new) result.lexemes).1 (result.whole, result.apart) in
+      let after : Scanned = scan_of (with_text_at s places new) result.lexemes in
+      let is_scan : IsScan after = record { utf8 = made.0; short = short; lexemes = result.lexemes; lexed = lexed; tokens = refl; comments = refl } in
+      record {
+        after = after;
+        scan = is_scan;
+        made = ap (patched_by_cuts (chars s.text)) (cuts_of_parts edits places e) ∙ made.1;
+        words_are = scan_words after is_scan ∙ result.read ∙ ap (changed_words (at_each places ws) 0) (sym (scan_words s scan));
+      }

@@ -1,0 +1,210 @@
+-- Edits whose ranges are those of spans, in order: the text that they make, in bytes and in characters.
+use Rattle.std.proofs.Common.{◌≡◌, ℕ, ◌+◌, ◌-◌, ◌<◌, ◌≤◌, Bool, true, false, List, [], ◌∷◌, ◌++◌, length, get_or, take, drop, min, max, refl, sym, ap, ap₂, ◌∙◌, subst, arith, length-append, get_or-append-add, le-leb}
+use Rattle.std.specs.Prelude.{nat_le, if◌then◌else◌, Some, None, encode_utf8_all}
+use Rattle.std.specs.List.{list_all}
+use Rattle.std.specs.Str.{IsUtf8, chars, IsCharBoundary}
+use Rattle.std.proofs.Math.Seq.{take-append_seam, take-append-add}
+use Rattle.std.proofs.lemmas.Str.{chars-append, IsUtf8-append, IsUtf8-take, IsUtf8-drop, IsUtf8-between, encodes-append, encodes-chars, scalars-chars, encode_ascii}
+use Rattle.std.proofs.lemmas.List.{take-append-drop, length-take}
+use Rattle.std.proofs.lemmas.Bool.Decides.{nat_tests}
+use Rattle.ob0_scan.specs.declared.lexeme.Span.{Span}
+use Rattle.ob0_text.specs.declared.position_types.Unit as counting
+use Rattle.ob0_text.specs.Units.{width_of}
+use Rattle.ob0_text.proofs.Widths.{wide}
+use Rattle.ob0_text.specs.Texts.{CR, LF, before, position_of, byte_len, IsInsideEnding}
+use Rattle.ob0_text.specs.Patches.{Cut, place, cut_at, are_apart, all_apart, is_before, put_in_order, in_text_order, pieced, patched_by_cuts}
+use Rattle.ob0_text.proofs.RoundTrip.{places_go_back}
+use Rattle.ob0_text.proofs.Prefixes.{bytes_up, border_at}
+use Rattle.ob0_text.proofs.CutOrder.{bytes_further}
+use Rattle.ob0_text.proofs.Pieces.{middle_chars, last_chars}
+use Rattle.ob0_edits_tokens.specs.Ranges.{range_of}
+use Rattle.ob0_edits_tokens.proofs.Swaps.{Chain, HasClearEnds}
+
+-- the characters before a border
+pub record IsPlace (bytes : List ℕ) (offset : ℕ) (k : ℕ) : Type 0 where
+  pub inside : k ≤ length (chars bytes)
+  pub here : byte_len (take k (chars bytes)) ≡ offset
+
+pub place_at : (bytes : List ℕ) → IsUtf8 bytes → (offset : ℕ) → IsCharBoundary bytes offset → (k : ℕ) × IsPlace bytes offset k
+place_at bytes u offset border =
+    let front : IsUtf8 (take offset bytes) = IsUtf8-take bytes offset u border in
+    let parts : chars bytes ≡ chars (take offset bytes) ++ chars (drop offset bytes) =
+    ap chars (sym (take-append-drop offset bytes)) ∙ chars-append (take offset bytes) (drop offset bytes) front in
+    let long : length (chars bytes) ≡ length (chars (take offset bytes)) + length (chars (drop offset bytes)) =
+    ap length parts ∙ length-append (chars (take offset bytes)) (chars (drop offset bytes)) in (
+      length (chars (take offset bytes)),
+      record {
+        inside = omega (arith, long);
+        here = ap (λ t. byte_len (take (length (chars (take offset bytes))) t)) parts ∙ ap byte_len (take-append_seam (chars (take offset bytes)) (chars (drop offset bytes)))
+            ∙ ap length (encodes-chars (take offset bytes) front) ∙ length-take offset bytes ∙ omega (arith, border.0);
+      },
+    )
+
+-- between a CR and its LF are these two bytes
+record IsEnding (bytes : List ℕ) (offset : ℕ) : Type 0 where
+  pub cr : get_or bytes (offset - 1) 0 ≡ 13
+  pub lf : get_or bytes offset 0 ≡ 10
+
+ascii_pair : (rest : List ℕ) → encode_utf8_all (CR ∷ LF ∷ rest) ≡ 13 ∷ 10 ∷ encode_utf8_all rest
+ascii_pair rest = λ i. encode_ascii 13 (omega arith) i ++ (encode_ascii 10 (omega arith) i ++ encode_utf8_all rest)
+
+ascii_one : encode_utf8_all (CR ∷ []) ≡ 13 ∷ []
+ascii_one = λ i. encode_ascii 13 (omega arith) i ++ []
+
+ending_bytes : (text : List ℕ) (offset k : ℕ) → byte_len (take k text) ≡ offset → IsInsideEnding text k → IsEnding (encode_utf8_all text) offset
+ending_bytes text offset k here (front, rest, e, count) =
+    let start : List ℕ = encode_utf8_all front in
+    let bytes : encode_utf8_all text ≡ start ++ (13 ∷ 10 ∷ encode_utf8_all rest) = ap encode_utf8_all e ∙ encodes-append front (CR ∷ LF ∷ rest) ∙ ap (λ t. start ++ t) (ascii_pair rest) in
+    let cut : take k text ≡ front ++ (CR ∷ []) = (λ i. take (count i) (e i)) ∙ take-append-add front (CR ∷ LF ∷ rest) 1 in
+    let at : offset ≡ length start + 1 = sym here ∙ ap byte_len cut ∙ ap length (encodes-append front (CR ∷ []) ∙ ap (λ t. start ++ t) ascii_one) ∙ length-append start (13 ∷ []) in
+    let before_it : offset - 1 ≡ length start + 0 = omega (arith, at) in
+    record {
+      cr = (λ i. get_or (bytes i) (before_it i) 0) ∙ get_or-append-add start (13 ∷ 10 ∷ encode_utf8_all rest) 0 0;
+      lf = (λ i. get_or (bytes i) (at i) 0) ∙ get_or-append-add start (13 ∷ 10 ∷ encode_utf8_all rest) 1 0;
+    }
+
+module _ (unit : counting.Unit) (bytes : List ℕ) (u : IsUtf8 bytes) where
+  text : List ℕ
+  text = chars bytes
+
+  -- the position of a place that isn't inside a line's ending is at that place
+  goes_to : (offset k : ℕ) → IsPlace bytes offset k → (IsEnding bytes offset → ⊥) → place (width_of unit) (chars bytes) (position_of (width_of unit) (chars bytes) offset) ≡ k
+  unfolding place
+  goes_to offset k p clear =
+      let outside : IsInsideEnding (chars bytes) k → ⊥ = λ inside. clear (subst (λ b. IsEnding b offset) (encodes-chars bytes u) (ending_bytes (chars bytes) offset k p.here inside)) in
+      ap (λ n. length (before (width_of unit) (chars bytes) (position_of (width_of unit) (chars bytes) n))) (sym p.here)
+      ∙ ap length (places_go_back (width_of unit) (wide unit) (chars bytes) k p.inside outside)
+      ∙ length-take k (chars bytes) ∙ omega (arith, p.inside)
+
+  -- a cut in bytes, and the same in characters
+  pub record IsSameCut (b c : Cut) : Type 0 where
+    pub from : IsPlace bytes b.from c.from
+    pub to : IsPlace bytes b.to c.to
+    pub new : c.new ≡ chars b.new
+    pub utf8 : IsUtf8 b.new
+
+  pub same_cut : (span : Span) (new : List ℕ) → IsUtf8 new → IsCharBoundary bytes span.start → IsCharBoundary bytes span.end → span.start < span.end
+      → HasClearEnds bytes (record { from = span.start; to = span.end; new = new })
+      → IsSameCut (record { from = span.start; to = span.end; new = new }) (cut_at (width_of unit) (chars bytes) (range_of (width_of unit) (chars bytes) span) (chars new))
+  unfolding cut_at
+  same_cut span new good start end some clear =
+      let p = place_at bytes u span.start start in
+      let q = place_at bytes u span.end end in
+      let a = goes_to span.start p.0 p.1 (λ ending. clear.first ending.lf) in
+      let b = goes_to span.end q.0 q.1 (λ ending. clear.last ending.cr) in
+      let up : p.0 ≤ q.0 = in_order p.0 q.0 p.1 q.1 some in
+      let low : min (place (width_of unit) (chars bytes) (position_of (width_of unit) (chars bytes) span.start)) (place (width_of unit) (chars bytes) (position_of (width_of unit) (chars bytes) span.end)) ≡ p.0 =
+      (λ i. min (a i) (b i)) ∙ omega (arith, up) in
+      let high : max (place (width_of unit) (chars bytes) (position_of (width_of unit) (chars bytes) span.start)) (place (width_of unit) (chars bytes) (position_of (width_of unit) (chars bytes) span.end)) ≡ q.0 =
+      (λ i. max (a i) (b i)) ∙ omega (arith, up) in
+      record {
+        from = subst (IsPlace bytes span.start) (sym low) p.1;
+        to = subst (IsPlace bytes span.end) (sym high) q.1;
+        new = refl;
+        utf8 = good;
+      }
+    where
+      in_order : (k m : ℕ) → IsPlace bytes span.start k → IsPlace bytes span.end m → span.start < span.end → k ≤ m
+      in_order k m p q some = by_test (nat_le k m) refl
+        where
+          by_test : (t : Bool) → nat_le k m ≡ t → k ≤ m
+          by_test true h = grind (arith, nat_tests)
+          by_test false h =
+              let down : m ≤ k = grind (arith, nat_tests) in
+              absurd (omega (arith, bytes_up (chars bytes) m k down, p.here, q.here, some))
+
+  unfoldable pub AreSame : List Cut → List Cut → Type 0
+  AreSame [] [] = Unit {0}
+  AreSame [] (c ∷ cs) = ⊥
+  AreSame (b ∷ bs) [] = ⊥
+  AreSame (b ∷ bs) (c ∷ cs) = IsSameCut b c × AreSame bs cs
+
+  -- a place further on in bytes is further on in characters
+  up_in_chars : (x y k m : ℕ) → IsPlace bytes x k → IsPlace bytes y m → x ≤ y → k ≤ m
+  up_in_chars x y k m p q h = by_test (nat_le k m) refl
+    where
+      by_test : (t : Bool) → nat_le k m ≡ t → k ≤ m
+      by_test true e = grind (arith, nat_tests)
+      by_test false e =
+          let down : m < k = grind (arith, nat_tests) in
+          absurd (omega (arith, bytes_further (chars bytes) m k down p.inside, p.here, q.here, h))
+
+  less_in_chars : (x y k m : ℕ) → IsPlace bytes x k → IsPlace bytes y m → x < y → k < m
+  less_in_chars x y k m p q h = by_test (nat_le m k) refl
+    where
+      by_test : (t : Bool) → nat_le m k ≡ t → k < m
+      by_test true e =
+          let down : m ≤ k = grind (arith, nat_tests) in
+          absurd (omega (arith, bytes_up (chars bytes) m k down, p.here, q.here, h))
+      by_test false e = grind (arith, nat_tests)
+
+  chain_in_chars : (at k : ℕ) (bs cs : List Cut) → IsPlace bytes at k → AreSame bs cs → Chain at bs → Chain k cs
+  unfolding AreSame
+  chain_in_chars at k [] [] p same chain = tt
+  chain_in_chars at k [] (c ∷ cs) p same chain = absurd same
+  chain_in_chars at k (b ∷ bs) [] p same chain = absurd same
+  chain_in_chars at k (b ∷ bs) (c ∷ cs) p same chain =
+      (up_in_chars at b.from k c.from p same.0.from chain.0, less_in_chars b.from b.to c.from c.to same.0.from same.0.to chain.1, chain_in_chars b.to c.to bs cs same.0.to same.1 chain.2)
+
+  -- the pieces in bytes and in characters
+  pub record IsTextOf (made text : List ℕ) : Type 0 where
+    pub utf8 : IsUtf8 made
+    pub same : chars made ≡ text
+
+  border : (at k : ℕ) → IsPlace bytes at k → IsCharBoundary bytes at
+  border at k p = subst (IsCharBoundary bytes) p.here (border_at bytes u k)
+
+  pub pieces : (at k : ℕ) (bs cs : List Cut) → IsPlace bytes at k → AreSame bs cs → Chain at bs → IsTextOf (pieced bytes at bs) (pieced (chars bytes) k cs)
+  unfolding AreSame pieced
+  pieces at k [] [] p same chain = record {
+    utf8 = IsUtf8-drop bytes at u (border at k p);
+    same = (λ i. chars (drop (sym p.here i) (sym (encodes-chars bytes u) i))) ∙ last_chars (chars bytes) (scalars-chars bytes u) k;
+  }
+  pieces at k [] (c ∷ cs) p same chain = absurd same
+  pieces at k (b ∷ bs) [] p same chain = absurd same
+  pieces at k (b ∷ bs) (c ∷ cs) p same chain =
+      let rest = pieces b.to c.to bs cs same.0.to same.1 chain.2 in
+      let kept : IsUtf8 (take (b.from - at) (drop at bytes)) = IsUtf8-between bytes at b.from u chain.0 (border at k p) (border b.from c.from same.0.from) in
+      let up : k ≤ c.from = up_in_chars at b.from k c.from p same.0.from chain.0 in
+      let middle : chars (take (b.from - at) (drop at bytes)) ≡ take (c.from - k) (drop k (chars bytes)) =
+      (λ i. chars (take (sym same.0.from.here i - sym p.here i) (drop (sym p.here i) (sym (encodes-chars bytes u) i))))
+      ∙ middle_chars (chars bytes) (scalars-chars bytes u) k c.from up in
+      record {
+        utf8 = IsUtf8-append (take (b.from - at) (drop at bytes)) (b.new ++ pieced bytes b.to bs) kept (IsUtf8-append b.new (pieced bytes b.to bs) same.0.utf8 rest.utf8);
+        same = chars-append (take (b.from - at) (drop at bytes)) (b.new ++ pieced bytes b.to bs) kept
+            ∙ ap₂ (λ xs ys. xs ++ ys) middle (chars-append b.new (pieced bytes b.to bs) same.0.utf8 ∙ ap₂ (λ xs ys. xs ++ ys) (sym same.0.new) rest.same);
+      }
+
+-- cuts that are in order are in the text's order, and apart
+first_stays : (c : Cut) (cs : List Cut) → c.from < c.to → Chain c.to cs → put_in_order c cs ≡ c ∷ cs
+first_stays c [] some chain = refl
+first_stays c (d ∷ ds) some chain =
+    let after : is_before d c ≡ false = grind (arith, nat_tests) in
+    ap (λ b. if b then d ∷ put_in_order c ds else c ∷ d ∷ ds) after
+
+order_stays : (at : ℕ) (cs : List Cut) → Chain at cs → in_text_order cs ≡ cs
+unfolding in_text_order
+order_stays at [] chain = refl
+order_stays at (c ∷ cs) chain = ap (put_in_order c) (order_stays c.to cs chain.2) ∙ first_stays c cs chain.1 chain.2
+
+apart_from_later : (c : Cut) (at : ℕ) (cs : List Cut) → c.to ≤ at → Chain at cs → list_all (are_apart c) cs ≡ true
+apart_from_later c at [] h chain = refl
+apart_from_later c at (d ∷ ds) h chain =
+    rw (le-leb c.to d.from (omega (arith, chain.0)), apart_from_later c d.to ds (omega (arith, chain.0, chain.1)) chain.2) refl
+
+all_are_apart : (at : ℕ) (cs : List Cut) → Chain at cs → all_apart cs ≡ true
+unfolding all_apart
+all_are_apart at [] chain = refl
+all_are_apart at (c ∷ cs) chain = rw (apart_from_later c c.to cs (omega arith) chain.2, all_are_apart c.to cs chain.2) refl
+
+patched_in_order : (text : List ℕ) (cs : List Cut) → Chain 0 cs → patched_by_cuts text cs ≡ Some (pieced text 0 cs)
+unfolding patched_by_cuts
+patched_in_order text cs chain =
+    ap (λ b. if b then Some (pieced text 0 (in_text_order cs)) else None) (all_are_apart 0 cs chain) ∙ ap (λ xs. Some (pieced text 0 xs)) (order_stays 0 cs chain)
+
+-- the text that cuts in bytes make is the one that the same cuts in characters make
+pub patched_by_same : (unit : counting.Unit) (bytes : List ℕ) (u : IsUtf8 bytes) (bs cs : List Cut) → AreSame unit bytes u bs cs → Chain 0 bs → IsUtf8 (pieced bytes 0 bs) × (patched_by_cuts (chars bytes) cs ≡ Some (chars (pieced bytes 0 bs)))
+patched_by_same unit bytes u bs cs same chain =
+    let start : IsPlace bytes 0 0 = record { inside = omega arith; here = refl } in
+    let made = pieces unit bytes u 0 0 bs cs start same chain in
+    (made.utf8, patched_in_order (chars bytes) cs (chain_in_chars unit bytes u 0 0 bs cs start same chain) ∙ ap Some (sym made.same))

@@ -1,0 +1,168 @@
+-- The values of constants may be wherever an identifier is.
+use Rattle.std.proofs.Common.{◌≡◌, ℕ, suc, ◌+◌, ◌-◌, ◌*◌, ◌/◌, ◌%◌, length-append, ◌<◌, ◌≤◌, ◌^◌, Bool, true, false, List, [], ◌∷◌, ◌++◌, length, get_or, refl, sym, ap, ◌∙◌, arith, append-nil}
+use Rattle.std.specs.Prelude.{codes, decimal, ℤ, pos, negsuc, nat_lt, if◌then◌else◌}
+use Rattle.std.specs.List.{AllPass}
+use Rattle.std.specs.Char.{is_ascii_alphanumeric, is_ascii_digit}
+use Rattle.std.proofs.lemmas.Fmt.{decimal_by_steps}
+use Rattle.std.proofs.lemmas.Bool.Decides.{nat_tests}
+use Rattle.std.proofs.lemmas.Bool.{ltb-true}
+use Rattle.ob0_scan.specs.declared.lexeme.Reserved.{Reserved}
+use Rattle.ob0_scan.specs.declared.lexeme.Reserved.TheVariants as reserved
+use Rattle.ob0_scan.specs.declared.lexeme.Symbol.TheVariants as symbol
+use Rattle.ob0_scan.specs.declared.lexeme.TokenKind.TheVariants as token
+use Rattle.ob0_scan.specs.declared.lexeme.LexemeKind.TheVariants as lexeme
+use Rattle.ob0_scan.specs.Classes.{IsInteger, IsRun, decimal_value, reserved_text, symbol_text, is_space}
+use Rattle.ob0_edits_tokens.specs.Replaced.{ReplacesName}
+use Rattle.ob0_edits_tokens.specs.Written.{IsInt32, number_text, number_words, truth_text, truth_words, integer_word, symbol_word}
+use Rattle.ob0_scan.proofs.Runs.{digit_or_letter}
+use Rattle.std.proofs.lemmas.List.Sums.{fold-append, AllPass-from_list_all}
+use Rattle.std.proofs.lemmas.List.Elements.{All-nil, All-cons, All-push}
+use Rattle.ob0_edits_tokens.proofs.Names.{a_name, before_word, before_paren}
+
+-- digits that write a number
+record Writes (n : ℕ) (ds : List ℕ) : Type 0 where
+  some : 0 < length ds
+  all : AllPass is_ascii_digit ds
+  value : decimal_value ds ≡ n
+
+one_digit : (n : ℕ) → n < 10 → Writes n ((48 + n) ∷ [])
+one_digit n h =
+    let digit : is_ascii_digit (48 + n) ≡ true = grind (arith, nat_tests) in
+    record { some = omega arith; all = All-cons (λ b. is_ascii_digit b ≡ true) (48 + n) [] digit (All-nil (λ b. is_ascii_digit b ≡ true)); value = omega arith }
+
+more_digits : (n : ℕ) (ds : List ℕ) → 10 ≤ n → Writes (n / 10) ds → Writes n (ds ++ ((48 + n % 10) ∷ []))
+more_digits n ds h w =
+    let small : n % 10 < 10 = omega arith in
+    let digit : is_ascii_digit (48 + n % 10) ≡ true = grind (arith, nat_tests) in
+    let long = length-append ds ((48 + n % 10) ∷ []) in
+    record {
+      some = omega (arith, long, w.some);
+      all = All-push (λ b. is_ascii_digit b ≡ true) ds (48 + n % 10) w.all digit;
+      value = fold-append (λ m d. 10 * m + (d - 48)) 0 ds ((48 + n % 10) ∷ []) ∙ omega (arith, w.value);
+    }
+
+writes : (n : ℕ) → n < 2 ^ 64 → Writes n (decimal n)
+writes n h = decimal_by_steps Writes one_digit more_digits n h
+
+digits_lexeme : (n : ℕ) → n ≤ 2147483647 → IsInteger n (decimal n)
+digits_lexeme n h =
+    let w = writes n (omega arith) in
+    record { digits = record { nonempty = w.some; all = w.all }; value_of_digits = sym w.value; fits = h }
+
+-- a number that isn't negative
+pub a_number : (n : ℕ) → n ≤ 2147483647 → ReplacesName (decimal n) (integer_word n ∷ [])
+a_number n h =
+    let w = writes n (omega arith) in
+    record {
+      lexemes = record { kind = lexeme.Token (token.Integer n); text = decimal n } ∷ [];
+      whole = append-nil (decimal n);
+      read = refl;
+      some = w.some;
+      front = before_word (get_or (decimal n) 0 0) (digit_or_letter (get_or (decimal n) 0 0) (w.all 0 0 w.some));
+      apart = λ byte e. (record { belongs = digits_lexeme n h; ends = e }, tt);
+    }
+
+-- a number below zero, in parentheses
+pub a_negative : (n : ℕ) → suc n ≤ 2147483647
+    → ReplacesName (codes "(-" ++ (decimal (suc n) ++ codes ")")) (symbol_word symbol.LeftParen ∷ symbol_word symbol.Minus ∷ integer_word (suc n) ∷ symbol_word symbol.RightParen ∷ [])
+a_negative n h = record {
+  lexemes = record { kind = lexeme.Token (token.Symbol symbol.LeftParen); text = symbol_text symbol.LeftParen }
+      ∷ record { kind = lexeme.Token (token.Symbol symbol.Minus); text = symbol_text symbol.Minus }
+      ∷ record { kind = lexeme.Token (token.Integer (suc n)); text = decimal (suc n) }
+      ∷ record { kind = lexeme.Token (token.Symbol symbol.RightParen); text = symbol_text symbol.RightParen } ∷ [];
+  whole = refl;
+  read = refl;
+  some = omega arith;
+  front = λ kind letter l e. before_paren kind;
+  apart = λ byte e. (record { belongs = refl; ends = refl }, (record { belongs = refl; ends = refl }, (record { belongs = digits_lexeme (suc n) h; ends = refl }, (record { belongs = refl; ends = refl }, tt))));
+}
+
+-- the least number
+pub the_least : ReplacesName (codes "(-2147483647 - 1)") (symbol_word symbol.LeftParen ∷ symbol_word symbol.Minus ∷ record { kind = token.Integer 2147483647; text = codes "2147483647" } ∷ symbol_word symbol.Minus ∷ record { kind = token.Integer 1; text = codes "1" } ∷ symbol_word symbol.RightParen ∷ [])
+the_least = record {
+  lexemes = record { kind = lexeme.Token (token.Symbol symbol.LeftParen); text = symbol_text symbol.LeftParen }
+      ∷ record { kind = lexeme.Token (token.Symbol symbol.Minus); text = symbol_text symbol.Minus }
+      ∷ record { kind = lexeme.Token (token.Integer 2147483647); text = codes "2147483647" }
+      ∷ record { kind = lexeme.Space; text = 32 ∷ [] }
+      ∷ record { kind = lexeme.Token (token.Symbol symbol.Minus); text = symbol_text symbol.Minus }
+      ∷ record { kind = lexeme.Space; text = 32 ∷ [] }
+      ∷ record { kind = lexeme.Token (token.Integer 1); text = codes "1" }
+      ∷ record { kind = lexeme.Token (token.Symbol symbol.RightParen); text = symbol_text symbol.RightParen } ∷ [];
+  whole = refl;
+  read = refl;
+  some = omega arith;
+  front = λ kind letter l e. before_paren kind;
+  apart = λ byte e. (record { belongs = refl; ends = refl }, (record { belongs = refl; ends = refl }, (record { belongs = most; ends = refl }, (record { belongs = one_space; ends = refl }, (record { belongs = refl; ends = refl }, (record { belongs = one_space; ends = refl }, (record { belongs = unit; ends = refl }, (record { belongs = refl; ends = refl }, tt))))))));
+}
+  where
+    one_space : IsRun is_space (32 ∷ [])
+    one_space = record { nonempty = omega arith; all = All-cons (λ b. is_space b ≡ true) 32 [] refl (All-nil (λ b. is_space b ≡ true)) }
+
+    most : IsInteger 2147483647 (codes "2147483647")
+    most = record { digits = record { nonempty = omega arith; all = AllPass-from_list_all is_ascii_digit (codes "2147483647") refl }; value_of_digits = refl; fits = omega arith }
+
+    unit : IsInteger 1 (codes "1")
+    unit = record { digits = record { nonempty = omega arith; all = AllPass-from_list_all is_ascii_digit (codes "1") refl }; value_of_digits = refl; fits = omega arith }
+
+-- the value of a constant: any number of 32 bits
+pub a_value : (z : ℤ) → IsInt32 z → ReplacesName (number_text z) (number_words z)
+a_value (pos n) h = a_number n h
+a_value (negsuc n) h = by_test (nat_lt n 2147483647) refl
+  where
+    by_test : (b : Bool) → nat_lt n 2147483647 ≡ b
+        → ReplacesName (if b then codes "(-" ++ (decimal (suc n) ++ codes ")") else codes "(-2147483647 - 1)")
+        (if b then symbol_word symbol.LeftParen ∷ symbol_word symbol.Minus ∷ integer_word (suc n) ∷ symbol_word symbol.RightParen ∷ []
+        else symbol_word symbol.LeftParen ∷ symbol_word symbol.Minus ∷ record { kind = token.Integer 2147483647; text = codes "2147483647" } ∷ symbol_word symbol.Minus ∷ record { kind = token.Integer 1; text = codes "1" } ∷ symbol_word symbol.RightParen ∷ [])
+    by_test true e = a_negative n (ltb-true n 2147483647 e)
+    by_test false e = the_least
+
+true_free : (word : Reserved) → codes "TRUE" ≡ reserved_text word → ⊥
+true_free reserved.Module e = omega (arith, ap length e)
+true_free reserved.Begin e = omega (arith, ap length e)
+true_free reserved.End e = omega (arith, ap length e)
+true_free reserved.Const e = omega (arith, ap length e)
+true_free reserved.Type e = omega (arith, ap (λ t. get_or t 1 0) e)
+true_free reserved.Var e = omega (arith, ap length e)
+true_free reserved.Procedure e = omega (arith, ap length e)
+true_free reserved.If e = omega (arith, ap length e)
+true_free reserved.Then e = omega (arith, ap (λ t. get_or t 1 0) e)
+true_free reserved.Elsif e = omega (arith, ap length e)
+true_free reserved.Else e = omega (arith, ap (λ t. get_or t 0 0) e)
+true_free reserved.While e = omega (arith, ap length e)
+true_free reserved.Do e = omega (arith, ap length e)
+true_free reserved.Array e = omega (arith, ap length e)
+true_free reserved.Of e = omega (arith, ap length e)
+true_free reserved.Record e = omega (arith, ap length e)
+true_free reserved.Div e = omega (arith, ap length e)
+true_free reserved.Mod e = omega (arith, ap length e)
+true_free reserved.Or e = omega (arith, ap length e)
+true_free reserved.Repeat e = omega (arith, ap length e)
+true_free reserved.Until e = omega (arith, ap length e)
+
+false_free : (word : Reserved) → codes "FALSE" ≡ reserved_text word → ⊥
+false_free reserved.Module e = omega (arith, ap length e)
+false_free reserved.Begin e = omega (arith, ap (λ t. get_or t 0 0) e)
+false_free reserved.End e = omega (arith, ap length e)
+false_free reserved.Const e = omega (arith, ap (λ t. get_or t 0 0) e)
+false_free reserved.Type e = omega (arith, ap length e)
+false_free reserved.Var e = omega (arith, ap length e)
+false_free reserved.Procedure e = omega (arith, ap length e)
+false_free reserved.If e = omega (arith, ap length e)
+false_free reserved.Then e = omega (arith, ap length e)
+false_free reserved.Elsif e = omega (arith, ap (λ t. get_or t 0 0) e)
+false_free reserved.Else e = omega (arith, ap length e)
+false_free reserved.While e = omega (arith, ap (λ t. get_or t 0 0) e)
+false_free reserved.Do e = omega (arith, ap length e)
+false_free reserved.Array e = omega (arith, ap (λ t. get_or t 0 0) e)
+false_free reserved.Of e = omega (arith, ap length e)
+false_free reserved.Record e = omega (arith, ap length e)
+false_free reserved.Div e = omega (arith, ap length e)
+false_free reserved.Mod e = omega (arith, ap length e)
+false_free reserved.Or e = omega (arith, ap length e)
+false_free reserved.Repeat e = omega (arith, ap length e)
+false_free reserved.Until e = omega (arith, ap (λ t. get_or t 0 0) e)
+
+-- TRUE and FALSE
+pub a_truth : (b : Bool) → ReplacesName (truth_text b) (truth_words b)
+a_truth true = a_name (codes "TRUE") (record { word = record { letter = refl; all = AllPass-from_list_all is_ascii_alphanumeric (codes "TRUE") refl }; free = true_free })
+a_truth false = a_name (codes "FALSE") (record { word = record { letter = refl; all = AllPass-from_list_all is_ascii_alphanumeric (codes "FALSE") refl }; free = false_free })

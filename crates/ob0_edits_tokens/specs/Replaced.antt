@@ -1,0 +1,89 @@
+-- A text with another one in place of some of its identifiers, and the edits that make it so.
+-- Rule: docs/PROTOCOL.md, Requests on documents 10.
+use Rattle.std.specs.Prelude.{◌≡◌, ℕ, suc, ◌<◌, ◌≤◌, false, List, [], ◌∷◌, ◌++◌, length, map, IsTrue, Some, slice_index, slice_index_or, string_bytes}
+use Rattle.std.specs.Char.{is_ascii_alphabetic, is_ascii_alphanumeric}
+use Rattle.std.specs.Str.{chars}
+use Rattle.ob0_scan.specs.declared.lexeme.TokenKind.TheVariants as token
+use Rattle.ob0_scan.specs.declared.lexeme.LexemeKind.{LexemeKind}
+use Rattle.ob0_scan.specs.declared.lexeme.Span.{Span}
+use Rattle.ob0_scan.specs.declared.lexeme.Token.{Token}
+use Rattle.ob0_scan.specs.Lexed.{Lexeme, joined}
+use Rattle.ob0_scan.specs.Ends.{continues, EndsBefore}
+use Rattle.ob0_scan.specs.Scanned.{Word, words, Scanned, IsScan}
+use Rattle.ob0_text.specs.declared.edits.Edit.{Edit}
+use Rattle.ob0_text.specs.declared.position_types.Range.{Range}
+use Rattle.ob0_text.specs.declared.position_types.Unit as counting
+use Rattle.ob0_text.specs.Units.{width_of}
+use Rattle.ob0_text.specs.Patches.{Cut, pieced, patched}
+use Rattle.ob0_edits_tokens.specs.Changed.{words_of}
+use Rattle.ob0_edits_tokens.specs.Ranges.{range_of}
+
+-- the token with this index; where there is none, one without text at the text's start
+abbrev pub token_or_empty : List Token → ℕ → Token
+token_or_empty tokens p =
+    slice_index_or tokens p
+    (record { kind = token.Identifier; span = record { start = 0; end = 0 } })
+
+-- where the token with this index is
+abbrev pub span_at : List Token → ℕ → Span
+span_at tokens p = (token_or_empty tokens p).span
+
+-- The places are numbers of identifiers among the tokens,
+-- each greater than the one before and none below the least.
+abbrev pub AreNames : List Token → ℕ → List ℕ → Type 0
+AreNames tokens least [] = Unit {0}
+AreNames tokens least (p ∷ ps) =
+    (least ≤ p)
+    × (p < length tokens)
+    × ((token_or_empty tokens p).kind ≡ token.Identifier)
+    × AreNames tokens (suc p) ps
+
+-- a token is taken out, and the new text put there; here places in the text are counted in bytes
+abbrev pub cut_of : List Token → List ℕ → ℕ → Cut
+cut_of tokens new p =
+    record { from = (span_at tokens p).start; to = (span_at tokens p).end; new = new }
+
+-- the text with the new one at each place
+abbrev pub with_text_at : Scanned → List ℕ → List ℕ → List ℕ
+with_text_at s places new = pieced s.text 0 (map (cut_of s.tokens new) places)
+
+-- each cut begins at or after the end of the one before it, and takes something out
+abbrev pub AreInOrder : ℕ → List Cut → Type 0
+AreInOrder at [] = Unit {0}
+AreInOrder at (c ∷ cs) = (at ≤ c.from) × (c.from < c.to) × AreInOrder c.to cs
+
+-- the lexemes end before one another and before that byte
+abbrev pub AreApartBefore : List Lexeme → ℕ → Type 0
+AreApartBefore [] byte = Unit {0}
+AreApartBefore (l ∷ lexemes) byte =
+    EndsBefore l (slice_index (joined lexemes ++ (byte ∷ [])) 0) × AreApartBefore lexemes byte
+
+-- The text, which is read as these words, may be wherever an identifier is: what ends before a
+-- letter ends before its first byte, and its lexemes end before one another
+-- and before whatever an identifier ends before.
+pub record ReplacesName (new : List ℕ) (ws : List Word) : Type 0 where
+  pub lexemes : List Lexeme
+  pub whole : joined lexemes ≡ new
+  pub read : words lexemes ≡ ws
+  pub some : 0 < length new
+  pub front : (kind : LexemeKind) (letter : ℕ)
+      → IsTrue (is_ascii_alphabetic letter)
+      → continues kind letter ≡ false
+      → continues kind (slice_index new 0) ≡ false
+  pub apart : (byte : ℕ) → is_ascii_alphanumeric byte ≡ false → AreApartBefore lexemes byte
+
+-- an edit as its range and the bytes of its text
+abbrev pub parts : Edit → Range × List ℕ
+parts edit = (edit.range, string_bytes edit.text)
+
+-- the edit at a place: the token's range, and the new text
+abbrev pub edit_at : counting.Unit → List ℕ → List Token → List ℕ → ℕ → Range × List ℕ
+edit_at unit text tokens new p = (range_of (width_of unit) text (span_at tokens p), new)
+
+-- The edits make of the text another one, which is scanned and has these words.
+pub record LeavesWords
+    (unit : counting.Unit) (text : List ℕ) (edits : List Edit) (ws : List Word) : Type 0 where
+  pub after : Scanned
+  pub scan : IsScan after
+  pub made : patched (width_of unit) text edits ≡ Some (chars after.text)
+  pub words_are : words_of after ≡ ws

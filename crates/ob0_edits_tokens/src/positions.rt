@@ -1,0 +1,89 @@
+//! Where tokens are, as spans and as ranges of positions.
+
+ghost use Rattle.std.specs.Prelude.{◌≡◌, ◌++◌, IfOk, OnOk, map};
+ghost use Rattle.ob0_edits_tokens.specs.Replaced.{span_at};
+ghost use Rattle.ob0_text.specs.Units.{width_of};
+ghost use Rattle.ob0_edits_tokens.specs.Ranges.{bounds, range_of};
+
+use ob0_scan::{Span, Token};
+use ob0_text::{Range, TextStore};
+use std::alloc::{AllocError, Global};
+
+/// As many spans are turned into ranges together: what is kept of them meanwhile is small, and seldom is a long line
+/// counted again from its start.
+const PART: usize = 16_384;
+
+/// The ranges of spans, found in one pass over the text where the spans are in text order.
+pub fn ranges<T: TextStore>(
+    alloc: Global,
+    store: &T,
+    spans: &[Span],
+) -> Result<Vec<Range>, AllocError>
+    ensures { IfOk result (λ ranges. ranges.items
+        ≡ map (range_of (width_of (T.unit_of store.now)) (T.content store.now)) spans.now) }
+{
+    let mut ranges = Vec::with_capacity(alloc, spans.len())?;
+    while ranges.len() < spans.len() {
+        let from = ranges.len();
+        let part = &spans[from..spans.len().min(from + PART)];
+        add_ranges(alloc, store, part, &mut ranges)?;
+    }
+    Ok(ranges)
+}
+
+/// Adds the ranges of spans.
+fn add_ranges<T: TextStore>(
+    alloc: Global,
+    store: &T,
+    spans: &[Span],
+    ranges: &mut Vec<Range>,
+) -> Result<(), AllocError>
+    ensures { OnOk result (ranges.new.items ≡ ranges.old.items
+        ++ map (range_of (width_of (T.unit_of store.now)) (T.content store.now)) spans.now) }
+{
+    let bounds = bounds(alloc, spans)?;
+    let positions = store.positions(alloc, &bounds)?;
+    for i in 0..spans.len() {
+        ranges.push(Range {
+            start: positions[2 * i],
+            end: positions[2 * i + 1],
+        })?;
+    }
+    Ok(())
+}
+
+/// Where spans start and end, one span after another.
+fn bounds(alloc: Global, spans: &[Span]) -> Result<Vec<usize>, AllocError>
+    ensures { IfOk result (λ offsets. offsets.items ≡ bounds spans.now) }
+{
+    let mut offsets = Vec::new(alloc);
+    for span in spans {
+        offsets.push(span.start as usize)?;
+        offsets.push(span.end as usize)?;
+    }
+    Ok(offsets)
+}
+
+/// Where the tokens with these numbers are.
+pub(crate) fn spans_of(
+    alloc: Global,
+    tokens: &[Token],
+    places: &[usize],
+) -> Result<Vec<Span>, AllocError>
+    ensures { IfOk result (λ spans. spans.items ≡ map (span_at tokens.now) places.now) }
+{
+    places
+        .iter()
+        .map(|place| span_at(tokens, *place))
+        .collect(alloc)
+}
+
+/// Where a token is; the text's start where there is no such token.
+fn span_at(tokens: &[Token], place: usize) -> Span
+    ensures { result ≡ span_at tokens.now place }
+{
+    match tokens.get(place) {
+        Some(token) => token.span,
+        None => Span { start: 0, end: 0 },
+    }
+}

@@ -1,0 +1,206 @@
+-- Types, and what names mean, with fields under other names.
+use Rattle.std.proofs.Common.{◌≡◌, ℕ, suc, ◌+◌, ◌*◌, max, Bool, true, false, ◌&&◌, List, [], ◌∷◌, map, if◌then◌else◌, nat_le, ◌==◌, Some, None, Option, option_map, option_and_then, refl, ap, ◌∙◌, subst}
+use Rattle.ob0_tree.specs.declared.tree.Relation.{Relation}
+use Rattle.ob0_tree.specs.declared.tree.Relation.TheVariants as relation
+use Rattle.ob0_tree.specs.declared.tree.Sign.{Sign}
+use Rattle.ob0_tree.specs.declared.tree.Sign.TheVariants as sign
+use Rattle.ob0_tree.specs.declared.tree.AddOperator.{AddOperator}
+use Rattle.ob0_tree.specs.declared.tree.AddOperator.TheVariants as add_operator
+use Rattle.ob0_tree.specs.declared.tree.MultiplyOperator.{MultiplyOperator}
+use Rattle.ob0_tree.specs.declared.tree.MultiplyOperator.TheVariants as multiply_operator
+use Rattle.ob0_language_names.specs.Names.{Name, same_name}
+use Rattle.ob0_language_types.specs.Expressions.{Object, a_constant, a_procedure, a_standard, a_type, a_variable, reads, writes, writes_line}
+use Rattle.ob0_language_types.specs.Typing.{add_type, complement_type, constant_of, depth, field_depth, field_scalars, field_type, multiply_type, object_type, relation_type, scalars, shape_of_field, sign_type, type_of_name, value_type, with_fields, within_limits}
+use Rattle.ob0_language_types.specs.WellTyped.{Formal, Signature, Typed, agree, same_fields, same_shape, signature_of}
+use Rattle.ob0_language_values.specs.Values.{FieldShapes, Shape, Value, array_shape, boolean_shape, elements, integer_shape, members, next_field_shape, no_field_shape, number, record_shape, truth}
+use Rattle.ob0_language_fields.specs.Fields.{FieldNames, selected_record}
+use Rattle.ob0_language_fields.proofs.NamesMeant.{named}
+use Rattle.ob0_language_field_laws.specs.FieldLaws.{KeepsApart}
+use Rattle.std.proofs.lemmas.Bool.{eqb-true}
+
+-- a type with its fields under other names
+abbrev mutual
+  pub shape_by : FieldNames → Shape → Shape
+  shape_by l integer_shape = integer_shape
+  shape_by l boolean_shape = boolean_shape
+  shape_by l (array_shape k n s) = array_shape k n (shape_by l s)
+  shape_by l (record_shape k fs) = record_shape k (fields_by l k fs)
+
+  pub fields_by : FieldNames → ℕ → FieldShapes → FieldShapes
+  fields_by l k no_field_shape = no_field_shape
+  fields_by l k (next_field_shape x s rest) = next_field_shape (l (Some k) x) (shape_by l s) (fields_by l k rest)
+
+-- an option with what is made of its value, in two steps
+pub map-then : {A B C D : Type 0} (f : A → B) (g : C → D) (o : Option A) (o' : Option B) (n : A → Option C) (n' : B → Option D) → o' ≡ option_map f o → ((a : A) → n' (f a) ≡ option_map g (n a))
+    → option_and_then n' o' ≡ option_map g (option_and_then n o)
+map-then {A} f g o o' n n' e each = ap (option_and_then n') e ∙ go o
+  where
+    go : (o : Option A) → option_and_then n' (option_map f o) ≡ option_map g (option_and_then n o)
+    go None = refl
+    go (Some a) = each a
+
+pub each-then : {A C D : Type 0} (g : C → D) (o : Option A) (n : A → Option C) (n' : A → Option D) → ((a : A) → n' a ≡ option_map g (n a)) → option_and_then n' o ≡ option_map g (option_and_then n o)
+each-then g None n n' each = refl
+each-then g (Some a) n n' each = each a
+
+pub choose-map : {A B : Type 0} (f : A → B) (b : Bool) (a : A) (o : Option A) → (if b then Some (f a) else option_map f o) ≡ option_map f (if b then Some a else o)
+choose-map f true a o = refl
+choose-map f false a o = refl
+
+-- types of operations
+
+pub relation_type-by : (l : FieldNames) (r : Relation) (x y : Shape) → relation_type r (shape_by l x) (shape_by l y) ≡ option_map (shape_by l) (relation_type r x y)
+relation_type-by l r integer_shape integer_shape = refl
+relation_type-by l relation.Equal boolean_shape boolean_shape = refl
+relation_type-by l relation.NotEqual boolean_shape boolean_shape = refl
+relation_type-by l _ _ _ = refl
+
+pub add_type-by : (l : FieldNames) (o : AddOperator) (x y : Shape) → add_type o (shape_by l x) (shape_by l y) ≡ option_map (shape_by l) (add_type o x y)
+add_type-by l add_operator.Add integer_shape integer_shape = refl
+add_type-by l add_operator.Subtract integer_shape integer_shape = refl
+add_type-by l add_operator.Or boolean_shape boolean_shape = refl
+add_type-by l _ _ _ = refl
+
+pub multiply_type-by : (l : FieldNames) (o : MultiplyOperator) (x y : Shape) → multiply_type o (shape_by l x) (shape_by l y) ≡ option_map (shape_by l) (multiply_type o x y)
+multiply_type-by l multiply_operator.Multiply integer_shape integer_shape = refl
+multiply_type-by l multiply_operator.Divide integer_shape integer_shape = refl
+multiply_type-by l multiply_operator.Modulo integer_shape integer_shape = refl
+multiply_type-by l multiply_operator.And boolean_shape boolean_shape = refl
+multiply_type-by l _ _ _ = refl
+
+pub sign_type-by : (l : FieldNames) (o : Option Sign) (x : Shape) → sign_type o (shape_by l x) ≡ option_map (shape_by l) (sign_type o x)
+sign_type-by l None x = refl
+sign_type-by l (Some sign.Plus) integer_shape = refl
+sign_type-by l (Some sign.Minus) integer_shape = refl
+sign_type-by l _ _ = refl
+
+pub complement_type-by : (l : FieldNames) (x : Shape) → complement_type (shape_by l x) ≡ option_map (shape_by l) (complement_type x)
+complement_type-by l boolean_shape = refl
+complement_type-by l _ = refl
+
+-- fields
+
+pub shape_of_field-by : (l : FieldNames) → KeepsApart l → (k : ℕ) (fs : FieldShapes) (x : Name) → shape_of_field (fields_by l k fs) (l (Some k) x) ≡ option_map (shape_by l) (shape_of_field fs x)
+shape_of_field-by l apart k no_field_shape x = refl
+shape_of_field-by l apart k (next_field_shape y s rest) x =
+    (λ i. if apart k x y i then Some (shape_by l s) else shape_of_field-by l apart k rest x i) ∙ choose-map (shape_by l) (same_name x y) s (shape_of_field rest x)
+
+pub field_type-by : (l : FieldNames) → KeepsApart l → (s : Shape) (x : Name) → field_type (shape_by l s) (l (selected_record (Some s)) x) ≡ option_map (shape_by l) (field_type s x)
+field_type-by l apart (record_shape k fs) x = shape_of_field-by l apart k fs x
+field_type-by l apart integer_shape x = refl
+field_type-by l apart boolean_shape x = refl
+field_type-by l apart (array_shape k n s) x = refl
+
+pub with_fields-by : (l : FieldNames) (k : ℕ) (xs : List Name) (s : Shape) (rest : FieldShapes) → with_fields (map (l (Some k)) xs) (shape_by l s) (fields_by l k rest) ≡ fields_by l k (with_fields xs s rest)
+with_fields-by l k [] s rest = refl
+with_fields-by l k (x ∷ xs) s rest = λ i. next_field_shape (l (Some k) x) (shape_by l s) (with_fields-by l k xs s rest i)
+
+-- a type is as large and as deep
+
+mutual
+  pub scalars-by : (l : FieldNames) (s : Shape) → scalars (shape_by l s) ≡ scalars s
+  scalars-by l integer_shape = refl
+  scalars-by l boolean_shape = refl
+  scalars-by l (array_shape k n s) = λ i. n * scalars-by l s i
+  scalars-by l (record_shape k fs) = λ i. max 1 (field_scalars-by l k fs i)
+
+  pub field_scalars-by : (l : FieldNames) (k : ℕ) (fs : FieldShapes) → field_scalars (fields_by l k fs) ≡ field_scalars fs
+  field_scalars-by l k no_field_shape = refl
+  field_scalars-by l k (next_field_shape x s rest) = λ i. scalars-by l s i + field_scalars-by l k rest i
+
+mutual
+  pub depth-by : (l : FieldNames) (s : Shape) → depth (shape_by l s) ≡ depth s
+  depth-by l integer_shape = refl
+  depth-by l boolean_shape = refl
+  depth-by l (array_shape k n s) = λ i. suc (depth-by l s i)
+  depth-by l (record_shape k fs) = λ i. suc (field_depth-by l k fs i)
+
+  pub field_depth-by : (l : FieldNames) (k : ℕ) (fs : FieldShapes) → field_depth (fields_by l k fs) ≡ field_depth fs
+  field_depth-by l k no_field_shape = refl
+  field_depth-by l k (next_field_shape x s rest) = λ i. max (depth-by l s i) (field_depth-by l k rest i)
+
+pub within_limits-by : (l : FieldNames) (s : Shape) → within_limits (shape_by l s) ≡ option_map (shape_by l) (within_limits s)
+within_limits-by l s =
+    (λ i. if nat_le (scalars-by l s i) 65536 && nat_le (depth-by l s i) 100 then Some (shape_by l s) else None)
+    ∙ choose-map (shape_by l) (nat_le (scalars s) 65536 && nat_le (depth s) 100) s None
+
+-- two types are the same where they are the same with their fields under other names
+
+and-when : (b p q : Bool) → (b ≡ true → p ≡ q) → (b && p) ≡ (b && q)
+and-when true p q h = h refl
+and-when false p q h = refl
+
+mutual
+  pub same_shape-by : (l : FieldNames) → KeepsApart l → (s t : Shape) → same_shape (shape_by l s) (shape_by l t) ≡ same_shape s t
+  same_shape-by l apart integer_shape integer_shape = refl
+  same_shape-by l apart boolean_shape boolean_shape = refl
+  same_shape-by l apart (array_shape k n s) (array_shape j m t) = λ i. (k == j) && ((n == m) && same_shape-by l apart s t i)
+  same_shape-by l apart (record_shape k fs) (record_shape j gs) =
+      and-when (k == j) (same_fields (fields_by l k fs) (fields_by l j gs)) (same_fields fs gs)
+      (λ e. subst (λ j. same_fields (fields_by l k fs) (fields_by l j gs) ≡ same_fields fs gs) (eqb-true k j e) (same_fields-by l apart k fs gs))
+  same_shape-by l apart _ _ = refl
+
+  pub same_fields-by : (l : FieldNames) → KeepsApart l → (k : ℕ) (fs gs : FieldShapes) → same_fields (fields_by l k fs) (fields_by l k gs) ≡ same_fields fs gs
+  same_fields-by l apart k no_field_shape no_field_shape = refl
+  same_fields-by l apart k (next_field_shape x s rest) (next_field_shape y t others) = λ i.
+      apart k x y i && (same_shape-by l apart s t i && same_fields-by l apart k rest others i)
+  same_fields-by l apart k _ _ = refl
+
+pub agree-by : (l : FieldNames) → KeepsApart l → (a b : Option Shape) → agree (option_map (shape_by l) a) (option_map (shape_by l) b) ≡ agree a b
+agree-by l apart (Some s) (Some t) = same_shape-by l apart s t
+agree-by l apart _ _ = refl
+
+-- what a name means
+
+abbrev pub formal_by : FieldNames → Formal → Formal
+formal_by l f = record { mode = f.mode; shape = shape_by l f.shape }
+
+abbrev pub object_by : FieldNames → Object Shape Signature → Object Shape Signature
+object_by l (a_type s) = a_type (shape_by l s)
+object_by l (a_constant v) = a_constant v
+object_by l (a_variable s) = a_variable (shape_by l s)
+object_by l (a_procedure signature) = a_procedure (map (formal_by l) signature)
+object_by l (a_standard p) = a_standard p
+
+abbrev pub named_by : FieldNames → (Name → Option (Object Shape Signature)) → Typed Name
+named_by l objects = named (λ x. option_map (object_by l) (objects x))
+
+pub value_type-by : (l : FieldNames) (v : Value) → value_type v ≡ option_map (shape_by l) (value_type v)
+value_type-by l (number n) = refl
+value_type-by l (truth b) = refl
+value_type-by l (elements vs) = refl
+value_type-by l (members k ms) = refl
+
+pub object_type-by : (l : FieldNames) (o : Option (Object Shape Signature)) → object_type (option_map (object_by l) o) ≡ option_map (shape_by l) (object_type o)
+object_type-by l None = refl
+object_type-by l (Some (a_type s)) = refl
+object_type-by l (Some (a_constant v)) = value_type-by l v
+object_type-by l (Some (a_variable s)) = refl
+object_type-by l (Some (a_procedure signature)) = refl
+object_type-by l (Some (a_standard p)) = refl
+
+pub constant_of-by : (l : FieldNames) (o : Option (Object Shape Signature)) → constant_of (option_map (object_by l) o) ≡ constant_of o
+constant_of-by l None = refl
+constant_of-by l (Some (a_type s)) = refl
+constant_of-by l (Some (a_constant v)) = refl
+constant_of-by l (Some (a_variable s)) = refl
+constant_of-by l (Some (a_procedure signature)) = refl
+constant_of-by l (Some (a_standard p)) = refl
+
+pub type_of_name-by : (l : FieldNames) (o : Option (Object Shape Signature)) → type_of_name (option_map (object_by l) o) ≡ option_map (shape_by l) (type_of_name o)
+type_of_name-by l None = refl
+type_of_name-by l (Some (a_type s)) = refl
+type_of_name-by l (Some (a_constant v)) = refl
+type_of_name-by l (Some (a_variable s)) = refl
+type_of_name-by l (Some (a_procedure signature)) = refl
+type_of_name-by l (Some (a_standard p)) = refl
+
+pub signature_of-by : (l : FieldNames) (o : Option (Object Shape Signature)) → signature_of (option_map (object_by l) o) ≡ option_map (map (formal_by l)) (signature_of o)
+signature_of-by l None = refl
+signature_of-by l (Some (a_type s)) = refl
+signature_of-by l (Some (a_constant v)) = refl
+signature_of-by l (Some (a_variable s)) = refl
+signature_of-by l (Some (a_procedure signature)) = refl
+signature_of-by l (Some (a_standard reads)) = refl
+signature_of-by l (Some (a_standard writes)) = refl
+signature_of-by l (Some (a_standard writes_line)) = refl

@@ -1,0 +1,102 @@
+-- Where a new name for a field is free, that a field is renamed is that its name and the new one change places.
+use Rattle.std.proofs.Common.{◌≡◌, ℕ, Bool, true, false, not, ◌&&◌, ◌||◌, List, [], ◌∷◌, if◌then◌else◌, ◌==◌, sym, refl, ap, ◌∙◌, subst}
+use Rattle.std.specs.List.{list_any}
+use Rattle.std.proofs.lemmas.Slice.Eq.{bytes_eq-Decides}
+use Rattle.ob0_tree.specs.Tree.{Tree, module_text}
+use Rattle.ob0_language_names.specs.Names.{Name, same_name}
+use Rattle.ob0_language_names.specs.Scopes.{same_ordinal}
+use Rattle.ob0_language_types.specs.WellTyped.{WellTyped}
+use Rattle.ob0_language_runs.specs.EditLaws.{SameRuns}
+use Rattle.ob0_language_fields.specs.Fields.{FieldNames, refielded}
+use Rattle.ob0_language_field_laws.specs.FieldLaws.{FreeFieldKeepsModules, KeepsApart}
+use Rattle.ob0_language_fields.specs.Renaming.{FieldFree, RecordFields, field_renamed, names_another_field, one_renamed, records}
+use Rattle.ob0_language_fields.proofs.AgreeingFields.{NamesAgree, RecordsAgree}
+use Rattle.ob0_language_fields.proofs.AgreeingModules.{module-alike}
+use Rattle.ob0_language_field_laws.proofs.Proved.{refielding_keeps_modules-holds}
+
+same_name-refl : (x : Name) → same_name x x ≡ true
+same_name-refl x = (bytes_eq-Decides x x).1 refl
+
+same_name-is : (x y : Name) → same_name x y ≡ true → x ≡ y
+same_name-is x y e = (bytes_eq-Decides x y).0 e
+
+-- two names change places
+abbrev pub exchange : Name → Name → Name → Name
+exchange f new x = if same_name x f then new else if same_name x new then f else x
+
+exchange-at : (f new x : Name) (a b : Bool) → same_name x f ≡ a → same_name x new ≡ b → exchange f new x ≡ (if a then new else if b then f else x)
+exchange-at f new x a b e₁ e₂ = λ i. if e₁ i then new else if e₂ i then f else x
+
+exchange-old : (f new : Name) → exchange f new f ≡ new
+exchange-old f new = exchange-at f new f true (same_name f new) (same_name-refl f) refl
+
+exchange-new : (f new : Name) → exchange f new new ≡ f
+exchange-new f new = go (same_name new f) refl
+  where
+    go : (a : Bool) → same_name new f ≡ a → exchange f new new ≡ f
+    go true e = exchange-at f new new true true e (same_name-refl new) ∙ same_name-is new f e
+    go false e = exchange-at f new new false true e (same_name-refl new)
+
+exchange-twice : (f new x : Name) → exchange f new (exchange f new x) ≡ x
+exchange-twice f new x = go (same_name x f) (same_name x new) refl refl
+  where
+    go : (a b : Bool) → same_name x f ≡ a → same_name x new ≡ b → exchange f new (exchange f new x) ≡ x
+    go true b e₁ e₂ = ap (exchange f new) (exchange-at f new x true b e₁ e₂) ∙ (exchange-new f new ∙ sym (same_name-is x f e₁))
+    go false true e₁ e₂ = ap (exchange f new) (exchange-at f new x false true e₁ e₂) ∙ (exchange-old f new ∙ sym (same_name-is x new e₂))
+    go false false e₁ e₂ = ap (exchange f new) (exchange-at f new x false false e₁ e₂) ∙ exchange-at f new x false false e₁ e₂
+
+both-ways : (a b : Bool) → (a ≡ true → b ≡ true) → (b ≡ true → a ≡ true) → a ≡ b
+both-ways true true h k = refl
+both-ways true false h k = sym (h refl)
+both-ways false true h k = k refl
+both-ways false false h k = refl
+
+exchange-apart : (f new x y : Name) → same_name (exchange f new x) (exchange f new y) ≡ same_name x y
+exchange-apart f new x y =
+    both-ways (same_name (exchange f new x) (exchange f new y)) (same_name x y)
+    (λ e. (bytes_eq-Decides x y).1 (sym (exchange-twice f new x) ∙ (ap (exchange f new) (same_name-is (exchange f new x) (exchange f new y) e) ∙ exchange-twice f new y)))
+    (λ e. (bytes_eq-Decides (exchange f new x) (exchange f new y)).1 (ap (exchange f new) (same_name-is x y e)))
+
+abbrev pub exchanged : ℕ → Name → Name → FieldNames
+exchanged r f new owner x = if same_ordinal owner r then exchange f new x else x
+
+pub exchanged-apart : (r : ℕ) (f new : Name) → KeepsApart (exchanged r f new)
+exchanged-apart r f new k x y =
+    elim (k == r) as (λ b. same_name (if b then exchange f new x else x) (if b then exchange f new y else y) ≡ same_name x y) [ true ↦ exchange-apart f new x y | false ↦ refl ]
+
+-- a field that isn't a second one of the new name is written alike
+
+agree-cases : (f new x : Name) (c a b : Bool) → (c && (b && not a)) ≡ false → (if c && a then new else x) ≡ (if c then (if a then new else if b then f else x) else x)
+agree-cases f new x true true b h = refl
+agree-cases f new x true false true h = absurd (cc)
+agree-cases f new x true false false h = refl
+agree-cases f new x false a b h = refl
+
+and-or-false : (c p q : Bool) → (c && (p || q)) ≡ false → ((c && p) ≡ false) × ((c && q) ≡ false)
+and-or-false true true q h = absurd (cc)
+and-or-false true false q h = (refl, h)
+and-or-false false p q h = (refl, refl)
+
+or-false : (p q : Bool) → (p || q) ≡ false → (p ≡ false) × (q ≡ false)
+or-false true q h = absurd (cc)
+or-false false q h = (refl, h)
+
+names-agree : (r : ℕ) (f new : Name) (k : ℕ) (xs : List Name) → ((k == r) && names_another_field xs f new) ≡ false → NamesAgree (one_renamed r f new) (exchanged r f new) k xs
+names-agree r f new k [] h = tt
+names-agree r f new k (x ∷ xs) h =
+    let g = and-or-false (k == r) (same_name x new && not (same_name x f)) (names_another_field xs f new) h in
+    (agree-cases f new x (k == r) (same_name x f) (same_name x new) g.0, names-agree r f new k xs g.1)
+
+records-agree : (r : ℕ) (f new : Name) (ts : List RecordFields) → list_any (λ t. (t.ordinal == r) && names_another_field t.declared f new) ts ≡ false → RecordsAgree (one_renamed r f new) (exchanged r f new) ts
+records-agree r f new [] h = tt
+records-agree r f new (t ∷ ts) h =
+    let g = or-false ((t.ordinal == r) && names_another_field t.declared f new) (list_any (λ t. (t.ordinal == r) && names_another_field t.declared f new) ts) h in
+    (names-agree r f new t.ordinal t.declared g.0, records-agree r f new ts g.1)
+
+pub renamed-exchanged : (m : Tree Name module_text) (r : ℕ) (f new : Name) → FieldFree m r f new → WellTyped m → field_renamed m r f new ≡ refielded (exchanged r f new) m
+unfolding WellTyped
+renamed-exchanged m r f new free well = module-alike (one_renamed r f new) (exchanged r f new) m (records-agree r f new (records m) free) well.1
+
+pub free_field_keeps_modules-holds : FreeFieldKeepsModules
+free_field_keeps_modules-holds m r f new free well =
+    subst (λ a. WellTyped a × SameRuns a m) (sym (renamed-exchanged m r f new free well)) (refielding_keeps_modules-holds (exchanged r f new) m (exchanged-apart r f new) well)

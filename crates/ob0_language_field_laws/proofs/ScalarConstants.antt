@@ -1,0 +1,165 @@
+-- A constant expression over numbers and truth values evaluates to a number or a truth value.
+use Rattle.std.proofs.Common.{◌≡◌, Bool, true, false, ℤ, ◌+ℤ◌, ◌-ℤ◌, ◌*ℤ◌, neg_ℤ, List, [], ◌∷◌, if◌then◌else◌, Some, None, Option, option_map, option_and_then, refl, sym, ap, ◌∙◌, subst}
+use Rattle.ob0_tree.specs.declared.tree.Relation.{Relation}
+use Rattle.ob0_tree.specs.declared.tree.Relation.TheVariants as relation
+use Rattle.ob0_tree.specs.declared.tree.Sign.{Sign}
+use Rattle.ob0_tree.specs.declared.tree.Sign.TheVariants as sign
+use Rattle.ob0_tree.specs.declared.tree.AddOperator.{AddOperator}
+use Rattle.ob0_tree.specs.declared.tree.AddOperator.TheVariants as add_operator
+use Rattle.ob0_tree.specs.declared.tree.MultiplyOperator.{MultiplyOperator}
+use Rattle.ob0_tree.specs.declared.tree.MultiplyOperator.TheVariants as multiply_operator
+use Rattle.ob0_tree.specs.Tree.{Tree, addend, adds, compares, designator, end, expression, factor, integer, items, more, multiplier, multiplies, negation, none, one, parenthesised, product, relates, simple, sum, term}
+use Rattle.ob0_language_names.specs.Names.{Name}
+use Rattle.ob0_language_types.specs.Expressions.{Meanings, Object, a_constant, evaluate, evaluate_addends, evaluate_factor, evaluate_multipliers, evaluate_simple, evaluate_term, follow, object_value}
+use Rattle.ob0_language_types.specs.Typing.{constant_of, constant_value, constants_only, given_value, type_of}
+use Rattle.ob0_language_values.specs.Values.{Outcome, Overflow, Place, Shape, Step, Value, add, add_is_settled, at_path, divided, divided_by, elements, ends, fits, gives, in_range, members, multiply, multiply_is_settled, negate, number, or_stuck, quotient, relate, remainder, apply_sign, truth, ◌>>=◌}
+use Rattle.ob0_language_field_laws.proofs.RefieldedExpressions.{Scalar, logical, scalar_value, whole}
+use Rattle.ob0_language_fields.proofs.NamesMeant.{named}
+
+abbrev pub IsScalarValue : Value → Type 0
+IsScalarValue (number n) = Unit {0}
+IsScalarValue (truth b) = Unit {0}
+IsScalarValue (elements vs) = ⊥
+IsScalarValue (members k ms) = ⊥
+
+abbrev pub Holds : {A : Type 0} → (A → Type 0) → Outcome A → Type 0
+Holds P (gives a) = P a
+Holds P (ends e) = Unit {0}
+
+holds-then : {A B : Type 0} (P : B → Type 0) (o : Outcome A) (next : A → Outcome B) → ((a : A) → Holds P (next a)) → Holds P (o >>= next)
+holds-then P (gives a) next each = each a
+holds-then P (ends e) next each = tt
+
+-- a scalar, and then what is made of it
+holds-with : {A B : Type 0} (Q : A → Type 0) (P : B → Type 0) (o : Outcome A) (next : A → Outcome B) → Holds Q o → ((a : A) → Q a → Holds P (next a)) → Holds P (o >>= next)
+holds-with Q P (gives a) next h each = each a h
+holds-with Q P (ends e) next h each = tt
+
+in_range-scalar : (n : ℤ) → Holds IsScalarValue (in_range n)
+in_range-scalar n = elim (fits n) as (λ b. Holds IsScalarValue (if b then gives (number n) else ends Overflow)) [ true ↦ tt | false ↦ tt ]
+
+divided_by-scalar : (result : Option ℤ) → Holds IsScalarValue (divided_by result)
+divided_by-scalar None = tt
+divided_by-scalar (Some n) = in_range-scalar n
+
+add-scalar : (o : AddOperator) (v w : Value) → Holds IsScalarValue (add o v w)
+add-scalar add_operator.Add (number a) (number b) = in_range-scalar (a +ℤ b)
+add-scalar add_operator.Subtract (number a) (number b) = in_range-scalar (a -ℤ b)
+add-scalar add_operator.Or (truth a) (truth b) = tt
+add-scalar _ _ _ = tt
+
+multiply-scalar : (o : MultiplyOperator) (v w : Value) → Holds IsScalarValue (multiply o v w)
+multiply-scalar multiply_operator.Multiply (number a) (number b) = in_range-scalar (a *ℤ b)
+multiply-scalar multiply_operator.Divide (number a) (number b) = divided_by-scalar (divided quotient a b)
+multiply-scalar multiply_operator.Modulo (number a) (number b) = divided_by-scalar (divided remainder a b)
+multiply-scalar multiply_operator.And (truth a) (truth b) = tt
+multiply-scalar _ _ _ = tt
+
+relate-scalar : (r : Relation) (v w : Value) → Holds IsScalarValue (relate r v w)
+relate-scalar r (number a) (number b) = tt
+relate-scalar relation.Equal (truth a) (truth b) = tt
+relate-scalar relation.NotEqual (truth a) (truth b) = tt
+relate-scalar _ _ _ = tt
+
+apply_sign-scalar : (s : Option Sign) (v : Value) → IsScalarValue v → Holds IsScalarValue (apply_sign s v)
+apply_sign-scalar None v h = h
+apply_sign-scalar (Some sign.Plus) (number a) h = in_range-scalar a
+apply_sign-scalar (Some sign.Minus) (number a) h = in_range-scalar (neg_ℤ a)
+apply_sign-scalar _ _ h = tt
+
+negate-scalar : (v : Value) → Holds IsScalarValue (negate v)
+negate-scalar (truth b) = tt
+negate-scalar _ = tt
+
+settled-scalar : (b : Bool) (v : Value) (o : Outcome Value) → IsScalarValue v → Holds IsScalarValue o → Holds IsScalarValue (elim b [ true ↦ gives v | false ↦ o ])
+settled-scalar true v o h k = h
+settled-scalar false v o h k = k
+
+-- a scalar has no parts
+at_path-scalar : (steps : List Step) (v : Value) → IsScalarValue v → Holds IsScalarValue (or_stuck (at_path steps v))
+at_path-scalar [] v h = h
+at_path-scalar (s ∷ steps) (number n) h = tt
+at_path-scalar (s ∷ steps) (truth b) h = tt
+at_path-scalar (s ∷ steps) (elements vs) h = absurd h
+at_path-scalar (s ∷ steps) (members k ms) h = absurd h
+
+abbrev pub Constants : Type 0
+Constants = Name → Option Scalar
+
+abbrev pub constant_meaning : Constants → Meanings Name Place (Unit {0})
+constant_meaning constants = named (λ x. option_map (λ c. a_constant (scalar_value c)) (constants x))
+
+object_value-scalar : (o : Option Scalar) → Holds IsScalarValue (object_value {P = Unit {0}} [] (option_map (λ c. a_constant (scalar_value c)) o))
+object_value-scalar None = tt
+object_value-scalar (Some (whole n)) = tt
+object_value-scalar (Some (logical b)) = tt
+
+mutual
+  unfolding evaluate
+
+  evaluate-scalar : (cs : Constants) (e : Tree Name expression) → Holds IsScalarValue (evaluate {P = Unit {0}} (constant_meaning cs) [] e)
+  evaluate-scalar cs (compares a none) = evaluate_simple-scalar cs a
+  evaluate-scalar cs (compares a (one (relates r b))) =
+      holds-then IsScalarValue (evaluate_simple {P = Unit {0}} (constant_meaning cs) [] a) (λ x. evaluate_simple {P = Unit {0}} (constant_meaning cs) [] b >>= relate r x)
+      (λ x. holds-then IsScalarValue (evaluate_simple {P = Unit {0}} (constant_meaning cs) [] b) (relate r x) (relate-scalar r x))
+
+  evaluate_simple-scalar : (cs : Constants) (a : Tree Name simple) → Holds IsScalarValue (evaluate_simple {P = Unit {0}} (constant_meaning cs) [] a)
+  evaluate_simple-scalar cs (sum s t rest) =
+      holds-with IsScalarValue IsScalarValue (evaluate_term {P = Unit {0}} (constant_meaning cs) [] t) (λ x. apply_sign s x >>= (λ y. evaluate_addends {P = Unit {0}} (constant_meaning cs) [] y rest)) (evaluate_term-scalar cs t)
+      (λ x hx. holds-with IsScalarValue IsScalarValue (apply_sign s x) (λ y. evaluate_addends {P = Unit {0}} (constant_meaning cs) [] y rest) (apply_sign-scalar s x hx) (λ y hy. evaluate_addends-scalar cs y rest hy))
+
+  evaluate_addends-scalar : (cs : Constants) (v : Value) (a : Tree Name (items addend)) → IsScalarValue v → Holds IsScalarValue (evaluate_addends {P = Unit {0}} (constant_meaning cs) [] v a)
+  evaluate_addends-scalar cs v end h = h
+  evaluate_addends-scalar cs v (more (adds o t) rest) h =
+      holds-with IsScalarValue IsScalarValue (elim (add_is_settled o v) [ true ↦ gives v | false ↦ evaluate_term {P = Unit {0}} (constant_meaning cs) [] t >>= add o v ]) (λ y. evaluate_addends {P = Unit {0}} (constant_meaning cs) [] y rest)
+      (settled-scalar (add_is_settled o v) v (evaluate_term {P = Unit {0}} (constant_meaning cs) [] t >>= add o v) h (holds-then IsScalarValue (evaluate_term {P = Unit {0}} (constant_meaning cs) [] t) (add o v) (add-scalar o v)))
+      (λ y hy. evaluate_addends-scalar cs y rest hy)
+
+  evaluate_term-scalar : (cs : Constants) (a : Tree Name term) → Holds IsScalarValue (evaluate_term {P = Unit {0}} (constant_meaning cs) [] a)
+  evaluate_term-scalar cs (product a rest) =
+      holds-with IsScalarValue IsScalarValue (evaluate_factor {P = Unit {0}} (constant_meaning cs) [] a) (λ y. evaluate_multipliers {P = Unit {0}} (constant_meaning cs) [] y rest) (evaluate_factor-scalar cs a) (λ y hy. evaluate_multipliers-scalar cs y rest hy)
+
+  evaluate_multipliers-scalar : (cs : Constants) (v : Value) (a : Tree Name (items multiplier)) → IsScalarValue v → Holds IsScalarValue (evaluate_multipliers {P = Unit {0}} (constant_meaning cs) [] v a)
+  evaluate_multipliers-scalar cs v end h = h
+  evaluate_multipliers-scalar cs v (more (multiplies o t) rest) h =
+      holds-with IsScalarValue IsScalarValue (elim (multiply_is_settled o v) [ true ↦ gives v | false ↦ evaluate_factor {P = Unit {0}} (constant_meaning cs) [] t >>= multiply o v ]) (λ y. evaluate_multipliers {P = Unit {0}} (constant_meaning cs) [] y rest)
+      (settled-scalar (multiply_is_settled o v) v (evaluate_factor {P = Unit {0}} (constant_meaning cs) [] t >>= multiply o v) h (holds-then IsScalarValue (evaluate_factor {P = Unit {0}} (constant_meaning cs) [] t) (multiply o v) (multiply-scalar o v)))
+      (λ y hy. evaluate_multipliers-scalar cs y rest hy)
+
+  evaluate_factor-scalar : (cs : Constants) (a : Tree Name factor) → Holds IsScalarValue (evaluate_factor {P = Unit {0}} (constant_meaning cs) [] a)
+  evaluate_factor-scalar cs (designator x path) =
+      holds-with IsScalarValue IsScalarValue (object_value {P = Unit {0}} [] (option_map (λ c. a_constant (scalar_value c)) (cs x))) (λ v. follow {P = Unit {0}} (constant_meaning cs) [] v path >>= (λ steps. or_stuck (at_path steps v))) (object_value-scalar (cs x))
+      (λ v hv. holds-then IsScalarValue (follow {P = Unit {0}} (constant_meaning cs) [] v path) (λ steps. or_stuck (at_path steps v)) (λ steps. at_path-scalar steps v hv))
+  evaluate_factor-scalar cs (integer n) = tt
+  evaluate_factor-scalar cs (parenthesised e) = evaluate-scalar cs e
+  evaluate_factor-scalar cs (negation a) = holds-then IsScalarValue (evaluate_factor {P = Unit {0}} (constant_meaning cs) [] a) negate negate-scalar
+
+scalar_is : (v : Value) → IsScalarValue v → (c : Scalar) × (v ≡ scalar_value c)
+scalar_is (number n) h = (whole n, refl)
+scalar_is (truth b) h = (logical b, refl)
+scalar_is (elements vs) h = absurd h
+scalar_is (members k ms) h = absurd h
+
+given-scalar : (o : Outcome Value) → Holds IsScalarValue o → (c : Option Scalar) × (given_value o ≡ option_map scalar_value c)
+given-scalar (gives v) h = let s = scalar_is v h in (Some s.0, ap Some s.1)
+given-scalar (ends e) h = (None, refl)
+
+abbrev as_constant : Value → Object Place (Unit {0})
+as_constant v = a_constant v
+
+-- where names mean scalars alone
+pub constant_value-scalar : {V P : Type 0} (objects : Name → Option (Object V P)) (cs : Constants) → ((x : Name) → constant_of (objects x) ≡ option_map scalar_value (cs x)) → (e : Tree Name expression)
+    → (c : Option Scalar) × (constant_value (named objects) e ≡ option_map scalar_value c)
+unfolding constant_value
+constant_value-scalar objects cs same e = of_type (type_of {P = Unit {0}} (constants_only (named objects)) e)
+  where
+    only-constants : constants_only {W = Place} {Q = Unit {0}} (named objects) ≡ constant_meaning cs
+    only-constants = λ i. named (λ x. (ap (option_map as_constant) (same x) ∙ twice (cs x)) i)
+      where
+        twice : (o : Option Scalar) → option_map as_constant (option_map scalar_value o) ≡ option_map (λ c. a_constant (scalar_value c)) o
+        twice None = refl
+        twice (Some c) = refl
+
+    of_type : (o : Option Shape) → (c : Option Scalar) × (option_and_then (λ s. given_value (evaluate {P = Unit {0}} (constants_only (named objects)) [] e)) o ≡ option_map scalar_value c)
+    of_type None = (None, refl)
+    of_type (Some s) = given-scalar (evaluate {P = Unit {0}} (constants_only (named objects)) [] e) (subst (λ m. Holds IsScalarValue (evaluate {P = Unit {0}} m [] e)) (sym only-constants) (evaluate-scalar cs e))

@@ -1,0 +1,5 @@
+pub mod AgreeingFields
+pub mod AgreeingModules
+pub mod Bare
+pub mod NamesMeant
+pub mod WorkedFields

@@ -1,0 +1,17 @@
+pub mod NameEquality
+pub mod WorkedTrees
+pub mod Relabelled
+pub mod Ordinals
+pub mod Peeling
+pub mod Renaming
+pub mod SameNames
+pub mod OccurrencesMapped
+pub mod DistinctNames
+pub mod RenamedDeclarations
+pub mod OccurrenceNames
+pub mod Places
+pub mod EditedTrees
+pub mod EditedOnce
+pub mod NoneLeft
+pub mod EverywhereTrees
+pub mod ElsewhereNames

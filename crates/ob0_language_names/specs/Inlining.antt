@@ -1,0 +1,152 @@
+-- Inlining a constant: a factor is written in place of uses, and the declaration may go.
+-- Rule: docs/PROTOCOL.md, Requests on documents 9.
+use Rattle.std.specs.Prelude.{ℕ, suc, ◌+◌, Bool, length, if◌then◌else◌, ◌==◌}
+use Rattle.ob0_tree.specs.Tree.{Sort, Tree, adds, array_type, assigns, begins, block, branches, calls, compares, constant, constants, declares, declares_constant, declares_constants, declares_procedure, declares_type, declares_types, declares_variable, declares_variables, designator, else_branch, elsif_branch, empty, end, factor, field, has_body, index, integer, is_module, item, items, listed, maybe, module_text, more, multiplies, named_type, negation, no_arguments, no_fields, no_formals, none, occurrences, one, parenthesised, procedure, product, record_type, relates, repeat_loop, runs, some_arguments, some_fields, some_formals, sum, then_argument, then_fields, then_name, then_section, then_statement, value_section, variable_section, while_loop}
+use Rattle.ob0_language_names.specs.Names.{Name}
+use Rattle.ob0_language_names.specs.Occurrences.{binds}
+use Rattle.ob0_language_names.specs.Parts.{formal_names, formal_sections}
+use Rattle.ob0_language_names.specs.Scopes.{after_names, after_procedure, first_procedure, same_ordinal}
+
+-- which of a tree's occurrences, counted in text order, give way to a factor
+abbrev pub Uses : Type 0
+Uses = ℕ → Bool
+
+-- k is the number of the first occurrence of each part;
+-- a name with selectors isn't a use of a constant
+abbrev pub inline_in : {s : Sort} → Uses → Tree Name factor → ℕ → Tree Name s → Tree Name s
+inline_in uses v k none = none
+inline_in uses v k (one t) = one (inline_in uses v k t)
+inline_in uses v k end = end
+inline_in uses v k (more t ts) =
+    more (inline_in uses v k t) (inline_in uses v (k + length (occurrences t)) ts)
+inline_in uses v k (compares left compared) =
+    compares (inline_in uses v k left) (inline_in uses v (k + length (occurrences left)) compared)
+inline_in uses v k (relates relation right) = relates relation (inline_in uses v k right)
+inline_in uses v k (sum sign first terms) =
+    sum sign (inline_in uses v k first) (inline_in uses v (k + length (occurrences first)) terms)
+inline_in uses v k (adds operator t) = adds operator (inline_in uses v k t)
+inline_in uses v k (product first factors) =
+    product (inline_in uses v k first) (inline_in uses v (k + length (occurrences first)) factors)
+inline_in uses v k (multiplies operator t) = multiplies operator (inline_in uses v k t)
+inline_in uses v k (designator x end) = if uses k then v else designator x end
+inline_in uses v k (designator x (more s rest)) =
+    designator x (inline_in uses v (suc k) (more s rest))
+inline_in uses v k (integer n) = integer n
+inline_in uses v k (parenthesised e) = parenthesised (inline_in uses v k e)
+inline_in uses v k (negation t) = negation (inline_in uses v k t)
+inline_in uses v k (field name) = field name
+inline_in uses v k (index e) = index (inline_in uses v k e)
+inline_in uses v k empty = empty
+inline_in uses v k (assigns name selectors e) =
+    assigns name (inline_in uses v (suc k) selectors)
+    (inline_in uses v (suc k + length (occurrences selectors)) e)
+inline_in uses v k (calls name args) = calls name (inline_in uses v (suc k) args)
+inline_in uses v k (branches condition s elsifs rest) =
+    branches (inline_in uses v k condition)
+    (inline_in uses v (k + length (occurrences condition)) s)
+    (inline_in uses v (k + length (occurrences condition) + length (occurrences s)) elsifs)
+    (inline_in uses v
+    (k + length (occurrences condition) + length (occurrences s) + length (occurrences elsifs))
+    rest)
+inline_in uses v k (while_loop condition s) =
+    while_loop (inline_in uses v k condition)
+    (inline_in uses v (k + length (occurrences condition)) s)
+inline_in uses v k (repeat_loop s condition) =
+    repeat_loop (inline_in uses v k s) (inline_in uses v (k + length (occurrences s)) condition)
+inline_in uses v k no_arguments = no_arguments
+inline_in uses v k (some_arguments e es) =
+    some_arguments (inline_in uses v k e) (inline_in uses v (k + length (occurrences e)) es)
+inline_in uses v k (then_argument e) = then_argument (inline_in uses v k e)
+inline_in uses v k (runs first statements) =
+    runs (inline_in uses v k first) (inline_in uses v (k + length (occurrences first)) statements)
+inline_in uses v k (then_statement s) = then_statement (inline_in uses v k s)
+inline_in uses v k (elsif_branch condition s) =
+    elsif_branch (inline_in uses v k condition)
+    (inline_in uses v (k + length (occurrences condition)) s)
+inline_in uses v k (else_branch s) = else_branch (inline_in uses v k s)
+inline_in uses v k (listed name others) = listed name (inline_in uses v k others)
+inline_in uses v k (then_name name) = then_name name
+inline_in uses v k (named_type name) = named_type name
+inline_in uses v k (array_type size t) =
+    array_type (inline_in uses v k size) (inline_in uses v (k + length (occurrences size)) t)
+inline_in uses v k (record_type first others) =
+    record_type (inline_in uses v k first)
+    (inline_in uses v (k + length (occurrences first)) others)
+inline_in uses v k no_fields = no_fields
+inline_in uses v k (some_fields ns t) = some_fields ns (inline_in uses v k t)
+inline_in uses v k (then_fields fs) = then_fields (inline_in uses v k fs)
+inline_in uses v k no_formals = no_formals
+inline_in uses v k (some_formals first others) =
+    some_formals (inline_in uses v k first)
+    (inline_in uses v (k + length (occurrences first)) others)
+inline_in uses v k (value_section ns t) = value_section ns (inline_in uses v k t)
+inline_in uses v k (variable_section ns t) = variable_section ns (inline_in uses v k t)
+inline_in uses v k (then_section s) = then_section (inline_in uses v k s)
+inline_in uses v k (declares_constant name e) = declares_constant name (inline_in uses v k e)
+inline_in uses v k (declares_constants cs) = declares_constants (inline_in uses v k cs)
+inline_in uses v k (declares_type name t) = declares_type name (inline_in uses v k t)
+inline_in uses v k (declares_types ts) = declares_types (inline_in uses v k ts)
+inline_in uses v k (declares_variable ns t) = declares_variable ns (inline_in uses v k t)
+inline_in uses v k (declares_variables vs) = declares_variables (inline_in uses v k vs)
+inline_in uses v k (declares_procedure name fs b closing) =
+    declares_procedure name (inline_in uses v k fs)
+    (inline_in uses v (k + length (occurrences fs)) b) closing
+inline_in uses v k (declares cs ts vs ps) =
+    declares (inline_in uses v k cs) (inline_in uses v (k + length (occurrences cs)) ts)
+    (inline_in uses v (k + length (occurrences cs) + length (occurrences ts)) vs)
+    (inline_in uses v
+    (k + length (occurrences cs) + length (occurrences ts) + length (occurrences vs)) ps)
+inline_in uses v k (begins s) = begins (inline_in uses v k s)
+inline_in uses v k (has_body ds b) =
+    has_body (inline_in uses v k ds) (inline_in uses v (k + length (occurrences ds)) b)
+inline_in uses v k (is_module name b closing) = is_module name (inline_in uses v k b) closing
+
+-- in place of each use is the factor
+abbrev pub inlined : Tree Name module_text → Uses → Tree Name factor → Tree Name module_text
+inlined m uses v = inline_in uses v 0 m
+
+-- the constants from ordinal k on without that of ordinal d
+abbrev pub without : ℕ → ℕ → Tree Name (items constant) → Tree Name (items constant)
+without d k end = end
+without d k (more c cs) = if k == d then cs else more c (without d (suc k) cs)
+
+-- a CONST section without the declaration of this ordinal
+abbrev pub section_without : ℕ → ℕ → Tree Name (maybe constants) → Tree Name (maybe constants)
+section_without d k none = none
+section_without d k (one (declares_constants cs)) = one (declares_constants (without d k cs))
+
+-- a block, its first declaration of ordinal k, without the constant d; the word CONST stays
+abbrev mutual
+  -- a block whose first declaration has ordinal k
+  pub block_without : ℕ → ℕ → Tree Name block → Tree Name block
+  block_without d k (has_body (declares cs ts vs ps) statements) =
+      has_body (declares (section_without d k cs) ts vs (procedures_without d
+      (first_procedure k (has_body (declares cs ts vs ps) statements)) ps)) statements
+
+  -- procedures, the first of which has ordinal k
+  pub procedures_without : ℕ → ℕ → Tree Name (items procedure) → Tree Name (items procedure)
+  procedures_without d k end = end
+  procedures_without d k (more p rest) =
+      more (procedure_without d (suc k) p) (procedures_without d (after_procedure (suc k) p) rest)
+
+  -- a procedure; k is the ordinal after its own
+  pub procedure_without : ℕ → ℕ → Tree Name (item procedure) → Tree Name (item procedure)
+  procedure_without d k (declares_procedure x fs b closing) =
+      declares_procedure x fs
+      (block_without d (after_names k (formal_names (formal_sections fs))) b) closing
+
+-- a module without the declaration of this ordinal
+abbrev pub module_without : ℕ → Tree Name module_text → Tree Name module_text
+module_without d (is_module x b closing) = is_module x (block_without d 7 b) closing
+
+-- the occurrence with this number alone
+abbrev pub only : ℕ → Uses
+only occurrence k = k == occurrence
+
+-- all occurrences that are bound to a declaration
+abbrev pub all_bound_to : Tree Name module_text → ℕ → Uses
+all_bound_to m d k = same_ordinal (binds m k) d
+
+-- in place of all uses of the constant d is a factor, and its declaration is gone
+abbrev pub inlined_everywhere : Tree Name module_text → ℕ → Tree Name factor → Tree Name module_text
+inlined_everywhere m d v = module_without d (inlined m (all_bound_to m d) v)

@@ -1,0 +1,14 @@
+-- Laws of names.
+-- Rule: none; laws of names.
+use Rattle.std.specs.Prelude.{◌≡◌, ℕ}
+use Rattle.ob0_tree.specs.Tree.{Tree, module_text}
+use Rattle.ob0_language_names.specs.Names.{Name}
+use Rattle.ob0_language_names.specs.Occurrences.{Free}
+use Rattle.ob0_language_names.specs.Scopes.{numbered, renamed}
+
+-- where a new name is free, the renamed module has the numbered tree that the module had
+abbrev pub FreeKeepsNumbers : Type 0
+FreeKeepsNumbers =
+    (m : Tree Name module_text) (d : ℕ) (new : Name)
+    → Free m d new
+    → numbered (renamed m d new) ≡ numbered m

@@ -1,0 +1,11 @@
+pub mod Names
+pub mod Parts
+pub mod Mapping
+pub mod Scopes
+pub mod Occurrences
+pub mod DeclaredOnce
+pub mod Inlining
+pub mod Laws
+pub mod RenamingLaws
+pub mod SeenNames
+pub mod Elsewhere

@@ -1,0 +1,331 @@
+-- Scopes: which declaration each name is bound to,
+-- and trees with their names replaced by what these are bound to.
+-- Rule: docs/LANGUAGE.md, Scopes 1 to 6.
+use Rattle.std.specs.Prelude.{ℕ, suc, Bool, true, false, List, [], ◌∷◌, map, if◌then◌else◌, ◌==◌, Some, None, Option}
+use Rattle.ob0_tree.specs.Tree.{Sort, Tree, block, constant, constants, declares, declares_constant, declares_constants, declares_procedure, declares_type, declares_types, declares_variable, declares_variables, end, formals, further_name, further_section, has_body, is_module, item, items, listed, maybe, module_text, more, names, no_formals, none, one, procedure, section, some_formals, then_name, then_section, type_name, type_names, value_section, variable, variable_section, variables}
+use Rattle.ob0_language_names.specs.Mapping.{with_names}
+use Rattle.ob0_language_names.specs.Names.{Label, Name, Naming, as_names, as_written, declared}
+use Rattle.ob0_language_names.specs.Parts.{block_constants, block_procedures, block_types, block_variables, constant_names, formal_names, formal_sections, named_types, names_listed, procedure_name, section_constants, section_names, section_types, section_variables, variable_names}
+
+-- the bindings of a place, each name with the ordinal of its declaration:
+-- newest first, the predeclared ones last
+abbrev pub Scope : Type 0 → Type 0
+Scope N = List (N × ℕ)
+
+-- the declaration to which a name is bound: the first binding of that name
+abbrev pub ordinal_of : {N : Type 0} → Naming N → Scope N → N → Option ℕ
+ordinal_of naming [] x = None
+ordinal_of naming (b ∷ scope) x =
+    elim (naming.same x b.0) [ true ↦ Some b.1 | false ↦ ordinal_of naming scope x ]
+
+-- declarations are numbered in text order, the predeclared names from 0 to 6
+abbrev pub declare_names : {N : Type 0} → ℕ → List N → Scope N → Scope N
+declare_names k [] scope = scope
+declare_names k (x ∷ xs) scope = declare_names (suc k) xs ((x, k) ∷ scope)
+
+-- the outermost block
+abbrev pub predeclared_scope : {N : Type 0} → Naming N → Scope N
+predeclared_scope naming =
+    declare_names 0 (map naming.predeclared (0 ∷ 1 ∷ 2 ∷ 3 ∷ 4 ∷ 5 ∷ 6 ∷ [])) []
+
+-- the first ordinal after those of a list of names
+abbrev pub after_names : {N : Type 0} → ℕ → List N → ℕ
+after_names k [] = k
+after_names k (x ∷ xs) = after_names (suc k) xs
+
+-- the first ordinal after those of a block, of some procedures,
+-- and of a procedure's parameters and block
+abbrev mutual
+  -- after a block, whose first declaration has ordinal k
+  pub after_block : {N : Type 0} → ℕ → Tree N block → ℕ
+  after_block k (has_body (declares cs ts vs ps) statements) =
+      after_procedures (after_names (after_names
+      (after_names k (constant_names (section_constants cs))) (named_types (section_types ts)))
+      (variable_names (section_variables vs))) ps
+
+  -- after procedures, the first of which has ordinal k
+  pub after_procedures : {N : Type 0} → ℕ → Tree N (items procedure) → ℕ
+  after_procedures k end = k
+  after_procedures k (more p rest) = after_procedures (after_procedure (suc k) p) rest
+
+  -- after a procedure's parameters and block; k is the ordinal after its own
+  pub after_procedure : {N : Type 0} → ℕ → Tree N (item procedure) → ℕ
+  after_procedure k (declares_procedure x fs b closing) =
+      after_block (after_names k (formal_names (formal_sections fs))) b
+
+-- in a relabelled tree a label represents each name:
+-- a function of its declaration's ordinal and of the name
+abbrev pub Labels : Type 0 → Type 0 → Type 0
+Labels N M = Option ℕ → N → M
+
+-- the label of a name that is looked up
+abbrev pub label_of : {N M : Type 0} → Naming N → Labels N M → Scope N → N → M
+label_of naming label scope x = label (ordinal_of naming scope x) x
+
+-- a tree in which nothing is declared: its names are looked up, its fields are bound to nothing
+abbrev pub relabel_uses : {N M : Type 0} {s : Sort}
+    → Naming N
+    → Labels N M
+    → Scope N
+    → Tree N s
+    → Tree M s
+relabel_uses naming label scope = with_names (label_of naming label scope) (label None)
+
+-- the labels of declaring names, from an ordinal on
+abbrev pub label_names : {N M : Type 0} → Labels N M → ℕ → List N → List M
+label_names label k [] = []
+label_names label k (x ∷ xs) = label (Some k) x ∷ label_names label (suc k) xs
+
+-- further declared names with their labels
+abbrev pub relabel_further : {N M : Type 0}
+    → Labels N M
+    → ℕ
+    → Tree N (items further_name)
+    → Tree M (items further_name)
+relabel_further label k end = end
+relabel_further label k (more (then_name x) rest) =
+    more (then_name (label (Some k) x)) (relabel_further label (suc k) rest)
+
+-- declared names with their labels
+abbrev pub relabel_names : {N M : Type 0} → Labels N M → ℕ → Tree N names → Tree M names
+relabel_names label k (listed x rest) =
+    listed (label (Some k) x) (relabel_further label (suc k) rest)
+
+-- a constant is visible after its right side
+abbrev pub relabel_constants : {N M : Type 0}
+    → Naming N
+    → Labels N M
+    → Scope N
+    → ℕ
+    → Tree N (items constant)
+    → Tree M (items constant)
+relabel_constants naming label scope k end = end
+relabel_constants naming label scope k (more (declares_constant x e) cs) =
+    more (declares_constant (label (Some k) x) (relabel_uses naming label scope e))
+    (relabel_constants naming label ((x, k) ∷ scope) (suc k) cs)
+
+-- a type is visible after its right side
+abbrev pub relabel_types : {N M : Type 0}
+    → Naming N
+    → Labels N M
+    → Scope N
+    → ℕ
+    → Tree N (items type_name)
+    → Tree M (items type_name)
+relabel_types naming label scope k end = end
+relabel_types naming label scope k (more (declares_type x t) ds) =
+    more (declares_type (label (Some k) x) (relabel_uses naming label scope t))
+    (relabel_types naming label ((x, k) ∷ scope) (suc k) ds)
+
+-- variables and parameters are visible after their type
+abbrev pub relabel_variables : {N M : Type 0}
+    → Naming N
+    → Labels N M
+    → Scope N
+    → ℕ
+    → Tree N (items variable)
+    → Tree M (items variable)
+relabel_variables naming label scope k end = end
+relabel_variables naming label scope k (more (declares_variable ns t) gs) =
+    more (declares_variable (relabel_names label k ns) (relabel_uses naming label scope t))
+    (relabel_variables naming label (declare_names k (names_listed ns) scope)
+    (after_names k (names_listed ns)) gs)
+
+-- a section of parameters with labels
+abbrev pub relabel_section : {N M : Type 0}
+    → Naming N
+    → Labels N M
+    → Scope N
+    → ℕ
+    → Tree N section
+    → Tree M section
+relabel_section naming label scope k (value_section ns t) =
+    value_section (relabel_names label k ns) (relabel_uses naming label scope t)
+relabel_section naming label scope k (variable_section ns t) =
+    variable_section (relabel_names label k ns) (relabel_uses naming label scope t)
+
+-- further sections with labels
+abbrev pub relabel_sections : {N M : Type 0}
+    → Naming N
+    → Labels N M
+    → Scope N
+    → ℕ
+    → Tree N (items further_section)
+    → Tree M (items further_section)
+relabel_sections naming label scope k end = end
+relabel_sections naming label scope k (more (then_section s) fs) =
+    more (then_section (relabel_section naming label scope k s))
+    (relabel_sections naming label (declare_names k (section_names s) scope)
+    (after_names k (section_names s)) fs)
+
+-- formal parameters with labels
+abbrev pub relabel_formals : {N M : Type 0}
+    → Naming N
+    → Labels N M
+    → Scope N
+    → ℕ
+    → Tree N (maybe formals)
+    → Tree M (maybe formals)
+relabel_formals naming label scope k none = none
+relabel_formals naming label scope k (one no_formals) = one no_formals
+relabel_formals naming label scope k (one (some_formals s fs)) =
+    one (some_formals (relabel_section naming label scope k s)
+    (relabel_sections naming label (declare_names k (section_names s) scope)
+    (after_names k (section_names s)) fs))
+
+-- a CONST section with labels
+abbrev pub relabel_constant_section : {N M : Type 0}
+    → Naming N
+    → Labels N M
+    → Scope N
+    → ℕ
+    → Tree N (maybe constants)
+    → Tree M (maybe constants)
+relabel_constant_section naming label scope k none = none
+relabel_constant_section naming label scope k (one (declares_constants cs)) =
+    one (declares_constants (relabel_constants naming label scope k cs))
+
+-- a TYPE section with labels
+abbrev pub relabel_type_section : {N M : Type 0}
+    → Naming N
+    → Labels N M
+    → Scope N
+    → ℕ
+    → Tree N (maybe type_names)
+    → Tree M (maybe type_names)
+relabel_type_section naming label scope k none = none
+relabel_type_section naming label scope k (one (declares_types ts)) =
+    one (declares_types (relabel_types naming label scope k ts))
+
+-- a VAR section with labels
+abbrev pub relabel_variable_section : {N M : Type 0}
+    → Naming N
+    → Labels N M
+    → Scope N
+    → ℕ
+    → Tree N (maybe variables)
+    → Tree M (maybe variables)
+relabel_variable_section naming label scope k none = none
+relabel_variable_section naming label scope k (one (declares_variables vs)) =
+    one (declares_variables (relabel_variables naming label scope k vs))
+
+-- what a block's procedures add to a scope: each is visible after its heading, also in its own body
+abbrev pub declare_procedure_names : {N : Type 0} → ℕ → Tree N (items procedure) → Scope N → Scope N
+declare_procedure_names k end scope = scope
+declare_procedure_names k (more p rest) scope =
+    declare_procedure_names (after_procedure (suc k) p) rest ((procedure_name p, k) ∷ scope)
+
+-- the ordinal of a block's first type, where that of its first constant is k
+abbrev pub first_type : {N : Type 0} → ℕ → Tree N block → ℕ
+first_type k b = after_names k (constant_names (block_constants b))
+
+-- the ordinal of a block's first variable
+abbrev pub first_variable : {N : Type 0} → ℕ → Tree N block → ℕ
+first_variable k b = after_names (first_type k b) (named_types (block_types b))
+
+-- the ordinal of a block's first procedure
+abbrev pub first_procedure : {N : Type 0} → ℕ → Tree N block → ℕ
+first_procedure k b = after_names (first_variable k b) (variable_names (block_variables b))
+
+-- the scope in which a block's types are declared
+abbrev pub types_scope : {N : Type 0} → ℕ → Tree N block → Scope N → Scope N
+types_scope k b scope = declare_names k (constant_names (block_constants b)) scope
+
+-- the scope in which a block's variables are declared
+abbrev pub variables_scope : {N : Type 0} → ℕ → Tree N block → Scope N → Scope N
+variables_scope k b scope =
+    declare_names (first_type k b) (named_types (block_types b)) (types_scope k b scope)
+
+-- the scope in which a block's procedures are declared
+abbrev pub procedures_scope : {N : Type 0} → ℕ → Tree N block → Scope N → Scope N
+procedures_scope k b scope =
+    declare_names (first_variable k b) (variable_names (block_variables b))
+    (variables_scope k b scope)
+
+-- the scope of a block's statements
+abbrev pub body_scope : {N : Type 0} → ℕ → Tree N block → Scope N → Scope N
+body_scope k b scope =
+    declare_procedure_names (first_procedure k b) (block_procedures b) (procedures_scope k b scope)
+
+-- a block, its procedures and a procedure with labels, in the scope around them;
+-- k is the ordinal of the first declaration
+abbrev mutual
+  -- a block, whose first declaration has ordinal k
+  pub relabel_block : {N M : Type 0}
+      → Naming N
+      → Labels N M
+      → Scope N
+      → ℕ
+      → Tree N block
+      → Tree M block
+  relabel_block naming label scope k (has_body (declares cs ts vs ps) statements) =
+      has_body
+      (declares (relabel_constant_section naming label scope k cs)
+      (relabel_type_section naming label
+      (types_scope k (has_body (declares cs ts vs ps) statements) scope)
+      (first_type k (has_body (declares cs ts vs ps) statements)) ts)
+      (relabel_variable_section naming label
+      (variables_scope k (has_body (declares cs ts vs ps) statements) scope)
+      (first_variable k (has_body (declares cs ts vs ps) statements)) vs)
+      (relabel_procedures naming label
+      (procedures_scope k (has_body (declares cs ts vs ps) statements) scope)
+      (first_procedure k (has_body (declares cs ts vs ps) statements)) ps))
+      (relabel_uses naming label (body_scope k (has_body (declares cs ts vs ps) statements) scope)
+      statements)
+
+  -- procedures, the first of ordinal k, each visible to those after it
+  pub relabel_procedures : {N M : Type 0}
+      → Naming N
+      → Labels N M
+      → Scope N
+      → ℕ
+      → Tree N (items procedure)
+      → Tree M (items procedure)
+  relabel_procedures naming label scope k end = end
+  relabel_procedures naming label scope k (more p rest) =
+      more (relabel_procedure naming label scope k p)
+      (relabel_procedures naming label ((procedure_name p, k) ∷ scope) (after_procedure (suc k) p)
+      rest)
+
+  -- a procedure of ordinal k, visible after its heading; a closing name means its procedure
+  pub relabel_procedure : {N M : Type 0}
+      → Naming N
+      → Labels N M
+      → Scope N
+      → ℕ
+      → Tree N (item procedure)
+      → Tree M (item procedure)
+  relabel_procedure naming label scope k (declares_procedure x fs b closing) =
+      declares_procedure (label (Some k) x) (relabel_formals naming label scope (suc k) fs)
+      (relabel_block naming label
+      (declare_names (suc k) (formal_names (formal_sections fs)) ((x, k) ∷ scope))
+      (after_names (suc k) (formal_names (formal_sections fs))) b)
+      (label (Some k) closing)
+
+-- the name of the module is in no scope
+abbrev pub relabelled : {N M : Type 0}
+    → Naming N
+    → Labels N M
+    → Tree N module_text
+    → Tree M module_text
+relabelled naming label (is_module x b closing) =
+    is_module (label None x) (relabel_block naming label (predeclared_scope naming) 7 b)
+    (label None closing)
+
+-- a name by its declaration's ordinal, or as written where no declaration binds it
+abbrev pub as_label : {N : Type 0} → Naming N → Labels N Label
+as_label naming None x = as_written (naming.written x)
+as_label naming (Some k) x = declared k
+
+-- the numbered tree of a module
+abbrev pub numbered : Tree Name module_text → Tree Label module_text
+numbered = relabelled as_names (as_label as_names)
+
+-- an ordinal is this one
+abbrev pub same_ordinal : Option ℕ → ℕ → Bool
+same_ordinal None k = false
+same_ordinal (Some j) k = j == k
+
+-- the declaration d, each name bound to it and its closing name have the name `new`
+abbrev pub renamed : Tree Name module_text → ℕ → Name → Tree Name module_text
+renamed m d new = relabelled as_names (λ ordinal x. if same_ordinal ordinal d then new else x) m

@@ -1,0 +1,320 @@
+-- Freeing a call's variables at its return leaves every run as it is.
+use Rattle.std.proofs.Common.{◌≡◌, ℕ, zero, suc, ◌+◌, true, false, List, [], ◌∷◌, ◌++◌, length, ℤ, Some, None, Option, option_map, option_and_then, sym, refl, ap, ◌∙◌, subst, append_assoc, append-nil}
+use Rattle.ob0_tree.specs.Tree.{Tree, begins, block, body, constant, declares_constant, declares_type, declares_variable, end, expression, items, maybe, module_text, more, none, one, procedure, type_name, variable, written_type}
+use Rattle.ob0_language_names.specs.Names.{Naming}
+use Rattle.ob0_language_names.specs.Parts.{block_constants, block_procedures, block_statements, block_types, block_variables, module_block, names_listed, procedure_block, procedure_formals, procedure_name}
+use Rattle.ob0_language_names.proofs.SameNames.{with_names-id}
+use Rattle.ob0_language_types.specs.Declarations.{after_formals, after_types, after_variables, declare_constants, declare_first, declare_types, procedure_constructors}
+use Rattle.ob0_language_types.specs.Environments.{from_binding, meanings, newest, outermost}
+use Rattle.ob0_language_types.specs.Expressions.{Object, a_constant, a_procedure, a_standard, a_type, a_variable}
+use Rattle.ob0_language_types.specs.Typing.{constant_of, constant_value, constructors, denoted, type_of_name}
+use Rattle.ob0_language_types.specs.WellTyped.{by_place, by_value}
+use Rattle.ob0_language_types.proofs.TypeNaturality.{constant_value-map, denoted-map}
+use Rattle.ob0_language_values.specs.Values.{Place, Value, initial}
+use Rattle.ob0_language_runs.specs.Freed.{call_freeing, drop_variables, run_freeing}
+use Rattle.ob0_language_runs.specs.Laws.{FreeingKeepsRuns}
+use Rattle.ob0_language_runs.specs.Runs.{Activation, Argument, Calls, ProcedureText, Frame, Parameter, Progress, State, activate, allocate, bind_parameter, bind_parameters, call, declare_block, declare_procedures, declare_variables, execute_body, finished, formal_modes, in_frame, parameters, passing, place_argument, run_over, running, statement_meanings, stopped, value_argument, with_procedures}
+use Rattle.ob0_language_runs.proofs.OtherPlaces.{Alike, ArgumentIs, ArgumentsAre, EntersAlike, MeaningIs, ObjectIs, PlaceIs, ProgressIs, StateIs, StoreIs, execute_all-alike, variable-added, variable-last, variables-cut}
+use Rattle.ob0_language_runs.proofs.SoundStatements.{slice_get-grows}
+
+-- options
+
+abbrev pub OptionIs : {A B : Type 0} → (A → B → Type 0) → Option A → Option B → Type 0
+OptionIs Is None None = Unit {0}
+OptionIs Is (Some a) (Some b) = Is a b
+OptionIs Is _ _ = ⊥
+
+option-then : {A B C D : Type 0} (Is : A → B → Type 0) (Then : C → D → Type 0) (o : Option A) (q : Option B) (f : A → Option C) (g : B → Option D) → OptionIs Is o q → ((a : A) (b : B) → Is a b → OptionIs Then (f a) (g b)) → OptionIs Then (option_and_then f o) (option_and_then g q)
+option-then Is Then None None f g h each = tt
+option-then Is Then (Some a) (Some b) f g h each = each a b h
+option-then Is Then None (Some b) f g h each = absurd h
+option-then Is Then (Some a) None f g h each = absurd h
+
+same_option-then : {A C D : Type 0} (Then : C → D → Type 0) (o q : Option A) (f : A → Option C) (g : A → Option D) → o ≡ q → ((a : A) → OptionIs Then (f a) (g a)) → OptionIs Then (option_and_then f o) (option_and_then g q)
+same_option-then {A} Then o q f g e each = subst (λ q. OptionIs Then (option_and_then f o) (option_and_then g q)) e (go o)
+  where
+    go : (o : Option A) → OptionIs Then (option_and_then f o) (option_and_then g o)
+    go None = tt
+    go (Some a) = each a
+
+-- environments
+
+abbrev pub EnvironmentIs : {N : Type 0} → List ℕ → Activation N → Activation N → Type 0
+EnvironmentIs at [] [] = Unit {0}
+EnvironmentIs at (b ∷ env) (d ∷ other) = (b.0 ≡ d.0) × ObjectIs at b.1 d.1 × EnvironmentIs at env other
+EnvironmentIs at _ _ = ⊥
+
+place-grows : (at others : List ℕ) (p q : Place) → PlaceIs at p q → PlaceIs (at ++ others) p q
+place-grows at others p q h = record { variable_is = slice_get-grows at others p.variable q.variable h.variable_is; same_path = h.same_path }
+
+object-grows : {P : Type 0} (at others : List ℕ) (a b : Object Place P) → ObjectIs at a b → ObjectIs (at ++ others) a b
+object-grows at others (a_type s) (a_type t) h = h
+object-grows at others (a_constant s) (a_constant t) h = h
+object-grows at others (a_variable p) (a_variable q) h = place-grows at others p q h
+object-grows at others (a_procedure s) (a_procedure t) h = h
+object-grows at others (a_standard s) (a_standard t) h = h
+object-grows at others _ _ h = absurd h
+
+environment-grows : {N : Type 0} (at others : List ℕ) (env other : Activation N) → EnvironmentIs at env other → EnvironmentIs (at ++ others) env other
+environment-grows at others [] [] h = tt
+environment-grows at others (b ∷ env) (d ∷ other) h = (h.0, object-grows at others b.1 d.1 h.1, environment-grows at others env other h.2)
+environment-grows at others [] (d ∷ other) h = absurd h
+environment-grows at others (b ∷ env) [] h = absurd h
+
+arguments-grow : (at others : List ℕ) (args bs : List Argument) → ArgumentsAre at args bs → ArgumentsAre (at ++ others) args bs
+arguments-grow at others [] [] h = tt
+arguments-grow at others (place_argument p ∷ args) (place_argument q ∷ bs) h = (place-grows at others p q h.0, arguments-grow at others args bs h.1)
+arguments-grow at others (value_argument v ∷ args) (value_argument w ∷ bs) h = (h.0, arguments-grow at others args bs h.1)
+arguments-grow at others (place_argument p ∷ args) (value_argument w ∷ bs) h = absurd (h.0)
+arguments-grow at others (value_argument v ∷ args) (place_argument q ∷ bs) h = absurd (h.0)
+arguments-grow at others [] (b ∷ bs) h = absurd h
+arguments-grow at others (a ∷ args) [] h = absurd h
+
+from_binding-is : {N : Type 0} (naming : Naming N) (at : List ℕ) (env other : Activation N) (x : N) → EnvironmentIs at env other → EnvironmentIs at (from_binding naming env x) (from_binding naming other x)
+from_binding-is naming at [] [] x h = tt
+from_binding-is naming at [] (d ∷ other) x h = absurd h
+from_binding-is naming at (b ∷ env) [] x h = absurd h
+from_binding-is {N} naming at (b ∷ env) (d ∷ other) x h =
+    subst (λ y. EnvironmentIs {N = N} at (elim (naming.same x b.0) [ true ↦ b ∷ env | false ↦ from_binding naming env x ]) (elim (naming.same x y) [ true ↦ d ∷ other | false ↦ from_binding naming other x ])) h.0
+    (elim (naming.same x b.0) as (λ v. EnvironmentIs {N = N} at (elim v [ true ↦ b ∷ env | false ↦ from_binding naming env x ]) (elim v [ true ↦ d ∷ other | false ↦ from_binding naming other x ]))
+    [ true ↦ h | false ↦ from_binding-is naming at env other x h.2 ])
+
+newest-is : {N : Type 0} (at : List ℕ) (env other : Activation N) → EnvironmentIs at env other → MeaningIs at (newest env) (newest other)
+newest-is at [] [] h = tt
+newest-is at (b ∷ env) (d ∷ other) h = h.1
+newest-is at [] (d ∷ other) h = absurd h
+newest-is at (b ∷ env) [] h = absurd h
+
+passing-is : {N : Type 0} (at : List ℕ) (o q : Option (Object Place (ProcedureText N))) → MeaningIs at o q → MeaningIs at (passing o) (passing q)
+passing-is at None None h = tt
+passing-is at (Some (a_type s)) (Some (a_type t)) h = h
+passing-is at (Some (a_constant s)) (Some (a_constant t)) h = h
+passing-is at (Some (a_variable s)) (Some (a_variable t)) h = h
+passing-is at (Some (a_procedure s)) (Some (a_procedure t)) h = ap (λ code. formal_modes (procedure_formals code.text)) h
+passing-is at (Some (a_standard s)) (Some (a_standard t)) h = h
+passing-is at _ _ h = absurd h
+
+constant-same : {P : Type 0} (at : List ℕ) (o q : Option (Object Place P)) → MeaningIs at o q → constant_of o ≡ constant_of q
+constant-same at None None h = refl
+constant-same at (Some (a_type s)) (Some (a_type t)) h = refl
+constant-same at (Some (a_constant s)) (Some (a_constant t)) h = ap Some h
+constant-same at (Some (a_variable s)) (Some (a_variable t)) h = refl
+constant-same at (Some (a_procedure s)) (Some (a_procedure t)) h = refl
+constant-same at (Some (a_standard s)) (Some (a_standard t)) h = refl
+constant-same at _ _ h = absurd h
+
+type-same : {P : Type 0} (at : List ℕ) (o q : Option (Object Place P)) → MeaningIs at o q → type_of_name o ≡ type_of_name q
+type-same at None None h = refl
+type-same at (Some (a_type s)) (Some (a_type t)) h = ap Some h
+type-same at (Some (a_constant s)) (Some (a_constant t)) h = refl
+type-same at (Some (a_variable s)) (Some (a_variable t)) h = refl
+type-same at (Some (a_procedure s)) (Some (a_procedure t)) h = refl
+type-same at (Some (a_standard s)) (Some (a_standard t)) h = refl
+type-same at _ _ h = absurd h
+
+-- frames
+
+pub record FrameIs {N : Type 0} (at : List ℕ) (f g : Frame N) : Type 0 where
+  pub same_variables : StoreIs at f.store g.store
+  pub same_bindings : EnvironmentIs at f.env g.env
+
+-- frames with new variables after those at the given places
+abbrev pub FrameGrown : {N : Type 0} → List ℕ → Frame N → Frame N → Type 0
+FrameGrown at f g = (others : List ℕ) × FrameIs (at ++ others) f g
+
+frame-here : {N : Type 0} (at : List ℕ) (f g : Frame N) → FrameIs at f g → FrameGrown at f g
+frame-here at f g h = ([], subst (λ all. FrameIs all f g) (sym (append-nil at)) h)
+
+frame-on : {N : Type 0} (at others : List ℕ) (f g : Frame N) → FrameGrown (at ++ others) f g → FrameGrown at f g
+frame-on at others f g h = (others ++ h.0, subst (λ all. FrameIs all f g) (append_assoc at others h.0) h.1)
+
+frames-on : {N : Type 0} (at others : List ℕ) (o q : Option (Frame N)) → OptionIs (FrameGrown (at ++ others)) o q → OptionIs (FrameGrown at) o q
+frames-on at others None None h = tt
+frames-on at others (Some f) (Some g) h = frame-on at others f g h
+frames-on at others None (Some g) h = absurd h
+frames-on at others (Some f) None h = absurd h
+
+module _ {N : Type 0} (naming : Naming N) where
+  value-same : (at : List ℕ) (env other : Activation N) → EnvironmentIs at env other → (e : Tree N expression) → constant_value (meanings naming env) e ≡ constant_value (meanings naming other) e
+  value-same at env other h e =
+      ap (constant_value (meanings naming env)) (sym (with_names-id e))
+      ∙ constant_value-map (λ x. x) (λ x. x) (meanings naming env) (meanings naming other) e
+      (λ x. constant-same at (newest (from_binding naming env x)) (newest (from_binding naming other x)) (newest-is at (from_binding naming env x) (from_binding naming other x) (from_binding-is naming at env other x h))) (λ x. refl)
+
+  denoted-same : (at : List ℕ) (env other : Activation N) → EnvironmentIs at env other → (k : ℕ) (t : Tree N written_type) → denoted (meanings naming env) k t ≡ denoted (meanings naming other) k t
+  denoted-same at env other h k t =
+      ap (denoted (meanings naming env) k) (sym (with_names-id t))
+      ∙ denoted-map (λ x. x) (λ x. x) (meanings naming env) (meanings naming other)
+      (λ x. constant-same at (newest (from_binding naming env x)) (newest (from_binding naming other x)) (newest-is at (from_binding naming env x) (from_binding naming other x) (from_binding-is naming at env other x h)))
+      (λ x. type-same at (newest (from_binding naming env x)) (newest (from_binding naming other x)) (newest-is at (from_binding naming env x) (from_binding naming other x) (from_binding-is naming at env other x h))) (λ x. refl) k t
+
+  constants-are : (at : List ℕ) (env other : Activation N) (cs : Tree N (items constant)) → EnvironmentIs at env other → OptionIs (EnvironmentIs at) (declare_constants naming env cs) (declare_constants naming other cs)
+  unfolding declare_constants
+  constants-are at env other end h = h
+  constants-are at env other (more (declares_constant x e) cs) h =
+      same_option-then (EnvironmentIs at) (constant_value (meanings naming env) e) (constant_value (meanings naming other) e) (λ v. declare_constants naming ((x, a_constant v) ∷ env) cs) (λ v. declare_constants naming ((x, a_constant v) ∷ other) cs) (value-same at env other h e)
+      (λ v. constants-are at ((x, a_constant v) ∷ env) ((x, a_constant v) ∷ other) cs (refl, refl, h))
+
+  types-are : (at : List ℕ) (env other : Activation N) (k : ℕ) (ds : Tree N (items type_name)) → EnvironmentIs at env other → OptionIs (EnvironmentIs at) (declare_types naming env k ds) (declare_types naming other k ds)
+  unfolding declare_types
+  types-are at env other k end h = h
+  types-are at env other k (more (declares_type x u) ds) h =
+      same_option-then (EnvironmentIs at) (denoted (meanings naming env) k u) (denoted (meanings naming other) k u) (λ s. declare_types naming ((x, a_type s) ∷ env) (k + constructors u) ds) (λ s. declare_types naming ((x, a_type s) ∷ other) (k + constructors u) ds) (denoted-same at env other h k u)
+      (λ s. types-are at ((x, a_type s) ∷ env) ((x, a_type s) ∷ other) (k + constructors u) ds (refl, refl, h))
+
+  first-are : (at : List ℕ) (env other : Activation N) (k : ℕ) (b : Tree N block) → EnvironmentIs at env other → OptionIs (EnvironmentIs at) (declare_first naming env k b) (declare_first naming other k b)
+  unfolding declare_first
+  first-are at env other k b h =
+      option-then (EnvironmentIs at) (EnvironmentIs at) (declare_constants naming env (block_constants b)) (declare_constants naming other (block_constants b)) (λ env. declare_types naming env k (block_types b)) (λ env. declare_types naming env k (block_types b)) (constants-are at env other (block_constants b) h)
+      (λ env other h. types-are at env other k (block_types b) h)
+
+  allocate-is : (at : List ℕ) (xs : List N) (v : Value) (f g : Frame N) → FrameIs at f g → FrameGrown at (allocate xs v f) (allocate xs v g)
+  allocate-is at [] v f g h = frame-here at f g h
+  allocate-is at (x ∷ xs) v f g h =
+      let f₁ : Frame N = record { env = (x, a_variable record { variable = length f.store; path = [] }) ∷ f.env; store = f.store ++ v ∷ [] } in
+      let g₁ : Frame N = record { env = (x, a_variable record { variable = length g.store; path = [] }) ∷ g.env; store = g.store ++ v ∷ [] } in
+      let here : FrameIs (at ++ length g.store ∷ []) f₁ g₁ = record {
+        same_variables = variable-added at f.store g.store v h.same_variables;
+        same_bindings = (refl, record { variable_is = variable-last at f.store g.store (length g.store) h.same_variables; same_path = refl }, environment-grows at (length g.store ∷ []) f.env g.env h.same_bindings);
+      } in
+      frame-on at (length g.store ∷ []) (allocate xs v f₁) (allocate xs v g₁) (allocate-is (at ++ length g.store ∷ []) xs v f₁ g₁ here)
+
+  variables-are : (at : List ℕ) (k : ℕ) (gs : Tree N (items variable)) (f g : Frame N) → FrameIs at f g → OptionIs (FrameGrown at) (declare_variables naming k gs f) (declare_variables naming k gs g)
+  unfolding declare_variables
+  variables-are at k end f g h = frame-here at f g h
+  variables-are at k (more (declares_variable ns u) gs) f g h =
+      same_option-then (FrameGrown at) (denoted (meanings naming f.env) k u) (denoted (meanings naming g.env) k u) (λ s. declare_variables naming (k + constructors u) gs (allocate (names_listed ns) (initial s) f)) (λ s. declare_variables naming (k + constructors u) gs (allocate (names_listed ns) (initial s) g)) (denoted-same at f.env g.env h.same_bindings k u)
+      (λ s. let inner = allocate-is at (names_listed ns) (initial s) f g h in
+      frames-on at inner.0 (declare_variables naming (k + constructors u) gs (allocate (names_listed ns) (initial s) f)) (declare_variables naming (k + constructors u) gs (allocate (names_listed ns) (initial s) g))
+      (variables-are (at ++ inner.0) (k + constructors u) gs (allocate (names_listed ns) (initial s) f) (allocate (names_listed ns) (initial s) g) inner.1))
+
+  procedures-are : (at : List ℕ) (k : ℕ) (ps : Tree N (items procedure)) (env other : Activation N) → EnvironmentIs at env other → EnvironmentIs at (declare_procedures k ps env) (declare_procedures k ps other)
+  procedures-are at k end env other h = h
+  procedures-are at k (more p rest) env other h =
+      procedures-are at (k + procedure_constructors p) rest ((procedure_name p, a_procedure record { first_constructor = k; text = p }) ∷ env) ((procedure_name p, a_procedure record { first_constructor = k; text = p }) ∷ other) (refl, refl, h)
+
+  with_procedures-are : (at : List ℕ) (k : ℕ) (ps : Tree N (items procedure)) (o q : Option (Frame N)) → OptionIs (FrameGrown at) o q → OptionIs (FrameGrown at) (option_map (with_procedures k ps) o) (option_map (with_procedures k ps) q)
+  with_procedures-are at k ps None None h = tt
+  with_procedures-are at k ps (Some f) (Some g) h = (h.0, record { same_variables = h.1.same_variables; same_bindings = procedures-are (at ++ h.0) k ps f.env g.env h.1.same_bindings })
+  with_procedures-are at k ps None (Some g) h = absurd h
+  with_procedures-are at k ps (Some f) None h = absurd h
+
+  block-is : (at : List ℕ) (k : ℕ) (b : Tree N block) (f g : Frame N) → FrameIs at f g → OptionIs (FrameGrown at) (declare_block naming k b f) (declare_block naming k b g)
+  unfolding declare_block
+  block-is at k b f g h =
+      option-then (EnvironmentIs at) (FrameGrown at) (declare_first naming f.env k b) (declare_first naming g.env k b)
+      (λ env. option_map (with_procedures (after_variables k b) (block_procedures b)) (declare_variables naming (after_types k b) (block_variables b) record { env = env; store = f.store }))
+      (λ env. option_map (with_procedures (after_variables k b) (block_procedures b)) (declare_variables naming (after_types k b) (block_variables b) record { env = env; store = g.store })) (first-are at f.env g.env k b h.same_bindings)
+      (λ env other same. with_procedures-are at (after_variables k b) (block_procedures b) (declare_variables naming (after_types k b) (block_variables b) record { env = env; store = f.store }) (declare_variables naming (after_types k b) (block_variables b) record { env = other; store = g.store })
+      (variables-are at (after_types k b) (block_variables b) record { env = env; store = f.store } record { env = other; store = g.store } record { same_variables = h.same_variables; same_bindings = same }))
+
+  parameter-is : (at : List ℕ) (p : Parameter N) (a b : Argument) (f g : Frame N) → ArgumentIs at a b → FrameIs at f g → OptionIs (FrameGrown at) (bind_parameter p.mode p.name a f) (bind_parameter p.mode p.name b g)
+  parameter-is at p a b f g is h = go p.mode a b is
+    where
+      go : (m : _) (a b : Argument) → ArgumentIs at a b → OptionIs (FrameGrown at) (bind_parameter m p.name a f) (bind_parameter m p.name b g)
+      go by_place (place_argument place) (place_argument other) is = frame-here at record { env = (p.name, a_variable place) ∷ f.env; store = f.store } record { env = (p.name, a_variable other) ∷ g.env; store = g.store } record { same_variables = h.same_variables; same_bindings = (refl, is, h.same_bindings) }
+      go by_value (value_argument v) (value_argument w) is = subst (λ w. FrameGrown at (allocate (p.name ∷ []) v f) (allocate (p.name ∷ []) w g)) is (allocate-is at (p.name ∷ []) v f g h)
+      go by_place (value_argument v) (value_argument w) is = tt
+      go by_value (place_argument v) (place_argument w) is = tt
+      go m (place_argument v) (value_argument w) is = absurd is
+      go m (value_argument v) (place_argument w) is = absurd is
+
+  parameters-are : (at : List ℕ) (ps : List (Parameter N)) (args others : List Argument) (f g : Frame N) → ArgumentsAre at args others → FrameIs at f g → OptionIs (FrameGrown at) (bind_parameters ps args f) (bind_parameters ps others g)
+  parameters-are at [] [] [] f g are h = frame-here at f g h
+  parameters-are at [] (a ∷ args) (b ∷ others) f g are h = tt
+  parameters-are at (p ∷ ps) [] [] f g are h = tt
+  parameters-are at (p ∷ ps) (a ∷ args) (b ∷ others) f g are h =
+      option-then (FrameGrown at) (FrameGrown at) (bind_parameter p.mode p.name a f) (bind_parameter p.mode p.name b g) (bind_parameters ps args) (bind_parameters ps others) (parameter-is at p a b f g are.0 h)
+      (λ f₁ g₁ grown. frames-on at grown.0 (bind_parameters ps args f₁) (bind_parameters ps others g₁) (parameters-are (at ++ grown.0) ps args others f₁ g₁ (arguments-grow at grown.0 args others are.1) grown.1))
+  parameters-are at ps [] (b ∷ others) f g are h = absurd are
+  parameters-are at ps (a ∷ args) [] f g are h = absurd are
+
+  -- calls
+
+  -- calls that do the same in the same environments
+  abbrev pub CallsAlike : (Activation N → Calls N) → (Activation N → Calls N) → Type 0
+  CallsAlike enter enter' = (at : List ℕ) (env other : Activation N) → EnvironmentIs at env other → (x : N) → EntersAlike at (enter env x) (enter' other x)
+
+  body-alike : (enter enter' : Activation N → Calls N) → CallsAlike enter enter' → (t : ℕ) (at : List ℕ) (env other : Activation N) (statements : Tree N (maybe body)) → EnvironmentIs at env other
+      → Alike at (execute_body naming env (enter env) t statements) (execute_body naming other (enter' other) t statements)
+  unfolding execute_body
+  body-alike enter enter' known t at env other none h s u is = is
+  body-alike enter enter' known t at env other (one (begins statements)) h s u is =
+      execute_all-alike at (statement_meanings naming env) (statement_meanings naming other) (enter env) (enter' other)
+      record { mean_same = λ x. passing-is at (newest (from_binding naming env x)) (newest (from_binding naming other x)) (newest-is at (from_binding naming env x) (from_binding naming other x) (from_binding-is naming at env other x h)); are_written = λ x. refl }
+      (known at env other h) t statements s u is
+
+  -- what a run goes on with, with new variables after those at the given places
+  abbrev ProgressGrown : List ℕ → Progress → Progress → Type 0
+  ProgressGrown at p q = (others : List ℕ) × ProgressIs (at ++ others) p q
+
+  in_frame-alike : (enter enter' : Activation N → Calls N) → CallsAlike enter enter' → (t : ℕ) (at : List ℕ) (s u : State) (o q : Option (Frame N)) (statements : Tree N (maybe body)) → StateIs at s u → OptionIs (FrameGrown at) o q
+      → ProgressGrown at (in_frame s o (λ f. execute_body naming f.env (enter f.env) t statements)) (in_frame u q (λ f. execute_body naming f.env (enter' f.env) t statements))
+  in_frame-alike enter enter' known t at s u None None statements h is = ([], (refl, h.same_output))
+  in_frame-alike enter enter' known t at s u (Some f) (Some g) statements h is = (
+    is.0,
+    body-alike enter enter' known t (at ++ is.0) f.env g.env statements is.1.same_bindings record s { store = f.store } record u { store = g.store } record { same_variables = is.1.same_variables; same_input = h.same_input; same_output = h.same_output },
+  )
+  in_frame-alike enter enter' known t at s u None (Some g) statements h is = absurd is
+  in_frame-alike enter enter' known t at s u (Some f) None statements h is = absurd is
+
+  activate-alike : (enter enter' : Activation N → Calls N) → CallsAlike enter enter' → (t : ℕ) (at : List ℕ) (env other : Activation N) (args others : List Argument) (s u : State) → EnvironmentIs at env other → ArgumentsAre at args others → StateIs at s u
+      → ProgressGrown at (activate naming enter t env args s) (activate naming enter' t other others u)
+  unfolding activate
+  activate-alike enter enter' known t at [] [] args others s u env are h = ([], (refl, h.same_output))
+  activate-alike enter enter' known t at [] (d ∷ other) args others s u env are h = absurd env
+  activate-alike enter enter' known t at (b ∷ rest) [] args others s u env are h = absurd env
+  activate-alike enter enter' known t at ((x, o) ∷ rest) ((y, q) ∷ other) args others s u env are h = go o q env.1
+    where
+      of_code : (code : ProcedureText N) → ProgressGrown at (activate naming enter t ((x, a_procedure code) ∷ rest) args s) (activate naming enter' t ((y, a_procedure code) ∷ other) others u)
+      of_code code =
+          let f : Frame N = record { env = (x, a_procedure code) ∷ rest; store = s.store } in
+          let g : Frame N = record { env = (y, a_procedure code) ∷ other; store = u.store } in
+          let ps = parameters (procedure_formals code.text) in
+          let k = after_formals code.first_constructor code.text in
+          in_frame-alike enter enter' known t at s u (option_and_then (declare_block naming k (procedure_block code.text)) (bind_parameters ps args f)) (option_and_then (declare_block naming k (procedure_block code.text)) (bind_parameters ps others g)) (block_statements (procedure_block code.text)) h
+          (option-then (FrameGrown at) (FrameGrown at) (bind_parameters ps args f) (bind_parameters ps others g) (declare_block naming k (procedure_block code.text)) (declare_block naming k (procedure_block code.text))
+          (parameters-are at ps args others f g are record { same_variables = h.same_variables; same_bindings = (env.0, refl, env.2) })
+          (λ f₁ g₁ grown. frames-on at grown.0 (declare_block naming k (procedure_block code.text) f₁) (declare_block naming k (procedure_block code.text) g₁) (block-is (at ++ grown.0) k (procedure_block code.text) f₁ g₁ grown.1)))
+
+      go : (o q : Object Place (ProcedureText N)) → ObjectIs at o q → ProgressGrown at (activate naming enter t ((x, o) ∷ rest) args s) (activate naming enter' t ((y, q) ∷ other) others u)
+      go (a_procedure code) (a_procedure code') is = subst (λ code'. ProgressGrown at (activate naming enter t ((x, a_procedure code) ∷ rest) args s) (activate naming enter' t ((y, a_procedure code') ∷ other) others u)) is (of_code code)
+      go (a_type v) (a_type w) is = ([], (refl, h.same_output))
+      go (a_constant v) (a_constant w) is = ([], (refl, h.same_output))
+      go (a_variable v) (a_variable w) is = ([], (refl, h.same_output))
+      go (a_standard v) (a_standard w) is = ([], (refl, h.same_output))
+      go _ _ is = absurd is
+
+  drop_variables-is : (at others : List ℕ) (s u : State) (p q : Progress) → StateIs at s u → ProgressIs (at ++ others) p q → ProgressIs at (drop_variables (length s.store) p) q
+  drop_variables-is at others s u (running s₁) (running u₁) h is =
+      record { same_variables = variables-cut at others s.store s₁.store u.store u₁.store h.same_variables is.same_variables; same_input = is.same_input; same_output = is.same_output }
+  drop_variables-is at others s u (stopped e out) (stopped x written) h is = is
+  drop_variables-is at others s u (running s₁) (stopped x written) h is = absurd is
+  drop_variables-is at others s u (stopped e out) (running u₁) h is = absurd is
+
+  -- by induction on how many calls may be open
+  calls-alike : (c t : ℕ) → CallsAlike (call_freeing naming c t) (call naming c t)
+  unfolding call call_freeing
+  calls-alike zero t at env other h x args others s u are is = (refl, is.same_output)
+  calls-alike (suc c) t at env other h x args others s u are is =
+      let (new, same) = activate-alike (call_freeing naming c t) (call naming c t) (calls-alike c t) t at (from_binding naming env x) (from_binding naming other x) args others s u (from_binding-is naming at env other x h) are is in
+      drop_variables-is at new s u (activate naming (call_freeing naming c t) t (from_binding naming env x) args s) (activate naming (call naming c t) t (from_binding naming other x) others u) is same
+
+  finished-same : (at : List ℕ) (p q : Progress) → ProgressIs at p q → finished p ≡ finished q
+  finished-same at (running s) (running u) h = ap (λ out. record { output = out; ending = (finished (running s)).ending }) h.same_output
+  finished-same at (stopped e out) (stopped x written) h = λ i. record { output = h.1 i; ending = h.0 i }
+  finished-same at (running s) (stopped x written) h = absurd h
+  finished-same at (stopped e out) (running u) h = absurd h
+
+  pub freeing-keeps : (m : Tree N module_text) (input : List ℤ) (c t : ℕ) → run_freeing naming m input c t ≡ run_over naming m input c t
+  unfolding run_over run_freeing
+  freeing-keeps m input c t =
+      let start : State = record { store = []; input = input; output = [] } in
+      let f : Frame N = record { env = outermost naming; store = [] } in
+      let o = declare_block naming 0 (module_block m) f in
+      let (new, same) = in_frame-alike (call_freeing naming c t) (call naming c t) (calls-alike c t) t [] start start o o (block_statements (module_block m)) record { same_variables = tt; same_input = refl; same_output = refl }
+      (block-is [] 0 (module_block m) f f record { same_variables = tt; same_bindings = (refl, refl, (refl, refl, (refl, refl, (refl, refl, (refl, refl, (refl, refl, (refl, refl, tt))))))) }) in
+      finished-same new (in_frame start o (λ f. execute_body naming f.env (call_freeing naming c t f.env) t (block_statements (module_block m)))) (in_frame start o (λ f. execute_body naming f.env (call naming c t f.env) t (block_statements (module_block m)))) same
+
+pub freeing_keeps_runs-holds : FreeingKeepsRuns
+freeing_keeps_runs-holds = (λ naming. freeing-keeps naming, λ naming. freeing-keeps naming)

@@ -1,0 +1,86 @@
+-- Environments whose bindings carry their declarations' ordinals: they read both as an environment by name and as one by ordinal, and a name and its ordinal find the same binding in them.
+use Rattle.std.proofs.Common.{◌≡◌, ℕ, ◌<◌, ◌≤◌, true, false, List, [], ◌∷◌, Some, refl, le_of_lt, arith}
+use Rattle.ob0_language_names.specs.Names.{Label, Naming, as_labels, declared, same_label}
+use Rattle.ob0_language_names.specs.Parts.{procedure_name}
+use Rattle.ob0_language_names.specs.Scopes.{Scope, as_label, ordinal_of, relabel_procedure}
+use Rattle.ob0_language_types.specs.Environments.{from_binding}
+use Rattle.ob0_language_types.specs.Expressions.{Object, a_constant, a_procedure, a_standard, a_type, a_variable}
+use Rattle.ob0_language_values.specs.Values.{Place}
+use Rattle.ob0_language_runs.specs.Runs.{Activation, ProcedureText}
+use Rattle.std.proofs.lemmas.Bool.{eq-eqb, ne_eqb}
+
+pub record Bound (N : Type 0) : Type 0 where
+  pub name : N
+  pub ordinal : ℕ
+  pub object : Object Place (ProcedureText N)
+
+abbrev pub Noted : Type 0 → Type 0
+Noted N = List (Bound N)
+
+abbrev pub by_name : {N : Type 0} → Noted N → Activation N
+by_name [] = []
+by_name (b ∷ noted) = (b.name, b.object) ∷ by_name noted
+
+abbrev pub scope_of : {N : Type 0} → Noted N → Scope N
+scope_of [] = []
+scope_of (b ∷ noted) = (b.name, b.ordinal) ∷ scope_of noted
+
+abbrev pub numbered_code : {N : Type 0} → Naming N → Scope N → ℕ → ProcedureText N → ProcedureText Label
+numbered_code naming scope k code =
+    record { first_constructor = code.first_constructor; text = relabel_procedure naming (as_label naming) scope k code.text }
+
+abbrev pub numbered_object : {N : Type 0} → Naming N → Scope N → ℕ → Object Place (ProcedureText N) → Object Place (ProcedureText Label)
+numbered_object naming scope k (a_type s) = a_type s
+numbered_object naming scope k (a_constant v) = a_constant v
+numbered_object naming scope k (a_variable p) = a_variable p
+numbered_object naming scope k (a_procedure code) = a_procedure (numbered_code naming scope k code)
+numbered_object naming scope k (a_standard p) = a_standard p
+
+-- a procedure's text is numbered in the scope of its declaration
+abbrev pub by_ordinal : {N : Type 0} → Naming N → Noted N → Activation Label
+by_ordinal naming [] = []
+by_ordinal naming (b ∷ noted) = (declared b.ordinal, numbered_object naming (scope_of noted) b.ordinal b.object) ∷ by_ordinal naming noted
+
+-- a procedure is bound under its own name
+abbrev pub OwnName : {N : Type 0} → N → Object Place (ProcedureText N) → Type 0
+OwnName x (a_procedure code) = procedure_name code.text ≡ x
+OwnName x _ = Unit {0}
+
+-- newer bindings have greater ordinals, all below n: so no ordinal is twice
+abbrev pub Below : {N : Type 0} → ℕ → Noted N → Type 0
+Below n [] = Unit {0}
+Below n (b ∷ noted) = (b.ordinal < n) × OwnName b.name b.object × Below b.ordinal noted
+
+pub Below-weaken : {N : Type 0} (m n : ℕ) (noted : Noted N) → m ≤ n → Below m noted → Below n noted
+Below-weaken m n [] h b = tt
+Below-weaken m n (x ∷ noted) h b = (omega (arith, b.0), b.1, b.2)
+
+-- the noted bindings from the first of a name on
+abbrev pub noted_from : {N : Type 0} → Naming N → Noted N → N → Noted N
+noted_from naming [] x = []
+noted_from naming (b ∷ noted) x = elim (naming.same x b.name) [ true ↦ b ∷ noted | false ↦ noted_from naming noted x ]
+
+pub by_name-from : {N : Type 0} (naming : Naming N) (noted : Noted N) (x : N) → from_binding naming (by_name noted) x ≡ by_name (noted_from naming noted x)
+by_name-from naming [] x = refl
+by_name-from naming (b ∷ noted) x =
+    elim (naming.same x b.name) as (λ v. (elim v [ true ↦ by_name (b ∷ noted) | false ↦ from_binding naming (by_name noted) x ]) ≡ by_name (elim v [ true ↦ b ∷ noted | false ↦ noted_from naming noted x ]))
+    [ true ↦ refl | false ↦ by_name-from naming noted x ]
+
+-- a name's ordinal is below those of the bindings that are newer than its own
+pub older_ordinal : {N : Type 0} (naming : Naming N) (n : ℕ) (noted : Noted N) (x : N) → Below n noted → same_label (as_label naming (ordinal_of naming (scope_of noted) x) x) (declared n) ≡ false
+older_ordinal naming n [] x below = refl
+older_ordinal naming n (b ∷ noted) x below =
+    elim (naming.same x b.name) as (λ v. same_label (as_label naming (elim v [ true ↦ Some b.ordinal | false ↦ ordinal_of naming (scope_of noted) x ]) x) (declared n) ≡ false)
+    [ true ↦ ne_eqb b.ordinal n (λ e. omega (arith, e, below.0)) | false ↦ older_ordinal naming n noted x (Below-weaken b.ordinal n noted (le_of_lt below.0) below.2) ]
+
+pub by_ordinal-from : {N : Type 0} (naming : Naming N) (n : ℕ) (noted : Noted N) (x : N) → Below n noted → from_binding as_labels (by_ordinal naming noted) (as_label naming (ordinal_of naming (scope_of noted) x) x) ≡ by_ordinal naming (noted_from naming noted x)
+by_ordinal-from naming n [] x below = refl
+by_ordinal-from naming n (b ∷ noted) x below =
+    elim (naming.same x b.name) as (λ v. from_binding as_labels (by_ordinal naming (b ∷ noted)) (as_label naming (elim v [ true ↦ Some b.ordinal | false ↦ ordinal_of naming (scope_of noted) x ]) x) ≡ by_ordinal naming (elim v [ true ↦ b ∷ noted | false ↦ noted_from naming noted x ]))
+    [ true ↦ rw (eq-eqb b.ordinal b.ordinal refl, from_binding) refl | false ↦ rw (older_ordinal naming b.ordinal noted x below.2, from_binding) (by_ordinal-from naming b.ordinal noted x below.2) ]
+
+pub Below-from : {N : Type 0} (naming : Naming N) (n : ℕ) (noted : Noted N) (x : N) → Below n noted → Below n (noted_from naming noted x)
+Below-from naming n [] x below = tt
+Below-from naming n (b ∷ noted) x below =
+    elim (naming.same x b.name) as (λ v. Below n (elim v [ true ↦ b ∷ noted | false ↦ noted_from naming noted x ]))
+    [ true ↦ below | false ↦ Below-from naming n noted x (Below-weaken b.ordinal n noted (le_of_lt below.0) below.2) ]

@@ -1,0 +1,297 @@
+-- An expression of a type evaluates to a value of that type, or ends otherwise than stuck.
+use Rattle.std.proofs.Common.{◌≡◌, ℕ, zero, suc, ◌<◌, Bool, true, false, T, List, [], ◌∷◌, ℤ, pos, negsuc, ◌+ℤ◌, ◌-ℤ◌, ◌*ℤ◌, neg_ℤ, if◌then◌else◌, nat_lt, slice_get, Some, None, Option, option_and_then, sym, refl, ap, ◌∙◌, subst, subst₂, arith, ltb→lt}
+use Rattle.ob0_tree.specs.declared.tree.Relation.{Relation}
+use Rattle.ob0_tree.specs.declared.tree.Relation.TheVariants as relation
+use Rattle.ob0_tree.specs.declared.tree.Sign.{Sign}
+use Rattle.ob0_tree.specs.declared.tree.Sign.TheVariants as sign
+use Rattle.ob0_tree.specs.declared.tree.AddOperator.{AddOperator}
+use Rattle.ob0_tree.specs.declared.tree.AddOperator.TheVariants as add_operator
+use Rattle.ob0_tree.specs.declared.tree.MultiplyOperator.{MultiplyOperator}
+use Rattle.ob0_tree.specs.declared.tree.MultiplyOperator.TheVariants as multiply_operator
+use Rattle.ob0_tree.specs.Tree.{Tree, addend, adds, compares, designator, end, expression, factor, field, index, integer, items, more, multiplier, multiplies, negation, none, one, parenthesised, product, relates, selector, simple, sum, term}
+use Rattle.ob0_language_names.specs.Names.{Name, same_name}
+use Rattle.ob0_language_types.specs.Expressions.{Meanings, Object, a_constant, a_procedure, a_standard, a_type, a_variable, element_step, evaluate, evaluate_addends, evaluate_factor, evaluate_multipliers, evaluate_simple, evaluate_term, follow, object_value}
+use Rattle.ob0_language_types.specs.Typing.{add_type, complement_type, element_type, field_type, multiply_type, object_type, relation_type, shape_of_field, sign_type, type_at, type_of, type_of_addends, type_of_factor, type_of_multipliers, type_of_simple, type_of_term, value_type}
+use Rattle.ob0_language_values.specs.Values.{FieldShapes, Index, Members, Outcome, Overflow, Place, Shape, Step, Store, Value, Values, add, add_is_settled, array_shape, at_field, at_index, at_path, boolean_shape, count_values, divided, divided_by, elements, ends, fits, gives, in_range, integer_shape, members, multiply, multiply_is_settled, named_member, negate, next_field_shape, next_member, next_value, no_field_shape, no_member, no_value, nth_value, number, or_stuck, part, quotient, read_place, record_shape, relate, remainder, apply_sign, truth, ◌>>=◌}
+use Rattle.ob0_language_types.specs.WellTyped.{Mode, Signature, Typed}
+use Rattle.ob0_language_types.proofs.Conditions.{of_some}
+use Rattle.ob0_language_runs.specs.Fitting.{EachHasShape, HasShape, HaveShapes, MeaningsFit, ObjectFits, PlaceFits, StoreFits, StoreTyping, part_shape, shape_at_path}
+use Rattle.ob0_language_runs.proofs.Soundness.{OutcomeFits}
+
+pub fits-then : {A B : Type 0} (P : A → Type 0) (Q : B → Type 0) (o : Outcome A) (next : A → Outcome B) → OutcomeFits P o → ((a : A) → P a → OutcomeFits Q (next a)) → OutcomeFits Q (o >>= next)
+fits-then P Q (gives a) next h each = each a h
+fits-then P Q (ends e) next h each = h
+
+pub some-gives : {A B : Type 0} (o : Option A) (next : A → Option B) (b : B) → option_and_then next o ≡ Some b → (a : A) × (o ≡ Some a) × (next a ≡ Some b)
+some-gives None next b h = absurd (cc)
+some-gives (Some a) next b h = (a, refl, h)
+
+pub in_range-fits : (n : ℤ) → OutcomeFits (λ v. HasShape v integer_shape) (in_range n)
+in_range-fits n = elim (fits n) as (λ b. OutcomeFits (λ v. HasShape v integer_shape) (if b then gives (number n) else ends Overflow)) [ true ↦ tt | false ↦ λ e. cc ]
+
+pub is_number : (v : Value) → HasShape v integer_shape → (n : ℤ) × (v ≡ number n)
+is_number (number n) h = (n, refl)
+is_number (truth b) h = absurd h
+is_number (elements vs) h = absurd h
+is_number (members k ms) h = absurd h
+
+pub is_truth : (v : Value) → HasShape v boolean_shape → (b : Bool) × (v ≡ truth b)
+is_truth (number n) h = absurd h
+is_truth (truth b) h = (b, refl)
+is_truth (elements vs) h = absurd h
+is_truth (members k ms) h = absurd h
+
+pub on_numbers : (op : Value → Value → Outcome Value) (s : Shape) → ((m n : ℤ) → OutcomeFits (λ v. HasShape v s) (op (number m) (number n))) → (v w : Value) → HasShape v integer_shape → HasShape w integer_shape → OutcomeFits (λ v. HasShape v s) (op v w)
+on_numbers op s each v w hv hw =
+    let (m, ev) = is_number v hv in
+    let (n, ew) = is_number w hw in
+    subst₂ (λ a b. OutcomeFits (λ v. HasShape v s) (op a b)) (sym ev) (sym ew) (each m n)
+
+pub on_truths : (op : Value → Value → Outcome Value) (s : Shape) → ((a b : Bool) → OutcomeFits (λ v. HasShape v s) (op (truth a) (truth b))) → (v w : Value) → HasShape v boolean_shape → HasShape w boolean_shape → OutcomeFits (λ v. HasShape v s) (op v w)
+on_truths op s each v w hv hw =
+    let (a, ev) = is_truth v hv in
+    let (b, ew) = is_truth w hw in
+    subst₂ (λ a b. OutcomeFits (λ v. HasShape v s) (op a b)) (sym ev) (sym ew) (each a b)
+
+pub add-fits : (o : AddOperator) (x y z : Shape) (v w : Value) → add_type o x y ≡ Some z → HasShape v x → HasShape w y → OutcomeFits (λ u. HasShape u z) (add o v w)
+add-fits add_operator.Add integer_shape integer_shape z v w e hv hw = of_some (λ z. OutcomeFits (λ u. HasShape u z) (add add_operator.Add v w)) e (on_numbers (add add_operator.Add) integer_shape (λ m n. in_range-fits (m +ℤ n)) v w hv hw)
+add-fits add_operator.Subtract integer_shape integer_shape z v w e hv hw = of_some (λ z. OutcomeFits (λ u. HasShape u z) (add add_operator.Subtract v w)) e (on_numbers (add add_operator.Subtract) integer_shape (λ m n. in_range-fits (m -ℤ n)) v w hv hw)
+add-fits add_operator.Or boolean_shape boolean_shape z v w e hv hw = of_some (λ z. OutcomeFits (λ u. HasShape u z) (add add_operator.Or v w)) e (on_truths (add add_operator.Or) boolean_shape (λ a b. tt) v w hv hw)
+add-fits _ _ _ z v w e hv hw = absurd (cc)
+
+pub divided_by-fits : (result : Option ℤ) → OutcomeFits (λ v. HasShape v integer_shape) (divided_by result)
+divided_by-fits None = λ e. cc
+divided_by-fits (Some n) = in_range-fits n
+
+pub multiply-fits : (o : MultiplyOperator) (x y z : Shape) (v w : Value) → multiply_type o x y ≡ Some z → HasShape v x → HasShape w y → OutcomeFits (λ u. HasShape u z) (multiply o v w)
+multiply-fits multiply_operator.Multiply integer_shape integer_shape z v w e hv hw = of_some (λ z. OutcomeFits (λ u. HasShape u z) (multiply multiply_operator.Multiply v w)) e (on_numbers (multiply multiply_operator.Multiply) integer_shape (λ m n. in_range-fits (m *ℤ n)) v w hv hw)
+multiply-fits multiply_operator.Divide integer_shape integer_shape z v w e hv hw = of_some (λ z. OutcomeFits (λ u. HasShape u z) (multiply multiply_operator.Divide v w)) e (on_numbers (multiply multiply_operator.Divide) integer_shape (λ m n. divided_by-fits (divided quotient m n)) v w hv hw)
+multiply-fits multiply_operator.Modulo integer_shape integer_shape z v w e hv hw = of_some (λ z. OutcomeFits (λ u. HasShape u z) (multiply multiply_operator.Modulo v w)) e (on_numbers (multiply multiply_operator.Modulo) integer_shape (λ m n. divided_by-fits (divided remainder m n)) v w hv hw)
+multiply-fits multiply_operator.And boolean_shape boolean_shape z v w e hv hw = of_some (λ z. OutcomeFits (λ u. HasShape u z) (multiply multiply_operator.And v w)) e (on_truths (multiply multiply_operator.And) boolean_shape (λ a b. tt) v w hv hw)
+multiply-fits _ _ _ z v w e hv hw = absurd (cc)
+
+pub relate-fits : (r : Relation) (x y z : Shape) (v w : Value) → relation_type r x y ≡ Some z → HasShape v x → HasShape w y → OutcomeFits (λ u. HasShape u z) (relate r v w)
+relate-fits r integer_shape integer_shape z v w e hv hw = of_some (λ z. OutcomeFits (λ u. HasShape u z) (relate r v w)) e (on_numbers (relate r) boolean_shape (λ m n. tt) v w hv hw)
+relate-fits relation.Equal boolean_shape boolean_shape z v w e hv hw = of_some (λ z. OutcomeFits (λ u. HasShape u z) (relate relation.Equal v w)) e (on_truths (relate relation.Equal) boolean_shape (λ a b. tt) v w hv hw)
+relate-fits relation.NotEqual boolean_shape boolean_shape z v w e hv hw = of_some (λ z. OutcomeFits (λ u. HasShape u z) (relate relation.NotEqual v w)) e (on_truths (relate relation.NotEqual) boolean_shape (λ a b. tt) v w hv hw)
+relate-fits _ _ _ z v w e hv hw = absurd (cc)
+
+pub apply_sign-fits : (s : Option Sign) (x z : Shape) (v : Value) → sign_type s x ≡ Some z → HasShape v x → OutcomeFits (λ u. HasShape u z) (apply_sign s v)
+apply_sign-fits None x z v e hv = of_some (λ z. HasShape v z) e hv
+apply_sign-fits (Some sign.Plus) integer_shape z v e hv = of_some (λ z. OutcomeFits (λ u. HasShape u z) (apply_sign (Some sign.Plus) v)) e (let (n, ev) = is_number v hv in subst (λ v. OutcomeFits (λ u. HasShape u integer_shape) (apply_sign (Some sign.Plus) v)) (sym ev) (in_range-fits n))
+apply_sign-fits (Some sign.Minus) integer_shape z v e hv = of_some (λ z. OutcomeFits (λ u. HasShape u z) (apply_sign (Some sign.Minus) v)) e (let (n, ev) = is_number v hv in subst (λ v. OutcomeFits (λ u. HasShape u integer_shape) (apply_sign (Some sign.Minus) v)) (sym ev) (in_range-fits (neg_ℤ n)))
+apply_sign-fits _ _ z v e hv = absurd (cc)
+
+pub negate-fits : (x z : Shape) (v : Value) → complement_type x ≡ Some z → HasShape v x → OutcomeFits (λ u. HasShape u z) (negate v)
+negate-fits boolean_shape z v e hv = of_some (λ z. OutcomeFits (λ u. HasShape u z) (negate v)) e (let (b, ev) = is_truth v hv in subst (λ v. OutcomeFits (λ u. HasShape u boolean_shape) (negate v)) (sym ev) tt)
+negate-fits _ z v e hv = absurd (cc)
+
+-- where the right side isn't evaluated, the left side has the type of the whole
+pub add_type-first : (o : AddOperator) (x y z : Shape) → add_type o x y ≡ Some z → Some x ≡ Some z
+add_type-first add_operator.Add integer_shape integer_shape z e = e
+add_type-first add_operator.Subtract integer_shape integer_shape z e = e
+add_type-first add_operator.Or boolean_shape boolean_shape z e = e
+add_type-first _ _ _ z e = absurd (cc)
+
+pub multiply_type-first : (o : MultiplyOperator) (x y z : Shape) → multiply_type o x y ≡ Some z → Some x ≡ Some z
+multiply_type-first multiply_operator.Multiply integer_shape integer_shape z e = e
+multiply_type-first multiply_operator.Divide integer_shape integer_shape z e = e
+multiply_type-first multiply_operator.Modulo integer_shape integer_shape z e = e
+multiply_type-first multiply_operator.And boolean_shape boolean_shape z e = e
+multiply_type-first _ _ _ z e = absurd (cc)
+
+pub settled-fits : (P : Value → Type 0) (b : Bool) (x : Value) (o : Outcome Value) → P x → OutcomeFits P o → OutcomeFits P (elim b [ true ↦ gives x | false ↦ o ])
+settled-fits P true x o h k = h
+settled-fits P false x o h k = k
+
+-- parts of a value, by their types
+
+pub below_of : (m n : ℕ) → nat_lt m n ≡ true → m < n
+below_of m n e = ltb→lt m n (subst (λ b. T b) (sym e) tt)
+
+pub nth-fits : (vs : Values) (s : Shape) (i : ℕ) → i < count_values vs → EachHasShape vs s → (w : Value) × (nth_value vs i ≡ Some w) × HasShape w s
+nth-fits no_value s i below h = absurd (omega (arith, below))
+nth-fits (next_value v rest) s zero below h = (v, refl, h.0)
+nth-fits (next_value v rest) s (suc i) below h = nth-fits rest s i (omega (arith, below)) h.1
+
+pub member-fits : (ms : Members) (fs : FieldShapes) (x : Name) (s : Shape) → shape_of_field fs x ≡ Some s → HaveShapes ms fs → (w : Value) × (named_member ms x ≡ Some w) × HasShape w s
+member-fits no_member no_field_shape x s e h = absurd (cc)
+member-fits no_member (next_field_shape y t others) x s e h = absurd h
+member-fits (next_member y v rest) no_field_shape x s e h = absurd h
+member-fits (next_member y v rest) (next_field_shape z t others) x s e h =
+    subst (λ z. shape_of_field (next_field_shape z t others) x ≡ Some s → (w : Value) × (named_member (next_member y v rest) x ≡ Some w) × HasShape w s) h.0
+    (elim (same_name x y) as (λ b. (if b then Some t else shape_of_field others x) ≡ Some s → (w : Value) × ((if b then Some v else named_member rest x) ≡ Some w) × HasShape w s)
+    [ true ↦ λ e. (v, refl, of_some (λ s. HasShape v s) e h.1) | false ↦ λ e. member-fits rest others x s e h.2 ]) e
+
+pub part-fits : (v : Value) (s : Shape) (step : Step) (t : Shape) → HasShape v s → part_shape s step ≡ Some t → (w : Value) × (part v step ≡ Some w) × HasShape w t
+part-fits (elements vs) (array_shape k n s) (at_index i) t h e =
+    (elim (nat_lt i n) as (λ b. nat_lt i n ≡ b → (if b then Some s else None) ≡ Some t → (w : Value) × (nth_value vs i ≡ Some w) × HasShape w t) [
+      | true ↦ λ below e. of_some (λ t. (w : Value) × (nth_value vs i ≡ Some w) × HasShape w t) e (nth-fits vs s i (below_of i (count_values vs) (ap (λ m. nat_lt i m) h.0 ∙ below)) h.1)
+      | false ↦ λ below e. absurd (cc)
+    ]) refl e
+part-fits (members j ms) (record_shape k fs) (at_field x) t h e = member-fits ms fs x t e h.1
+part-fits (elements vs) (array_shape k n s) (at_field x) t h e = absurd (cc)
+part-fits (members j ms) (record_shape k fs) (at_index i) t h e = absurd (cc)
+part-fits (number n) integer_shape step t h e = absurd (cc)
+part-fits (truth b) boolean_shape step t h e = absurd (cc)
+part-fits _ _ step t h e = absurd h
+
+pub path-fits : (path : List Step) (v : Value) (s t : Shape) → HasShape v s → shape_at_path path s ≡ Some t → (w : Value) × (at_path path v ≡ Some w) × HasShape w t
+path-fits [] v s t h e = (v, refl, of_some (λ t. HasShape v t) e h)
+path-fits (step ∷ path) v s t h e =
+    let (u, eu, e₁) = some-gives (part_shape s step) (shape_at_path path) t e in
+    let (w, ew, hw) = part-fits v s step u h eu in
+    let (z, ez, hz) = path-fits path w u t hw e₁ in
+    (z, ap (option_and_then (at_path path)) ew ∙ ez, hz)
+
+pub variable-fits : (typing : StoreTyping) (store : Store) (n : ℕ) (s : Shape) → StoreFits typing store → slice_get typing n ≡ Some s → (v : Value) × (slice_get store n ≡ Some v) × HasShape v s
+variable-fits [] [] n s h e = absurd (cc)
+variable-fits [] (v ∷ store) n s h e = absurd h
+variable-fits (t ∷ typing) [] n s h e = absurd h
+variable-fits (t ∷ typing) (v ∷ store) zero s h e = (v, refl, of_some (λ s. HasShape v s) e h.0)
+variable-fits (t ∷ typing) (v ∷ store) (suc n) s h e = variable-fits typing store n s h.1 e
+
+pub place-fits : (typing : StoreTyping) (store : Store) (p : Place) (s : Shape) → StoreFits typing store → PlaceFits typing p s → (v : Value) × (read_place store p ≡ Some v) × HasShape v s
+place-fits typing store p s h e =
+    let (t, et, e₁) = some-gives (slice_get typing p.variable) (shape_at_path p.path) s e in
+    let (v, ev, hv) = variable-fits typing store p.variable t h et in
+    let (w, ew, hw) = path-fits p.path v t s hv e₁ in
+    (w, ap (option_and_then (at_path p.path)) ev ∙ ew, hw)
+
+-- a constant or a variable evaluates to a value of its type
+pub object-fits : (typing : StoreTyping) (store : Store) (checked : Option (Object Shape Signature)) (active : Option (Object Place (List Mode))) (s : Shape)
+    → StoreFits typing store → ObjectFits typing checked active → object_type checked ≡ Some s → OutcomeFits (λ v. HasShape v s) (object_value store active)
+object-fits typing store (Some (a_constant v)) (Some (a_constant w)) s h o e =
+    subst (λ w. OutcomeFits (λ v. HasShape v s) (object_value {P = List Mode} store (Some (a_constant w)))) o (go v e)
+  where
+    go : (v : Value) → value_type v ≡ Some s → HasShape v s
+    go (number n) e = of_some (λ s. HasShape (number n) s) e tt
+    go (truth b) e = of_some (λ s. HasShape (truth b) s) e tt
+    go (elements vs) e = absurd (cc)
+    go (members k ms) e = absurd (cc)
+object-fits typing store (Some (a_variable t)) (Some (a_variable p)) s h o e =
+    let (v, ev, hv) = place-fits typing store p t h o in
+    of_some (λ s. OutcomeFits (λ v. HasShape v s) (or_stuck (read_place store p))) e (subst (λ r. OutcomeFits (λ v. HasShape v t) (or_stuck r)) (sym ev) hv)
+object-fits typing store None active s h o e = absurd (cc)
+object-fits typing store (Some (a_type t)) active s h o e = absurd (cc)
+object-fits typing store (Some (a_procedure t)) active s h o e = absurd (cc)
+object-fits typing store (Some (a_standard t)) active s h o e = absurd (cc)
+object-fits typing store _ _ s h o e = absurd o
+
+pub or_stuck-fits : {A : Type 0} (P : A → Type 0) (o : Option A) (a : A) → o ≡ Some a → P a → OutcomeFits P (or_stuck o)
+or_stuck-fits P o a e h = subst (λ o. OutcomeFits P (or_stuck o)) (sym e) h
+
+pub is_elements : (v : Value) (k n : ℕ) (s : Shape) → HasShape v (array_shape k n s) → (vs : Values) × (v ≡ elements vs)
+is_elements (elements vs) k n s h = (vs, refl)
+is_elements (number m) k n s h = absurd h
+is_elements (truth b) k n s h = absurd h
+is_elements (members j ms) k n s h = absurd h
+
+-- an index in range gives a step to an element
+pub index-fits : (vs : Values) (k n : ℕ) (s t : Shape) (i : ℤ) → count_values vs ≡ n → Some s ≡ Some t → OutcomeFits (λ step. part_shape (array_shape k n s) step ≡ Some t) (element_step (elements vs) (number i))
+index-fits vs k n s t (negsuc i) c e = λ e. cc
+index-fits vs k n s t (pos i) c e =
+    (elim (nat_lt i (count_values vs)) as (λ b. nat_lt i (count_values vs) ≡ b → OutcomeFits (λ step. part_shape (array_shape k n s) step ≡ Some t) (if b then gives (at_index i) else ends Index))
+    [ true ↦ λ below. ap (λ b. if b then Some s else None) (ap (λ m. nat_lt i m) (sym c) ∙ below) ∙ e | false ↦ λ below e. cc ]) refl
+
+pub element_step-fits : (v : Value) (s : Shape) (i : Value) (j t : Shape) → HasShape v s → HasShape i j → element_type s j ≡ Some t → OutcomeFits (λ step. part_shape s step ≡ Some t) (element_step v i)
+element_step-fits v (array_shape k n s) i integer_shape t h hi e =
+    let (vs, ev) = is_elements v k n s h in
+    let (m, em) = is_number i hi in
+    subst₂ (λ v i. OutcomeFits (λ step. part_shape (array_shape k n s) step ≡ Some t) (element_step v i)) (sym ev) (sym em)
+    (index-fits vs k n s t m (subst (λ v. HasShape v (array_shape k n s)) ev h).0 e)
+element_step-fits v _ i j t h hi e = absurd (cc)
+
+pub field_part : (t : Shape) (x : Name) (u : Shape) → field_type t x ≡ Some u → part_shape t (at_field x) ≡ Some u
+field_part (record_shape k fs) x u e = e
+field_part _ x u e = absurd (cc)
+
+-- the store fits its typing, and what names mean fits what the checker takes them for
+pub record Fitting {N : Type 0} (typing : StoreTyping) (checked : Typed N) (active : Meanings N Place (List Mode)) (store : Store) : Type 0 where
+  pub store_fits : StoreFits typing store
+  pub names_fit : MeaningsFit typing checked active
+
+mutual
+  unfolding evaluate type_of
+
+  pub evaluate-sound : {N : Type 0} (typing : StoreTyping) (checked : Typed N) (active : Meanings N Place (List Mode)) (store : Store) → Fitting typing checked active store → (e : Tree N expression) (s : Shape)
+      → type_of checked e ≡ Some s → OutcomeFits (λ v. HasShape v s) (evaluate active store e)
+  evaluate-sound typing checked active store f (compares a none) s h = evaluate_simple-sound typing checked active store f a s h
+  evaluate-sound typing checked active store f (compares a (one (relates r b))) s h =
+      let (x, ex, h₁) = some-gives (type_of_simple checked a) (λ x. option_and_then (relation_type r x) (type_of_simple checked b)) s h in
+      let (y, ey, h₂) = some-gives (type_of_simple checked b) (relation_type r x) s h₁ in
+      fits-then (λ v. HasShape v x) (λ v. HasShape v s) (evaluate_simple active store a) (λ v. evaluate_simple active store b >>= relate r v) (evaluate_simple-sound typing checked active store f a x ex)
+      (λ v hv. fits-then (λ w. HasShape w y) (λ v. HasShape v s) (evaluate_simple active store b) (relate r v) (evaluate_simple-sound typing checked active store f b y ey) (λ w hw. relate-fits r x y s v w h₂ hv hw))
+
+  pub evaluate_simple-sound : {N : Type 0} (typing : StoreTyping) (checked : Typed N) (active : Meanings N Place (List Mode)) (store : Store) → Fitting typing checked active store → (a : Tree N simple) (s : Shape)
+      → type_of_simple checked a ≡ Some s → OutcomeFits (λ v. HasShape v s) (evaluate_simple active store a)
+  evaluate_simple-sound typing checked active store f (sum sign t rest) s h =
+      let (x, ex, h₁) = some-gives (type_of_term checked t) (λ x. option_and_then (λ y. type_of_addends checked y rest) (sign_type sign x)) s h in
+      let (y, ey, h₂) = some-gives (sign_type sign x) (λ y. type_of_addends checked y rest) s h₁ in
+      fits-then (λ v. HasShape v x) (λ v. HasShape v s) (evaluate_term active store t) (λ v. apply_sign sign v >>= (λ w. evaluate_addends active store w rest)) (evaluate_term-sound typing checked active store f t x ex)
+      (λ v hv. fits-then (λ w. HasShape w y) (λ v. HasShape v s) (apply_sign sign v) (λ w. evaluate_addends active store w rest) (apply_sign-fits sign x y v ey hv)
+      (λ w hw. evaluate_addends-sound typing checked active store f w y rest s hw h₂))
+
+  pub evaluate_addends-sound : {N : Type 0} (typing : StoreTyping) (checked : Typed N) (active : Meanings N Place (List Mode)) (store : Store) → Fitting typing checked active store → (v : Value) (x : Shape) (a : Tree N (items addend)) (s : Shape)
+      → HasShape v x → type_of_addends checked x a ≡ Some s → OutcomeFits (λ v. HasShape v s) (evaluate_addends active store v a)
+  evaluate_addends-sound typing checked active store f v x end s hv h = of_some (λ s. HasShape v s) h hv
+  evaluate_addends-sound typing checked active store f v x (more (adds o t) rest) s hv h =
+      let (y, ey, h₁) = some-gives (type_of_term checked t) (λ y. option_and_then (λ z. type_of_addends checked z rest) (add_type o x y)) s h in
+      let (z, ez, h₂) = some-gives (add_type o x y) (λ z. type_of_addends checked z rest) s h₁ in
+      fits-then (λ w. HasShape w z) (λ v. HasShape v s) (elim (add_is_settled o v) [ true ↦ gives v | false ↦ evaluate_term active store t >>= add o v ]) (λ w. evaluate_addends active store w rest)
+      (settled-fits (λ w. HasShape w z) (add_is_settled o v) v (evaluate_term active store t >>= add o v) (of_some (λ s. HasShape v s) (add_type-first o x y z ez) hv)
+      (fits-then (λ w. HasShape w y) (λ w. HasShape w z) (evaluate_term active store t) (add o v) (evaluate_term-sound typing checked active store f t y ey) (λ w hw. add-fits o x y z v w ez hv hw)))
+      (λ w hw. evaluate_addends-sound typing checked active store f w z rest s hw h₂)
+
+  pub evaluate_term-sound : {N : Type 0} (typing : StoreTyping) (checked : Typed N) (active : Meanings N Place (List Mode)) (store : Store) → Fitting typing checked active store → (a : Tree N term) (s : Shape)
+      → type_of_term checked a ≡ Some s → OutcomeFits (λ v. HasShape v s) (evaluate_term active store a)
+  evaluate_term-sound typing checked active store f (product a rest) s h =
+      let (x, ex, h₁) = some-gives (type_of_factor checked a) (λ x. type_of_multipliers checked x rest) s h in
+      fits-then (λ v. HasShape v x) (λ v. HasShape v s) (evaluate_factor active store a) (λ v. evaluate_multipliers active store v rest) (evaluate_factor-sound typing checked active store f a x ex)
+      (λ v hv. evaluate_multipliers-sound typing checked active store f v x rest s hv h₁)
+
+  pub evaluate_multipliers-sound : {N : Type 0} (typing : StoreTyping) (checked : Typed N) (active : Meanings N Place (List Mode)) (store : Store) → Fitting typing checked active store → (v : Value) (x : Shape) (a : Tree N (items multiplier)) (s : Shape)
+      → HasShape v x → type_of_multipliers checked x a ≡ Some s → OutcomeFits (λ v. HasShape v s) (evaluate_multipliers active store v a)
+  evaluate_multipliers-sound typing checked active store f v x end s hv h = of_some (λ s. HasShape v s) h hv
+  evaluate_multipliers-sound typing checked active store f v x (more (multiplies o a) rest) s hv h =
+      let (y, ey, h₁) = some-gives (type_of_factor checked a) (λ y. option_and_then (λ z. type_of_multipliers checked z rest) (multiply_type o x y)) s h in
+      let (z, ez, h₂) = some-gives (multiply_type o x y) (λ z. type_of_multipliers checked z rest) s h₁ in
+      fits-then (λ w. HasShape w z) (λ v. HasShape v s) (elim (multiply_is_settled o v) [ true ↦ gives v | false ↦ evaluate_factor active store a >>= multiply o v ]) (λ w. evaluate_multipliers active store w rest)
+      (settled-fits (λ w. HasShape w z) (multiply_is_settled o v) v (evaluate_factor active store a >>= multiply o v) (of_some (λ s. HasShape v s) (multiply_type-first o x y z ez) hv)
+      (fits-then (λ w. HasShape w y) (λ w. HasShape w z) (evaluate_factor active store a) (multiply o v) (evaluate_factor-sound typing checked active store f a y ey) (λ w hw. multiply-fits o x y z v w ez hv hw)))
+      (λ w hw. evaluate_multipliers-sound typing checked active store f w z rest s hw h₂)
+
+  pub evaluate_factor-sound : {N : Type 0} (typing : StoreTyping) (checked : Typed N) (active : Meanings N Place (List Mode)) (store : Store) → Fitting typing checked active store → (a : Tree N factor) (s : Shape)
+      → type_of_factor checked a ≡ Some s → OutcomeFits (λ v. HasShape v s) (evaluate_factor active store a)
+  evaluate_factor-sound typing checked active store f (designator x path) s h =
+      let (t, et, h₁) = some-gives (object_type (checked.object_for x)) (λ t. type_at checked t path) s h in
+      fits-then (λ v. HasShape v t) (λ v. HasShape v s) (object_value store (active.object_for x)) (λ v. follow active store v path >>= (λ steps. or_stuck (at_path steps v)))
+      (object-fits typing store (checked.object_for x) (active.object_for x) t f.store_fits (f.names_fit.0 x) et)
+      (λ v hv. fits-then (λ steps. shape_at_path steps t ≡ Some s) (λ v. HasShape v s) (follow active store v path) (λ steps. or_stuck (at_path steps v)) (follow-sound typing checked active store f v t path s hv h₁)
+      (λ steps e. let (w, ew, hw) = path-fits steps v t s hv e in or_stuck-fits (λ v. HasShape v s) (at_path steps v) w ew hw))
+  evaluate_factor-sound typing checked active store f (integer n) s h = of_some (λ s. HasShape (number (pos n)) s) h tt
+  evaluate_factor-sound typing checked active store f (parenthesised e) s h = evaluate-sound typing checked active store f e s h
+  evaluate_factor-sound typing checked active store f (negation a) s h =
+      let (x, ex, h₁) = some-gives (type_of_factor checked a) complement_type s h in
+      fits-then (λ v. HasShape v x) (λ v. HasShape v s) (evaluate_factor active store a) negate (evaluate_factor-sound typing checked active store f a x ex) (λ v hv. negate-fits x s v h₁ hv)
+
+  pub follow-sound : {N : Type 0} (typing : StoreTyping) (checked : Typed N) (active : Meanings N Place (List Mode)) (store : Store) → Fitting typing checked active store → (v : Value) (t : Shape) (path : Tree N (items selector)) (s : Shape)
+      → HasShape v t → type_at checked t path ≡ Some s → OutcomeFits (λ steps. shape_at_path steps t ≡ Some s) (follow active store v path)
+  follow-sound typing checked active store f v t end s hv h = h
+  follow-sound typing checked active store f v t (more (field x) rest) s hv h =
+      let (u, eu, h₁) = some-gives (field_type t (checked.written x)) (λ u. type_at checked u rest) s h in
+      let eu' : part_shape t (at_field (checked.written x)) ≡ Some u = field_part t (checked.written x) u eu in
+      let (w, ew, hw) = part-fits v t (at_field (checked.written x)) u hv eu' in
+      subst (λ y. OutcomeFits (λ steps. shape_at_path steps t ≡ Some s) (or_stuck (part v (at_field y)) >>= (λ w. follow active store w rest >>= (λ steps. gives (at_field y ∷ steps))))) (f.names_fit.1 x)
+      (fits-then (λ w. HasShape w u) (λ steps. shape_at_path steps t ≡ Some s) (or_stuck (part v (at_field (checked.written x)))) (λ w. follow active store w rest >>= (λ steps. gives (at_field (checked.written x) ∷ steps))) (or_stuck-fits (λ w. HasShape w u) (part v (at_field (checked.written x))) w ew hw)
+      (λ w hw. fits-then (λ steps. shape_at_path steps u ≡ Some s) (λ steps. shape_at_path steps t ≡ Some s) (follow active store w rest) (λ steps. gives (at_field (checked.written x) ∷ steps)) (follow-sound typing checked active store f w u rest s hw h₁)
+      (λ steps e. ap (option_and_then (shape_at_path steps)) eu' ∙ e)))
+  follow-sound typing checked active store f v t (more (index e) rest) s hv h =
+      let (i, ei, h₁) = some-gives (type_of checked e) (λ i. option_and_then (λ u. type_at checked u rest) (element_type t i)) s h in
+      let (u, eu, h₂) = some-gives (element_type t i) (λ u. type_at checked u rest) s h₁ in
+      fits-then (λ j. HasShape j i) (λ steps. shape_at_path steps t ≡ Some s) (evaluate active store e) (λ j. element_step v j >>= (λ step. or_stuck (part v step) >>= (λ w. follow active store w rest >>= (λ steps. gives (step ∷ steps))))) (evaluate-sound typing checked active store f e i ei)
+      (λ j hj. fits-then (λ step. part_shape t step ≡ Some u) (λ steps. shape_at_path steps t ≡ Some s) (element_step v j) (λ step. or_stuck (part v step) >>= (λ w. follow active store w rest >>= (λ steps. gives (step ∷ steps)))) (element_step-fits v t j i u hv hj eu)
+      (λ step es. let (w, ew, hw) = part-fits v t step u hv es in
+      fits-then (λ w. HasShape w u) (λ steps. shape_at_path steps t ≡ Some s) (or_stuck (part v step)) (λ w. follow active store w rest >>= (λ steps. gives (step ∷ steps))) (or_stuck-fits (λ w. HasShape w u) (part v step) w ew hw)
+      (λ w hw. fits-then (λ steps. shape_at_path steps u ≡ Some s) (λ steps. shape_at_path steps t ≡ Some s) (follow active store w rest) (λ steps. gives (step ∷ steps)) (follow-sound typing checked active store f w u rest s hw h₂)
+      (λ steps e. ap (option_and_then (shape_at_path steps)) es ∙ e))))

@@ -1,0 +1,357 @@
+-- Calls and whole modules keep the store's typing: no run of a well-typed module gets stuck.
+use Rattle.std.proofs.Common.{◌≡◌, ℕ, zero, suc, ◌+◌, Bool, true, false, ◌&&◌, ◌≢◌, List, [], ◌∷◌, ◌++◌, map, length, ℤ, slice_get, Some, None, Option, option_map, option_and_then, unwrap_or, sym, refl, ap, ◌∙◌, subst, append_assoc, append-nil}
+use Rattle.ob0_tree.specs.Tree.{Tree, begins, block, body, constant, declares, declares_constant, declares_procedure, declares_type, declares_variable, end, expression, further_section, has_body, is_module, item, items, maybe, module_text, more, none, one, procedure, then_section, type_name, variable, written_type}
+use Rattle.ob0_language_names.specs.Names.{Naming, as_names}
+use Rattle.ob0_language_names.specs.Parts.{block_statements, formal_sections, names_listed, procedure_formals, procedure_name, section_constants, section_names, section_type, section_types, section_variables}
+use Rattle.ob0_language_names.proofs.SameNames.{with_names-id}
+use Rattle.ob0_language_types.specs.Declarations.{after_types, after_variables, declare_constants, declare_first, declare_types, formals_constructors, procedure_constructors}
+use Rattle.ob0_language_types.specs.Environments.{from_binding, meanings, newest, outermost}
+use Rattle.ob0_language_types.specs.Expressions.{Object, a_constant, a_procedure, a_standard, a_type, a_variable}
+use Rattle.ob0_language_types.specs.Typing.{constant_of, constant_value, constructors, denoted, type_of_name}
+use Rattle.ob0_language_values.specs.Values.{FieldShapes, Place, Shape, Store, Stuck, Value, array_shape, boolean_shape, copies, count_values, fits, initial, initial_members, integer_shape, next_field_shape, no_field_shape, record_shape}
+use Rattle.ob0_language_types.specs.WellTyped.{Formal, Mode, Signature, TypeEnvironment, TypedParameter, WellTyped, bind_names, bind_typed, block_fits, body_fits, declare_typed, fits_over, heading, procedure_fits, procedures_fit, section_mode, signature_of, typed_parameters}
+use Rattle.ob0_language_types.proofs.TypeNaturality.{constant_value-map, denoted-map}
+use Rattle.ob0_language_types.proofs.TypesByOrdinal.{typed_parameter}
+use Rattle.ob0_language_types.proofs.Conditions.{both_true, hold-true}
+use Rattle.ob0_language_runs.specs.Laws.{NeverStuck}
+use Rattle.ob0_language_runs.specs.Runs.{Activation, Argument, Calls, ProcedureText, Frame, Parameter, Progress, State, activate, allocate, bind_parameter, bind_parameters, call, declare_block, declare_procedures, declare_variables, execute_all, execute_body, finished, formal_modes, in_frame, parameters, passing, place_argument, run, run_over, running, statement_meanings, stopped, value_argument, with_procedures}
+use Rattle.ob0_language_runs.proofs.ByOrdinal.{with_mode}
+use Rattle.ob0_language_runs.proofs.Sound.{some-gives}
+use Rattle.ob0_language_runs.proofs.SoundStatements.{ObjectFits-grows, PlaceFits-grows, ProgressFits-grown, execute_all-keeps, keeps-here, same_store-fits}
+use Rattle.ob0_language_runs.specs.Fitting.{ArgumentsFit, BindingFits, EnvironmentsFit, EachHasShape, HasShape, HaveShapes, ObjectFits, StoreFits, StoreTyping, modes_in, shape_at_path}
+use Rattle.ob0_language_runs.proofs.Soundness.{CallsFit, ProgressFits}
+
+-- environments that fit
+
+pub some-inverse : {A : Type 0} {a b : A} → Some a ≡ Some b → a ≡ b
+some-inverse {A} {a} {b} e = ap (λ o. unwrap_or o a) e
+
+-- the modes of checked parameters are those of the heading
+pub modes-of_parameters : {N : Type 0} (f : Formal) (xs : List N) (ps : List (TypedParameter N)) → modes_in (map (λ p. p.formal) (map (typed_parameter f) xs ++ ps)) ≡ map (λ x. f.mode) xs ++ modes_in (map (λ p. p.formal) ps)
+modes-of_parameters f [] ps = refl
+modes-of_parameters f (x ∷ xs) ps = λ i. f.mode ∷ modes-of_parameters f xs ps i
+
+pub modes-typed : {N : Type 0} (naming : Naming N) (env : TypeEnvironment N) (k : ℕ) (fs : Tree N (items further_section)) (ps : List (TypedParameter N)) → typed_parameters naming env k fs ≡ Some ps → formal_modes fs ≡ modes_in (map (λ p. p.formal) ps)
+unfolding typed_parameters
+modes-typed naming env k end ps e = ap (λ ps. modes_in (map (λ p. p.formal) ps)) (some-inverse e)
+modes-typed naming env k (more (then_section f) fs) ps e =
+    let (s, es, e₁) = some-gives (denoted (meanings naming env) k (section_type f)) (λ s. option_and_then (λ rest. Some (map (typed_parameter record { mode = (section_mode f); shape = s }) (section_names f) ++ rest)) (typed_parameters naming (bind_names (section_names f) (a_variable s) env) (k + constructors (section_type f)) fs)) ps e in
+    let (rest, er, e₂) = some-gives (typed_parameters naming (bind_names (section_names f) (a_variable s) env) (k + constructors (section_type f)) fs) (λ rest. Some (map (typed_parameter record { mode = (section_mode f); shape = s }) (section_names f) ++ rest)) ps e₁ in
+    ap (λ ms. map (λ x. (section_mode f)) (section_names f) ++ ms) (modes-typed naming (bind_names (section_names f) (a_variable s) env) (k + constructors (section_type f)) fs rest er)
+    ∙ (sym (modes-of_parameters record { mode = (section_mode f); shape = s } (section_names f) rest) ∙ ap (λ ps. modes_in (map (λ p. p.formal) ps)) (some-inverse e₂))
+
+pub binding-object : {N : Type 0} (naming : Naming N) (typing : StoreTyping) (checked : TypeEnvironment N) (x : N) (o : Object Shape Signature) (r : Object Place (ProcedureText N)) → BindingFits naming typing checked x o r → ObjectFits typing (Some o) (passing (Some r))
+binding-object naming typing checked x (a_procedure signature) (a_procedure code) h =
+    modes-typed naming checked code.first_constructor (procedure_formals code.text) h.0 h.1 ∙ ap modes_in (sym h.2)
+binding-object naming typing checked x (a_type s) r h = h
+binding-object naming typing checked x (a_constant s) r h = h
+binding-object naming typing checked x (a_variable s) r h = h
+binding-object naming typing checked x (a_standard s) r h = h
+binding-object naming typing checked x (a_procedure signature) _ h = h
+
+pub names-fit : {N : Type 0} (naming : Naming N) (typing : StoreTyping) (checked : TypeEnvironment N) (active : Activation N) → EnvironmentsFit naming typing checked active → (z : N) → ObjectFits typing (newest (from_binding naming checked z)) (passing (newest (from_binding naming active z)))
+names-fit naming typing [] [] h z = tt
+names-fit naming typing [] (d ∷ active) h z = absurd h
+names-fit naming typing (b ∷ checked) [] h z = absurd h
+names-fit {N} naming typing (b ∷ checked) (d ∷ active) h z =
+    subst (λ y. ObjectFits typing (newest (elim (naming.same z b.0) [ true ↦ b ∷ checked | false ↦ from_binding naming checked z ])) (passing (newest (elim (naming.same z y) [ true ↦ d ∷ active | false ↦ from_binding naming active z ])))) h.0
+    (go (names-fit naming typing checked active h.2 z) (naming.same z b.0))
+  where
+    go : ObjectFits typing (newest (from_binding naming checked z)) (passing (newest (from_binding naming active z))) → (v : Bool) → ObjectFits typing (newest {N = N} {V = Shape} {P = Signature} (elim v [ true ↦ b ∷ checked | false ↦ from_binding naming checked z ])) (passing (newest {N = N} {V = Place} {P = ProcedureText N} (elim v [ true ↦ d ∷ active | false ↦ from_binding naming active z ])))
+    go older true = binding-object naming typing checked b.0 b.1 d.1 h.1
+    go older false = older
+
+pub from-fit : {N : Type 0} (naming : Naming N) (typing : StoreTyping) (checked : TypeEnvironment N) (active : Activation N) (z : N) → EnvironmentsFit naming typing checked active → EnvironmentsFit naming typing (from_binding naming checked z) (from_binding naming active z)
+from-fit naming typing [] [] z h = tt
+from-fit naming typing [] (d ∷ active) z h = absurd h
+from-fit naming typing (b ∷ checked) [] z h = absurd h
+from-fit naming typing (b ∷ checked) (d ∷ active) z h =
+    subst (λ y. EnvironmentsFit naming typing (elim (naming.same z b.0) [ true ↦ b ∷ checked | false ↦ from_binding naming checked z ]) (elim (naming.same z y) [ true ↦ d ∷ active | false ↦ from_binding naming active z ])) h.0
+    (elim (naming.same z b.0) as (λ v. EnvironmentsFit naming typing (elim v [ true ↦ b ∷ checked | false ↦ from_binding naming checked z ]) (elim v [ true ↦ d ∷ active | false ↦ from_binding naming active z ]))
+    [ true ↦ h | false ↦ from-fit naming typing checked active z h.2 ])
+
+pub binding-grows : {N : Type 0} (naming : Naming N) (typing others : StoreTyping) (checked : TypeEnvironment N) (x : N) (o : Object Shape Signature) (r : Object Place (ProcedureText N)) → BindingFits naming typing checked x o r → BindingFits naming (typing ++ others) checked x o r
+binding-grows naming typing others checked x (a_procedure signature) (a_procedure code) h = h
+binding-grows naming typing others checked x (a_procedure signature) (a_type s) h = h
+binding-grows naming typing others checked x (a_procedure signature) (a_constant s) h = h
+binding-grows naming typing others checked x (a_procedure signature) (a_variable s) h = h
+binding-grows naming typing others checked x (a_procedure signature) (a_standard s) h = h
+binding-grows naming typing others checked x (a_type s) r h = ObjectFits-grows typing others (Some (a_type s)) (passing (Some r)) h
+binding-grows naming typing others checked x (a_constant s) r h = ObjectFits-grows typing others (Some (a_constant s)) (passing (Some r)) h
+binding-grows naming typing others checked x (a_variable s) r h = ObjectFits-grows typing others (Some (a_variable s)) (passing (Some r)) h
+binding-grows naming typing others checked x (a_standard s) r h = ObjectFits-grows typing others (Some (a_standard s)) (passing (Some r)) h
+
+pub environments-grow : {N : Type 0} (naming : Naming N) (typing others : StoreTyping) (checked : TypeEnvironment N) (active : Activation N) → EnvironmentsFit naming typing checked active → EnvironmentsFit naming (typing ++ others) checked active
+environments-grow naming typing others [] [] h = tt
+environments-grow naming typing others [] (d ∷ active) h = h
+environments-grow naming typing others (b ∷ checked) [] h = h
+environments-grow naming typing others (b ∷ checked) (d ∷ active) h = (h.0, binding-grows naming typing others checked b.0 b.1 d.1 h.1, environments-grow naming typing others checked active h.2)
+
+-- values that variables begin with
+
+pub copies-fit : (n : ℕ) (v : Value) (s : Shape) → HasShape v s → (count_values (copies n v) ≡ n) × EachHasShape (copies n v) s
+copies-fit zero v s h = (refl, tt)
+copies-fit (suc n) v s h = let g = copies-fit n v s h in (ap suc g.0, (h, g.1))
+
+mutual
+  pub initial-fits : (s : Shape) → HasShape (initial s) s
+  initial-fits integer_shape = tt
+  initial-fits boolean_shape = tt
+  initial-fits (array_shape k n s) = copies-fit n (initial s) s (initial-fits s)
+  initial-fits (record_shape k fs) = (refl, initial_members-fit fs)
+
+  pub initial_members-fit : (fs : FieldShapes) → HaveShapes (initial_members fs) fs
+  initial_members-fit no_field_shape = tt
+  initial_members-fit (next_field_shape x s rest) = (refl, initial-fits s, initial_members-fit rest)
+
+-- a new variable at the end of the store
+
+pub store-appends : (typing : StoreTyping) (store : Store) (s : Shape) (v : Value) → StoreFits typing store → HasShape v s → StoreFits (typing ++ s ∷ []) (store ++ v ∷ [])
+store-appends [] [] s v h hv = (hv, tt)
+store-appends [] (w ∷ store) s v h hv = absurd h
+store-appends (t ∷ typing) [] s v h hv = absurd h
+store-appends (t ∷ typing) (w ∷ store) s v h hv = (h.0, store-appends typing store s v h.1 hv)
+
+pub last-shape : (typing : StoreTyping) (store : Store) (s : Shape) → StoreFits typing store → slice_get (typing ++ s ∷ []) (length store) ≡ Some s
+last-shape [] [] s h = refl
+last-shape [] (w ∷ store) s h = absurd h
+last-shape (t ∷ typing) [] s h = absurd h
+last-shape (t ∷ typing) (w ∷ store) s h = last-shape typing store s h.1
+
+-- declarations
+
+pub passing-constant : {N : Type 0} (o : Option (Object Place (ProcedureText N))) → constant_of (passing o) ≡ constant_of o
+passing-constant None = refl
+passing-constant (Some (a_type s)) = refl
+passing-constant (Some (a_constant s)) = refl
+passing-constant (Some (a_variable s)) = refl
+passing-constant (Some (a_procedure s)) = refl
+passing-constant (Some (a_standard s)) = refl
+
+pub passing-type : {N : Type 0} (o : Option (Object Place (ProcedureText N))) → type_of_name (passing o) ≡ type_of_name o
+passing-type None = refl
+passing-type (Some (a_type s)) = refl
+passing-type (Some (a_constant s)) = refl
+passing-type (Some (a_variable s)) = refl
+passing-type (Some (a_procedure s)) = refl
+passing-type (Some (a_standard s)) = refl
+
+pub fit-constant : (typing : StoreTyping) (checked : Option (Object Shape Signature)) (active : Option (Object Place (List Mode))) → ObjectFits typing checked active → constant_of active ≡ constant_of checked
+fit-constant typing None None h = refl
+fit-constant typing (Some (a_constant v)) (Some (a_constant w)) h = ap Some (sym h)
+fit-constant typing (Some (a_type s)) (Some (a_type t)) h = refl
+fit-constant typing (Some (a_variable s)) (Some (a_variable t)) h = refl
+fit-constant typing (Some (a_procedure s)) (Some (a_procedure t)) h = refl
+fit-constant typing (Some (a_standard s)) (Some (a_standard t)) h = refl
+fit-constant typing _ _ h = absurd h
+
+pub fit-type : (typing : StoreTyping) (checked : Option (Object Shape Signature)) (active : Option (Object Place (List Mode))) → ObjectFits typing checked active → type_of_name active ≡ type_of_name checked
+fit-type typing None None h = refl
+fit-type typing (Some (a_type s)) (Some (a_type t)) h = ap Some (sym h)
+fit-type typing (Some (a_constant v)) (Some (a_constant w)) h = refl
+fit-type typing (Some (a_variable s)) (Some (a_variable t)) h = refl
+fit-type typing (Some (a_procedure s)) (Some (a_procedure t)) h = refl
+fit-type typing (Some (a_standard s)) (Some (a_standard t)) h = refl
+fit-type typing _ _ h = absurd h
+
+pub constants-same : {N : Type 0} (naming : Naming N) (typing : StoreTyping) (checked : TypeEnvironment N) (active : Activation N) → EnvironmentsFit naming typing checked active → (x : N) → constant_of ((meanings naming active).object_for x) ≡ constant_of ((meanings naming checked).object_for x)
+constants-same naming typing checked active h x =
+    sym (passing-constant (newest (from_binding naming active x))) ∙ fit-constant typing (newest (from_binding naming checked x)) (passing (newest (from_binding naming active x))) (names-fit naming typing checked active h x)
+
+pub types-same : {N : Type 0} (naming : Naming N) (typing : StoreTyping) (checked : TypeEnvironment N) (active : Activation N) → EnvironmentsFit naming typing checked active → (x : N) → type_of_name ((meanings naming active).object_for x) ≡ type_of_name ((meanings naming checked).object_for x)
+types-same naming typing checked active h x =
+    sym (passing-type (newest (from_binding naming active x))) ∙ fit-type typing (newest (from_binding naming checked x)) (passing (newest (from_binding naming active x))) (names-fit naming typing checked active h x)
+
+pub value-same : {N : Type 0} (naming : Naming N) (typing : StoreTyping) (checked : TypeEnvironment N) (active : Activation N) → EnvironmentsFit naming typing checked active → (e : Tree N expression) → constant_value (meanings naming active) e ≡ constant_value (meanings naming checked) e
+value-same naming typing checked active h e =
+    ap (constant_value (meanings naming active)) (sym (with_names-id e)) ∙ constant_value-map (λ x. x) (λ x. x) (meanings naming active) (meanings naming checked) e (constants-same naming typing checked active h) (λ x. refl)
+
+pub denoted-same : {N : Type 0} (naming : Naming N) (typing : StoreTyping) (checked : TypeEnvironment N) (active : Activation N) → EnvironmentsFit naming typing checked active → (k : ℕ) (t : Tree N written_type) → denoted (meanings naming active) k t ≡ denoted (meanings naming checked) k t
+denoted-same naming typing checked active h k t =
+    ap (denoted (meanings naming active) k) (sym (with_names-id t)) ∙ denoted-map (λ x. x) (λ x. x) (meanings naming active) (meanings naming checked) (constants-same naming typing checked active h) (types-same naming typing checked active h) (λ x. refl) k t
+
+pub constants-run : {N : Type 0} (naming : Naming N) (typing : StoreTyping) (checked : TypeEnvironment N) (active : Activation N) (cs : Tree N (items constant)) (after : TypeEnvironment N)
+    → EnvironmentsFit naming typing checked active → declare_constants naming checked cs ≡ Some after → (d : Activation N) × (declare_constants naming active cs ≡ Some d) × EnvironmentsFit naming typing after d
+unfolding declare_constants
+constants-run naming typing checked active end after h e = (active, refl, subst (λ c. EnvironmentsFit naming typing c active) (some-inverse {a = checked} {b = after} e) h)
+constants-run {N} naming typing checked active (more (declares_constant x v₀) cs) after h e =
+    let (v, ev, e₁) = some-gives (constant_value (meanings naming checked) v₀) (λ v. declare_constants naming ((x, a_constant v) ∷ checked) cs) after e in
+    let (d, ed, fit) = constants-run naming typing ((x, a_constant v) ∷ checked) ((x, a_constant v) ∷ active) cs after (refl, refl, h) e₁ in
+    (d, ap (option_and_then (λ v. declare_constants naming ((x, a_constant v) ∷ active) cs)) (value-same naming typing checked active h v₀ ∙ ev) ∙ ed, fit)
+
+pub types-run : {N : Type 0} (naming : Naming N) (typing : StoreTyping) (checked : TypeEnvironment N) (active : Activation N) (k : ℕ) (ds : Tree N (items type_name)) (after : TypeEnvironment N)
+    → EnvironmentsFit naming typing checked active → declare_types naming checked k ds ≡ Some after → (d : Activation N) × (declare_types naming active k ds ≡ Some d) × EnvironmentsFit naming typing after d
+unfolding declare_types
+types-run naming typing checked active k end after h e = (active, refl, subst (λ c. EnvironmentsFit naming typing c active) (some-inverse {a = checked} {b = after} e) h)
+types-run {N} naming typing checked active k (more (declares_type x u) cs) after h e =
+    let (s, es, e₁) = some-gives (denoted (meanings naming checked) k u) (λ s. declare_types naming ((x, a_type s) ∷ checked) (k + constructors u) cs) after e in
+    let (d, ed, fit) = types-run naming typing ((x, a_type s) ∷ checked) ((x, a_type s) ∷ active) (k + constructors u) cs after (refl, refl, h) e₁ in
+    (d, ap (option_and_then (λ s. declare_types naming ((x, a_type s) ∷ active) (k + constructors u) cs)) (denoted-same naming typing checked active h k u ∙ es) ∙ ed, fit)
+
+-- a frame that fits a checked environment, in a store that grew
+abbrev pub FrameFits : {N : Type 0} → Naming N → StoreTyping → TypeEnvironment N → Frame N → Type 0
+FrameFits naming typing checked f = (others : StoreTyping) × StoreFits (typing ++ others) f.store × EnvironmentsFit naming (typing ++ others) checked f.env
+
+pub frame-grown : {N : Type 0} (naming : Naming N) (typing others : StoreTyping) (checked : TypeEnvironment N) (f : Frame N) → FrameFits naming (typing ++ others) checked f → FrameFits naming typing checked f
+frame-grown naming typing others checked f h =
+    (others ++ h.0, subst (λ all. StoreFits all f.store) (append_assoc typing others h.0) h.1, subst (λ all. EnvironmentsFit naming all checked f.env) (append_assoc typing others h.0) h.2)
+
+pub frame-here : {N : Type 0} (naming : Naming N) (typing : StoreTyping) (checked : TypeEnvironment N) (f : Frame N) → StoreFits typing f.store → EnvironmentsFit naming typing checked f.env → FrameFits naming typing checked f
+frame-here naming typing checked f h k =
+    ([], subst (λ all. StoreFits all f.store) (sym (append-nil typing)) h, subst (λ all. EnvironmentsFit naming all checked f.env) (sym (append-nil typing)) k)
+
+pub allocate-fits : {N : Type 0} (naming : Naming N) (typing : StoreTyping) (checked : TypeEnvironment N) (xs : List N) (s : Shape) (v : Value) (f : Frame N) → HasShape v s → StoreFits typing f.store → EnvironmentsFit naming typing checked f.env
+    → FrameFits naming typing (bind_names xs (a_variable s) checked) (allocate xs v f)
+allocate-fits naming typing checked [] s v f hv store env = frame-here naming typing checked f store env
+allocate-fits {N} naming typing checked (x ∷ xs) s v f hv store env =
+    let g : Frame N = record { env = (x, a_variable record { variable = length f.store; path = [] }) ∷ f.env; store = f.store ++ v ∷ [] } in
+    frame-grown naming typing (s ∷ []) (bind_names xs (a_variable s) ((x, a_variable s) ∷ checked)) (allocate xs v g)
+    (allocate-fits naming (typing ++ s ∷ []) ((x, a_variable s) ∷ checked) xs s v g hv (store-appends typing f.store s v store hv)
+    (refl, ap (option_and_then (shape_at_path [])) (last-shape typing f.store s store), environments-grow naming typing (s ∷ []) checked f.env env))
+
+pub variables-run : {N : Type 0} (naming : Naming N) (typing : StoreTyping) (checked : TypeEnvironment N) (k : ℕ) (gs : Tree N (items variable)) (after : TypeEnvironment N) (f : Frame N)
+    → StoreFits typing f.store → EnvironmentsFit naming typing checked f.env → declare_typed naming k gs checked ≡ Some after → (g : Frame N) × (declare_variables naming k gs f ≡ Some g) × FrameFits naming typing after g
+unfolding declare_typed declare_variables
+variables-run naming typing checked k end after f store env e = (f, refl, frame-here naming typing after f store (subst (λ c. EnvironmentsFit naming typing c f.env) (some-inverse {a = checked} {b = after} e) env))
+variables-run {N} naming typing checked k (more (declares_variable ns u) ds) after f store env e =
+    let (s, es, e₁) = some-gives (denoted (meanings naming checked) k u) (λ s. declare_typed naming (k + constructors u) ds (bind_names (names_listed ns) (a_variable s) checked)) after e in
+    let inner = allocate-fits naming typing checked (names_listed ns) s (initial s) f (initial-fits s) store env in
+    let (g, eg, fit) = variables-run naming (typing ++ inner.0) (bind_names (names_listed ns) (a_variable s) checked) (k + constructors u) ds after (allocate (names_listed ns) (initial s) f) inner.1 inner.2 e₁ in
+    (g, ap (option_and_then (λ s. declare_variables naming (k + constructors u) ds (allocate (names_listed ns) (initial s) f))) (denoted-same naming typing checked f.env env k u ∙ es) ∙ eg, frame-grown naming typing inner.0 after g fit)
+
+pub procedures-run : {N : Type 0} (naming : Naming N) (typing : StoreTyping) (checked : TypeEnvironment N) (active : Activation N) (k : ℕ) (statements : Tree N (maybe body)) (ps : Tree N (items procedure)) → EnvironmentsFit naming typing checked active
+    → procedures_fit naming checked k statements ps ≡ true → (after : TypeEnvironment N) × EnvironmentsFit naming typing after (declare_procedures k ps active) × (body_fits naming after statements ≡ true)
+unfolding block_fits
+procedures-run naming typing checked active k statements end h e = (checked, h, e)
+procedures-run {N} naming typing checked active k statements (more p rest) h e =
+    let (ps, eps, e₁) = hold-true (typed_parameters naming checked k (procedure_formals p)) (λ ps. procedure_fits naming (bind_typed ps (heading (procedure_name p) ps checked)) k p && procedures_fit naming (heading (procedure_name p) ps checked) (k + procedure_constructors p) statements rest) e in
+    let both = both_true (procedure_fits naming (bind_typed ps (heading (procedure_name p) ps checked)) k p) (procedures_fit naming (heading (procedure_name p) ps checked) (k + procedure_constructors p) statements rest) e₁ in
+    procedures-run naming typing (heading (procedure_name p) ps checked) ((procedure_name p, a_procedure record { first_constructor = k; text = p }) ∷ active) (k + procedure_constructors p) statements rest
+    (refl, (ps, eps, refl, both.0), h) both.1
+
+pub block-run : {N : Type 0} (naming : Naming N) (typing : StoreTyping) (checked : TypeEnvironment N) (k : ℕ) (b : Tree N block) (f : Frame N) → StoreFits typing f.store → EnvironmentsFit naming typing checked f.env → block_fits naming checked k b ≡ true
+    → (g : Frame N) × (after : TypeEnvironment N) × (declare_block naming k b f ≡ Some g) × FrameFits naming typing after g × (body_fits naming after (block_statements b) ≡ true)
+unfolding block_fits declare_block
+block-run {N} naming typing checked k (has_body (declares cs ts vs ps) statements) f store env e =
+    let b : Tree N block = has_body (declares cs ts vs ps) statements in
+    let (inner, e₁, e₂) = hold-true (option_and_then (declare_typed naming (after_types k b) (section_variables vs)) (declare_first naming checked k b)) (λ inner. procedures_fit naming inner (after_variables k b) statements ps) e in
+    let (first, ef, e₃) = some-gives (declare_first naming checked k b) (declare_typed naming (after_types k b) (section_variables vs)) inner e₁ in
+    let (consts, ec, e₄) = some-gives (declare_constants naming checked (section_constants cs)) (λ env. declare_types naming env k (section_types ts)) first ef in
+    let (d₁, ed₁, fit₁) = constants-run naming typing checked f.env (section_constants cs) consts env ec in
+    let (d₂, ed₂, fit₂) = types-run naming typing consts d₁ k (section_types ts) first fit₁ e₄ in
+    let (g, eg, fit₃) = variables-run naming typing first (after_types k b) (section_variables vs) inner record { env = d₂; store = f.store } store fit₂ e₃ in
+    let (after, fit₄, fits) = procedures-run naming (typing ++ fit₃.0) inner g.env (after_variables k b) statements ps fit₃.2 e₂ in (
+      with_procedures (after_variables k b) ps g,
+      after,
+      ap (option_and_then (λ env. option_map (with_procedures (after_variables k b) ps) (declare_variables naming (after_types k b) (section_variables vs) record { env = env; store = f.store }))) (ap (option_and_then (λ env. declare_types naming env k (section_types ts))) ed₁ ∙ ed₂) ∙ ap (option_map (with_procedures (after_variables k b) ps)) eg,
+      (fit₃.0, fit₃.1, fit₄),
+      fits,
+    )
+
+-- parameters
+
+abbrev pub as_parameter : {N : Type 0} → TypedParameter N → Parameter N
+as_parameter p = record { mode = p.formal.mode; name = p.name }
+
+pub parameters-append : {N : Type 0} (f : Formal) (xs : List N) (ps : List (TypedParameter N)) → map as_parameter (map (typed_parameter f) xs ++ ps) ≡ map (with_mode f.mode) xs ++ map as_parameter ps
+parameters-append f [] ps = refl
+parameters-append f (x ∷ xs) ps = λ i. record { mode = f.mode; name = x } ∷ parameters-append f xs ps i
+
+pub parameters-of_typed : {N : Type 0} (naming : Naming N) (env : TypeEnvironment N) (k : ℕ) (fs : Tree N (items further_section)) (ps : List (TypedParameter N)) → typed_parameters naming env k fs ≡ Some ps → parameters fs ≡ map as_parameter ps
+unfolding typed_parameters
+parameters-of_typed naming env k end ps e = ap (map as_parameter) (some-inverse {a = []} {b = ps} e)
+parameters-of_typed naming env k (more (then_section f) fs) ps e =
+    let (s, es, e₁) = some-gives (denoted (meanings naming env) k (section_type f)) (λ s. option_and_then (λ rest. Some (map (typed_parameter record { mode = (section_mode f); shape = s }) (section_names f) ++ rest)) (typed_parameters naming (bind_names (section_names f) (a_variable s) env) (k + constructors (section_type f)) fs)) ps e in
+    let (rest, er, e₂) = some-gives (typed_parameters naming (bind_names (section_names f) (a_variable s) env) (k + constructors (section_type f)) fs) (λ rest. Some (map (typed_parameter record { mode = (section_mode f); shape = s }) (section_names f) ++ rest)) ps e₁ in
+    ap (λ l. map (with_mode (section_mode f)) (section_names f) ++ l) (parameters-of_typed naming (bind_names (section_names f) (a_variable s) env) (k + constructors (section_type f)) fs rest er)
+    ∙ (sym (parameters-append record { mode = (section_mode f); shape = s } (section_names f) rest) ∙ ap (map as_parameter) (some-inverse e₂))
+
+pub ArgumentsFit-grows : (typing others : StoreTyping) (fs : Signature) (args : List Argument) → ArgumentsFit typing fs args → ArgumentsFit (typing ++ others) fs args
+ArgumentsFit-grows typing others [] [] h = tt
+ArgumentsFit-grows typing others [] (a ∷ args) h = h
+ArgumentsFit-grows typing others (f ∷ fs) [] h = h
+ArgumentsFit-grows typing others (f ∷ fs) (place_argument p ∷ args) h = (h.0, PlaceFits-grows typing others p f.shape h.1, ArgumentsFit-grows typing others fs args h.2)
+ArgumentsFit-grows typing others (f ∷ fs) (value_argument v ∷ args) h = (h.0, h.1, ArgumentsFit-grows typing others fs args h.2)
+
+pub parameters-run : {N : Type 0} (naming : Naming N) (typing : StoreTyping) (checked : TypeEnvironment N) (ps : List (TypedParameter N)) (args : List Argument) (f : Frame N) → StoreFits typing f.store → EnvironmentsFit naming typing checked f.env
+    → ArgumentsFit typing (map (λ p. p.formal) ps) args → (g : Frame N) × (bind_parameters (map as_parameter ps) args f ≡ Some g) × FrameFits naming typing (bind_typed ps checked) g
+parameters-run naming typing checked [] [] f store env h = (f, refl, frame-here naming typing checked f store env)
+parameters-run naming typing checked [] (a ∷ args) f store env h = absurd h
+parameters-run naming typing checked (p ∷ ps) [] f store env h = absurd h
+parameters-run {N} naming typing checked (p ∷ ps) (place_argument place ∷ args) f store env h =
+    let f₁ : Frame N = record { env = (p.name, a_variable place) ∷ f.env; store = f.store } in
+    let (g, eg, fit) = parameters-run naming typing ((p.name, a_variable p.formal.shape) ∷ checked) ps args f₁ store (refl, h.1, env) h.2 in
+    (g, ap (λ m. option_and_then (bind_parameters (map as_parameter ps) args) (bind_parameter m p.name (place_argument place) f)) h.0 ∙ eg, fit)
+parameters-run {N} naming typing checked (p ∷ ps) (value_argument v ∷ args) f store env h =
+    let f₁ : Frame N = record { env = (p.name, a_variable record { variable = length f.store; path = [] }) ∷ f.env; store = f.store ++ v ∷ [] } in
+    let (g, eg, fit) = parameters-run naming (typing ++ p.formal.shape ∷ []) ((p.name, a_variable p.formal.shape) ∷ checked) ps args f₁ (store-appends typing f.store p.formal.shape v store h.1)
+    (refl, ap (option_and_then (shape_at_path [])) (last-shape typing f.store p.formal.shape store), environments-grow naming typing (p.formal.shape ∷ []) checked f.env env) (ArgumentsFit-grows typing (p.formal.shape ∷ []) (map (λ p. p.formal) ps) args h.2) in
+    (g, ap (λ m. option_and_then (bind_parameters (map as_parameter ps) args) (bind_parameter m p.name (value_argument v) f)) h.0 ∙ eg, frame-grown naming typing (p.formal.shape ∷ []) (bind_typed ps ((p.name, a_variable p.formal.shape) ∷ checked)) g fit)
+
+-- bodies and calls
+
+pub body-run : {N : Type 0} (naming : Naming N) (typing : StoreTyping) (checked : TypeEnvironment N) (active : Activation N) (enter : Calls N) (t : ℕ) (statements : Tree N (maybe body)) (s : State) → EnvironmentsFit naming typing checked active → CallsFit typing (meanings naming checked) enter
+    → StoreFits typing s.store → body_fits naming checked statements ≡ true → ProgressFits typing (execute_body naming active enter t statements s)
+unfolding execute_body body_fits
+body-run naming typing checked active enter t none s env calls_fit store h = same_store-fits typing s store
+body-run naming typing checked active enter t (one (begins statements)) s env calls_fit store h =
+    keeps-here typing (execute_all (statement_meanings naming active) enter t statements)
+    (execute_all-keeps typing (meanings naming checked) (statement_meanings naming active) enter record { names_fit = (names-fit naming typing checked active env, λ x. refl); calls_fit = calls_fit } t statements h) s store
+
+-- what is known of calls of a smaller bound
+abbrev pub CallsRun : {N : Type 0} → Naming N → (Activation N → Calls N) → Type 0
+CallsRun {N} naming enter =
+    (typing : StoreTyping) (checked : TypeEnvironment N) (active : Activation N) → EnvironmentsFit naming typing checked active → CallsFit typing (meanings naming checked) (enter active)
+
+pub activate-run : {N : Type 0} (naming : Naming N) (enter : Activation N → Calls N) → CallsRun naming enter → (t : ℕ) (typing : StoreTyping) (checked : TypeEnvironment N) (active : Activation N) (signature : Signature) (args : List Argument) (s : State)
+    → EnvironmentsFit naming typing checked active → newest checked ≡ Some (a_procedure signature) → ArgumentsFit typing signature args → StoreFits typing s.store → ProgressFits typing (activate naming enter t active args s)
+unfolding activate block_fits
+activate-run naming enter known t typing [] active signature args s env e fit store = absurd (cc)
+activate-run naming enter known t typing (b ∷ checked) [] signature args s env e fit store = absurd env
+activate-run {N} naming enter known t typing ((x, o) ∷ checked) ((y, r) ∷ active) signature args s env e fit store = of_objects o r env.1 (some-inverse {a = o} {b = a_procedure signature} e)
+  where
+    of_text : (j : ℕ) (p : Tree N (item procedure)) (ps : List (TypedParameter N)) → typed_parameters naming checked j (procedure_formals p) ≡ Some ps → signature ≡ map (λ p. p.formal) ps → procedure_fits naming (bind_typed ps (heading x ps checked)) j p ≡ true
+        → ProgressFits typing (activate naming enter t ((y, a_procedure record { first_constructor = j; text = p }) ∷ active) args s)
+    of_text j (declares_procedure z fs b closing) ps eps sig fits =
+        let f : Frame N = record { env = (y, a_procedure record { first_constructor = j; text = declares_procedure z fs b closing }) ∷ active; store = s.store } in
+        let (g, eg, fit₁) = parameters-run naming typing (heading x ps checked) ps args f store (env.0, (ps, eps, refl, fits), env.2) (subst (λ fs. ArgumentsFit typing fs args) sig fit) in
+        let (h, after, eh, fit₂, statements) = block-run naming (typing ++ fit₁.0) (bind_typed ps (heading x ps checked)) (j + formals_constructors (formal_sections fs)) b g fit₁.1 fit₁.2 fits in
+        subst (λ frame. ProgressFits typing (in_frame s frame (λ f. execute_body naming f.env (enter f.env) t (block_statements b))))
+        (sym (ap (λ l. option_and_then (declare_block naming (j + formals_constructors (formal_sections fs)) b) (bind_parameters l args f)) (parameters-of_typed naming checked j (formal_sections fs) ps eps) ∙ (ap (option_and_then (declare_block naming (j + formals_constructors (formal_sections fs)) b)) eg ∙ eh)))
+        (ProgressFits-grown typing fit₁.0 (execute_body naming h.env (enter h.env) t (block_statements b) record s { store = h.store })
+        (ProgressFits-grown (typing ++ fit₁.0) fit₂.0 (execute_body naming h.env (enter h.env) t (block_statements b) record s { store = h.store })
+        (body-run naming ((typing ++ fit₁.0) ++ fit₂.0) after h.env (enter h.env) t (block_statements b) record s { store = h.store } fit₂.2 (known ((typing ++ fit₁.0) ++ fit₂.0) after h.env fit₂.2) fit₂.1 statements)))
+
+    of_objects : (o : Object Shape Signature) (r : Object Place (ProcedureText N)) → BindingFits naming typing checked x o r → o ≡ a_procedure signature → ProgressFits typing (activate naming enter t ((y, r) ∷ active) args s)
+    of_objects (a_procedure sig) (a_procedure code) h e = of_text code.first_constructor code.text h.0 h.1 (sym (ap (λ o. unwrap_or (signature_of (Some o)) []) e) ∙ h.2) h.3
+    of_objects (a_type q) r h e = absurd (cc)
+    of_objects (a_constant q) r h e = absurd (cc)
+    of_objects (a_variable q) r h e = absurd (cc)
+    of_objects (a_standard q) r h e = absurd (cc)
+    of_objects (a_procedure q) _ h e = absurd h
+
+-- calls keep the typing, by induction on how many may be open
+pub calls-run : {N : Type 0} (naming : Naming N) (c t : ℕ) → CallsRun naming (call naming c t)
+unfolding call
+calls-run naming zero t typing checked active env x signature e others args s fit store = λ h. cc
+calls-run naming (suc c) t typing checked active env x signature e others args s fit store =
+    activate-run naming (call naming c t) (calls-run naming c t) t (typing ++ others) (from_binding naming checked x) (from_binding naming active x) signature args s
+    (from-fit naming (typing ++ others) checked active x (environments-grow naming typing others checked active env)) e fit store
+
+pub not-stuck : (typing : StoreTyping) (p : Progress) → ProgressFits typing p → (finished p).ending ≢ Stuck
+not-stuck typing (running s) h = λ e. cc
+not-stuck typing (stopped e out) h = h
+
+-- no run of a module that fits gets stuck
+pub fitting-run : {N : Type 0} (naming : Naming N) (m : Tree N module_text) (input : List ℤ) (c t : ℕ) → fits_over naming m ≡ true → (run_over naming m input c t).ending ≢ Stuck
+unfolding run_over fits_over
+fitting-run {N} naming (is_module x b closing) input c t h =
+    let start : State = record { store = []; input = input; output = [] } in
+    let (g, after, eg, fit, fits) = block-run naming [] (outermost naming) 0 b record { env = outermost naming; store = [] } tt (refl, refl, (refl, refl, (refl, refl, (refl, refl, (refl, refl, (refl, refl, (refl, refl, tt))))))) h in
+    subst (λ frame. (finished (in_frame start frame (λ f. execute_body naming f.env (call naming c t f.env) t (block_statements b)))).ending ≢ Stuck) (sym eg)
+    (not-stuck ([] ++ fit.0) (execute_body naming g.env (call naming c t g.env) t (block_statements b) record start { store = g.store })
+    (body-run naming ([] ++ fit.0) after g.env (call naming c t g.env) t (block_statements b) record start { store = g.store } fit.2 (calls-run naming c t ([] ++ fit.0) after g.env fit.2) fit.1 fits))
+
+pub never_stuck-holds : NeverStuck
+unfolding WellTyped run
+never_stuck-holds m well input c t = fitting-run as_names m input c t well.1

@@ -1,0 +1,383 @@
+-- A statement that fits keeps the store's typing, or the run ends otherwise than stuck.
+use Rattle.std.proofs.Common.{◌≡◌, ℕ, zero, suc, ◌-◌, true, false, ◌&&◌, List, [], ◌∷◌, ◌++◌, ℤ, if◌then◌else◌, nat_lt, slice_get, slice_set, Some, None, Option, option_map, option_and_then, unwrap_or, sym, refl, ap, ◌∙◌, subst, append_assoc, append-nil}
+use Rattle.ob0_tree.specs.Tree.{Tree, assigns, branches, calls, else_branch, else_part, elsif_branch, elsif_part, empty, end, expression, further_statement, items, maybe, more, none, one, repeat_loop, runs, selector, sequence, statement, then_statement, while_loop}
+use Rattle.ob0_language_names.specs.Names.{Name, same_name}
+use Rattle.ob0_language_types.specs.Arguments.{arguments_listed}
+use Rattle.ob0_language_types.specs.Expressions.{Meanings, Object, a_constant, a_procedure, a_standard, a_type, a_variable, designate, evaluate, follow, object_place, reads, writes, writes_line}
+use Rattle.ob0_language_types.specs.Typing.{lone_designator, shape_of_field, type_of}
+use Rattle.ob0_language_values.specs.Values.{FieldShapes, Members, Outcome, Place, Shape, Step, Store, TurnBound, Value, Values, array_shape, at_field, at_index, boolean_shape, count_values, elements, ends, gives, integer_shape, members, next_field_shape, next_member, next_value, no_field_shape, no_member, no_value, number, or_stuck, read_place, record_shape, truth, with_at_path, with_named_member, with_nth_value, with_part, write_place, ◌>>=◌}
+use Rattle.ob0_language_types.specs.WellTyped.{Formal, Mode, Signature, Typed, agree, argument_fits, arguments_fit, by_place, by_value, condition_fits, else_fits, elsifs_fit, sequence_fits, signature_of, statement_fits, statements_fit, variable_type}
+use Rattle.ob0_language_types.proofs.Conditions.{agree-true, both_true, call-typed, of_some, variable-typed}
+use Rattle.ob0_language_runs.specs.Runs.{Argument, Calls, Progress, State, choose, evaluate_argument, evaluate_arguments, execute, execute_all, execute_else, execute_elsifs, execute_further, continue_with, line_out, modes_of, number_out, perform, place_argument, append_output, read_number, running, stopped, store_at, turns, turns_until, use_in, value_argument}
+use Rattle.ob0_language_runs.proofs.Sound.{Fitting, evaluate-sound, fits-then, follow-sound, is_number, or_stuck-fits, part-fits, place-fits, some-gives, variable-fits}
+use Rattle.ob0_language_runs.specs.Fitting.{ArgumentsFit, EachHasShape, HasShape, HaveShapes, MeaningsFit, ObjectFits, PlaceFits, StoreFits, StoreTyping, modes_in, part_shape, shape_at_path}
+use Rattle.ob0_language_runs.proofs.Soundness.{CallsFit, OutcomeFits, ProgressFits}
+
+-- a typing may grow
+
+pub slice_get-grows : {A : Type 0} (xs others : List A) (n : ℕ) (x : A) → slice_get xs n ≡ Some x → slice_get (xs ++ others) n ≡ Some x
+slice_get-grows [] others n x e = absurd (cc)
+slice_get-grows (y ∷ xs) others zero x e = e
+slice_get-grows (y ∷ xs) others (suc n) x e = slice_get-grows xs others n x e
+
+pub PlaceFits-grows : (typing others : StoreTyping) (p : Place) (s : Shape) → PlaceFits typing p s → PlaceFits (typing ++ others) p s
+PlaceFits-grows typing others p s h =
+    let (t, et, e) = some-gives (slice_get typing p.variable) (shape_at_path p.path) s h in
+    ap (option_and_then (shape_at_path p.path)) (slice_get-grows typing others p.variable t et) ∙ e
+
+pub ObjectFits-grows : (typing others : StoreTyping) (checked : Option (Object Shape Signature)) (active : Option (Object Place (List Mode))) → ObjectFits typing checked active → ObjectFits (typing ++ others) checked active
+ObjectFits-grows typing others (Some (a_variable s)) (Some (a_variable p)) h = PlaceFits-grows typing others p s h
+ObjectFits-grows typing others (Some (a_type s)) (Some (a_type t)) h = h
+ObjectFits-grows typing others (Some (a_constant s)) (Some (a_constant t)) h = h
+ObjectFits-grows typing others (Some (a_procedure s)) (Some (a_procedure t)) h = h
+ObjectFits-grows typing others (Some (a_standard s)) (Some (a_standard t)) h = h
+ObjectFits-grows typing others None None h = h
+ObjectFits-grows typing others _ _ h = absurd h
+
+pub CallsFit-grows : {N : Type 0} (typing others : StoreTyping) (checked : Typed N) (enter : Calls N) → CallsFit typing checked enter → CallsFit (typing ++ others) checked enter
+CallsFit-grows typing others checked enter h x signature e later args s fit store =
+    let assoc : (typing ++ others) ++ later ≡ typing ++ (others ++ later) = append_assoc typing others later in
+    subst (λ all. ProgressFits all (enter x args s)) (sym assoc)
+    (h x signature e (others ++ later) args s (subst (λ all. ArgumentsFit all signature args) assoc fit) (subst (λ all. StoreFits all s.store) assoc store))
+
+pub ProgressFits-grown : (typing others : StoreTyping) (p : Progress) → ProgressFits (typing ++ others) p → ProgressFits typing p
+ProgressFits-grown typing others (running s) h = (others ++ h.0, subst (λ all. StoreFits all s.store) (append_assoc typing others h.0) h.1)
+ProgressFits-grown typing others (stopped e out) h = h
+
+-- writing keeps types
+
+pub with_nth-fits : (vs : Values) (s : Shape) (i : ℕ) (new : Value) → EachHasShape vs s → HasShape new s → (count_values (with_nth_value vs i new) ≡ count_values vs) × EachHasShape (with_nth_value vs i new) s
+with_nth-fits no_value s i new h hn = (refl, tt)
+with_nth-fits (next_value v rest) s zero new h hn = (refl, (hn, h.1))
+with_nth-fits (next_value v rest) s (suc i) new h hn =
+    let g = with_nth-fits rest s i new h.1 hn in (ap suc g.0, (h.0, g.1))
+
+pub with_member-fits : (ms : Members) (fs : FieldShapes) (x : Name) (new : Value) (t : Shape) → HaveShapes ms fs → shape_of_field fs x ≡ Some t → HasShape new t → HaveShapes (with_named_member ms x new) fs
+with_member-fits no_member no_field_shape x new t h e hn = absurd (cc)
+with_member-fits no_member (next_field_shape y s others) x new t h e hn = absurd h
+with_member-fits (next_member y v rest) no_field_shape x new t h e hn = absurd h
+with_member-fits (next_member y v rest) (next_field_shape z s others) x new t h e hn =
+    subst (λ z. shape_of_field (next_field_shape z s others) x ≡ Some t → HaveShapes (with_named_member (next_member y v rest) x new) (next_field_shape z s others)) h.0
+    (elim (same_name x y) as (λ b. (if b then Some s else shape_of_field others x) ≡ Some t → HaveShapes (if b then next_member y new rest else next_member y v (with_named_member rest x new)) (next_field_shape y s others))
+    [ true ↦ λ e. (refl, of_some (λ s. HasShape new s) (sym e) hn, h.2) | false ↦ λ e. (refl, h.1, with_member-fits rest others x new t h.2 e hn) ]) e
+
+pub with_part-fits : (v : Value) (s : Shape) (step : Step) (t : Shape) (new : Value) → HasShape v s → part_shape s step ≡ Some t → HasShape new t → HasShape (with_part v step new) s
+with_part-fits (elements vs) (array_shape k n s) (at_index i) t new h e hn =
+    (elim (nat_lt i n) as (λ b. (if b then Some s else None) ≡ Some t → HasShape (elements (with_nth_value vs i new)) (array_shape k n s))
+    [ true ↦ λ e. (let g = with_nth-fits vs s i new h.1 (of_some (λ s. HasShape new s) (sym e) hn) in (g.0 ∙ h.0, g.1)) | false ↦ λ e. absurd (cc) ]) e
+with_part-fits (members j ms) (record_shape k fs) (at_field x) t new h e hn = (h.0, with_member-fits ms fs x new t h.1 e hn)
+with_part-fits (elements vs) (array_shape k n s) (at_field x) t new h e hn = h
+with_part-fits (members j ms) (record_shape k fs) (at_index i) t new h e hn = h
+with_part-fits (number n) integer_shape step t new h e hn = h
+with_part-fits (truth b) boolean_shape step t new h e hn = h
+with_part-fits _ _ step t new h e hn = absurd h
+
+pub with_path-fits : (path : List Step) (v : Value) (s t : Shape) (new : Value) → HasShape v s → shape_at_path path s ≡ Some t → HasShape new t → (w : Value) × (with_at_path path new v ≡ Some w) × HasShape w s
+with_path-fits [] v s t new h e hn = (new, refl, of_some (λ s. HasShape new s) (sym e) hn)
+with_path-fits (step ∷ path) v s t new h e hn =
+    let (u, eu, e₁) = some-gives (part_shape s step) (shape_at_path path) t e in
+    let (w, ew, hw) = part-fits v s step u h eu in
+    let (z, ez, hz) = with_path-fits path w u t new hw e₁ hn in (
+      with_part v step z,
+      ap (option_and_then (λ old. option_map (with_part v step) (with_at_path path new old))) ew ∙ ap (option_map (with_part v step)) ez,
+      with_part-fits v s step u z h eu hz,
+    )
+
+pub set-fits : (typing : StoreTyping) (store : Store) (n : ℕ) (s : Shape) (new : Value) → StoreFits typing store → slice_get typing n ≡ Some s → HasShape new s → StoreFits typing (slice_set store n new)
+set-fits [] [] n s new h e hn = absurd (cc)
+set-fits [] (v ∷ store) n s new h e hn = absurd h
+set-fits (t ∷ typing) [] n s new h e hn = absurd h
+set-fits (t ∷ typing) (v ∷ store) zero s new h e hn = (of_some (λ s. HasShape new s) (sym e) hn, h.1)
+set-fits (t ∷ typing) (v ∷ store) (suc n) s new h e hn = (h.0, set-fits typing store n s new h.1 e hn)
+
+pub store_at-fits : (typing : StoreTyping) (s : State) (p : Place) (shape : Shape) (new : Value) → StoreFits typing s.store → PlaceFits typing p shape → HasShape new shape → ProgressFits typing (store_at s p new)
+store_at-fits typing s p shape new h place hn =
+    let (t, et, e₁) = some-gives (slice_get typing p.variable) (shape_at_path p.path) shape place in
+    let (v, ev, hv) = variable-fits typing s.store p.variable t h et in
+    let (w, ew, hw) = with_path-fits p.path v t shape new hv e₁ hn in
+    let wrote : write_place s.store p new ≡ Some (slice_set s.store p.variable w) =
+    ap (option_and_then (λ old. option_map (slice_set s.store p.variable) (with_at_path p.path new old))) ev ∙ ap (option_map (slice_set s.store p.variable)) ew in
+    subst (λ o. ProgressFits typing (use_in s (or_stuck o) (λ store. running record s { store = store }))) (sym wrote)
+    ([], subst (λ all. StoreFits all (slice_set s.store p.variable w)) (sym (append-nil typing)) (set-fits typing s.store p.variable t w h et hw))
+
+-- places
+
+pub shape_at_path-append : (a b : List Step) (s : Shape) → shape_at_path (a ++ b) s ≡ option_and_then (shape_at_path b) (shape_at_path a s)
+shape_at_path-append [] b s = refl
+shape_at_path-append (step ∷ a) b s = go (part_shape s step) (λ t. shape_at_path-append a b t)
+  where
+    go : (o : Option Shape) → ((t : Shape) → shape_at_path (a ++ b) t ≡ option_and_then (shape_at_path b) (shape_at_path a t)) → option_and_then (shape_at_path (a ++ b)) o ≡ option_and_then (shape_at_path b) (option_and_then (shape_at_path a) o)
+    go None h = refl
+    go (Some t) h = h t
+
+pub object_place-fits : (typing : StoreTyping) (checked : Option (Object Shape Signature)) (active : Option (Object Place (List Mode))) (s : Shape)
+    → ObjectFits typing checked active → checked ≡ Some (a_variable s) → OutcomeFits (λ p. PlaceFits typing p s) (object_place active)
+object_place-fits typing checked active s h e = go active (subst (λ o. ObjectFits typing o active) e h)
+  where
+    go : (active : Option (Object Place (List Mode))) → ObjectFits typing (Some (a_variable s)) active → OutcomeFits (λ p. PlaceFits typing p s) (object_place active)
+    go (Some (a_variable p)) h = h
+    go None h = absurd h
+    go (Some (a_type t)) h = absurd h
+    go (Some (a_constant t)) h = absurd h
+    go (Some (a_procedure t)) h = absurd h
+    go (Some (a_standard t)) h = absurd h
+
+pub designate-sound : {N : Type 0} (typing : StoreTyping) (checked : Typed N) (active : Meanings N Place (List Mode)) (store : Store) → Fitting typing checked active store → (x : N) (path : Tree N (items selector)) (s : Shape)
+    → variable_type checked (Some (x, path)) ≡ Some s → OutcomeFits (λ p. PlaceFits typing p s) (designate active store x path)
+unfolding designate
+designate-sound typing checked active store f x path s h =
+    let (t, et, h₁) = variable-typed checked x path s h in
+    fits-then (λ p. PlaceFits typing p t) (λ p. PlaceFits typing p s) (object_place (active.object_for x)) (λ p. or_stuck (read_place store p) >>= (λ v. follow active store v path >>= (λ steps. gives record { variable = p.variable; path = p.path ++ steps })))
+    (object_place-fits typing (checked.object_for x) (active.object_for x) t (f.names_fit.0 x) et)
+    (λ p hp. let (v, ev, hv) = place-fits typing store p t f.store_fits hp in
+    fits-then (λ v. HasShape v t) (λ p. PlaceFits typing p s) (or_stuck (read_place store p)) (λ v. follow active store v path >>= (λ steps. gives record { variable = p.variable; path = p.path ++ steps })) (or_stuck-fits (λ v. HasShape v t) (read_place store p) v ev hv)
+    (λ v hv. fits-then (λ steps. shape_at_path steps t ≡ Some s) (λ p. PlaceFits typing p s) (follow active store v path) (λ steps. gives record { variable = p.variable; path = p.path ++ steps }) (follow-sound typing checked active store f v t path s hv h₁)
+    (λ steps e. let (u, eu, e₁) = some-gives (slice_get typing p.variable) (shape_at_path p.path) t hp in
+    ap (option_and_then (shape_at_path (p.path ++ steps))) eu ∙ (shape_at_path-append p.path steps u ∙ (ap (option_and_then (shape_at_path steps)) e₁ ∙ e)))))
+
+-- arguments
+
+pub argument-sound : {N : Type 0} (typing : StoreTyping) (checked : Typed N) (active : Meanings N Place (List Mode)) (store : Store) → Fitting typing checked active store → (f : Formal) (e : Tree N expression)
+    → argument_fits checked f e ≡ true → OutcomeFits (λ a. ArgumentsFit typing (f ∷ []) (a ∷ [])) (evaluate_argument active store f.mode e)
+unfolding evaluate_argument argument_fits
+argument-sound {N} typing checked active store fit f e h = go f.mode f.shape refl h
+  where
+    go : (m : Mode) (s : Shape) → f.shape ≡ s → agree (Some s) (elim m [ by_value ↦ type_of checked e | by_place ↦ variable_type checked (lone_designator e) ]) ≡ true
+        → OutcomeFits (λ a. ArgumentsFit typing (record { mode = m; shape = s } ∷ []) (a ∷ [])) (evaluate_argument active store m e)
+    go by_value s es h =
+        let (t, et, ht) = agree-true (Some s) (type_of checked e) h in
+        fits-then (λ v. HasShape v s) (λ a. ArgumentsFit typing (record { mode = by_value; shape = s } ∷ []) (a ∷ [])) (evaluate active store e) (λ v. gives (value_argument v)) (evaluate-sound typing checked active store fit e s (ht ∙ sym et))
+        (λ v hv. (refl, hv, tt))
+    go by_place s es h =
+        let (t, et, ht) = agree-true (Some s) (variable_type checked (lone_designator e)) h in at_designator (lone_designator e) (ht ∙ sym et)
+      where
+        at_designator : (d : Option (N × Tree N (items selector))) → variable_type checked d ≡ Some s
+            → OutcomeFits (λ a. ArgumentsFit typing (record { mode = by_place; shape = s } ∷ []) (a ∷ [])) (or_stuck d >>= (λ d. designate active store d.0 d.1 >>= (λ p. gives (place_argument p))))
+        at_designator None e = absurd (cc)
+        at_designator (Some (x, path)) e =
+            fits-then (λ p. PlaceFits typing p s) (λ a. ArgumentsFit typing (record { mode = by_place; shape = s } ∷ []) (a ∷ [])) (designate active store x path) (λ p. gives (place_argument p)) (designate-sound typing checked active store fit x path s e)
+            (λ p hp. (refl, hp, tt))
+
+pub first-argument : (typing : StoreTyping) (f : Formal) (fs : Signature) (a : Argument) (args : List Argument) → ArgumentsFit typing (f ∷ []) (a ∷ []) → ArgumentsFit typing fs args → ArgumentsFit typing (f ∷ fs) (a ∷ args)
+first-argument typing f fs (place_argument p) args h k = (h.0, h.1, k)
+first-argument typing f fs (value_argument v) args h k = (h.0, h.1, k)
+
+pub arguments-sound : {N : Type 0} (typing : StoreTyping) (checked : Typed N) (active : Meanings N Place (List Mode)) (store : Store) → Fitting typing checked active store → (fs : Signature) (es : List (Tree N expression))
+    → arguments_fit checked fs es ≡ true → OutcomeFits (λ args. ArgumentsFit typing fs args) (evaluate_arguments active store (modes_in fs) es)
+unfolding evaluate_arguments arguments_fit
+arguments-sound typing checked active store fit [] [] h = tt
+arguments-sound typing checked active store fit [] (e ∷ es) h = absurd (cc)
+arguments-sound typing checked active store fit (f ∷ fs) [] h = absurd (cc)
+arguments-sound typing checked active store fit (f ∷ fs) (e ∷ es) h =
+    let h' = both_true (argument_fits checked f e) (arguments_fit checked fs es) h in
+    fits-then (λ a. ArgumentsFit typing (f ∷ []) (a ∷ [])) (λ args. ArgumentsFit typing (f ∷ fs) args) (evaluate_argument active store f.mode e) (λ a. evaluate_arguments active store (modes_in fs) es >>= (λ rest. gives (a ∷ rest))) (argument-sound typing checked active store fit f e h'.0)
+    (λ a ha. fits-then (λ args. ArgumentsFit typing fs args) (λ args. ArgumentsFit typing (f ∷ fs) args) (evaluate_arguments active store (modes_in fs) es) (λ rest. gives (a ∷ rest)) (arguments-sound typing checked active store fit fs es h'.1)
+    (λ rest hr. first-argument typing f fs a rest ha hr))
+
+-- calls
+
+pub use_in-fits : {A : Type 0} (typing : StoreTyping) (P : A → Type 0) (s : State) (o : Outcome A) (next : A → Progress) → OutcomeFits P o → ((a : A) → P a → ProgressFits typing (next a)) → ProgressFits typing (use_in s o next)
+use_in-fits typing P s (gives a) next h each = each a h
+use_in-fits typing P s (ends e) next h each = h
+
+pub same_store-fits : (typing : StoreTyping) (s : State) → StoreFits typing s.store → ProgressFits typing (running s)
+same_store-fits typing s h = ([], subst (λ all. StoreFits all s.store) (sym (append-nil typing)) h)
+
+pub read-fits : (typing : StoreTyping) (s : State) (p : Place) (input : List ℤ) → StoreFits typing s.store → PlaceFits typing p integer_shape → ProgressFits typing (read_number s p input)
+read-fits typing s p [] h hp = λ e. cc
+read-fits typing s p (n ∷ rest) h hp = store_at-fits typing record s { input = rest } p integer_shape (number n) h hp tt
+
+pub modes-agree : (typing : StoreTyping) (checked : Option (Object Shape Signature)) (active : Option (Object Place (List Mode))) (signature : Signature) → ObjectFits typing checked active → signature_of checked ≡ Some signature → modes_of active ≡ gives (modes_in signature)
+modes-agree typing (Some (a_procedure t)) (Some (a_procedure modes)) signature h e = ap gives (h ∙ ap modes_in (search))
+modes-agree typing (Some (a_standard reads)) (Some (a_standard q)) signature h e = subst (λ q. modes_of (Some (a_standard q)) ≡ gives (modes_in signature)) h (ap (λ t. gives (modes_in (unwrap_or t []))) e)
+modes-agree typing (Some (a_standard writes)) (Some (a_standard q)) signature h e = subst (λ q. modes_of (Some (a_standard q)) ≡ gives (modes_in signature)) h (ap (λ t. gives (modes_in (unwrap_or t []))) e)
+modes-agree typing (Some (a_standard writes_line)) (Some (a_standard q)) signature h e = subst (λ q. modes_of (Some (a_standard q)) ≡ gives (modes_in signature)) h (ap (λ t. gives (modes_in (unwrap_or t []))) e)
+modes-agree typing None active signature h e = absurd (cc)
+modes-agree typing (Some (a_type t)) active signature h e = absurd (cc)
+modes-agree typing (Some (a_constant t)) active signature h e = absurd (cc)
+modes-agree typing (Some (a_variable t)) active signature h e = absurd (cc)
+modes-agree typing _ _ signature h e = absurd h
+
+pub read_arguments : (typing : StoreTyping) (enter : List Argument → State → Progress) (args : List Argument) (s : State) → StoreFits typing s.store → ArgumentsFit typing (record { mode = by_place; shape = integer_shape } ∷ []) args
+    → ProgressFits typing (perform (Some (a_standard reads)) enter args s)
+read_arguments typing enter (place_argument p ∷ []) s h fit = read-fits typing s p s.input h fit.1
+read_arguments typing enter [] s h fit = absurd fit
+read_arguments typing enter (value_argument v ∷ args) s h fit = let e : by_place ≡ by_value = fit.0 in absurd (cc)
+read_arguments typing enter (place_argument p ∷ a ∷ args) s h fit = absurd (fit.2)
+
+pub write_arguments : (typing : StoreTyping) (enter : List Argument → State → Progress) (args : List Argument) (s : State) → StoreFits typing s.store → ArgumentsFit typing (record { mode = by_value; shape = integer_shape } ∷ []) args
+    → ProgressFits typing (perform (Some (a_standard writes)) enter args s)
+write_arguments typing enter (value_argument v ∷ []) s h fit =
+    let (n, ev) = is_number v fit.1 in
+    subst (λ v. ProgressFits typing (perform (Some (a_standard writes)) enter (value_argument v ∷ []) s)) (sym ev) (same_store-fits typing (append_output s (number_out n)) h)
+write_arguments typing enter [] s h fit = absurd fit
+write_arguments typing enter (place_argument v ∷ args) s h fit = let e : by_value ≡ by_place = fit.0 in absurd (cc)
+write_arguments typing enter (value_argument v ∷ a ∷ args) s h fit = absurd (fit.2)
+
+pub line_arguments : (typing : StoreTyping) (enter : List Argument → State → Progress) (args : List Argument) (s : State) → StoreFits typing s.store → ArgumentsFit typing [] args
+    → ProgressFits typing (perform (Some (a_standard writes_line)) enter args s)
+line_arguments typing enter [] s h fit = same_store-fits typing (append_output s line_out) h
+line_arguments typing enter (a ∷ args) s h fit = absurd fit
+
+pub perform-fits : (typing : StoreTyping) (checked : Option (Object Shape Signature)) (active : Option (Object Place (List Mode))) (signature : Signature) (enter : List Argument → State → Progress) (args : List Argument) (s : State)
+    → ObjectFits typing checked active → signature_of checked ≡ Some signature → StoreFits typing s.store → ArgumentsFit typing signature args
+    → (checked ≡ Some (a_procedure signature) → ProgressFits typing (enter args s)) → ProgressFits typing (perform active enter args s)
+perform-fits typing (Some (a_procedure t)) (Some (a_procedure modes)) signature enter args s o e h fit called = called (let e' : t ≡ signature = search in ap (λ t. Some (a_procedure t)) e')
+perform-fits typing (Some (a_standard reads)) (Some (a_standard q)) signature enter args s o e h fit called =
+    subst (λ q. ProgressFits typing (perform (Some (a_standard q)) enter args s)) o (read_arguments typing enter args s h (subst (λ t. ArgumentsFit typing (unwrap_or t []) args) (sym e) fit))
+perform-fits typing (Some (a_standard writes)) (Some (a_standard q)) signature enter args s o e h fit called =
+    subst (λ q. ProgressFits typing (perform (Some (a_standard q)) enter args s)) o (write_arguments typing enter args s h (subst (λ t. ArgumentsFit typing (unwrap_or t []) args) (sym e) fit))
+perform-fits typing (Some (a_standard writes_line)) (Some (a_standard q)) signature enter args s o e h fit called =
+    subst (λ q. ProgressFits typing (perform (Some (a_standard q)) enter args s)) o (line_arguments typing enter args s h (subst (λ t. ArgumentsFit typing (unwrap_or t []) args) (sym e) fit))
+perform-fits typing None active signature enter args s o e h fit called = absurd (cc)
+perform-fits typing (Some (a_type t)) active signature enter args s o e h fit called = absurd (cc)
+perform-fits typing (Some (a_constant t)) active signature enter args s o e h fit called = absurd (cc)
+perform-fits typing (Some (a_variable t)) active signature enter args s o e h fit called = absurd (cc)
+perform-fits typing _ _ signature enter args s o e h fit called = absurd o
+
+-- statements
+
+-- what a statement needs of its context: names and calls that fit
+pub record Sound {N : Type 0} (typing : StoreTyping) (checked : Typed N) (active : Meanings N Place (List Mode)) (enter : Calls N) : Type 0 where
+  pub names_fit : MeaningsFit typing checked active
+  pub calls_fit : CallsFit typing checked enter
+
+pub Sound-grows : {N : Type 0} (typing others : StoreTyping) (checked : Typed N) (active : Meanings N Place (List Mode)) (enter : Calls N) → Sound typing checked active enter → Sound (typing ++ others) checked active enter
+Sound-grows typing others checked active enter h =
+    record { names_fit = (λ x. ObjectFits-grows typing others (checked.object_for x) (active.object_for x) (h.names_fit.0 x), h.names_fit.1); calls_fit = CallsFit-grows typing others checked enter h.calls_fit }
+
+-- a body that keeps the typing however the store grew
+abbrev pub Keeps : StoreTyping → (State → Progress) → Type 0
+Keeps typing statements = (others : StoreTyping) (s : State) → StoreFits (typing ++ others) s.store → ProgressFits (typing ++ others) (statements s)
+
+pub keeps-here : (typing : StoreTyping) (statements : State → Progress) → Keeps typing statements → (s : State) → StoreFits typing s.store → ProgressFits typing (statements s)
+keeps-here typing statements keeps s h =
+    subst (λ all. ProgressFits all (statements s)) (append-nil typing) (keeps [] s (subst (λ all. StoreFits all s.store) (sym (append-nil typing)) h))
+
+pub go_on-fits : (typing : StoreTyping) (p : Progress) (next : State → Progress) → ProgressFits typing p → Keeps typing next → ProgressFits typing (continue_with p next)
+go_on-fits typing (running s) next h keeps = ProgressFits-grown typing h.0 (next s) (keeps h.0 s h.1)
+go_on-fits typing (stopped e out) next h keeps = h
+
+pub choose-fits : (typing : StoreTyping) (s : State) (v : Value) (yes' no' : State → Progress) → HasShape v boolean_shape → ProgressFits typing (yes' s) → ProgressFits typing (no' s) → ProgressFits typing (choose s v yes' no')
+choose-fits typing s (truth true) yes' no' h hy hn = hy
+choose-fits typing s (truth false) yes' no' h hy hn = hn
+choose-fits typing s (number n) yes' no' h hy hn = absurd h
+choose-fits typing s (elements vs) yes' no' h hy hn = absurd h
+choose-fits typing s (members k ms) yes' no' h hy hn = absurd h
+
+-- a condition that evaluates to a truth value in every store that grew
+abbrev pub IsCondition : StoreTyping → (State → Outcome Value) → Type 0
+IsCondition typing condition = (others : StoreTyping) (s : State) → StoreFits (typing ++ others) s.store → OutcomeFits (λ v. HasShape v boolean_shape) (condition s)
+
+pub turns-keep : (t : ℕ) (typing : StoreTyping) (condition : State → Outcome Value) (statements : State → Progress) → IsCondition typing condition → Keeps typing statements → Keeps typing (turns t condition statements)
+turns-keep zero typing condition statements is keeps others s h =
+    use_in-fits (typing ++ others) (λ v. HasShape v boolean_shape) s (condition s) (λ v. choose s v (λ s'. stopped TurnBound s'.output) running) (is others s h)
+    (λ v hv. choose-fits (typing ++ others) s v (λ s'. stopped TurnBound s'.output) running hv (λ e. cc) (same_store-fits (typing ++ others) s h))
+turns-keep (suc t) typing condition statements is keeps others s h =
+    use_in-fits (typing ++ others) (λ v. HasShape v boolean_shape) s (condition s) (λ v. choose s v (λ s'. continue_with (statements s') (turns t condition statements)) running) (is others s h)
+    (λ v hv. choose-fits (typing ++ others) s v (λ s'. continue_with (statements s') (turns t condition statements)) running hv
+    (go_on-fits (typing ++ others) (statements s) (turns t condition statements) (keeps others s h)
+    (λ later s' h'. subst (λ all. ProgressFits all (turns t condition statements s')) (sym (append_assoc typing others later))
+    (turns-keep t typing condition statements is keeps (others ++ later) s' (subst (λ all. StoreFits all s'.store) (append_assoc typing others later) h'))))
+    (same_store-fits (typing ++ others) s h))
+
+pub Keeps-grows : (typing others : StoreTyping) (next : State → Progress) → Keeps typing next → Keeps (typing ++ others) next
+Keeps-grows typing others next keeps later s h =
+    subst (λ all. ProgressFits all (next s)) (sym (append_assoc typing others later))
+    (keeps (others ++ later) s (subst (λ all. StoreFits all s.store) (append_assoc typing others later) h))
+
+pub IsCondition-grows : (typing others : StoreTyping) (condition : State → Outcome Value) → IsCondition typing condition → IsCondition (typing ++ others) condition
+IsCondition-grows typing others condition is later s h = is (others ++ later) s (subst (λ all. StoreFits all s.store) (append_assoc typing others later) h)
+
+pub turns_until-keep : (t : ℕ) (typing : StoreTyping) (condition : State → Outcome Value) (turn : State → Progress) → IsCondition typing condition → Keeps typing turn → Keeps typing (turns_until t condition turn)
+turns_until-keep zero typing condition turn is keeps others s h =
+    go_on-fits (typing ++ others) (turn s) (λ s'. use_in s' (condition s') (λ v. choose s' v running (λ s''. stopped TurnBound s''.output))) (keeps others s h)
+    (λ later s' h'. use_in-fits ((typing ++ others) ++ later) (λ v. HasShape v boolean_shape) s' (condition s') (λ v. choose s' v running (λ s''. stopped TurnBound s''.output)) (IsCondition-grows typing others condition is later s' h')
+    (λ v hv. choose-fits ((typing ++ others) ++ later) s' v running (λ s''. stopped TurnBound s''.output) hv (same_store-fits ((typing ++ others) ++ later) s' h') (λ e. cc)))
+turns_until-keep (suc t) typing condition turn is keeps others s h =
+    go_on-fits (typing ++ others) (turn s) (λ s'. use_in s' (condition s') (λ v. choose s' v running (turns_until t condition turn))) (keeps others s h)
+    (λ later s' h'. use_in-fits ((typing ++ others) ++ later) (λ v. HasShape v boolean_shape) s' (condition s') (λ v. choose s' v running (turns_until t condition turn)) (IsCondition-grows typing others condition is later s' h')
+    (λ v hv. choose-fits ((typing ++ others) ++ later) s' v running (turns_until t condition turn) hv (same_store-fits ((typing ++ others) ++ later) s' h')
+    (Keeps-grows typing others (turns_until t condition turn) (turns_until-keep t typing condition turn is keeps) later s' h')))
+
+pub condition-sound : {N : Type 0} (typing : StoreTyping) (checked : Typed N) (active : Meanings N Place (List Mode)) → MeaningsFit typing checked active → (e : Tree N expression) → condition_fits checked e ≡ true → (s : State) → StoreFits typing s.store → OutcomeFits (λ v. HasShape v boolean_shape) (evaluate active s.store e)
+unfolding condition_fits
+condition-sound typing checked active known e h s store_fits =
+    let (t, et, ht) = agree-true (Some boolean_shape) (type_of checked e) h in
+    evaluate-sound typing checked active s.store record { store_fits = store_fits; names_fit = known } e boolean_shape (ht ∙ sym et)
+
+pub call-here : {N : Type 0} (typing : StoreTyping) (checked : Typed N) (enter : Calls N) → CallsFit typing checked enter → (x : N) (signature : Signature) (args : List Argument) (s : State) → StoreFits typing s.store → ArgumentsFit typing signature args
+    → checked.object_for x ≡ Some (a_procedure signature) → ProgressFits typing (enter x args s)
+call-here typing checked enter h x signature args s store fit e =
+    subst (λ all. ProgressFits all (enter x args s)) (append-nil typing)
+    (h x signature e [] args s (subst (λ all. ArgumentsFit all signature args) (sym (append-nil typing)) fit) (subst (λ all. StoreFits all s.store) (sym (append-nil typing)) store))
+
+mutual
+  unfolding execute statement_fits
+
+  pub execute-keeps : {N : Type 0} (typing : StoreTyping) (checked : Typed N) (active : Meanings N Place (List Mode)) (enter : Calls N) → Sound typing checked active enter → (t : ℕ) (a : Tree N statement) → statement_fits checked a ≡ true → Keeps typing (execute active enter t a)
+  execute-keeps typing checked active enter sound t empty h others s store = same_store-fits (typing ++ others) s store
+  execute-keeps typing checked active enter sound t (assigns x path e) h others s store =
+      let grown = Sound-grows typing others checked active enter sound in
+      let (shape, es, et) = agree-true (variable_type checked (Some (x, path))) (type_of checked e) h in
+      use_in-fits (typing ++ others) (λ p. PlaceFits (typing ++ others) p shape) s (designate active s.store x path) (λ p. use_in s (evaluate active s.store e) (store_at s p))
+      (designate-sound (typing ++ others) checked active s.store record { store_fits = store; names_fit = grown.names_fit } x path shape es)
+      (λ p hp. use_in-fits (typing ++ others) (λ v. HasShape v shape) s (evaluate active s.store e) (store_at s p)
+      (evaluate-sound (typing ++ others) checked active s.store record { store_fits = store; names_fit = grown.names_fit } e shape et)
+      (λ v hv. store_at-fits (typing ++ others) s p shape v store hp hv))
+  execute-keeps typing checked active enter sound t (calls x es) h others s store =
+      let grown = Sound-grows typing others checked active enter sound in
+      let (signature, sig, fit) = call-typed checked (signature_of (checked.object_for x)) (arguments_listed es) h in
+      use_in-fits (typing ++ others) (λ args. ArgumentsFit (typing ++ others) signature args) s (modes_of (active.object_for x) >>= (λ modes. evaluate_arguments active s.store modes (arguments_listed es))) (λ args. perform (active.object_for x) (enter x) args s)
+      (subst (λ o. OutcomeFits (λ args. ArgumentsFit (typing ++ others) signature args) (o >>= (λ modes. evaluate_arguments active s.store modes (arguments_listed es)))) (sym (modes-agree (typing ++ others) (checked.object_for x) (active.object_for x) signature (grown.names_fit.0 x) sig))
+      (arguments-sound (typing ++ others) checked active s.store record { store_fits = store; names_fit = grown.names_fit } signature (arguments_listed es) fit))
+      (λ args hargs. perform-fits (typing ++ others) (checked.object_for x) (active.object_for x) signature (enter x) args s (grown.names_fit.0 x) sig store hargs
+      (λ e. call-here (typing ++ others) checked enter grown.calls_fit x signature args s store hargs e))
+  execute-keeps typing checked active enter sound t (branches e statements rest last) h others s store =
+      let h₁ = both_true (condition_fits checked e) (sequence_fits checked statements && (elsifs_fit checked rest && else_fits checked last)) h in
+      let h₂ = both_true (sequence_fits checked statements) (elsifs_fit checked rest && else_fits checked last) h₁.1 in
+      let h₃ = both_true (elsifs_fit checked rest) (else_fits checked last) h₂.1 in
+      let grown = Sound-grows typing others checked active enter sound in
+      use_in-fits (typing ++ others) (λ v. HasShape v boolean_shape) s (evaluate active s.store e) (λ v. choose s v (execute_all active enter t statements) (execute_elsifs active enter t rest (execute_else active enter t last)))
+      (condition-sound (typing ++ others) checked active grown.names_fit e h₁.0 s store)
+      (λ v hv. choose-fits (typing ++ others) s v (execute_all active enter t statements) (execute_elsifs active enter t rest (execute_else active enter t last)) hv
+      (execute_all-keeps typing checked active enter sound t statements h₂.0 others s store)
+      (execute_elsifs-keeps typing checked active enter sound t rest (execute_else active enter t last) h₃.0 (execute_else-keeps typing checked active enter sound t last h₃.1) others s store))
+  execute-keeps typing checked active enter sound t (while_loop e statements) h others s store =
+      let h₁ = both_true (condition_fits checked e) (sequence_fits checked statements) h in
+      turns-keep t typing (λ s'. evaluate active s'.store e) (execute_all active enter t statements)
+      (λ others s store. condition-sound (typing ++ others) checked active (Sound-grows typing others checked active enter sound).names_fit e h₁.0 s store)
+      (execute_all-keeps typing checked active enter sound t statements h₁.1) others s store
+  execute-keeps typing checked active enter sound t (repeat_loop statements e) h others s store =
+      let h₁ = both_true (sequence_fits checked statements) (condition_fits checked e) h in
+      turns_until-keep (t - 1) typing (λ s'. evaluate active s'.store e) (execute_all active enter t statements)
+      (λ others s store. condition-sound (typing ++ others) checked active (Sound-grows typing others checked active enter sound).names_fit e h₁.1 s store)
+      (execute_all-keeps typing checked active enter sound t statements h₁.0) others s store
+
+  pub execute_all-keeps : {N : Type 0} (typing : StoreTyping) (checked : Typed N) (active : Meanings N Place (List Mode)) (enter : Calls N) → Sound typing checked active enter → (t : ℕ) (a : Tree N sequence) → sequence_fits checked a ≡ true → Keeps typing (execute_all active enter t a)
+  execute_all-keeps typing checked active enter sound t (runs a rest) h others s store =
+      let h₁ = both_true (statement_fits checked a) (statements_fit checked rest) h in
+      go_on-fits (typing ++ others) (execute active enter t a s) (execute_further active enter t rest) (execute-keeps typing checked active enter sound t a h₁.0 others s store)
+      (Keeps-grows typing others (execute_further active enter t rest) (execute_further-keeps typing checked active enter sound t rest h₁.1))
+
+  pub execute_further-keeps : {N : Type 0} (typing : StoreTyping) (checked : Typed N) (active : Meanings N Place (List Mode)) (enter : Calls N) → Sound typing checked active enter → (t : ℕ) (a : Tree N (items further_statement)) → statements_fit checked a ≡ true → Keeps typing (execute_further active enter t a)
+  execute_further-keeps typing checked active enter sound t end h others s store = same_store-fits (typing ++ others) s store
+  execute_further-keeps typing checked active enter sound t (more (then_statement a) rest) h others s store =
+      let h₁ = both_true (statement_fits checked a) (statements_fit checked rest) h in
+      go_on-fits (typing ++ others) (execute active enter t a s) (execute_further active enter t rest) (execute-keeps typing checked active enter sound t a h₁.0 others s store)
+      (Keeps-grows typing others (execute_further active enter t rest) (execute_further-keeps typing checked active enter sound t rest h₁.1))
+
+  pub execute_elsifs-keeps : {N : Type 0} (typing : StoreTyping) (checked : Typed N) (active : Meanings N Place (List Mode)) (enter : Calls N) → Sound typing checked active enter → (t : ℕ) (a : Tree N (items elsif_part)) (otherwise : State → Progress) → elsifs_fit checked a ≡ true → Keeps typing otherwise → Keeps typing (execute_elsifs active enter t a otherwise)
+  execute_elsifs-keeps typing checked active enter sound t end otherwise h keeps others s store = keeps others s store
+  execute_elsifs-keeps typing checked active enter sound t (more (elsif_branch e statements) rest) otherwise h keeps others s store =
+      let h₁ = both_true (condition_fits checked e) (sequence_fits checked statements && elsifs_fit checked rest) h in
+      let h₂ = both_true (sequence_fits checked statements) (elsifs_fit checked rest) h₁.1 in
+      let grown = Sound-grows typing others checked active enter sound in
+      use_in-fits (typing ++ others) (λ v. HasShape v boolean_shape) s (evaluate active s.store e) (λ v. choose s v (execute_all active enter t statements) (execute_elsifs active enter t rest otherwise))
+      (condition-sound (typing ++ others) checked active grown.names_fit e h₁.0 s store)
+      (λ v hv. choose-fits (typing ++ others) s v (execute_all active enter t statements) (execute_elsifs active enter t rest otherwise) hv
+      (execute_all-keeps typing checked active enter sound t statements h₂.0 others s store) (execute_elsifs-keeps typing checked active enter sound t rest otherwise h₂.1 keeps others s store))
+
+  pub execute_else-keeps : {N : Type 0} (typing : StoreTyping) (checked : Typed N) (active : Meanings N Place (List Mode)) (enter : Calls N) → Sound typing checked active enter → (t : ℕ) (a : Tree N (maybe else_part)) → else_fits checked a ≡ true → Keeps typing (execute_else active enter t a)
+  execute_else-keeps typing checked active enter sound t none h others s store = same_store-fits (typing ++ others) s store
+  execute_else-keeps typing checked active enter sound t (one (else_branch statements)) h others s store = execute_all-keeps typing checked active enter sound t statements h others s store

@@ -1,0 +1,53 @@
+-- Laws of edits: what keeps a module well-typed and its runs.
+-- Rule: none; laws of edits and runs.
+use Rattle.std.specs.Prelude.{List, Some, ℕ, ℤ, ◌≡◌, ◌≢◌}
+use Rattle.ob0_tree.specs.Tree.{Tree, factor, module_text}
+use Rattle.ob0_language_names.specs.Inlining.{Uses, inlined, inlined_everywhere, module_without}
+use Rattle.ob0_language_names.specs.Names.{Name}
+use Rattle.ob0_language_names.specs.Occurrences.{Free, binds}
+use Rattle.ob0_language_names.specs.Scopes.{renamed}
+use Rattle.ob0_language_values.specs.Values.{Value}
+use Rattle.ob0_language_types.specs.EditLaws.{AreUsesOf, IsConstantWritten, IsPredeclaredTruth}
+use Rattle.ob0_language_types.specs.WellTyped.{WellTyped}
+use Rattle.ob0_language_runs.specs.Runs.{run}
+
+-- two modules have the same run for every input and all bounds
+abbrev pub SameRuns : Tree Name module_text → Tree Name module_text → Type 0
+SameRuns a b = (input : List ℤ) (c t : ℕ) → run a input c t ≡ run b input c t
+
+-- where a new name is free, the renamed module of a well-typed one is well-typed and has its runs
+abbrev pub FreeKeepsModules : Type 0
+FreeKeepsModules =
+    (m : Tree Name module_text) (d : ℕ) (new : Name)
+    → Free m d new
+    → WellTyped m
+    → WellTyped (renamed m d new) × SameRuns (renamed m d new) m
+
+-- a constant's literal in place of uses of it keeps a module well-typed, and its runs
+abbrev pub InliningKeepsModules : Type 0
+InliningKeepsModules =
+    (m : Tree Name module_text) (d : ℕ) (w : Value) (v : Tree Name factor) (uses : Uses)
+    → IsConstantWritten m d w v
+    → AreUsesOf m d w uses
+    → WellTyped m
+    → WellTyped (inlined m uses v) × SameRuns (inlined m uses v) m
+
+-- a constant that no occurrence is bound to may go:
+-- the module without its declaration is well-typed and has the same runs
+abbrev pub LeavingOutKeepsModules : Type 0
+LeavingOutKeepsModules =
+    (m : Tree Name module_text) (d : ℕ) (w : Value) (v : Tree Name factor)
+    → IsConstantWritten m d w v
+    → ((k : ℕ) → binds m k ≢ Some d)
+    → WellTyped m
+    → WellTyped (module_without d m) × SameRuns (module_without d m) m
+
+-- a constant's literal in place of all its uses, and its declaration gone:
+-- the module stays well-typed and has the same runs
+abbrev pub InliningEverywhereKeepsModules : Type 0
+InliningEverywhereKeepsModules =
+    (m : Tree Name module_text) (d : ℕ) (w : Value) (v : Tree Name factor)
+    → IsConstantWritten m d w v
+    → ((k : ℕ) → binds m k ≡ Some d → IsPredeclaredTruth m k w)
+    → WellTyped m
+    → WellTyped (inlined_everywhere m d v) × SameRuns (inlined_everywhere m d v) m

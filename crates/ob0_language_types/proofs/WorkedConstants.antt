@@ -1,0 +1,32 @@
+-- A worked constant: its value, its uses, and what TRUE would be bound to at one.
+use Rattle.std.proofs.Common.{None, Some, codes, negsuc, refl, ◌≡◌}
+use Rattle.ob0_language_names.specs.Occurrences.{binds}
+use Rattle.ob0_language_names.specs.SeenNames.{sees}
+use Rattle.ob0_language_names.proofs.WorkedTrees.{least_constant}
+use Rattle.ob0_language_values.specs.Values.{number}
+use Rattle.ob0_language_types.specs.ConstantValues.{value_of_constant}
+
+-- MODULE M; CONST c = -2147483647 - 1; VAR x: INTEGER; BEGIN x := 0 + c; Write(x) END M.
+pub least-value : value_of_constant least_constant 7 ≡ Some (number (negsuc 2147483647))
+unfolding value_of_constant
+least-value = refl
+
+pub variable-no_value : value_of_constant least_constant 8 ≡ None
+unfolding value_of_constant
+variable-no_value = refl
+
+pub predeclared-no_value : value_of_constant least_constant 2 ≡ None
+unfolding value_of_constant
+predeclared-no_value = refl
+
+pub use-bound : binds least_constant 2 ≡ Some 7
+use-bound = refl
+
+pub truth-seen : sees least_constant 2 (codes "TRUE") ≡ Some 2
+truth-seen = refl
+
+pub variable-seen : sees least_constant 2 (codes "x") ≡ Some 8
+variable-seen = refl
+
+pub unknown-seen : sees least_constant 2 (codes "y") ≡ None
+unknown-seen = refl

@@ -1,0 +1,74 @@
+-- The bodies of a module, each with the environment in which its statements are checked.
+-- Rule: docs/LANGUAGE.md, Scopes 2.
+use Rattle.std.specs.Prelude.{◌≡◌, ℕ, ◌+◌, List, [], ◌∷◌, ◌++◌, Some, All}
+use Rattle.ob0_tree.specs.Tree.{Tree, block, body, declares, declares_procedure, end, has_body, item, items, maybe, module_text, more, procedure}
+use Rattle.ob0_language_names.specs.Names.{Name, Naming, as_labels}
+use Rattle.ob0_language_names.specs.Parts.{formal_sections, module_block, procedure_formals, procedure_name}
+use Rattle.ob0_language_names.specs.Scopes.{numbered}
+use Rattle.ob0_language_types.specs.Bindings.{declared_object, for_some, object_bound}
+use Rattle.ob0_language_types.specs.Declaring.{declare_block}
+use Rattle.ob0_language_types.specs.Declarations.{after_variables, formals_constructors, procedure_constructors}
+use Rattle.ob0_language_types.specs.Environments.{outermost}
+use Rattle.ob0_language_types.specs.Expressions.{Object}
+use Rattle.ob0_language_types.specs.WellTyped.{Signature, TypeEnvironment, WellTyped, bind_typed, heading, typed_parameters}
+use Rattle.ob0_language_values.specs.Values.{Shape}
+
+-- what is checked, and the environment there
+pub record BodyAt (N : Type 0) : Type 0 where
+  pub environment : TypeEnvironment N
+  pub statements : Tree N (maybe body)
+
+-- a block's statements follow its procedures
+unfoldable mutual
+  unfolding typed_parameters
+
+  -- those of a block's procedures, and then its own; none where a declaration denotes nothing
+  pub block_bodies : {N : Type 0}
+      → Naming N
+      → TypeEnvironment N
+      → ℕ
+      → Tree N block
+      → List (BodyAt N)
+  block_bodies naming env k (has_body (declares cs ts vs ps) statements) =
+      for_some (declare_block naming env k (has_body (declares cs ts vs ps) statements))
+      (λ inner. procedures_bodies naming inner
+      (after_variables k (has_body (declares cs ts vs ps) statements)) statements ps)
+
+  -- those of procedures, in order, and then the statements of the block
+  pub procedures_bodies : {N : Type 0}
+      → Naming N
+      → TypeEnvironment N
+      → ℕ
+      → Tree N (maybe body)
+      → Tree N (items procedure)
+      → List (BodyAt N)
+  procedures_bodies naming env k statements end =
+      record { environment = env; statements = statements } ∷ []
+  procedures_bodies naming env k statements (more p rest) =
+      for_some (typed_parameters naming env k (procedure_formals p))
+      (λ ps. procedure_bodies naming (bind_typed ps (heading (procedure_name p) ps env)) k p
+      ++ procedures_bodies naming (heading (procedure_name p) ps env)
+      (k + procedure_constructors p) statements rest)
+
+  -- those of a procedure's block, in an environment with its name and parameters
+  pub procedure_bodies : {N : Type 0}
+      → Naming N
+      → TypeEnvironment N
+      → ℕ
+      → Tree N (item procedure)
+      → List (BodyAt N)
+  procedure_bodies naming env k (declares_procedure x fs b closing) =
+      block_bodies naming env (k + formals_constructors (formal_sections fs)) b
+
+-- the bodies of a module, each with its environment
+abbrev pub module_bodies : {N : Type 0} → Naming N → Tree N module_text → List (BodyAt N)
+module_bodies naming m = block_bodies naming (outermost naming) 0 (module_block m)
+
+-- in a well-typed module, what a name is bound to where statements are checked is what its
+-- declaration is
+abbrev pub NamesAreDeclared : Type 0
+NamesAreDeclared =
+    (m : Tree Name module_text) → WellTyped m
+    → All (λ place. (k : ℕ) (o : Object Shape Signature)
+    → object_bound place.environment k ≡ Some o
+    → declared_object m k ≡ Some o) (module_bodies as_labels (numbered m))

@@ -1,0 +1,94 @@
+-- What declarations bind, in a checked module and in a run alike: constants and types;
+-- and how types are numbered.
+-- Rule: docs/LANGUAGE.md, Scopes 2, Types 1.
+use Rattle.std.specs.Prelude.{ℕ, ◌+◌, ◌∷◌, Some, Option}
+use Rattle.ob0_tree.specs.Tree.{Tree, block, constant, declares, declares_constant, declares_procedure, declares_type, declares_variable, end, further_section, has_body, item, items, more, procedure, then_section, type_name, variable}
+use Rattle.ob0_language_names.specs.Names.{Naming}
+use Rattle.ob0_language_names.specs.Parts.{block_constants, block_types, block_variables, formal_sections, procedure_formals, section_type, section_types, section_variables}
+use Rattle.ob0_language_types.specs.Environments.{Environment, meanings}
+use Rattle.ob0_language_types.specs.Expressions.{a_constant, a_type}
+use Rattle.ob0_language_types.specs.Typing.{constant_value, constructors, denoted, ◌>>=◌}
+
+-- a constant is bound after its right side
+unfoldable pub declare_constants : {N V P : Type 0}
+    → Naming N
+    → Environment N V P
+    → Tree N (items constant)
+    → Option (Environment N V P)
+unfolding constant_value
+declare_constants naming env end = Some env
+declare_constants naming env (more (declares_constant x e) cs) = do
+  v ← constant_value (meanings naming env) e
+  declare_constants naming ((x, a_constant v) ∷ env) cs
+
+-- a type is bound after its right side; k is the ordinal of the first ARRAY or RECORD
+unfoldable pub declare_types : {N V P : Type 0}
+    → Naming N
+    → Environment N V P
+    → ℕ
+    → Tree N (items type_name)
+    → Option (Environment N V P)
+unfolding denoted
+declare_types naming env k end = Some env
+declare_types naming env k (more (declares_type x u) ds) = do
+  s ← denoted (meanings naming env) k u
+  declare_types naming ((x, a_type s) ∷ env) (k + constructors u) ds
+
+-- constants, then types
+unfoldable pub declare_first : {N V P : Type 0}
+    → Naming N
+    → Environment N V P
+    → ℕ
+    → Tree N block
+    → Option (Environment N V P)
+unfolding declare_constants declare_types
+declare_first naming env k b = do
+  with_constants ← declare_constants naming env (block_constants b)
+  declare_types naming with_constants k (block_types b)
+
+-- how many ARRAY and RECORD are in a TYPE section
+abbrev pub types_constructors : {N : Type 0} → Tree N (items type_name) → ℕ
+types_constructors end = 0
+types_constructors (more (declares_type x u) ds) = constructors u + types_constructors ds
+
+-- how many ARRAY and RECORD are in a VAR section
+abbrev pub variables_constructors : {N : Type 0} → Tree N (items variable) → ℕ
+variables_constructors end = 0
+variables_constructors (more (declares_variable ns u) gs) =
+    constructors u + variables_constructors gs
+
+-- how many ARRAY and RECORD are in formal parameters
+abbrev pub formals_constructors : {N : Type 0} → Tree N (items further_section) → ℕ
+formals_constructors end = 0
+formals_constructors (more (then_section f) fs) =
+    constructors (section_type f) + formals_constructors fs
+
+-- how many ARRAY and RECORD are in a block, those of its procedures too
+abbrev mutual
+  -- in a block: in its types, its variables and its procedures
+  pub block_constructors : {N : Type 0} → Tree N block → ℕ
+  block_constructors (has_body (declares cs ts vs ps) statements) =
+      types_constructors (section_types ts)
+      + (variables_constructors (section_variables vs) + procedures_constructors ps)
+
+  -- in procedures
+  pub procedures_constructors : {N : Type 0} → Tree N (items procedure) → ℕ
+  procedures_constructors end = 0
+  procedures_constructors (more p rest) = procedure_constructors p + procedures_constructors rest
+
+  -- in a procedure: in its parameters and its block
+  pub procedure_constructors : {N : Type 0} → Tree N (item procedure) → ℕ
+  procedure_constructors (declares_procedure x fs b closing) =
+      formals_constructors (formal_sections fs) + block_constructors b
+
+-- the ordinal of the first ARRAY or RECORD after a block's types
+abbrev pub after_types : {N : Type 0} → ℕ → Tree N block → ℕ
+after_types k b = k + types_constructors (block_types b)
+
+-- the ordinal of the first ARRAY or RECORD after a block's variables
+abbrev pub after_variables : {N : Type 0} → ℕ → Tree N block → ℕ
+after_variables k b = after_types k b + variables_constructors (block_variables b)
+
+-- the ordinal of the first ARRAY or RECORD after a procedure's formal parameters
+abbrev pub after_formals : {N : Type 0} → ℕ → Tree N (item procedure) → ℕ
+after_formals k p = k + formals_constructors (procedure_formals p)

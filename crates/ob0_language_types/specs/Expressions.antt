@@ -1,0 +1,133 @@
+-- The value of an expression, over what its names mean and a store. Expressions change nothing.
+-- Rule: docs/LANGUAGE.md, Runs 2 to 4.
+use Rattle.std.specs.Prelude.{true, false, List, [], ◌∷◌, ◌++◌, pos, negsuc, if◌then◌else◌, nat_lt, Some, Option}
+use Rattle.ob0_tree.specs.Tree.{Tree, addend, adds, compares, designator, end, expression, factor, field, index, integer, items, more, multiplier, multiplies, negation, none, one, parenthesised, product, relates, selector, simple, sum, term}
+use Rattle.ob0_language_names.specs.Names.{Name}
+use Rattle.ob0_language_values.specs.Values.{Index, Outcome, Place, Shape, Step, Store, Stuck, Value, add, add_is_settled, at_field, at_index, at_path, count_values, elements, ends, gives, multiply, multiply_is_settled, negate, number, or_stuck, part, read_place, relate, apply_sign, ◌>>=◌}
+
+-- the standard procedures
+pub data Standard : Type 0 where
+  reads writes writes_line : Standard
+
+-- what a name means; V says what a variable is and P what a procedure is
+pub data Object (V P : Type 0) : Type 0 where
+  a_type : Shape → Object V P
+  a_constant : Value → Object V P
+  a_variable : V → Object V P
+  a_procedure : P → Object V P
+  a_standard : Standard → Object V P
+
+-- what names mean at a place, nothing where nothing binds; and how the name of a field is written
+pub record Meanings (N V P : Type 0) : Type 0 where
+  pub object_for : N → Option (Object V P)
+  pub written : N → Name
+
+-- the step to an element; an index below 0 or not below the length ends with Index
+abbrev pub element_step : Value → Value → Outcome Step
+element_step (elements vs) (number (pos i)) =
+    if nat_lt i (count_values vs) then gives (at_index i) else ends Index
+element_step (elements vs) (number (negsuc i)) = ends Index
+element_step _ _ = ends Stuck
+
+-- the place that a name means, before its selectors
+abbrev pub object_place : {P : Type 0} → Option (Object Place P) → Outcome Place
+object_place (Some (a_variable p)) = gives p
+object_place _ = ends Stuck
+
+-- the value of a constant, or of what is at the place of a variable
+abbrev pub object_value : {P : Type 0} → Store → Option (Object Place P) → Outcome Value
+object_value store (Some (a_constant v)) = gives v
+object_value store (Some (a_variable p)) = or_stuck (read_place store p)
+object_value store _ = ends Stuck
+
+-- expressions are evaluated from left to right
+unfoldable mutual
+  -- the value of its one part, or that of a relation between two
+  pub evaluate : {N P : Type 0} → Meanings N Place P → Store → Tree N expression → Outcome Value
+  evaluate meaning store (compares a none) = evaluate_simple meaning store a
+  evaluate meaning store (compares a (one (relates r b))) = do
+    x ← evaluate_simple meaning store a
+    y ← evaluate_simple meaning store b
+    relate r x y
+
+  -- a simple expression: its first term with its sign, and the terms after it
+  pub evaluate_simple : {N P : Type 0} → Meanings N Place P → Store → Tree N simple → Outcome Value
+  evaluate_simple meaning store (sum s t rest) = do
+    x ← evaluate_term meaning store t
+    y ← apply_sign s x
+    evaluate_addends meaning store y rest
+
+  -- operators of one level group to the left
+  pub evaluate_addends : {N P : Type 0}
+      → Meanings N Place P
+      → Store
+      → Value
+      → Tree N (items addend)
+      → Outcome Value
+  evaluate_addends meaning store x end = gives x
+  evaluate_addends meaning store x (more (adds o t) rest) = do
+    y ← elim (add_is_settled o x)
+        [ true ↦ gives x | false ↦ evaluate_term meaning store t >>= add o x ]
+    evaluate_addends meaning store y rest
+
+  -- a term: its first factor, and the factors after it
+  pub evaluate_term : {N P : Type 0} → Meanings N Place P → Store → Tree N term → Outcome Value
+  evaluate_term meaning store (product f rest) = do
+    x ← evaluate_factor meaning store f
+    evaluate_multipliers meaning store x rest
+
+  -- an operand x, and the factors after it; where x settles `&`, the next isn't evaluated
+  pub evaluate_multipliers : {N P : Type 0}
+      → Meanings N Place P
+      → Store
+      → Value
+      → Tree N (items multiplier)
+      → Outcome Value
+  evaluate_multipliers meaning store x end = gives x
+  evaluate_multipliers meaning store x (more (multiplies o f) rest) = do
+    y ← elim (multiply_is_settled o x)
+        [ true ↦ gives x | false ↦ evaluate_factor meaning store f >>= multiply o x ]
+    evaluate_multipliers meaning store y rest
+
+  -- a factor: a designator, an integer, an expression in parentheses or a negation
+  pub evaluate_factor : {N P : Type 0} → Meanings N Place P → Store → Tree N factor → Outcome Value
+  evaluate_factor meaning store (designator x path) = do
+    v ← object_value store (meaning.object_for x)
+    steps ← follow meaning store v path
+    or_stuck (at_path steps v)
+  evaluate_factor meaning store (integer n) = gives (number (pos n))
+  evaluate_factor meaning store (parenthesised e) = evaluate meaning store e
+  evaluate_factor meaning store (negation f) = evaluate_factor meaning store f >>= negate
+
+  -- the path that selectors take from a value
+  pub follow : {N P : Type 0}
+      → Meanings N Place P
+      → Store
+      → Value
+      → Tree N (items selector)
+      → Outcome (List Step)
+  follow meaning store v end = gives []
+  follow meaning store v (more (field x) rest) = do
+    w ← or_stuck (part v (at_field (meaning.written x)))
+    steps ← follow meaning store w rest
+    gives (at_field (meaning.written x) ∷ steps)
+  follow meaning store v (more (index e) rest) = do
+    i ← evaluate meaning store e
+    s ← element_step v i
+    w ← or_stuck (part v s)
+    steps ← follow meaning store w rest
+    gives (s ∷ steps)
+
+-- the place that a designator gives: a variable's place and the path of its selectors
+unfoldable pub designate : {N P : Type 0}
+    → Meanings N Place P
+    → Store
+    → N
+    → Tree N (items selector)
+    → Outcome Place
+unfolding evaluate
+designate meaning store x path = do
+  p ← object_place (meaning.object_for x)
+  v ← or_stuck (read_place store p)
+  steps ← follow meaning store v path
+  gives record { variable = p.variable; path = p.path ++ steps }

@@ -1,0 +1,14 @@
+pub mod Expressions
+pub mod Environments
+pub mod Arguments
+pub mod Typing
+pub mod Declarations
+pub mod WellTyped
+pub mod Written
+pub mod Laws
+pub mod Selected
+pub mod EditLaws
+pub mod ConstantValues
+pub mod Declaring
+pub mod Bindings
+pub mod Bodies

@@ -1,0 +1,258 @@
+//! Numbers and truths, and what the operators give of them (Wirth, Compiler Construction, Oberon-0).
+
+ghost use Rattle.std.specs.Prelude.{◌≡◌};
+ghost use Rattle.ob0_language_values.specs.Values.{add, add_is_settled, compare_numbers, divided_by, in_range, multiply, multiply_is_settled, negate, number, relate, apply_sign, truth};
+ghost use Rattle.ob0_language_values.specs.Scalars.{number_outcome, scalar_outcome, scalar_value};
+ghost use Rattle.ob0_tree.specs.declared.tree.MultiplyOperator.TheVariants.{Divide, Modulo};
+
+use ob0_tree::{AddOperator, MultiplyOperator, Relation, Sign};
+
+/// A value without parts.
+#[derive(Clone, Copy, Debug, PartialEq, Eq)]
+pub enum Scalar {
+    /// A number of 32 bits.
+    Number(i32),
+    Truth(bool),
+}
+
+/// Why an operation gives nothing.
+#[derive(Clone, Copy, Debug, PartialEq, Eq)]
+pub enum OperatorFault {
+    /// The result isn't a number of 32 bits.
+    Overflow,
+    /// DIV or MOD by a divisor below 1.
+    Divisor,
+    /// An operand of a type that the operator isn't made for. A well-typed module has no such operation.
+    Operand,
+}
+
+/// A number where it could be computed in 32 bits, else an overflow.
+fn in_range(number: Option<i32>) -> Result<Scalar, OperatorFault>
+    ensures { scalar_outcome result ≡ number_outcome number }
+{
+    match number {
+        Some(number) => Ok(Scalar::Number(number)),
+        None => Err(OperatorFault::Overflow),
+    }
+}
+
+/// What a division gives, else the fault Divisor.
+fn of_division(number: Option<i32>) -> Result<Scalar, OperatorFault>
+    ensures { scalar_outcome result ≡ divided_by number }
+{
+    match number {
+        Some(number) => Ok(Scalar::Number(number)),
+        None => Err(OperatorFault::Divisor),
+    }
+}
+
+/// DIV, which rounds down, for a divisor from 1 on.
+fn divide(left: i32, right: i32) -> Result<Scalar, OperatorFault>
+    ensures { scalar_outcome result ≡ multiply Divide (number left) (number right) }
+{
+    of_division(crate::divide(left, right))
+}
+
+/// MOD, the rest from 0 on, for a divisor from 1 on.
+fn modulo(left: i32, right: i32) -> Result<Scalar, OperatorFault>
+    ensures { scalar_outcome result ≡ multiply Modulo (number left) (number right) }
+{
+    of_division(crate::modulo(left, right))
+}
+
+/// `left + right`, `left - right` or `left OR right`.
+///
+/// # Errors
+///
+/// `Overflow` past the 32 bits, `Operand` where the operator isn't made for the operands.
+pub fn add(operator: AddOperator, left: Scalar, right: Scalar) -> Result<Scalar, OperatorFault>
+    ensures { scalar_outcome result ≡ add operator (scalar_value left) (scalar_value right) }
+{
+    match left {
+        Scalar::Number(a) => match right {
+            Scalar::Number(b) => add_numbers(operator, a, b),
+            Scalar::Truth(_) => Err(OperatorFault::Operand),
+        },
+        Scalar::Truth(a) => match right {
+            Scalar::Number(_) => Err(OperatorFault::Operand),
+            Scalar::Truth(b) => add_truths(operator, a, b),
+        },
+    }
+}
+
+fn add_numbers(operator: AddOperator, a: i32, b: i32) -> Result<Scalar, OperatorFault>
+    ensures { scalar_outcome result ≡ add operator (number a) (number b) }
+{
+    match operator {
+        AddOperator::Add => in_range(a.checked_add(b)),
+        AddOperator::Subtract => in_range(a.checked_sub(b)),
+        AddOperator::Or => Err(OperatorFault::Operand),
+    }
+}
+
+fn add_truths(operator: AddOperator, a: bool, b: bool) -> Result<Scalar, OperatorFault>
+    ensures { scalar_outcome result ≡ add operator (truth a) (truth b) }
+{
+    match operator {
+        AddOperator::Add => Err(OperatorFault::Operand),
+        AddOperator::Subtract => Err(OperatorFault::Operand),
+        AddOperator::Or => Ok(Scalar::Truth(a || b)),
+    }
+}
+
+/// `left * right`, `left DIV right`, `left MOD right` or `left & right`. DIV rounds down, and MOD is the rest from 0
+/// on.
+///
+/// # Errors
+///
+/// `Overflow` past the 32 bits, `Divisor` for a divisor below 1, `Operand` where the operator isn't made for the
+/// operands.
+pub fn multiply(
+    operator: MultiplyOperator,
+    left: Scalar,
+    right: Scalar,
+) -> Result<Scalar, OperatorFault>
+    ensures { scalar_outcome result ≡ multiply operator (scalar_value left) (scalar_value right) }
+{
+    match left {
+        Scalar::Number(a) => match right {
+            Scalar::Number(b) => multiply_numbers(operator, a, b),
+            Scalar::Truth(_) => Err(OperatorFault::Operand),
+        },
+        Scalar::Truth(a) => match right {
+            Scalar::Number(_) => Err(OperatorFault::Operand),
+            Scalar::Truth(b) => multiply_truths(operator, a, b),
+        },
+    }
+}
+
+fn multiply_numbers(operator: MultiplyOperator, a: i32, b: i32) -> Result<Scalar, OperatorFault>
+    ensures { scalar_outcome result ≡ multiply operator (number a) (number b) }
+{
+    match operator {
+        MultiplyOperator::Multiply => in_range(a.checked_mul(b)),
+        MultiplyOperator::Divide => divide(a, b),
+        MultiplyOperator::Modulo => modulo(a, b),
+        MultiplyOperator::And => Err(OperatorFault::Operand),
+    }
+}
+
+fn multiply_truths(operator: MultiplyOperator, a: bool, b: bool) -> Result<Scalar, OperatorFault>
+    ensures { scalar_outcome result ≡ multiply operator (truth a) (truth b) }
+{
+    match operator {
+        MultiplyOperator::Multiply => Err(OperatorFault::Operand),
+        MultiplyOperator::Divide => Err(OperatorFault::Operand),
+        MultiplyOperator::Modulo => Err(OperatorFault::Operand),
+        MultiplyOperator::And => Ok(Scalar::Truth(a && b)),
+    }
+}
+
+/// True where `left OR right` is TRUE whatever the value of the right side, so that it isn't evaluated.
+pub fn add_is_settled(operator: AddOperator, left: Scalar) -> bool
+    ensures { result ≡ add_is_settled operator (scalar_value left) }
+{
+    match operator {
+        AddOperator::Add => false,
+        AddOperator::Subtract => false,
+        AddOperator::Or => match left {
+            Scalar::Number(_) => false,
+            Scalar::Truth(a) => a,
+        },
+    }
+}
+
+/// True where `left & right` is FALSE whatever the value of the right side, so that it isn't evaluated.
+pub fn multiply_is_settled(operator: MultiplyOperator, left: Scalar) -> bool
+    ensures { result ≡ multiply_is_settled operator (scalar_value left) }
+{
+    match operator {
+        MultiplyOperator::Multiply => false,
+        MultiplyOperator::Divide => false,
+        MultiplyOperator::Modulo => false,
+        MultiplyOperator::And => match left {
+            Scalar::Number(_) => false,
+            Scalar::Truth(a) => !a,
+        },
+    }
+}
+
+/// `left = right` and its like, of two numbers or of two truths.
+///
+/// # Errors
+///
+/// `Operand` where the relation isn't made for the operands.
+pub fn relate(relation: Relation, left: Scalar, right: Scalar) -> Result<Scalar, OperatorFault>
+    ensures { scalar_outcome result ≡ relate relation (scalar_value left) (scalar_value right) }
+{
+    match left {
+        Scalar::Number(a) => match right {
+            Scalar::Number(b) => Ok(Scalar::Truth(compare(relation, a, b))),
+            Scalar::Truth(_) => Err(OperatorFault::Operand),
+        },
+        Scalar::Truth(a) => match right {
+            Scalar::Number(_) => Err(OperatorFault::Operand),
+            Scalar::Truth(b) => relate_truths(relation, a, b),
+        },
+    }
+}
+
+fn compare(relation: Relation, a: i32, b: i32) -> bool
+    ensures { result ≡ compare_numbers relation a b }
+{
+    match relation {
+        Relation::Equal => a == b,
+        Relation::NotEqual => a != b,
+        Relation::Less => a < b,
+        Relation::LessEqual => a <= b,
+        Relation::Greater => b < a,
+        Relation::GreaterEqual => b <= a,
+    }
+}
+
+fn relate_truths(relation: Relation, a: bool, b: bool) -> Result<Scalar, OperatorFault>
+    ensures { scalar_outcome result ≡ relate relation (truth a) (truth b) }
+{
+    match relation {
+        Relation::Equal => Ok(Scalar::Truth(a == b)),
+        Relation::NotEqual => Ok(Scalar::Truth(a != b)),
+        Relation::Less => Err(OperatorFault::Operand),
+        Relation::LessEqual => Err(OperatorFault::Operand),
+        Relation::Greater => Err(OperatorFault::Operand),
+        Relation::GreaterEqual => Err(OperatorFault::Operand),
+    }
+}
+
+/// A term with its sign, if it has one.
+///
+/// # Errors
+///
+/// `Overflow` for the negative of the least number, `Operand` for the sign of a truth.
+pub fn apply_sign(sign: Option<Sign>, operand: Scalar) -> Result<Scalar, OperatorFault>
+    ensures { scalar_outcome result ≡ apply_sign sign (scalar_value operand) }
+{
+    match sign {
+        None => Ok(operand),
+        Some(sign) => match operand {
+            Scalar::Number(a) => match sign {
+                Sign::Plus => Ok(Scalar::Number(a)),
+                Sign::Minus => in_range(a.checked_neg()),
+            },
+            Scalar::Truth(_) => Err(OperatorFault::Operand),
+        },
+    }
+}
+
+/// `~ operand`
+///
+/// # Errors
+///
+/// `Operand` for a number.
+pub fn negate(operand: Scalar) -> Result<Scalar, OperatorFault>
+    ensures { scalar_outcome result ≡ negate (scalar_value operand) }
+{
+    match operand {
+        Scalar::Number(_) => Err(OperatorFault::Operand),
+        Scalar::Truth(a) => Ok(Scalar::Truth(!a)),
+    }
+}

@@ -1,0 +1,105 @@
+-- The roles of a tree's tokens in their lines.
+-- Rule: docs/LANGUAGE.md, Layout 2 to 4.
+use Rattle.std.specs.Prelude.{ℕ, ◌+◌, min, Bool, true, false, Option, Some, None, List, [], ◌∷◌, ◌++◌}
+use Rattle.ob0_tree.specs.declared.tree.Sign.{Sign}
+use Rattle.ob0_tree.specs.Tree.{Sort, Tree, none, one, end, more, compares, relates, sum, adds, product, multiplies, designator, integer, parenthesised, negation, field, index, empty, assigns, calls, branches, while_loop, repeat_loop, no_arguments, some_arguments, then_argument, runs, then_statement, elsif_branch, else_branch, listed, then_name, named_type, array_type, record_type, no_fields, some_fields, then_fields, no_formals, some_formals, value_section, variable_section, then_section, declares_constant, declares_constants, declares_type, declares_types, declares_variable, declares_variables, declares_procedure, declares, begins, has_body, is_module}
+use Rattle.ob0_layout.specs.declared.line_role.LineRole.{LineRole}
+use Rattle.ob0_layout.specs.declared.line_role.LineRole.TheVariants.{Begins, Opening, Joining, Plain}
+
+-- The next level. Levels are numbers of 32 bits; those of a module are far below the last.
+abbrev pub deeper : ℕ → ℕ
+deeper k = min (k + 1) 4294967295
+
+-- the first of these tokens begins a line at this level
+abbrev pub in_line : ℕ → List LineRole → List LineRole
+in_line level [] = []
+in_line level (s ∷ ss) = Begins level ∷ ss
+
+-- a sign, where there is one, is joined to what follows
+abbrev pub sign_role : Option Sign → List LineRole
+sign_role None = []
+sign_role (Some s) = Joining ∷ []
+
+-- what precedes an item of a list
+abbrev pub separated : Bool → List LineRole
+separated true = []
+separated false = Plain ∷ []
+
+-- The role of each token that a tree spells, in the order in which it spells them. The level is
+-- that of the block, and in a sequence that of its statements. The module has level 0, and a
+-- procedure one level more than the block that declares it. The statements of a body have one level
+-- more than its block, and those inside a statement one more than that statement.
+-- What is within a line has no level: 0 is said there.
+abbrev pub line_roles : {N : Type 0} {s : Sort} → ℕ → Tree N s → List LineRole
+line_roles k none = []
+line_roles k (one t) = line_roles k t
+line_roles k end = []
+line_roles k (more t ts) = line_roles k t ++ line_roles k ts
+line_roles k (compares left compared) = line_roles k left ++ line_roles k compared
+line_roles k (relates relation right) = Plain ∷ line_roles k right
+line_roles k (sum sign first terms) = sign_role sign ++ (line_roles k first ++ line_roles k terms)
+line_roles k (adds operator t) = Plain ∷ line_roles k t
+line_roles k (product first factors) = line_roles k first ++ line_roles k factors
+line_roles k (multiplies operator f) = Plain ∷ line_roles k f
+line_roles k (designator name selectors) = Plain ∷ line_roles k selectors
+line_roles k (integer n) = Plain ∷ []
+line_roles k (parenthesised e) = Plain ∷ (line_roles k e ++ (Plain ∷ []))
+line_roles k (negation f) = Plain ∷ line_roles k f
+line_roles k (field name) = Joining ∷ Plain ∷ []
+line_roles k (index e) = Plain ∷ (line_roles k e ++ (Plain ∷ []))
+line_roles k empty = []
+line_roles k (assigns name selectors e) =
+    Begins k ∷ (line_roles 0 selectors ++ (Plain ∷ line_roles 0 e))
+line_roles k (calls name args) = Begins k ∷ line_roles 0 args
+line_roles k (branches condition s elsifs rest) =
+    Begins k
+    ∷ (line_roles 0 condition
+    ++ (Plain
+    ∷ (line_roles (deeper k) s
+    ++ (line_roles k elsifs ++ (line_roles k rest ++ (Begins k ∷ []))))))
+line_roles k (while_loop condition s) =
+    Begins k ∷ (line_roles 0 condition ++ (Plain ∷ (line_roles (deeper k) s ++ (Begins k ∷ []))))
+line_roles k (repeat_loop s condition) =
+    Begins k ∷ (line_roles (deeper k) s ++ (Begins k ∷ line_roles 0 condition))
+line_roles k no_arguments = Opening ∷ Plain ∷ []
+line_roles k (some_arguments e es) = Opening ∷ (line_roles k e ++ (line_roles k es ++ (Plain ∷ [])))
+line_roles k (then_argument e) = Plain ∷ line_roles k e
+line_roles k (runs first statements) = line_roles k first ++ line_roles k statements
+line_roles k (then_statement s) = Plain ∷ line_roles k s
+line_roles k (elsif_branch condition s) =
+    Begins k ∷ (line_roles 0 condition ++ (Plain ∷ line_roles (deeper k) s))
+line_roles k (else_branch s) = Begins k ∷ line_roles (deeper k) s
+line_roles k (listed name others) = Plain ∷ line_roles k others
+line_roles k (then_name name) = Plain ∷ Plain ∷ []
+line_roles k (named_type name) = Plain ∷ []
+line_roles k (array_type size t) = Plain ∷ (line_roles k size ++ (Plain ∷ line_roles k t))
+line_roles k (record_type first others) =
+    Plain ∷ (line_roles k first ++ (line_roles k others ++ (Plain ∷ [])))
+line_roles k no_fields = []
+line_roles k (some_fields ns t) = line_roles k ns ++ (Plain ∷ line_roles k t)
+line_roles k (then_fields f) = Plain ∷ line_roles k f
+line_roles k no_formals = Opening ∷ Plain ∷ []
+line_roles k (some_formals first others) =
+    Opening ∷ (line_roles k first ++ (line_roles k others ++ (Plain ∷ [])))
+line_roles k (value_section ns t) = line_roles k ns ++ (Plain ∷ line_roles k t)
+line_roles k (variable_section ns t) = Plain ∷ (line_roles k ns ++ (Plain ∷ line_roles k t))
+line_roles k (then_section s) = Plain ∷ line_roles k s
+line_roles k (declares_constant name e) =
+    Begins (deeper k) ∷ Plain ∷ (line_roles 0 e ++ (Plain ∷ []))
+line_roles k (declares_constants cs) = Begins k ∷ line_roles k cs
+line_roles k (declares_type name t) = Begins (deeper k) ∷ Plain ∷ (line_roles 0 t ++ (Plain ∷ []))
+line_roles k (declares_types ts) = Begins k ∷ line_roles k ts
+line_roles k (declares_variable ns t) =
+    in_line (deeper k) (line_roles 0 ns) ++ (Plain ∷ (line_roles 0 t ++ (Plain ∷ [])))
+line_roles k (declares_variables vs) = Begins k ∷ line_roles k vs
+line_roles k (declares_procedure name fs b closing) =
+    Begins (deeper k)
+    ∷ Plain
+    ∷ (line_roles 0 fs
+    ++ (Plain ∷ (line_roles (deeper k) b ++ (Begins (deeper k) ∷ Plain ∷ Plain ∷ []))))
+line_roles k (declares cs ts vs ps) =
+    line_roles k cs ++ (line_roles k ts ++ (line_roles k vs ++ line_roles k ps))
+line_roles k (begins s) = Begins k ∷ line_roles (deeper k) s
+line_roles k (has_body ds b) = line_roles k ds ++ line_roles k b
+line_roles k (is_module name b closing) =
+    Begins k ∷ Plain ∷ Plain ∷ (line_roles k b ++ (Begins k ∷ Plain ∷ Plain ∷ []))

@@ -1,2 +1,0 @@
-mod Walks
-pub mod Unnamed

@@ -1,6 +1,0 @@
-use Rattle.ob0_tree.specs.View.{procedure_of}
-use Rattle.ob0_layout_roles.proofs.Walks.{Walking}
-use Rattle.ob0_layout_roles.proofs.walk.+blocks.Given as goal
-
-abbrev pub invariant-block-loop-p : goal.invariant-block-loop-p
-invariant-block-loop-p l = Walking procedure_of l.level l.initial.out.items l.p-items l.p-index l.out.items

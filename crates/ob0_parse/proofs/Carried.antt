@@ -1,0 +1,97 @@
+-- Kept procedures in another text, and one after another.
+use Rattle.std.proofs.Common.{◌≡◌, ℕ, zero, suc, ◌+◌, ◌-◌, ◌<◌, ◌≤◌, List, [], ◌∷◌, ◌++◌, take, drop, length, refl, sym, ◌∙◌, ap, arith, slice_range, length-drop}
+use Rattle.std.proofs.lemmas.List.{drop-drop, length-map}
+use Rattle.ob0_scan.specs.declared.lexeme.Token.{Token}
+use Rattle.ob0_scan.specs.declared.tokens.SameTokens.{SameTokens}
+use Rattle.ob0_scan.specs.Reused.{valueless, kinds}
+use Rattle.ob0_tree.specs.declared.tree.Procedure.{Procedure, out-Procedure, roll-out-Procedure}
+use Rattle.ob0_tree.specs.Tree.{procedure, item, Tree, declares_procedure}
+use Rattle.ob0_tree.specs.View.{procedure_of, formals_of, block_of}
+use Rattle.ob0_tree.proofs.Viewed.{procedure_made}
+use Rattle.ob0_scan.specs.SameKinds.{HasSameTokens}
+use Rattle.ob0_parse.specs.KeptTokens.{lexemes_by, first_of, end_of, IsThere, IsMade, IsWaiting, Each, AreKept}
+use Rattle.ob0_parse.specs.declared.kept.Kept.{Kept}
+
+-- ---- each of several
+
+pub each_joined : {A : Type 0} (P : A → Type 0) (xs ys : List A) → Each P xs → Each P ys → Each P (xs ++ ys)
+each_joined P [] ys p q = q
+each_joined P (x ∷ xs) ys p q = (p.0, each_joined P xs ys p.1 q)
+
+pub each_before : {A : Type 0} (P : A → Type 0) (xs ys : List A) → Each P (xs ++ ys) → Each P xs
+each_before P [] ys p = tt
+each_before P (x ∷ xs) ys p = (p.0, each_before P xs ys p.1)
+
+pub each_following : {A : Type 0} (P : A → Type 0) (xs ys : List A) → Each P (xs ++ ys) → Each P ys
+each_following P [] ys p = p
+each_following P (x ∷ xs) ys p = each_following P xs ys p.1
+
+-- ---- another text
+
+within_front : {A : Type 0} (xs : List A) (at count front : ℕ) → at + count ≤ front → take count (drop at (take front xs)) ≡ take count (drop at xs)
+within_front xs zero zero front h = refl
+within_front [] zero (suc count) zero h = absurd (omega (arith, h))
+within_front [] zero (suc count) (suc front) h = refl
+within_front (x ∷ xs) zero (suc count) zero h = absurd (omega (arith, h))
+within_front (x ∷ xs) zero (suc count) (suc front) h = ap (λ l. x ∷ l) (within_front xs zero count front (omega (arith, h)))
+within_front [] (suc at) zero front h = refl
+within_front [] (suc at) (suc count) zero h = absurd (omega (arith, h))
+within_front [] (suc at) (suc count) (suc front) h = refl
+within_front (x ∷ xs) (suc at) count zero h = absurd (omega (arith, h))
+within_front (x ∷ xs) (suc at) count (suc front) h = within_front xs at count front (omega (arith, h))
+
+-- a procedure is where tokens of the same kinds are
+there_again : (old new : List Token) (at next here end : ℕ) (t : Tree ℕ (item procedure)) → IsThere old at next t → slice_range (kinds old) at next ≡ slice_range (kinds new) here end → here < end → end ≤ length new → IsThere new here end t
+there_again old new at next here end t p same forward within = record {
+  spelled = p.spelled ∙ ap (λ ks. lexemes_by (first_of t) ks) same;
+  shallow = p.shallow;
+  forward = forward;
+  within = within;
+}
+
+pub front_stays : (old new : List Token) (same : SameTokens) (at next : ℕ) (t : Tree ℕ (item procedure)) → HasSameTokens same old new → next ≤ same.front → IsThere old at next t → IsThere new at next t
+front_stays old new same at next t h inside p =
+    let small : at + (next - at) ≤ same.front = omega (arith, p.forward, inside) in
+    let alike : slice_range (kinds old) at next ≡ slice_range (kinds new) at next =
+    sym (within_front (kinds old) at (next - at) same.front small) ∙ ap (λ ks. take (next - at) (drop at ks)) (sym h.front) ∙ within_front (kinds new) at (next - at) same.front small in
+    there_again old new at next at next t p alike p.forward (omega (arith, inside, h.front_inside))
+
+count_kinds : (ts : List Token) (i : ℕ) → length (drop i (kinds ts)) ≡ length ts - i
+count_kinds ts i = length-drop i (kinds ts) ∙ ap (λ n. n - i) (length-map ts (λ (t : Token). valueless t.kind))
+
+pub back_moves : (old new : List Token) (same : SameTokens) (at next here end : ℕ) (t : Tree ℕ (item procedure)) → HasSameTokens same old new
+    → same.old_back ≤ at → here + same.old_back ≡ at + same.back → same.old_back ≤ next → end + same.old_back ≡ next + same.back
+    → IsThere old at next t → IsThere new here end t
+back_moves old new same at next here end t h in_at to_here in_next to_end p =
+    let i : ℕ = at - same.old_back in
+    let old_place : same.old_back + i ≡ at = omega (arith, in_at) in
+    let new_place : same.back + i ≡ here = omega (arith, in_at, to_here) in
+    let count : next - at ≡ end - here = omega (arith, in_at, to_here, in_next, to_end, p.forward) in
+    let both : length old - same.old_back ≡ length new - same.back = sym (count_kinds old same.old_back) ∙ ap (λ ks. length ks) (sym h.back) ∙ count_kinds new same.back in
+    let dropped : drop at (kinds old) ≡ drop here (kinds new) =
+    ap (λ n. drop n (kinds old)) (sym old_place) ∙ sym (drop-drop i same.old_back (kinds old)) ∙ ap (drop i) (sym h.back) ∙ drop-drop i same.back (kinds new) ∙ ap (λ n. drop n (kinds new)) new_place in
+    there_again old new at next here end t p (ap (λ n. take n (drop at (kinds old))) count ∙ ap (take (end - here)) dropped)
+    (omega (arith, in_at, to_here, in_next, to_end, p.forward)) (omega (arith, both, in_next, to_end, p.within, h.back_inside, h.old_back_inside))
+
+-- ---- by the code's values
+
+pub procedure_parts : (p : Procedure) → procedure_of p ≡ declares_procedure (out-Procedure p).name (formals_of (out-Procedure p).formals) (block_of (out-Procedure p).block) (out-Procedure p).closing
+procedure_parts p = sym (ap procedure_of (roll-out-Procedure p)) ∙ procedure_made (out-Procedure p)
+
+pub first_is : (p : Procedure) → first_of (procedure_of p) ≡ (out-Procedure p).name - 1
+first_is p = ap first_of (procedure_parts p)
+
+each_as : {A : Type 0} (P Q : A → Type 0) (xs : List A) → ((x : A) → P x → Q x) → Each P xs → Each Q xs
+each_as P Q [] f p = tt
+each_as P Q (x ∷ xs) f p = (f x p.0, each_as P Q xs f p.1)
+
+-- what is kept stays where all tokens are of the kinds that they were
+pub kept_stay : (old new : List Token) (k : Kept) → kinds new ≡ kinds old → AreKept old k → AreKept new k
+kept_stay old new k same kept =
+    let count : length new ≡ length old = sym (length-map new (λ (t : Token). valueless t.kind)) ∙ ap (λ ks. length ks) same ∙ length-map old (λ (t : Token). valueless t.kind) in
+    let again : (at next : ℕ) (t : Tree ℕ (item procedure)) → IsThere old at next t → IsThere new at next t =
+    λ at next t p. there_again old new at next at next t p (ap (λ ks. slice_range ks at next) (sym same)) p.forward (omega (arith, count, p.within)) in
+    record {
+      made = each_as (IsMade old) (IsMade new) k.made.items (λ p m. again (first_of (procedure_of p)) (end_of (procedure_of p)) (procedure_of p) m) kept.made;
+      waiting = each_as (IsWaiting old) (IsWaiting new) k.waiting.items (λ w m. again w.at w.next (procedure_of w.procedure) m) kept.waiting;
+    }

@@ -1,0 +1,60 @@
+-- A procedure whose leaves are moved spells the tokens that are where it is now.
+use Rattle.std.proofs.Common.{◌≡◌, ℕ, ◌+◌, ◌-◌, ◌^◌, ◌≤◌, List, [], ◌∷◌, map, length, refl, sym, ◌∙◌, ap, arith, slice_range}
+use Rattle.std.proofs.Math.Nat.{min-eq_left}
+use Rattle.ob0_scan.specs.declared.lexeme.TokenKind.{TokenKind}
+use Rattle.ob0_scan.specs.declared.lexeme.TokenKind.TheVariants as kind
+use Rattle.ob0_scan.specs.declared.lexeme.Token.{Token}
+use Rattle.ob0_scan.specs.Reused.{kinds}
+use Rattle.ob0_tree.specs.Lexeme.{Name, Number, relabelled}
+use Rattle.ob0_tree.specs.Places.{lexeme_of}
+use Rattle.ob0_tree.specs.Tree.{procedure, item, Tree, spell, nesting}
+use Rattle.ob0_tree.specs.View.{procedure_of}
+use Rattle.ob0_tree.specs.declared.tree.Procedure.{Procedure}
+use Rattle.ob0_tree.proofs.Mapped.{spell_mapped, nesting_mapped}
+use Rattle.ob0_parse.specs.KeptTokens.{lexemes_by, first_of, IsThere, IsTakenAt}
+use Rattle.ob0_parse.specs.Moving.{moved, moved_to}
+use Rattle.ob0_parse.specs.declared.moving.Move.{Move}
+use Rattle.ob0_parse.proofs.Keeping.{in_place, count_slice}
+
+-- no index is larger
+abbrev most : ℕ
+most = 2 ^ 64 - 1
+
+lexeme_moved : (by : Move) (i j : ℕ) (k : TokenKind) → moved_to by i ≡ j → relabelled (moved_to by) (moved_to by) (lexeme_of i k) ≡ lexeme_of j k
+lexeme_moved by i j kind.Identifier e = ap Name e
+lexeme_moved by i j (kind.Integer value) e = ap Number e
+lexeme_moved by i j (kind.Reserved word) e = refl
+lexeme_moved by i j (kind.Symbol sign) e = refl
+
+lexemes_moved : (by : Move) (i j : ℕ) (ks : List TokenKind) → by.from ≤ i → j + by.from ≡ i + by.to → j + length ks ≤ most → map (relabelled (moved_to by) (moved_to by)) (lexemes_by i ks) ≡ lexemes_by j ks
+lexemes_moved by i j [] low same high = refl
+lexemes_moved by i j (k ∷ ks) low same high =
+    let there : i - by.from + by.to ≡ j = omega (arith, low, same) in
+    let below : i - by.from + by.to ≤ most = omega (arith, there, high) in
+    let first : moved_to by i ≡ j = min-eq_left below ∙ there in
+    ap (λ l. l ∷ map (relabelled (moved_to by) (moved_to by)) (lexemes_by (i + 1) ks)) (lexeme_moved by i j k first)
+    ∙ ap (λ ls. lexeme_of j k ∷ ls) (lexemes_moved by (i + 1) (j + 1) ks (omega (arith, low)) (omega (arith, same)) (omega (arith, high)))
+
+-- it is where its first leaf is moved to
+pub moved_there : (ts : List Token) (at next : ℕ) (t u : Tree ℕ (item procedure)) (by : Move) → by.from ≡ first_of t → by.to ≡ at → next ≤ most → u ≡ moved by t → IsThere ts at next t → IsThere ts at next u × (first_of u ≡ at)
+moved_there ts at next t u by from to inside is p =
+    let ks : List TokenKind = slice_range (kinds ts) at next in
+    let count : at + length ks ≡ next = omega (arith, p.forward, count_slice ts at next (omega (arith, p.forward)) p.within) in
+    let spelled : spell u ≡ lexemes_by at ks =
+    ap spell is ∙ spell_mapped (moved_to by) (moved_to by) t ∙ ap (map (relabelled (moved_to by) (moved_to by))) p.spelled
+    ∙ lexemes_moved by (first_of t) at ks (omega (arith, from)) (omega (arith, from, to)) (omega (arith, count, inside)) in
+    let first : first_of u ≡ at = (in_place u at ks spelled).0 in (
+      record {
+        spelled = spelled ∙ ap (λ i. lexemes_by i (slice_range (kinds ts) at next)) (sym first);
+        shallow = omega (arith, ap nesting is, nesting_mapped (moved_to by) (moved_to by) t, p.shallow);
+        forward = p.forward;
+        within = p.within;
+      },
+      first,
+    )
+
+-- .. and may be taken over
+pub placed_moved : (ts : List Token) (at next : ℕ) (p q : Procedure) (by : Move) → by.from ≡ first_of (procedure_of p) → by.to ≡ at → next ≤ most → procedure_of q ≡ moved by (procedure_of p) → IsThere ts at next (procedure_of p) → IsTakenAt ts at (q, next)
+placed_moved ts at next p q by from to inside is h =
+    let m = moved_there ts at next (procedure_of p) (procedure_of q) by from to inside is h in
+    record { there = m.0; first = m.1 }

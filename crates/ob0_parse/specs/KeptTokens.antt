@@ -1,0 +1,131 @@
+-- Procedures that are kept of an earlier parse, and the tokens that they spell.
+-- Rule: none; for contracts of `Kept` and of `tree_after`.
+use Rattle.std.specs.Prelude.{◌≡◌, ℕ, ◌+◌, ◌-◌, ◌<◌, ◌≤◌, List, [], ◌∷◌, length, slice_range}
+use Rattle.ob0_scan.specs.declared.lexeme.TokenKind.{TokenKind}
+use Rattle.ob0_scan.specs.declared.lexeme.Token.{Token}
+use Rattle.ob0_scan.specs.declared.tokens.SameTokens.{SameTokens}
+use Rattle.ob0_scan.specs.Reused.{kinds}
+use Rattle.ob0_scan.specs.SameKinds.{HasSameTokens}
+use Rattle.ob0_tree.specs.declared.tree.Procedure.{Procedure}
+use Rattle.ob0_tree.specs.Lexeme.{Terminal}
+use Rattle.ob0_tree.specs.Module.{max_nesting}
+use Rattle.ob0_tree.specs.Places.{lexeme_of}
+use Rattle.ob0_tree.specs.Tree.{procedure, item, Tree, declares_procedure, spell, nesting}
+use Rattle.ob0_tree.specs.View.{procedure_of}
+use Rattle.ob0_parse.specs.declared.kept.Kept.{Kept}
+use Rattle.ob0_parse.specs.declared.kept.KeptProcedure.{KeptProcedure}
+
+-- tokens of these kinds, as a tree over indexes spells them; the first has this index
+abbrev pub lexemes_by : ℕ → List TokenKind → List (Terminal ℕ)
+lexemes_by i [] = []
+lexemes_by i (k ∷ ks) = lexeme_of i k ∷ lexemes_by (i + 1) ks
+
+-- the index of a procedure's first token: the one before its name
+abbrev pub first_of : Tree ℕ (item procedure) → ℕ
+first_of (declares_procedure name fs b closing) = name - 1
+
+-- the index after its last token, which is the semicolon after its closing name
+abbrev pub end_of : Tree ℕ (item procedure) → ℕ
+end_of (declares_procedure name fs b closing) = closing + 2
+
+-- The tokens from one index to another are of the kinds that the procedure spells, and it isn't nested too deep for them.
+pub record IsThere (ts : List Token) (at next : ℕ) (t : Tree ℕ (item procedure)) : Type 0 where
+  pub spelled : spell t ≡ lexemes_by (first_of t) (slice_range (kinds ts) at next)
+  pub shallow : nesting t ≤ max_nesting
+  pub forward : at < next
+  pub within : next ≤ length ts
+
+-- the procedure's leaves are in place
+abbrev pub IsMade : List Token → Procedure → Type 0
+IsMade ts p = IsThere ts (first_of (procedure_of p)) (end_of (procedure_of p)) (procedure_of p)
+
+-- its tokens are where it is said to be
+abbrev pub IsWaiting : List Token → KeptProcedure → Type 0
+IsWaiting ts k = IsThere ts k.at k.next (procedure_of k.procedure)
+
+-- each of them is so
+abbrev pub Each : {A : Type 0} → (A → Type 0) → List A → Type 0
+Each P [] = Unit {0}
+Each P (x ∷ xs) = P x × Each P xs
+
+-- all procedures that are kept are there
+pub record AreKept (ts : List Token) (k : Kept) : Type 0 where
+  pub made : Each (IsMade ts) k.made.items
+  pub waiting : Each (IsWaiting ts) k.waiting.items
+
+-- ---- another text
+
+-- a procedure of the old text is the other one in the new text
+abbrev pub CarriesTo : SameTokens → KeptProcedure → KeptProcedure → Type 0
+CarriesTo same a b =
+    (old new : List Token) → HasSameTokens same old new → IsWaiting old a → IsWaiting new b
+
+-- one procedure of the old text, after those that are kept already, gives these
+abbrev pub CarriesOne : SameTokens
+    → KeptProcedure
+    → List KeptProcedure
+    → List KeptProcedure
+    → Type 0
+CarriesOne same a before after =
+    (old new : List Token)
+    → HasSameTokens same old new
+    → IsWaiting old a
+    → Each (IsWaiting new) before
+    → Each (IsWaiting new) after
+
+-- the procedures of the old text give these
+abbrev pub CarriesAll : SameTokens → List KeptProcedure → List KeptProcedure → Type 0
+CarriesAll same xs ys =
+    (old new : List Token)
+    → HasSameTokens same old new
+    → Each (IsWaiting old) xs
+    → Each (IsWaiting new) ys
+
+-- one procedure whose leaves are in place, after those that are kept already, gives these
+abbrev pub CarriesMade : SameTokens
+    → Procedure
+    → List KeptProcedure
+    → List KeptProcedure
+    → Type 0
+CarriesMade same p before after =
+    (old new : List Token)
+    → HasSameTokens same old new
+    → IsMade old p
+    → Each (IsWaiting new) before
+    → Each (IsWaiting new) after
+
+-- all of these procedures, after those that are kept already, give these
+abbrev pub CarriesAllMade : SameTokens
+    → List Procedure
+    → List KeptProcedure
+    → List KeptProcedure
+    → Type 0
+CarriesAllMade same ps before after =
+    (old new : List Token)
+    → HasSameTokens same old new
+    → Each (IsMade old) ps
+    → Each (IsWaiting new) before
+    → Each (IsWaiting new) after
+
+-- the procedure, at its own place
+abbrev pub IsMadeAt : Procedure → KeptProcedure → Type 0
+IsMadeAt p k =
+    (k.procedure ≡ p)
+    × (k.at ≡ first_of (procedure_of p))
+    × (k.next ≡ end_of (procedure_of p))
+
+-- ---- taking over
+
+-- a procedure whose leaves are in place, from this token on, and the index of the token after it
+pub record IsTakenAt (ts : List Token) (at : ℕ) (x : Procedure × ℕ) : Type 0 where
+  pub there : IsThere ts at x.1 (procedure_of x.0)
+  pub first : first_of (procedure_of x.0) ≡ at
+
+-- it is one of those that wait
+abbrev pub IsTakenFrom : List KeptProcedure → ℕ → Procedure × ℕ → Type 0
+IsTakenFrom waiting at x = (ts : List Token) → Each (IsWaiting ts) waiting → IsTakenAt ts at x
+
+-- those that are left wait where they did
+abbrev pub StayWaiting : List KeptProcedure → List KeptProcedure → Type 0
+StayWaiting before after =
+    (ts : List Token) → Each (IsWaiting ts) before → Each (IsWaiting ts) after

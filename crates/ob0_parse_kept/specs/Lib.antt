@@ -1,2 +1,0 @@
-pub mod KeptTokens
-pub mod Moving

@@ -1,7 +1,0 @@
--- A free renaming keeps a module well-typed, and its runs.
-use Rattle.ob0_types_rules.proofs.RenamedTypes.{free_keeps_well_typed-holds}
-use Rattle.ob0_run_rules.specs.EditLaws.{FreeKeepsModules}
-use Rattle.ob0_run_rules.proofs.Proved.{free_keeps_runs-holds}
-
-pub free_keeps_modules-holds : FreeKeepsModules
-free_keeps_modules-holds m d new free well = (free_keeps_well_typed-holds m d new free well, free_keeps_runs-holds m d new free)

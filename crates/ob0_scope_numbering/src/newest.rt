@@ -1,0 +1,244 @@
+//! The newest binding of each name.
+
+ghost use Rattle.std.specs.Prelude.{◌≡◌, [], IfOk, IfSome, OnErr, OnOk, None, Some};
+ghost use Rattle.ob0_scope_numbering.specs.Keys.{number_of, with_byte, with_bytes};
+ghost use Rattle.ob0_scope_numbering.specs.NewestNames.{IsAdded, IsRenewed, KeepsNewest, KeepsPlaces, newest_in, place_of};
+ghost use Rattle.ob0_language_names.specs.Names.{Name};
+
+use std::alloc::{AllocError, Global};
+use std::collections::BTreeMap;
+use std::marker::Model;
+
+/// How many names are found without the map. It is a power of two.
+const RECENT: usize = 1024;
+
+/// A name as a key. Before it is a number made of its last bytes, which distinguishes most names.
+type Key<'t> = (u64, &'t str);
+
+/// The key of a name.
+fn key_of<'t>(name: &'t str) -> (u64, &'t str)
+    ensures { result ≡ (number_of name.entry.now, name.entry) }
+{
+    (number_of(name.as_bytes()), name)
+}
+
+/// The number before a name: that of its last eight bytes. So a long name costs no more than a short one.
+fn number_of(bytes: &[u8]) -> u64
+    ensures { result ≡ number_of bytes.now }
+{
+    number_of_all(&bytes[bytes.len().saturating_sub(8)..])
+}
+
+/// The number of some bytes, each a digit.
+fn number_of_all(bytes: &[u8]) -> u64
+    ensures { result ≡ with_bytes bytes.now 0 }
+{
+    let mut number = 0;
+    for byte in bytes {
+        number = with_byte(number, *byte);
+    }
+    number
+}
+
+/// The number with a byte after it.
+fn with_byte(number: u64, byte: u8) -> u64
+    ensures { result ≡ with_byte number byte }
+{
+    number.wrapping_mul(256).wrapping_add(u64::from(byte))
+}
+
+/// A few bytes of a name side by side, enough to distinguish most names: of a long one the first and the last three.
+fn sketch(name: &str) -> u64 {
+    let bytes = name.as_bytes();
+    let len = bytes.len();
+    if len == 0 {
+        return 0;
+    }
+    let first = u64::from(bytes[0]);
+    let last = u64::from(bytes[len - 1]);
+    let ends = (len as u64) << 16 | first << 8 | last;
+    if len < 4 {
+        return ends << 8 | u64::from(bytes[len / 2]);
+    }
+    ends << 16 | u64::from(bytes[len - 2]) << 8 | u64::from(bytes[len - 3])
+}
+
+/// Where a name is noted among the recent ones. The product's first bits depend on all bits of the sketch.
+fn slot_of(name: &str) -> usize {
+    (sketch(name).wrapping_mul(0x9E37_79B9_7F4A_7C15) >> 54) as usize
+}
+
+/// Places for the names that are found without the map. A place that is noted there counts only where the name is at it.
+fn no_recent(alloc: Global) -> Result<Vec<usize>, AllocError> {
+    vec![in alloc; 0; RECENT]
+}
+
+/// A name that was bound, with the index of its newest binding, where it has one.
+#[derive(Clone, Copy)]
+pub(crate) struct BoundName<'t> {
+    name: &'t str,
+    newest: Option<usize>,
+}
+
+/// The names that were bound so far, in the order in which they were bound first, each once. A name's place is found in
+/// logarithmic time, whatever the names are; that of a name that was looked up before is mostly found at once.
+#[derive(Drop)]
+pub(crate) struct Newest<'t> {
+    entries: Vec<BoundName<'t>>,
+    places: BTreeMap<Key<'t>, usize>,
+    recent: Vec<usize>,
+}
+
+impl<'t> Model for Newest<'t> {
+    ghost use Rattle.std.specs.Prelude.{List};
+    ghost use Rattle.ob0_scope_numbering.specs.declared.newest.BoundName.{BoundName};
+    ghost use Rattle.ob0_scope_numbering.specs.NewestNames.{ArePlaces};
+
+    ghost Value = { List BoundName };
+
+    ghost view = { λ t. t.entries.items };
+
+    ghost invariant = { λ t. ArePlaces t.places t.entries.items };
+}
+
+impl<'t> Newest<'t> {
+    /// No bindings yet. The name `first` has the first place, where it is found without a look at its text.
+    pub(crate) fn new(alloc: Global, first: &'t str) -> Result<Newest<'t>, AllocError>
+        ensures none { IfOk result (λ t. (x : Name) → newest_in t x ≡ None) }
+        ensures first { IfOk result (λ t. place_of t first.now ≡ Some 0) }
+    {
+        let mut newest = Newest::with_no_names(alloc)?;
+        newest.add(first)?;
+        Ok(newest)
+    }
+
+    fn with_no_names(alloc: Global) -> Result<Newest<'t>, AllocError>
+        ensures { IfOk result (λ t. t ≡ []) }
+    {
+        Ok(Newest {
+            entries: Vec::new(alloc),
+            places: BTreeMap::new(alloc),
+            recent: no_recent(alloc)?,
+        })
+    }
+
+    /// The index of the newest binding of the name that has the first place.
+    pub(crate) fn first(&self) -> Option<usize>
+        ensures { (x : Name) → place_of self.now x ≡ Some 0 → result ≡ newest_in self.now x }
+    {
+        if self.entries.is_empty() {
+            return None;
+        }
+        self.entries[0].newest
+    }
+
+    /// The place of a name, where it is the one that is noted here.
+    #[inline(always)]
+    fn find_entry(&self, slot: usize, name: &'t str) -> Option<usize>
+        ensures { IfSome result (λ place. place_of self.now name.now ≡ Some place) }
+    {
+        let place = match self.recent.get(slot) {
+            None => return None,
+            Some(place) => *place,
+        };
+        if place < self.entries.len() && self.entries[place].name == name {
+            Some(place)
+        } else {
+            None
+        }
+    }
+
+    /// Notes the place of a name.
+    fn remember(&mut self, slot: usize, place: usize)
+        ensures { self.new ≡ self.old }
+    {
+        if slot < self.recent.len() {
+            self.recent[slot] = place;
+        }
+    }
+
+    /// The place of a name.
+    #[inline(always)]
+    fn find(&mut self, name: &'t str) -> Option<usize>
+        ensures found { result ≡ place_of self.old name.now }
+        ensures same { self.new ≡ self.old }
+    {
+        let slot = slot_of(name);
+        match self.find_entry(slot, name) {
+            Some(place) => Some(place),
+            None => self.find_by_map(slot, name),
+        }
+    }
+
+    /// The place of a name by the map. It is noted for the next look-up.
+    #[cold]
+    fn find_by_map(&mut self, slot: usize, name: &'t str) -> Option<usize>
+        ensures found { result ≡ place_of self.old name.now }
+        ensures same { self.new ≡ self.old }
+    {
+        let place = match self.places.get(&key_of(name)) {
+            None => return None,
+            Some(place) => *place,
+        };
+        self.remember(slot, place);
+        Some(place)
+    }
+
+    /// Adds a name that has no place. Nothing is bound to it yet.
+    fn add(&mut self, name: &'t str) -> Result<(), AllocError>
+        requires { place_of self.old name.now ≡ None }
+        ensures added { OnOk result (IsAdded self.old self.new name.now) }
+        ensures newest { OnOk result (KeepsNewest self.old self.new) }
+        ensures same { OnErr result (self.new ≡ self.old) }
+    {
+        self.entries.reserve(1)?;
+        self.places.insert(key_of(name), self.entries.len())?;
+        self.entries.push_reserved(BoundName { name, newest: None });
+        Ok(())
+    }
+
+    /// The place of a name, which is added where it has none.
+    pub(crate) fn place(&mut self, name: &'t str) -> Result<usize, AllocError>
+        ensures placed { IfOk result (λ place. place_of self.new name.now ≡ Some place) }
+        ensures places { OnOk result (KeepsPlaces self.old self.new) }
+        ensures newest { OnOk result (KeepsNewest self.old self.new) }
+        ensures same { OnErr result (self.new ≡ self.old) }
+    {
+        if let Some(place) = self.find(name) {
+            return Ok(place);
+        }
+        let place = self.entries.len();
+        self.add(name)?;
+        self.remember(slot_of(name), place);
+        Ok(place)
+    }
+
+    /// The index of the newest binding of the name at a place.
+    pub(crate) fn newest_at(&self, place: usize, name: &'t str) -> Option<usize>
+        requires { place_of self.now name.now ≡ Some place }
+        ensures { result ≡ newest_in self.now name.now }
+    {
+        self.entries[place].newest
+    }
+
+    /// Gives the name at a place another newest binding.
+    pub(crate) fn renew(&mut self, place: usize, name: &'t str, newest: Option<usize>)
+        requires { place_of self.old name.now ≡ Some place }
+        ensures renewed { IsRenewed self.old self.new name.now newest }
+        ensures places { KeepsPlaces self.old self.new }
+    {
+        self.entries[place] = BoundName { name, newest };
+    }
+
+    /// The index of a name's newest binding.
+    pub(crate) fn get(&mut self, name: &'t str) -> Option<usize>
+        ensures found { result ≡ newest_in self.old name.now }
+        ensures same { self.new ≡ self.old }
+    {
+        let place = match self.find(name) {
+            None => return None,
+            Some(place) => place,
+        };
+        self.newest_at(place, name)
+    }
+}

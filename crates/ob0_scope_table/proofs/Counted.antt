@@ -1,0 +1,16 @@
+-- How many ARRAY and RECORD are in a tree doesn't hang on what represents its names.
+use Rattle.std.proofs.Common.{◌≡◌, ℕ, map, List, [], ◌∷◌, refl, ap}
+use Rattle.ob0_tree.specs.Tree.{then_name}
+use Rattle.ob0_tree.specs.View.{items_of, names_of}
+use Rattle.ob0_tree.specs.declared.tree.Names as tree_names
+use Rattle.ob0_language_names.specs.Parts.{further_names, names_listed}
+use Rattle.ob0_scope_table.specs.Resolution.{Resolution}
+use Rattle.ob0_scope_table.specs.InLabels.{in_labels, label_in}
+
+-- the labels of names in a list
+further_labels : (r : Resolution) (xs : List ℕ) → further_names (in_labels r (items_of then_name xs)) ≡ map (label_in r) xs
+further_labels r [] = refl
+further_labels r (x ∷ xs) = ap (λ ys. label_in r x ∷ ys) (further_labels r xs)
+
+pub labels_listed : (r : Resolution) (ns : tree_names.Names) → names_listed (in_labels r (names_of ns)) ≡ map (label_in r) (ns.first ∷ ns.more.items)
+labels_listed r ns = ap (λ ys. label_in r ns.first ∷ ys) (further_labels r ns.more.items)

@@ -1,0 +1,134 @@
+-- A part that is an expression, a type or statements declares nothing.
+use Rattle.std.proofs.Common.{◌≡◌, ℕ, List, [], ◌∷◌, ◌++◌, refl, ◌∙◌}
+use Rattle.ob0_tree.specs.declared.tree.Role.{Role}
+use Rattle.ob0_tree.specs.declared.tree.Role.TheVariants as role
+use Rattle.ob0_tree.specs.Tree.{Item, Sort, Tree, identifiers, item, items, maybe, adds, array_type, assigns, begins, branches, calls, compares, declares, declares_constant, declares_constants, declares_procedure, declares_type, declares_types, declares_variable, declares_variables, designator, else_branch, elsif_branch, empty, end, field, has_body, index, integer, is_module, listed, more, multiplies, named_type, negation, no_arguments, no_fields, no_formals, none, one, parenthesised, product, record_type, relates, repeat_loop, runs, some_arguments, some_fields, some_formals, sum, then_argument, then_fields, then_name, then_section, then_statement, value_section, variable_section, while_loop, selector, multiplier, addend, comparison, arguments, further_argument, further_statement, elsif_part, else_part, further_fields, body, further_name, formals, further_section, constant, constants, type_name, type_names, variable, variables, procedure, expression, simple, term, factor, statement, sequence, written_type, fields, names, section, declarations, block, module_text}
+use Rattle.ob0_scope_table.specs.Resolution.{declaring_only}
+
+pub declaring_only-append : {N : Type 0} (xs ys : List (Role × N)) → declaring_only (xs ++ ys) ≡ declaring_only xs ++ declaring_only ys
+declaring_only-append [] ys = refl
+declaring_only-append ((role.Declaring, n) ∷ xs) ys = λ i. n ∷ declaring_only-append xs ys i
+declaring_only-append ((role.LookedUp, n) ∷ xs) ys = declaring_only-append xs ys
+declaring_only-append ((role.ClosingName, n) ∷ xs) ys = declaring_only-append xs ys
+declaring_only-append ((role.FieldName, n) ∷ xs) ys = declaring_only-append xs ys
+declaring_only-append ((role.ModuleName, n) ∷ xs) ys = declaring_only-append xs ys
+
+-- no identifier declares
+pub record Plain (xs : List (Role × ℕ)) : Type 0 where
+  pub plain : declaring_only xs ≡ []
+
+nothing : Plain []
+nothing = record { plain = refl }
+
+both : {xs ys : List (Role × ℕ)} → Plain xs → Plain ys → Plain (xs ++ ys)
+both {xs = xs} {ys = ys} p q = record { plain = declaring_only-append xs ys ∙ (λ i. p.plain i ++ q.plain i) }
+
+use_first : {x : ℕ} {xs : List (Role × ℕ)} → Plain xs → Plain ((role.LookedUp, x) ∷ xs)
+use_first p = record { plain = p.plain }
+
+field_first : {x : ℕ} {xs : List (Role × ℕ)} → Plain xs → Plain ((role.FieldName, x) ∷ xs)
+field_first p = record { plain = p.plain }
+
+further_fields_plain : (ns : Tree ℕ (items further_name)) → Plain (identifiers role.FieldName ns)
+further_fields_plain end = nothing
+further_fields_plain (more (then_name x) rest) = field_first (further_fields_plain rest)
+
+fields_plain : (ns : Tree ℕ names) → Plain (identifiers role.FieldName ns)
+fields_plain (listed x rest) = field_first (further_fields_plain rest)
+
+-- the sorts of these parts
+abbrev pub IsPlainItem : Item → Type 0
+IsPlainItem selector = Unit {0}
+IsPlainItem multiplier = Unit {0}
+IsPlainItem addend = Unit {0}
+IsPlainItem comparison = Unit {0}
+IsPlainItem arguments = Unit {0}
+IsPlainItem further_argument = Unit {0}
+IsPlainItem further_statement = Unit {0}
+IsPlainItem elsif_part = Unit {0}
+IsPlainItem else_part = Unit {0}
+IsPlainItem further_fields = Unit {0}
+IsPlainItem body = Unit {0}
+IsPlainItem further_name = ⊥
+IsPlainItem formals = ⊥
+IsPlainItem further_section = ⊥
+IsPlainItem constant = ⊥
+IsPlainItem constants = ⊥
+IsPlainItem type_name = ⊥
+IsPlainItem type_names = ⊥
+IsPlainItem variable = ⊥
+IsPlainItem variables = ⊥
+IsPlainItem procedure = ⊥
+
+abbrev pub IsPlain : Sort → Type 0
+IsPlain (item i) = IsPlainItem i
+IsPlain (items i) = IsPlainItem i
+IsPlain (maybe i) = IsPlainItem i
+IsPlain expression = Unit {0}
+IsPlain simple = Unit {0}
+IsPlain term = Unit {0}
+IsPlain factor = Unit {0}
+IsPlain statement = Unit {0}
+IsPlain sequence = Unit {0}
+IsPlain written_type = Unit {0}
+IsPlain fields = Unit {0}
+IsPlain names = ⊥
+IsPlain section = ⊥
+IsPlain declarations = ⊥
+IsPlain block = ⊥
+IsPlain module_text = ⊥
+
+pub declares_nothing : {s : Sort} → IsPlain s → (t : Tree ℕ s) → Plain (identifiers role.Declaring t)
+declares_nothing h none = nothing
+declares_nothing h (one a) = declares_nothing h a
+declares_nothing h end = nothing
+declares_nothing h (more a b) = both (declares_nothing h a) (declares_nothing h b)
+declares_nothing h (compares a b) = both (declares_nothing tt a) (declares_nothing tt b)
+declares_nothing h (relates a b) = declares_nothing tt b
+declares_nothing h (sum a b c) = both (declares_nothing tt b) (declares_nothing tt c)
+declares_nothing h (adds a b) = declares_nothing tt b
+declares_nothing h (product a b) = both (declares_nothing tt a) (declares_nothing tt b)
+declares_nothing h (multiplies a b) = declares_nothing tt b
+declares_nothing h (designator a b) = use_first (declares_nothing tt b)
+declares_nothing h (integer a) = nothing
+declares_nothing h (parenthesised a) = declares_nothing tt a
+declares_nothing h (negation a) = declares_nothing tt a
+declares_nothing h (field a) = field_first nothing
+declares_nothing h (index a) = declares_nothing tt a
+declares_nothing h empty = nothing
+declares_nothing h (assigns a b c) = use_first (both (declares_nothing tt b) (declares_nothing tt c))
+declares_nothing h (calls a b) = use_first (declares_nothing tt b)
+declares_nothing h (branches a b c d) = both (declares_nothing tt a) (both (declares_nothing tt b) (both (declares_nothing tt c) (declares_nothing tt d)))
+declares_nothing h (while_loop a b) = both (declares_nothing tt a) (declares_nothing tt b)
+declares_nothing h (repeat_loop a b) = both (declares_nothing tt a) (declares_nothing tt b)
+declares_nothing h no_arguments = nothing
+declares_nothing h (some_arguments a b) = both (declares_nothing tt a) (declares_nothing tt b)
+declares_nothing h (then_argument a) = declares_nothing tt a
+declares_nothing h (runs a b) = both (declares_nothing tt a) (declares_nothing tt b)
+declares_nothing h (then_statement a) = declares_nothing tt a
+declares_nothing h (elsif_branch a b) = both (declares_nothing tt a) (declares_nothing tt b)
+declares_nothing h (else_branch a) = declares_nothing tt a
+declares_nothing h (listed a b) = absurd h
+declares_nothing h (then_name a) = absurd h
+declares_nothing h (named_type a) = use_first nothing
+declares_nothing h (array_type a b) = both (declares_nothing tt a) (declares_nothing tt b)
+declares_nothing h (record_type a b) = both (declares_nothing tt a) (declares_nothing tt b)
+declares_nothing h no_fields = nothing
+declares_nothing h (some_fields a b) = both (fields_plain a) (declares_nothing tt b)
+declares_nothing h (then_fields a) = declares_nothing tt a
+declares_nothing h no_formals = absurd h
+declares_nothing h (some_formals a b) = absurd h
+declares_nothing h (value_section a b) = absurd h
+declares_nothing h (variable_section a b) = absurd h
+declares_nothing h (then_section a) = absurd h
+declares_nothing h (declares_constant a b) = absurd h
+declares_nothing h (declares_constants a) = absurd h
+declares_nothing h (declares_type a b) = absurd h
+declares_nothing h (declares_types a) = absurd h
+declares_nothing h (declares_variable a b) = absurd h
+declares_nothing h (declares_variables a) = absurd h
+declares_nothing h (declares_procedure a b c d) = absurd h
+declares_nothing h (declares a b c d) = absurd h
+declares_nothing h (begins a) = declares_nothing tt a
+declares_nothing h (has_body a b) = absurd h
+declares_nothing h (is_module a b c) = absurd h

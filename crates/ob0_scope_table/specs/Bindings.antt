@@ -1,0 +1,16 @@
+-- What the names of a module are bound to, joined to the module.
+-- Rule: docs/LANGUAGE.md, Scopes 2 to 4.
+use Rattle.ob0_tree.specs.Parsed.{Parsed}
+use Rattle.ob0_scope_table.specs.Resolution.{Resolution}
+use Rattle.ob0_scope_table.specs.declared.resolved.Bindings.{Bindings}
+
+-- what is known of a module's names, by its bindings
+abbrev pub resolution_by : Parsed → Bindings → Resolution
+resolution_by m b =
+    record {
+      module_read = m;
+      ordinals = b.ordinals.items;
+      declarations = b.declarations.items;
+      uses = b.occurrences.items;
+      faults = b.faults.items;
+    }

@@ -1,0 +1,107 @@
+-- The faults of names that are declared once more, and of closing names that differ, in the order
+-- in which they are reported. The names of these trees are tokens.
+-- Rule: docs/LANGUAGE.md, Faults of scopes and types, `Duplicate`, `EndName`.
+use Rattle.std.specs.Prelude.{ℕ, Bool, not, List, [], ◌∷◌, ◌++◌, if◌then◌else◌}
+use Rattle.ob0_scan.specs.declared.fault.Code.TheVariants as code
+use Rattle.ob0_scan.specs.declared.fault.Fault.{Fault}
+use Rattle.ob0_scan.specs.Scanned.{Scanned}
+use Rattle.ob0_tree.specs.Parsed.{Parsed, tree_of}
+use Rattle.ob0_tree.specs.Places.{text_at}
+use Rattle.ob0_tree.specs.Tree.{Tree, array_type, block, declares, declares_procedure, declares_type, declares_variable, end, fields, further_fields, further_section, has_body, is_module, item, items, module_text, more, named_type, no_fields, procedure, record_type, some_fields, then_fields, then_section, type_name, variable, written_type}
+use Rattle.ob0_language_names.specs.DeclaredOnce.{block_names, group_fields, groups_fields, is_among}
+use Rattle.ob0_language_names.specs.Names.{Name, same_name}
+use Rattle.ob0_language_names.specs.Parts.{formal_names, formal_sections, section_type, section_types, section_variables}
+use Rattle.ob0_scope_table.specs.Spans.{span_at}
+
+-- a fault, unless something holds
+abbrev pub unless : Bool → Fault → List Fault
+unless holds fault = if holds then [] else fault ∷ []
+
+-- `Duplicate` at a token
+abbrev pub duplicate_at : Scanned → ℕ → Fault
+duplicate_at source token = record { code = code.Duplicate; span = span_at source token }
+
+-- `EndName` at a token
+abbrev pub end_name_at : Scanned → ℕ → Fault
+end_name_at source token = record { code = code.EndName; span = span_at source token }
+
+-- each of some names that precedes it in the list, or among those before the list,
+-- is reported where it is once more
+abbrev pub again : Scanned → List Name → List ℕ → List Fault
+again source before [] = []
+again source before (x ∷ xs) =
+    unless (not (is_among (text_at source x) before)) (duplicate_at source x)
+    ++ again source (text_at source x ∷ before) xs
+
+-- a closing name that differs from its opening name is reported where it closes
+abbrev pub closing_other : Scanned → ℕ → ℕ → List Fault
+closing_other source x closing =
+    unless (same_name (text_at source x) (text_at source closing)) (end_name_at source closing)
+
+-- the second fields of a record, and then those of the records in it
+abbrev mutual
+  -- in a type as it is written, the outer record first
+  pub fields_twice : Scanned → Tree ℕ written_type → List Fault
+  fields_twice source (named_type x) = []
+  fields_twice source (array_type e t) = fields_twice source t
+  fields_twice source (record_type g rest) =
+      again source [] (group_fields g ++ groups_fields rest)
+      ++ (group_twice source g ++ groups_twice source rest)
+
+  -- in the type of a group of fields
+  pub group_twice : Scanned → Tree ℕ fields → List Fault
+  group_twice source no_fields = []
+  group_twice source (some_fields ns t) = fields_twice source t
+
+  -- in the types of further groups of fields
+  pub groups_twice : Scanned → Tree ℕ (items further_fields) → List Fault
+  groups_twice source end = []
+  groups_twice source (more (then_fields g) rest) = group_twice source g ++ groups_twice source rest
+
+-- second fields in the types of a TYPE section
+abbrev pub types_twice : Scanned → Tree ℕ (items type_name) → List Fault
+types_twice source end = []
+types_twice source (more (declares_type x t) ds) = fields_twice source t ++ types_twice source ds
+
+-- second fields in the types of variables
+abbrev pub variables_twice : Scanned → Tree ℕ (items variable) → List Fault
+variables_twice source end = []
+variables_twice source (more (declares_variable ns t) gs) =
+    fields_twice source t ++ variables_twice source gs
+
+-- second fields in the types of parameters
+abbrev pub formals_twice : Scanned → Tree ℕ (items further_section) → List Fault
+formals_twice source end = []
+formals_twice source (more (then_section s) fs) =
+    fields_twice source (section_type s) ++ formals_twice source fs
+
+-- the names of a block, with those of its procedure's parameters before them;
+-- then its types, variables and procedures
+abbrev mutual
+  -- a block, with `own`, the names of its procedure's parameters
+  pub block_twice : Scanned → List ℕ → Tree ℕ block → List Fault
+  block_twice source own (has_body (declares cs ts vs ps) statements) =
+      again source [] (own ++ block_names (has_body (declares cs ts vs ps) statements))
+      ++ (types_twice source (section_types ts)
+      ++ (variables_twice source (section_variables vs) ++ procedures_twice source ps))
+
+  -- all procedures of a block, in order
+  pub procedures_twice : Scanned → Tree ℕ (items procedure) → List Fault
+  procedures_twice source end = []
+  procedures_twice source (more p rest) = procedure_twice source p ++ procedures_twice source rest
+
+  -- a procedure: its closing name, its parameters' types, and its block
+  pub procedure_twice : Scanned → Tree ℕ (item procedure) → List Fault
+  procedure_twice source (declares_procedure x fs b closing) =
+      closing_other source x closing
+      ++ (formals_twice source (formal_sections fs)
+      ++ block_twice source (formal_names (formal_sections fs)) b)
+
+-- all such faults of a module
+abbrev pub module_twice : Scanned → Tree ℕ module_text → List Fault
+module_twice source (is_module x b closing) =
+    closing_other source x closing ++ block_twice source [] b
+
+-- all of a module
+abbrev pub twice_in : Parsed → List Fault
+twice_in m = module_twice m.source (tree_of m)

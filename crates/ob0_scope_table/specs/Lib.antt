@@ -1,0 +1,6 @@
+pub mod Bindings
+pub mod Entries
+pub mod Resolution
+pub mod Spans
+pub mod DeclaredTwice
+pub mod InLabels

@@ -1,0 +1,11 @@
+//! What is known of a module's names once they are resolved: the ordinal that each token has, and the faults of names;
+//! trees with labels by it.
+#![tactic(auto)]
+
+mod ordinal_entry;
+mod resolved;
+mod table;
+
+pub use ordinal_entry::OrdinalEntry;
+pub use resolved::{Bindings, PREDECLARED, Resolved};
+pub use table::{ordinal_at, token_span};

@@ -1,0 +1,27 @@
+//! Tables of ordinals by token, and where tokens are.
+
+ghost use Rattle.std.specs.Prelude.{◌≡◌};
+ghost use Rattle.ob0_scope_table.specs.Resolution.{ordinal_in, span_at};
+
+use crate::ordinal_entry::OrdinalEntry;
+use ob0_scan::{Span, Tokens};
+
+/// The ordinal that a table has at a token; None also where it has no such token.
+pub fn ordinal_at(ordinals: &[OrdinalEntry], token: usize) -> Option<usize>
+    ensures { result ≡ ordinal_in ordinals.now token }
+{
+    match ordinals.get(token) {
+        Some(entry) => entry.ordinal(),
+        None => None,
+    }
+}
+
+/// Where a token is; the text's start where there is no such token.
+pub fn token_span(tokens: &Tokens, token: usize) -> Span
+    ensures { result ≡ span_at tokens.now token }
+{
+    match tokens.tokens().get(token) {
+        Some(found) => found.span,
+        None => Span { start: 0, end: 0 },
+    }
+}

@@ -1,3 +1,0 @@
-pub mod Going
-pub mod NewestNames
-pub mod Shadows

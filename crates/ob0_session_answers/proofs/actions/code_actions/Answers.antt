@@ -1,0 +1,30 @@
+use Rattle.std.proofs.Common.{◌∙◌, ℕ, List, Option, inl, inr, refl, subst, sym}
+use Rattle.std.proofs.lemmas.Result.{IfOk-weaker}
+use Rattle.ob0_session_answers.specs.Actions.{FindsInlinings, actions_requested, actions_offset}
+use Rattle.ob0_session_answers.specs.declared.actions.Inlinings.{Inlinings}
+use Rattle.ob0_session_answers.proofs.actions.code_actions.Goals as goal
+
+pub returns-then-not-wants_inlining : goal.returns-then-not-wants_inlining
+returns-then-not-wants_inlining g c = IfOk-weaker c.no_actions.result _ _ (λ bytes sent. (_, (_, inr (inl (sym c.wants_inlining.ensures ∙ c.if-not-wants_inlining.true), refl), refl), sent)) c.no_actions.ensures
+
+pub returns-in-Some : goal.returns-in-Some
+returns-in-Some g c =
+    let unit = g.T.TextStore.unit_of c.args.store.now in
+    let text : List ℕ = g.T.TextStore.content c.args.store.now in
+    let requested = actions_requested c.args.request.now in
+    let offset = actions_offset unit text requested.range in
+    let found = subst (λ (a : Option Inlinings). FindsInlinings unit text offset a) c.in-Some.is c.in_ok-found.ensures in
+    IfOk-weaker c.list_actions.result _ _ (λ bytes sent. (
+      _,
+      (_, inl (record { here = c.in-Some.found.here; everywhere = c.in-Some.found.everywhere; wanted = sym c.wants_inlining.ensures ∙ c.if-not-wants_inlining.false; offers_here = found.0; offers_everywhere = found.1; listed = refl }), refl),
+      sent,
+    )) c.list_actions.ensures
+
+pub returns-in-None : goal.returns-in-None
+returns-in-None g c =
+    let unit = g.T.TextStore.unit_of c.args.store.now in
+    let text : List ℕ = g.T.TextStore.content c.args.store.now in
+    let requested = actions_requested c.args.request.now in
+    let offset = actions_offset unit text requested.range in
+    let unfit = subst (λ (a : Option Inlinings). FindsInlinings unit text offset a) c.in-None.is c.in_ok-found.ensures in
+    IfOk-weaker c.no_actions-in-None.result _ _ (λ bytes sent. (_, (_, inr (inr unfit, refl), refl), sent)) c.no_actions-in-None.ensures

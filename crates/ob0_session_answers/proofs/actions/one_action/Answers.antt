@@ -1,0 +1,11 @@
+use Rattle.std.proofs.lemmas.Result.{IfOk-weaker}
+use Rattle.ob0_session_answers.specs.Actions.{action_of, actions_requested, title}
+use Rattle.ob0_session_json.proofs.Plain.{one_can, shallow_action}
+use Rattle.ob0_session_answers.proofs.actions.one_action.Goals as goal
+
+pub returns : goal.returns
+returns c =
+    let requested = actions_requested c.args.request.now in
+    let es = c.args.edits.now in
+    let there = rw (c.as_slice.ensures, c.action.ensures) at c.result_of.ensures in
+    IfOk-weaker c.result_of.result _ _ (λ bytes sent. sent (one_can (action_of requested c.args.how es) (shallow_action requested.client requested.uri requested.version es (title c.args.how)))) there

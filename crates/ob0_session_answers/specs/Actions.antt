@@ -1,0 +1,141 @@
+-- Code actions on request: a constant is inlined, here or everywhere.
+-- Rule: docs/PROTOCOL.md, Requests on documents 7.
+use Rattle.std.specs.Prelude.{◌≡◌, ◌⊎◌, ℕ, ℤ, List, [], ◌∷◌, ◌++◌, Bool, true, false, ◌&&◌, ◌||◌, min, Option, Some, None, Result, Ok, Err, Vec, codes}
+use Rattle.std.specs.List.{list_any}
+use Rattle.std.specs.Str.{bytes_eq}
+use Rattle.std.specs.declared.alloc.Global.{Global}
+use Rattle.serde_json.specs.Data.{Data, array, no_items}
+use Rattle.serde_json.specs.View.{items_of}
+use Rattle.ob0_rpc.specs.Seen.{id_data, kinds_seen}
+use Rattle.ob0_rpc.specs.Shapes.{result_message}
+use Rattle.ob0_rpc.specs.declared.clients.Client.{Client}
+use Rattle.ob0_text.specs.Texts.{offset_of}
+use Rattle.ob0_text.specs.Units.{width_of}
+use Rattle.ob0_text.specs.declared.edits.Edit.{Edit}
+use Rattle.ob0_text.specs.declared.position_types.Range.{Range}
+use Rattle.ob0_text.specs.declared.position_types.Unit.{Unit}
+use Rattle.ob0_text.specs.declared.refusals.EditRefusal.{EditRefusal}
+use Rattle.ob0_text.specs.declared.refusals.EditRefusal.TheVariants.{Memory}
+use Rattle.ob0_analysis.specs.Diagnosed.{IsWellTypedModule}
+use Rattle.ob0_analysis.specs.Texts.{utf8}
+use Rattle.ob0_edits.specs.Inlinings.{InlinesIn, IsNotInlinedIn}
+use Rattle.ob0_session_json.specs.Shapes.{action_value, workspace_edit}
+use Rattle.ob0_session_answers.specs.declared.actions.ActionsRequest.{ActionsRequest}
+use Rattle.ob0_session_answers.specs.declared.actions.Inlinings.{Inlinings}
+use Rattle.ob0_edits.specs.declared.inlining.Inlining.{Inlining}
+use Rattle.ob0_edits.specs.declared.inlining.Inlining.TheVariants.{Here, Everywhere}
+
+-- ---- the request
+
+-- its id, the client, the document and its version, the range, and the kinds of which the actions
+-- must be, where there are such
+pub record RequestedActions : Type 0 where
+  pub id : Data
+  pub client : Client
+  pub uri : List ℕ
+  pub version : ℤ
+  pub range : Range
+  pub only : Option (List (List ℕ))
+
+-- a request for code actions of the code
+abbrev pub actions_requested : ActionsRequest → RequestedActions
+actions_requested r =
+    record {
+      id = id_data r.id.now;
+      client = r.client;
+      uri = r.uri.now;
+      version = r.version;
+      range = r.range;
+      only = kinds_seen r.only.now;
+    }
+
+-- inlining is of this kind
+abbrev pub is_of_kind : List ℕ → Bool
+is_of_kind kind =
+    bytes_eq kind [] || bytes_eq kind (codes "refactor") || bytes_eq kind (codes "refactor.inline")
+
+-- where kinds are named, inlining is of one of them
+abbrev pub allows_inlining : Option (List (List ℕ)) → Bool
+allows_inlining (Some kinds) = list_any is_of_kind kinds
+allows_inlining None = true
+
+-- the client takes actions that aren't commands, and these among them
+abbrev pub wants_inlining : RequestedActions → Bool
+wants_inlining requested = requested.client.takes_literal_actions && allows_inlining requested.only
+
+-- the place in bytes at which actions work: the start of the range,
+-- and the end of one that is swapped
+abbrev pub actions_offset : Unit → List ℕ → Range → ℕ
+actions_offset unit text range =
+    min (offset_of (width_of unit) text range.start) (offset_of (width_of unit) text range.end)
+
+-- ---- what is offered
+
+-- what is offered of an inliner's answer
+abbrev pub IsOffered : Result (Vec Edit Global) EditRefusal → Option (Vec Edit Global) → Type 0
+IsOffered answer (Some edits) = answer ≡ Ok edits
+IsOffered answer None = (refusal : EditRefusal) × ¬ (refusal ≡ Memory) × (answer ≡ Err refusal)
+
+-- offered exactly where it isn't refused
+abbrev pub Offers : Inlining → Unit → List ℕ → ℕ → Option (Vec Edit Global) → Type 0
+Offers how unit text offset (Some edits) = InlinesIn how unit text offset edits
+Offers how unit text offset None = IsNotInlinedIn how unit text offset
+
+-- what is offered at a place of a text, if it is a well-typed module
+abbrev pub FindsInlinings : Unit → List ℕ → ℕ → Option Inlinings → Type 0
+FindsInlinings unit text offset (Some found) =
+    Offers Here unit text offset found.here × Offers Everywhere unit text offset found.everywhere
+FindsInlinings unit text offset None = ¬ IsWellTypedModule (utf8 text)
+
+-- ---- the message
+
+-- the title of an action
+abbrev pub title : Inlining → List ℕ
+title Here = codes "Inline here"
+title Everywhere = codes "Inline everywhere"
+
+-- the action, with the edits in the form that the client takes
+abbrev pub action_of : RequestedActions → Inlining → List Edit → Data
+action_of requested how edits =
+    action_value (workspace_edit requested.client requested.uri requested.version edits) (title how)
+
+-- an action, where its edit isn't refused
+abbrev pub action_values : RequestedActions → Inlining → Option (Vec Edit Global) → List Data
+action_values requested how (Some edits) = action_of requested how edits.items ∷ []
+action_values requested how None = []
+
+-- inlining here precedes inlining everywhere
+abbrev pub actions_value : RequestedActions
+    → Option (Vec Edit Global)
+    → Option (Vec Edit Global)
+    → Data
+actions_value requested here everywhere =
+    array (items_of
+    (action_values requested Here here ++ action_values requested Everywhere everywhere))
+
+-- the client wants them, and of a well-typed module these are offered
+pub record ListsInlinings (unit : Unit) (requested : RequestedActions) (text : List ℕ)
+    (value : Data) : Type 0 where
+  pub here : Option (Vec Edit Global)
+  pub everywhere : Option (Vec Edit Global)
+  pub wanted : wants_inlining requested ≡ true
+  pub offers_here : Offers Here unit text (actions_offset unit text requested.range) here
+  pub offers_everywhere : Offers Everywhere unit text (actions_offset unit text requested.range)
+      everywhere
+  pub listed : value ≡ actions_value requested here everywhere
+
+-- These actions are offered, as a list; none to a client that wants none, and none of a text that
+-- isn't a well-typed module.
+abbrev pub ListsActions : Unit → RequestedActions → List ℕ → Data → Type 0
+ListsActions unit requested text value =
+    ListsInlinings unit requested text value
+    ⊎ (((wants_inlining requested ≡ false) ⊎ ¬ IsWellTypedModule (utf8 text))
+    × (value ≡ array no_items))
+
+-- this message answers the request, where positions are counted in the unit
+-- and the document has the text
+abbrev pub AnswersActions : Unit → RequestedActions → List ℕ → Data → Type 0
+AnswersActions unit requested text message =
+    (value : Data)
+    × ListsActions unit requested text value
+    × (message ≡ result_message requested.id value)

@@ -1,0 +1,102 @@
+-- Questions about the name or field at a position of a document's text, and their answers.
+-- Rule: docs/PROTOCOL.md, Requests on documents 2 to 5.
+use Rattle.std.specs.Prelude.{◌≡◌, ◌⊎◌, ℕ, List, Bool, Option, Some, None, map, option_map, option_and_then}
+use Rattle.serde_json.specs.Data.{Data, null, array, no_items}
+use Rattle.serde_json.specs.View.{items_of}
+use Rattle.ob0_scan.specs.declared.lexeme.Span.{Span}
+use Rattle.ob0_text.specs.Texts.{offset_of}
+use Rattle.ob0_text.specs.Units.{width_of}
+use Rattle.ob0_text.specs.declared.position_types.Unit.{Unit}
+use Rattle.ob0_edits_tokens.specs.Ranges.{range_of}
+use Rattle.ob0_scope_table.specs.Resolution.{Resolution}
+use Rattle.ob0_refs.specs.Shown.{HoverText}
+use Rattle.ob0_refs.specs.Questions.{AreReferencesAt, hover_at_place, definition_at, identified_at}
+use Rattle.ob0_refs.specs.declared.answers.At as reported
+use Rattle.ob0_refs.specs.declared.answers.Of as of
+use Rattle.ob0_refs.specs.declared.answers.Of.TheVariants as reports
+use Rattle.ob0_rpc.specs.Requesting.{At}
+use Rattle.ob0_rpc.specs.Shapes.{range_value}
+use Rattle.ob0_analysis.specs.Analysed.{IsModuleIn}
+use Rattle.ob0_analysis.specs.Diagnosed.{IsWellTypedModule}
+use Rattle.ob0_analysis.specs.Texts.{utf8}
+use Rattle.ob0_session_json.specs.Shapes.{hover_value, location_in}
+use Rattle.ob0_session_answers.specs.declared.questions.NameQuestion.{NameQuestion}
+use Rattle.ob0_session_answers.specs.declared.questions.NameQuestion.TheVariants.{Hover, Definition, References, PrepareRename}
+
+-- ---- names and fields that can be renamed, in bytes of a module's text
+
+-- predeclared names keep their names
+abbrev pub can_be_renamed : of.Of → Span → Option Span
+can_be_renamed (reports.Declared ordinal) span = Some span
+can_be_renamed reports.Predeclared span = None
+can_be_renamed (reports.Field ordinal index) span = Some span
+
+-- the name or field itself that is there, where it can be renamed
+abbrev pub renamable_in : Resolution → ℕ → Option Span
+renamable_in names offset =
+    option_and_then (λ (a : reported.At). can_be_renamed a.of a.span) (identified_at names offset)
+
+-- ---- as values, at positions of a unit: the unit, the uri and the characters of the text
+
+-- the range of a span of the text
+abbrev pub range_at : Unit → List ℕ → Span → Data
+range_at unit text span =
+    let range = range_of (width_of unit) text span in range_value range.start range.end
+
+-- the location of a span of the text
+abbrev pub location_at : Unit → List ℕ → List ℕ → Span → Data
+location_at unit uri text span = location_in uri (range_of (width_of unit) text span)
+
+-- a hover text, and where it is displayed
+abbrev pub hover_at : Unit → List ℕ → HoverText → Data
+hover_at unit text shown = hover_value shown.text (range_at unit text shown.span)
+
+-- a value, or null
+abbrev pub value_or_null : Option Data → Data
+value_or_null (Some value) = value
+value_or_null None = null
+
+-- the place in bytes
+abbrev pub offset_in : Unit → List ℕ → At → ℕ
+offset_in unit text at = offset_of (width_of unit) text at.position
+
+-- all the references and no others, in text order
+abbrev pub AnswersReferences : Unit → List ℕ → At → Bool → Resolution → Data → Type 0
+AnswersReferences unit text at include names value =
+    (spans : List Span)
+    × AreReferencesAt names (offset_in unit text at) include spans
+    × (value ≡ array (items_of (map (location_at unit at.uri text) spans)))
+
+-- this value answers the question about a well-typed module
+abbrev pub AnswersIn : Unit → List ℕ → At → NameQuestion → Resolution → Data → Type 0
+AnswersIn unit text at Hover names value =
+    value
+    ≡ value_or_null
+    (option_map (hover_at unit text) (hover_at_place names (offset_in unit text at)))
+AnswersIn unit text at Definition names value =
+    value
+    ≡ value_or_null
+    (option_map (location_at unit at.uri text) (definition_at names (offset_in unit text at)))
+AnswersIn unit text at (References include) names value =
+    AnswersReferences unit text at include names value
+AnswersIn unit text at PrepareRename names value =
+    value
+    ≡ value_or_null
+    (option_map (range_at unit text) (renamable_in names (offset_in unit text at)))
+
+-- the answer about every other text
+abbrev pub no_answer : NameQuestion → Data
+no_answer Hover = null
+no_answer Definition = null
+no_answer (References include) = array no_items
+no_answer PrepareRename = null
+
+-- ---- texts
+
+-- this value answers a question about what is at a position of a text
+abbrev pub AnswersName : Unit → List ℕ → At → NameQuestion → Data → Type 0
+AnswersName unit text at question value =
+    ((names : Resolution)
+    × IsModuleIn (utf8 text) names
+    × AnswersIn unit text at question names value)
+    ⊎ (¬ IsWellTypedModule (utf8 text) × (value ≡ no_answer question))

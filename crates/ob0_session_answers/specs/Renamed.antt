@@ -1,0 +1,54 @@
+-- Renaming on request: the edits, and the answer.
+-- Rule: docs/PROTOCOL.md, Requests on documents 6.
+use Rattle.std.specs.Prelude.{◌≡◌, ◌⊎◌, ℕ, ℤ, List, codes}
+use Rattle.serde_json.specs.Data.{Data}
+use Rattle.ob0_rpc.specs.Requesting.{At}
+use Rattle.ob0_rpc.specs.Seen.{at_seen, id_data}
+use Rattle.ob0_rpc.specs.Shapes.{result_message}
+use Rattle.ob0_rpc.specs.declared.clients.Client.{Client}
+use Rattle.ob0_text.specs.RefusalTexts.{refusal_text}
+use Rattle.ob0_text.specs.declared.edits.Edit.{Edit}
+use Rattle.ob0_text.specs.declared.position_types.Unit.{Unit}
+use Rattle.ob0_text.specs.declared.refusals.EditRefusal.{EditRefusal}
+use Rattle.ob0_edits.specs.Renamings.{IsRefusedIn, RenamesIn}
+use Rattle.ob0_analysis.specs.Diagnosed.{IsWellTypedModule}
+use Rattle.ob0_analysis.specs.Texts.{utf8}
+use Rattle.ob0_session_json.specs.Shapes.{edit_refused, workspace_edit}
+use Rattle.ob0_session_answers.specs.declared.renaming.RenameRequest.{RenameRequest}
+
+-- a request for another name: its id, the client, the place in a document,
+-- the document's version, and the name
+pub record RequestedRename : Type 0 where
+  pub id : Data
+  pub client : Client
+  pub at : At
+  pub version : ℤ
+  pub new : List ℕ
+
+-- a request for a rename of the code
+abbrev pub rename_requested : RenameRequest → RequestedRename
+rename_requested r =
+    record {
+      id = id_data r.id.now;
+      client = r.client;
+      at = at_seen r.place.now;
+      version = r.version;
+      new = r.new.now;
+    }
+
+-- the edits as they are sent to the client
+abbrev pub edits_for_client : RequestedRename → List Edit → Data
+edits_for_client requested edits =
+    workspace_edit requested.client requested.at.uri requested.version edits
+
+-- this message answers the request, where positions are counted in the unit
+-- and the document has the text
+abbrev pub AnswersRenaming : Unit → RequestedRename → List ℕ → Data → Type 0
+AnswersRenaming unit requested text message =
+    ((edits : List Edit)
+    × RenamesIn unit text requested.at.position requested.new edits
+    × (message ≡ result_message requested.id (edits_for_client requested edits)))
+    ⊎ (((refusal : EditRefusal)
+    × IsRefusedIn unit text requested.at.position requested.new refusal
+    × (message ≡ edit_refused requested.id (refusal_text refusal)))
+    ⊎ (¬ IsWellTypedModule (utf8 text) × (message ≡ edit_refused requested.id (codes "ill-typed"))))

@@ -1,0 +1,122 @@
+//! The diagnostics of a text.
+
+ghost use Rattle.std.specs.Prelude.{◌≡◌, List, IfOk, map};
+ghost use Rattle.std.specs.Str.{chars};
+ghost use Rattle.ob0_analysis.specs.Diagnosed.{complaint_in};
+ghost use Rattle.ob0_session_json.specs.Made.{DiagnosticsAre, diagnostic_in};
+ghost use Rattle.ob0_session_answers.specs.Diagnostics.{Diagnoses, diagnostic_of};
+ghost use Rattle.ob0_session_json.specs.Shapes.{Diagnostic as Reported};
+ghost use Rattle.ob0_text.specs.Texts.{position_of};
+ghost use Rattle.ob0_text.specs.Units.{width_of};
+
+use ob0_analysis::{Analysis, Diagnosis};
+use ob0_session_json::publication::Diagnostic;
+use ob0_text::{Position, Range, TextStore};
+use std::alloc::{AllocError, Global};
+
+/// The list that is published for a text.
+pub fn diagnostics<T: TextStore>(
+    alloc: Global,
+    store: &T,
+    analysis: &Analysis,
+) -> Result<Vec<Diagnostic>, AllocError>
+    requires { T.content store.now ≡ chars analysis.now }
+    ensures { IfOk result (λ list. (ds : List Reported)
+        × Diagnoses (T.unit_of store.now) (T.content store.now) ds
+        × DiagnosticsAre ds list.items) }
+{
+    let reported = analysis.diagnoses(alloc)?;
+    all_diagnostics(alloc, store, reported.as_slice())
+}
+
+/// The diagnostics at their positions, which are found in one pass over the text.
+fn all_diagnostics<T: TextStore>(
+    alloc: Global,
+    store: &T,
+    reported: &[Diagnosis],
+) -> Result<Vec<Diagnostic>, AllocError>
+    ensures { IfOk result (λ list. DiagnosticsAre (map
+        (λ d. diagnostic_of (T.unit_of store.now) (T.content store.now) (complaint_in d))
+        reported.now) list.items) }
+{
+    let offsets = offsets_of(alloc, reported)?;
+    let positions = store.positions(alloc, offsets.as_slice())?;
+    list_diagnostics(
+        alloc,
+        store,
+        offsets.as_slice(),
+        positions.as_slice(),
+        reported,
+    )
+}
+
+/// Where diagnostics start and end, in text order.
+fn offsets_of(alloc: Global, reported: &[Diagnosis]) -> Result<Vec<usize>, AllocError> {
+    let mut offsets = Vec::new(alloc);
+    for diagnosis in reported {
+        offsets.push(diagnosis.span.start as usize)?;
+        offsets.push(diagnosis.span.end as usize)?;
+    }
+    offsets.sort_unstable();
+    Ok(offsets)
+}
+
+/// The diagnostics, by some offsets in text order and their positions.
+fn list_diagnostics<T: TextStore>(
+    alloc: Global,
+    store: &T,
+    offsets: &[usize],
+    positions: &[Position],
+    reported: &[Diagnosis],
+) -> Result<Vec<Diagnostic>, AllocError>
+    requires { positions.now
+        ≡ map (position_of (width_of (T.unit_of store.now)) (T.content store.now)) offsets.now }
+    ensures { IfOk result (λ list. DiagnosticsAre (map
+        (λ d. diagnostic_of (T.unit_of store.now) (T.content store.now) (complaint_in d))
+        reported.now) list.items) }
+{
+    let mut list = Vec::new(alloc);
+    for diagnosis in reported {
+        let start = position_at(store, offsets, positions, diagnosis.span.start as usize);
+        let end = position_at(store, offsets, positions, diagnosis.span.end as usize);
+        list.push(diagnostic(alloc, diagnosis, start, end)?)?;
+    }
+    Ok(list)
+}
+
+/// The position of an offset, which is looked up among some in text order.
+fn position_at<T: TextStore>(
+    store: &T,
+    offsets: &[usize],
+    positions: &[Position],
+    offset: usize,
+) -> Position
+    requires { positions.now
+        ≡ map (position_of (width_of (T.unit_of store.now)) (T.content store.now)) offsets.now }
+    ensures { result ≡ position_of (width_of (T.unit_of store.now)) (T.content store.now) offset }
+{
+    match offsets.binary_search(&offset) {
+        Ok(index) => positions[index],
+        Err(_) => store.position(offset),
+    }
+}
+
+fn diagnostic(
+    alloc: Global,
+    diagnosis: &Diagnosis,
+    start: Position,
+    end: Position,
+) -> Result<Diagnostic, AllocError>
+    ensures { IfOk result (λ d. diagnostic_in d ≡ record {
+      code = (complaint_in diagnosis.now).code;
+      said = (complaint_in diagnosis.now).said;
+      start = start;
+      end = end;
+    }) }
+{
+    Ok(Diagnostic {
+        code: diagnosis.code,
+        message: String::from_str(alloc, diagnosis.message.as_str())?,
+        range: Range { start, end },
+    })
+}

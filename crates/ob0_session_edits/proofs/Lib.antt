@@ -1,4 +1,0 @@
-pub mod LaidOut
-pub mod Inlined
-pub mod Lists
-pub mod Diagnosing

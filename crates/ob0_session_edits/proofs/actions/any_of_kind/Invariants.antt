@@ -1,8 +1,0 @@
-use Rattle.std.proofs.Common.{◌≡◌, drop, map, string_bytes}
-use Rattle.std.specs.List.{list_any}
-use Rattle.ob0_session_edits.specs.Actions.{is_of_kind}
-use Rattle.ob0_session_edits.proofs.actions.any_of_kind.Given as goal
-
--- whether one is of this kind is decided by those that are left
-abbrev pub invariant-loop-kind : goal.invariant-loop-kind
-invariant-loop-kind l = list_any is_of_kind (map string_bytes l.kinds) ≡ list_any is_of_kind (map string_bytes (drop l.kind-index l.kinds))

@@ -1,8 +1,0 @@
-//! The laws. Each function does nothing: its contract is the law.
-
-ghost use Rattle.ob0_types_rules.specs.Bodies.{NamesAreDeclared};
-
-/// Where statements of a well-typed module are checked, each name is bound to what its declaration is.
-pub fn names_are_declared()
-    ensures { NamesAreDeclared }
-{}

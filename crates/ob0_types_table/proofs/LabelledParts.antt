@@ -1,0 +1,48 @@
+-- Parts of sections, of procedures and of lists, in labels.
+use Rattle.std.proofs.Common.{◌≡◌, ℕ, ◌+◌, ◌<◌, Bool, true, false, cond, List, [], ◌∷◌, length, get_or, drop, refl, sym, ap, ◌∙◌}
+use Rattle.std.proofs.lemmas.List.{drop_more}
+use Rattle.ob0_tree.specs.declared.tree.Expression.{Expression}
+use Rattle.ob0_tree.specs.declared.tree.Procedure.{Procedure, out-Procedure, roll-out-Procedure}
+use Rattle.ob0_tree.specs.declared.tree.Section.{Section}
+use Rattle.ob0_tree.specs.Tree.{declares_procedure, one, value_section, variable_section}
+use Rattle.ob0_tree.specs.View as view
+use Rattle.ob0_tree.specs.View.{block_of, expression_of, formals_of, further_argument_of, items_of, names_of, procedure_of, section_of, type_of}
+use Rattle.ob0_tree.proofs.Viewed.{procedure_made}
+use Rattle.ob0_language_names.specs.Parts.{names_listed, section_names}
+use Rattle.ob0_scope_table.specs.Resolution.{Resolution}
+use Rattle.ob0_types_table.specs.Designators.{all_in_labels}
+use Rattle.ob0_scope_table.specs.InLabels.{in_labels}
+use Rattle.ob0_language_types.specs.Arguments.{arguments_listed, further_arguments}
+use Rattle.ob0_language_types.specs.WellTyped.{Mode, by_place, by_value, section_mode}
+
+pub section-names : (r : Resolution) (s : Section) → section_names (in_labels r (section_of s)) ≡ names_listed (in_labels r (names_of s.names))
+section-names r s = by_mode s.by_reference
+  where
+    by_mode : (b : Bool) → section_names (in_labels r (cond b (variable_section (names_of s.names) (type_of s.written)) (value_section (names_of s.names) (type_of s.written)))) ≡ names_listed (in_labels r (names_of s.names))
+    by_mode true = refl
+    by_mode false = refl
+
+-- the mode, by whatever decides modes by the mark
+pub section-mode : (mode_of : Bool → Mode) → mode_of true ≡ by_place → mode_of false ≡ by_value → (r : Resolution) (s : Section) → section_mode (in_labels r (section_of s)) ≡ mode_of s.by_reference
+section-mode mode_of marked unmarked r s = by_mode s.by_reference
+  where
+    by_mode : (b : Bool) → section_mode (in_labels r (cond b (variable_section (names_of s.names) (type_of s.written)) (value_section (names_of s.names) (type_of s.written)))) ≡ mode_of b
+    by_mode true = sym marked
+    by_mode false = sym unmarked
+
+-- a procedure's parts
+pub procedure_parts : (p : Procedure) → procedure_of p ≡ declares_procedure (out-Procedure p).name (formals_of (out-Procedure p).formals) (block_of (out-Procedure p).block) (out-Procedure p).closing
+procedure_parts p = sym (ap procedure_of (roll-out-Procedure p)) ∙ procedure_made (out-Procedure p)
+
+-- expressions in order
+further_listed : (r : Resolution) (es : List Expression) → further_arguments (in_labels r (items_of further_argument_of es)) ≡ all_in_labels r es
+further_listed r [] = refl
+further_listed r (e ∷ es) = ap (λ z. in_labels r (expression_of e) ∷ z) (further_listed r es)
+
+pub all_listed : (r : Resolution) (es : List Expression) → arguments_listed (in_labels r (one (view.arguments_listed es))) ≡ all_in_labels r es
+all_listed r [] = refl
+all_listed r (e ∷ es) = ap (λ z. in_labels r (expression_of e) ∷ z) (further_listed r es)
+
+-- what is left of a list, and what is done with a result
+pub split : {A : Type 0} (done : ℕ) (xs : List A) (x : A) → done < length xs → x ≡ get_or xs done x → drop done xs ≡ x ∷ drop (done + 1) xs
+split done xs x less here = drop_more xs done x less ∙ ap (λ y. y ∷ drop (done + 1) xs) (sym here)

@@ -1,0 +1,13 @@
+use Rattle.std.proofs.Common.{sym, ap, ◌∙◌}
+use Rattle.ob0_tree.specs.View.{compound_of, expression_of, factor_of}
+use Rattle.ob0_language_types.specs.Typing.{lone_designator}
+use Rattle.ob0_types_table.proofs.DesignatedAlone.{one_designated}
+use Rattle.ob0_types_table.proofs.designated.lone_designator.Goals as goal
+
+pub returns-in-Factor : goal.returns-in-Factor
+returns-in-Factor c =
+    c.designator_of_factor.ensures ∙ (one_designated (factor_of c.in-Factor.f) ∙ sym (ap (λ e. lone_designator (expression_of e)) c.in-Factor.is))
+
+pub returns-in-Compound : goal.returns-in-Compound
+returns-in-Compound c =
+    c.designator_of_compound.ensures ∙ (ap (λ e. lone_designator (compound_of e)) c.deref.ensures ∙ sym (ap (λ e. lone_designator (expression_of e)) c.in-Compound.is))

@@ -1,0 +1,66 @@
+//! Expressions that are a designator alone: what may be passed by its place.
+
+ghost use Rattle.std.specs.Prelude.{◌≡◌, option_map};
+ghost use Rattle.ob0_tree.specs.View.{compound_of, expression_of, factor_of, simple_of, term_of};
+ghost use Rattle.ob0_types_table.specs.Designators.{designator_of_factor, designator_of_simple, designator_of_term, designator_parts};
+ghost use Rattle.ob0_language_types.specs.Typing.{lone_designator};
+
+use ob0_tree::{Compound, Designator, Expression, Factor, Simple, Term};
+
+/// A designator alone, without sign, operators or parentheses.
+pub fn lone_designator(e: &Expression) -> Option<&Designator>
+    ensures { option_map (λ d. designator_parts d.now) result
+        ≡ lone_designator (expression_of e.now) }
+{
+    match e {
+        Expression::Factor(f) => designator_of_factor(f),
+        Expression::Compound(c) => designator_of_compound(c),
+    }
+}
+
+fn designator_of_compound(c: &Compound) -> Option<&Designator>
+    ensures { option_map (λ d. designator_parts d.now) result
+        ≡ lone_designator (compound_of c.now) }
+{
+    match &c.compared {
+        None => designator_of_simple(&c.left),
+        Some(_) => None,
+    }
+}
+
+fn designator_of_simple(s: &Simple) -> Option<&Designator>
+    ensures { option_map (λ d. designator_parts d.now) result
+        ≡ designator_of_simple (simple_of s.now) }
+{
+    match s.sign {
+        None => {
+            if s.more.is_empty() {
+                designator_of_term(&s.first)
+            } else {
+                None
+            }
+        }
+        Some(_sign) => None,
+    }
+}
+
+fn designator_of_term(t: &Term) -> Option<&Designator>
+    ensures { option_map (λ d. designator_parts d.now) result ≡ designator_of_term (term_of t.now) }
+{
+    if !t.more.is_empty() {
+        return None;
+    }
+    designator_of_factor(&t.first)
+}
+
+fn designator_of_factor(f: &Factor) -> Option<&Designator>
+    ensures { option_map (λ d. designator_parts d.now) result
+        ≡ designator_of_factor (factor_of f.now) }
+{
+    match f {
+        Factor::Designator(d) => Some(d),
+        Factor::Integer(_) => None,
+        Factor::Parenthesised(_) => None,
+        Factor::Not(_) => None,
+    }
+}

@@ -1,0 +1,88 @@
+-- Whatever fails, what `serve` has written begins what is written for the same bytes where neither an allocation nor the writer fails.
+use Rattle.std.proofs.Common.{◌≡◌, ◌∙◌, ℕ, List, [], ◌++◌, Result, Ok, Err, sym, ap, subst, inl, inr, append_assoc, append-nil}
+use Rattle.std.specs.List.{flat_map}
+use Rattle.std.proofs.lemmas.Grind.{flat_map-append}
+use Rattle.ob0_frame.specs.Frames.{frame}
+use Rattle.ob0_frame.specs.Framing.{Rest, Open, Broken, Feeds}
+use Rattle.ob0_session_server.specs.Answers.{ServerState, start, Conversation}
+use Rattle.ob0_session.specs.Serving.{Served}
+use Rattle.ob0_session.specs.declared.serving.ServeFault.{ServeFault}
+use Rattle.ob0_session.specs.declared.serving.ServeFault.TheVariants.{BadHead, Truncated, Read, Write, Memory, TooManyReads}
+use Rattle.ob0_world_determined.specs.Determined.{MayServe, OneBeginning, OneConversation}
+use Rattle.ob0_world_determined.proofs.Conversations.{Contents}
+use Rattle.ob0_world_determined.proofs.Streams.{Cut, cut, begins_other, longer, Ending, at_exit, with_rest, EndsIn, ending_of, OneFeed}
+
+-- the first of the contents are answered, and the frames of the answers begin with what was written
+record Part (taken put : List ℕ) : Type 0 where
+  pub answered : Contents
+  pub sent : Contents
+  pub after : ServerState
+  pub front : (contents : Contents) (rest : Rest) → Feeds (Open []) taken contents rest → (others : Contents) × (contents ≡ answered ++ others)
+  pub conversation : Conversation start answered sent after
+  pub unwritten : List ℕ
+  pub frames : flat_map frame sent ≡ put ++ unwritten
+
+module _ (one : OneConversation) (feeds : OneFeed) (taken : List ℕ) where
+  part_of_served : (waiting : Contents) (rest : Rest) (after : ServerState) (put unwritten : List ℕ) → Served taken waiting rest after (put ++ unwritten) → Part taken put
+  part_of_served waiting rest after put unwritten h = record {
+    answered = h.answered;
+    sent = h.sent;
+    after = after;
+    front = λ contents other fed. (waiting, (feeds (Open []) other rest taken contents (h.answered ++ waiting) fed h.feeds).0);
+    conversation = h.conversation;
+    unwritten = unwritten;
+    frames = sym h.frames;
+  }
+
+  whole : (waiting : Contents) (rest : Rest) (after : ServerState) (put : List ℕ) → Served taken waiting rest after put → Part taken put
+  whole waiting rest after put h = part_of_served waiting rest after put [] (subst (λ p. Served taken waiting rest after p) (sym (append-nil put)) h)
+
+  part_of : (result : Result ℕ ServeFault) (put : List ℕ) → MayServe result taken put → Part taken put
+  part_of (Ok status) put (r, w, (inl ends, none)) = whole ends.waiting ends.rest ends.after put ends.served
+  part_of (Ok status) put (r, w, (inr (all, at_end, is), none)) = whole [] (Open []) all.after put all.served
+  part_of (Err BadHead) put (r, w, (all, none)) = whole [] Broken all.after put all.served
+  part_of (Err Truncated) put (r, w, ((left, all, some, at_end), none)) = whole [] (Open left) all.after put all.served
+  part_of (Err Read) put (r, w, ((left, all), failed, writes, flushed)) = whole [] (Open left) all.after put all.served
+  part_of (Err TooManyReads) put (r, w, ((left, all, long), none)) = whole [] (Open left) all.after put all.served
+  part_of (Err Write) put (r, w, ((unwritten, some), reads, failed)) = part_of_served some.waiting some.rest some.after put unwritten some.served
+  part_of (Err Memory) put (r, w, (some, none)) = record {
+    answered = some.answered;
+    sent = some.sent;
+    after = some.after;
+    front = some.front;
+    conversation = some.conversation;
+    unwritten = [];
+    frames = sym some.frames ∙ sym (append-nil put);
+  }
+
+  -- the rest of the conversation is answered by more messages
+  further : (put : List ℕ) (p : Part taken put) (contents mid sent : Contents) (after : ServerState) → contents ≡ p.answered ++ mid → Conversation start contents sent after → (later : Contents) × (sent ≡ p.sent ++ later)
+  further put p contents mid sent after is h =
+      let parts : Cut start p.answered mid sent after = cut start p.answered mid sent after (subst (λ cs. Conversation start cs sent after) is h) in
+      let same : p.sent ≡ parts.first = (one start p.answered p.sent parts.first p.after parts.between p.conversation parts.begins).0 in
+      (parts.later, parts.is ∙ ap (λ xs. xs ++ parts.later) (sym same))
+
+  further_of : (put all : List ℕ) (p : Part taken put) (e : Ending) → (ends : EndsIn e taken all) → (sent : Contents) × (later : Contents) × (all ≡ flat_map frame sent) × (sent ≡ p.sent ++ later)
+  further_of put all p (with_rest rest) k =
+      let others = p.front (k.served.answered ++ []) rest k.served.feeds in
+      let more = further put p k.served.answered others.0 k.served.sent k.after (sym (append-nil k.served.answered) ∙ others.1) k.served.conversation in
+      (k.served.sent, more.0, k.served.frames, more.1)
+  further_of put all p (at_exit status) k =
+      let others = p.front (k.served.answered ++ k.waiting) k.rest k.served.feeds in
+      elim (begins_other k.served.answered k.waiting p.answered others.0 others.1) [
+        | inl (mid, is) ↦ (k.served.sent, [], k.served.frames, (longer one feeds taken status k.served.answered mid k.served.sent p.sent k.after p.after k.ended k.served.conversation (subst (λ cs. Conversation start cs p.sent p.after) is p.conversation)).0 ∙ sym (append-nil p.sent))
+        | inr (mid, is) ↦ (let more = further put p k.served.answered mid k.served.sent k.after is k.served.conversation in (k.served.sent, more.0, k.served.frames, more.1))
+      ]
+
+  begins : (put all : List ℕ) (p : Part taken put) (e : Ending) → EndsIn e taken all → (unwritten : List ℕ) × (all ≡ put ++ unwritten)
+  begins put all p e ends =
+      let more = further_of put all p e ends in
+      let later : List ℕ = flat_map frame more.1 in (
+        p.unwritten ++ later,
+        more.2 ∙ (ap (flat_map frame) more.3 ∙ (flat_map-append frame p.sent more.1 ∙ (ap (λ xs. xs ++ later) p.frames ∙ append_assoc put p.unwritten later))),
+      )
+
+pub one_beginning : OneConversation → OneFeed → OneBeginning
+one_beginning one feeds taken put all result end written h k =
+    let e = ending_of end taken all written k in
+    begins one feeds taken put all (part_of one feeds taken result put h) e.0 e.1

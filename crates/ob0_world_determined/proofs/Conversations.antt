@@ -1,0 +1,44 @@
+-- A conversation is determined where each reply is.
+use Rattle.std.proofs.Common.{◌≡◌, ◌∙◌, ℕ, Option, Some, None, List, [], ◌∷◌, ◌++◌, refl, sym, subst}
+use Rattle.serde_json.specs.Data.{Data}
+use Rattle.ob0_rpc.specs.Messages.{ReadsContent, meaning}
+use Rattle.ob0_session_server.specs.Answers.{ServerState, SaysReply, reacts, AnswersInState, AnswersGoingOn, Conversation}
+use Rattle.ob0_session_server.specs.declared.server.Phase.{Phase}
+use Rattle.ob0_session_server.specs.declared.server.Phase.TheVariants.{Starting, Running, ShutDown, Ended}
+use Rattle.ob0_world_determined.specs.Determined.{OneAnswer, OneConversation, OneReply}
+
+abbrev pub Contents : Type 0
+Contents = List (List ℕ)
+
+-- ---- one content
+
+one_json : (content : List ℕ) (a b : Option Data) → ReadsContent content a → ReadsContent content b → a ≡ b
+one_json content (Some x) (Some y) p q = sym p.1 ∙ q.1
+one_json content (Some x) None p q = sym p.1 ∙ q p.0
+one_json content None (Some y) p q = sym (p q.0) ∙ q.1
+one_json content None None p q = refl
+
+module _ (says : OneReply) where
+  going_on_one : (before : ServerState) (content : List ℕ) (sent more : Contents) (after other : ServerState) → AnswersGoingOn before content sent after → AnswersGoingOn before content more other → (sent ≡ more) × (after ≡ other)
+  going_on_one before content sent more after other (json, reads, h) (another, reads_too, k) =
+      let same : json ≡ another = one_json content json another reads reads_too in
+      let there = subst (λ j. (other ≡ (reacts before (meaning j)).after) × SaysReply (reacts before (meaning j)).say more) (sym same) k in
+      (says (reacts before (meaning json)).say sent more h.1 there.1, h.0 ∙ sym there.0)
+
+  in_phase_one : (phase : Phase) (before : ServerState) (content : List ℕ) (sent more : Contents) (after other : ServerState) → AnswersInState phase before content sent after → AnswersInState phase before content more other → (sent ≡ more) × (after ≡ other)
+  in_phase_one (Ended status) before content sent more after other h k = (h.0 ∙ sym k.0, h.1 ∙ sym k.1)
+  in_phase_one Starting before content sent more after other h k = going_on_one before content sent more after other h k
+  in_phase_one Running before content sent more after other h k = going_on_one before content sent more after other h k
+  in_phase_one ShutDown before content sent more after other h k = going_on_one before content sent more after other h k
+
+  pub one_answer : OneAnswer
+  one_answer before content sent more after other h k = in_phase_one before.phase before content sent more after other h k
+
+-- ---- contents in turn
+
+pub one_conversation : OneAnswer → OneConversation
+one_conversation one before [] sent more after other h k = (h.0 ∙ sym k.0, h.1 ∙ sym k.1)
+one_conversation one before (content ∷ contents) sent more after other h k =
+    let here = one before content h.first k.first h.between k.between h.answers k.answers in
+    let there = one_conversation one k.between contents h.later k.later after other (subst (λ s. Conversation s contents h.later after) here.1 h.follows) k.follows in
+    (h.all ∙ (λ i. here.0 i ++ there.0 i) ∙ sym k.all, there.1)

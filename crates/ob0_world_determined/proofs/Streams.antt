@@ -1,0 +1,171 @@
+-- What `serve` writes and returns is determined by the bytes that it reads.
+use Rattle.std.proofs.Common.{◌≡◌, ◌≢◌, ◌∙◌, ℕ, ◌⊎◌, List, [], ◌∷◌, ◌++◌, Result, Ok, Err, refl, sym, ap, subst, inl, inr, append_assoc, append-nil}
+use Rattle.std.specs.List.{flat_map}
+use Rattle.ob0_frame.specs.Frames.{frame}
+use Rattle.ob0_frame.specs.Framing.{Rest, Open, Broken, Feeds}
+use Rattle.ob0_session_server.specs.Answers.{ServerState, start, Answers, AnswersInState, Conversation}
+use Rattle.ob0_session.specs.Serving.{AllServed, EndsWith}
+use Rattle.ob0_session_server.specs.Steps.{IsGoingOn}
+use Rattle.ob0_session_server.specs.declared.server.Phase.TheVariants.{Ended}
+use Rattle.ob0_session.specs.declared.serving.ServeFault.{ServeFault}
+use Rattle.ob0_session.specs.declared.serving.ServeFault.TheVariants.{BadHead, Truncated, Read, Write, Memory, TooManyReads}
+use Rattle.ob0_world_determined.specs.Determined.{IsOfBytes, IsWritten, MayServe, OneConversation, OneOutput, OneResult}
+use Rattle.ob0_world_determined.proofs.Conversations.{Contents}
+
+-- ---- a conversation that is cut in two
+
+pub record Cut (before : ServerState) (contents more : Contents) (sent : Contents) (after : ServerState) : Type 0 where
+  pub between : ServerState
+  pub first : Contents
+  pub later : Contents
+  pub begins : Conversation before contents first between
+  pub goes_on : Conversation between more later after
+  pub is : sent ≡ first ++ later
+
+pub cut : (before : ServerState) (contents more : Contents) (sent : Contents) (after : ServerState) → Conversation before (contents ++ more) sent after → Cut before contents more sent after
+cut before [] more sent after h = record { between = before; first = []; later = sent; begins = (refl, refl); goes_on = h; is = refl }
+cut before (content ∷ contents) more sent after h =
+    let next : Cut h.between contents more h.later after = cut h.between contents more h.later after h.follows in
+    record {
+      between = next.between;
+      first = h.first ++ next.first;
+      later = next.later;
+      begins = record { between = h.between; first = h.first; later = next.first; answers = h.answers; follows = next.begins; all = refl };
+      goes_on = next.goes_on;
+      is = h.all ∙ ap (λ xs. h.first ++ xs) next.is ∙ sym (append_assoc h.first next.first next.later);
+    }
+
+-- after its end a server sends nothing
+ended_answer : (status : ℕ) (before : ServerState) (content : List ℕ) (sent : Contents) (after : ServerState) → before.phase ≡ Ended status → Answers before content sent after → (sent ≡ []) × (after ≡ before)
+ended_answer status before content sent after over h = subst (λ phase. AnswersInState phase before content sent after) over h
+
+silent : (status : ℕ) (before : ServerState) (contents : Contents) (sent : Contents) (after : ServerState) → before.phase ≡ Ended status → Conversation before contents sent after → (sent ≡ []) × (after ≡ before)
+silent status before [] sent after over h = h
+silent status before (content ∷ contents) sent after over h =
+    let here = ended_answer status before content h.first h.between over h.answers in
+    let there = silent status h.between contents h.later after (ap (λ (s : ServerState). s.phase) here.1 ∙ over) h.follows in
+    (h.all ∙ (λ i. here.0 i ++ there.0 i), there.1 ∙ here.1)
+
+-- ---- one list begins another
+
+first_of : {x y : List ℕ} {xs ys : Contents} → x ∷ xs ≡ y ∷ ys → x ≡ y
+first_of e = cc
+
+rest_of : {x y : List ℕ} {xs ys : Contents} → x ∷ xs ≡ y ∷ ys → xs ≡ ys
+rest_of e = cc
+
+pub begins_other : (xs ys zs ws : Contents) → xs ++ ys ≡ zs ++ ws → ((mid : Contents) × (zs ≡ xs ++ mid)) ⊎ ((mid : Contents) × (xs ≡ zs ++ mid))
+begins_other [] ys zs ws e = inl (zs, refl)
+begins_other (x ∷ xs) ys [] ws e = inr (x ∷ xs, refl)
+begins_other (x ∷ xs) ys (z ∷ zs) ws e =
+    elim (begins_other xs ys zs ws (rest_of e)) [
+      | inl (mid, is) ↦ inl (mid, λ i. first_of (sym e) i ∷ is i)
+      | inr (mid, is) ↦ inr (mid, λ i. first_of e i ∷ is i)
+    ]
+
+-- ---- what was read is answered up to an `exit`, or wholly
+
+abbrev pub OneFeed : Type 0
+OneFeed = (from r q : Rest) (piece : List ℕ) (c d : Contents) → Feeds from piece c r → Feeds from piece d q → (c ≡ d) × (r ≡ q)
+
+-- the conversation ended with a status, or left a rest
+pub data Ending : Type 0 where
+  at_exit : ℕ → Ending
+  with_rest : Rest → Ending
+
+abbrev pub EndsIn : Ending → List ℕ → List ℕ → Type 0
+EndsIn (at_exit status) taken put = EndsWith status taken put
+EndsIn (with_rest rest) taken put = AllServed taken rest put
+
+same_status : (s t : ℕ) → Ended s ≡ Ended t → s ≡ t
+same_status s t e = cc
+
+module _ (one : OneConversation) (feeds : OneFeed) (taken : List ℕ) where
+  -- a conversation that ended, and one that goes on over more contents, or as many
+  pub longer : (status : ℕ) (contents more sent other : Contents) (after end : ServerState) → after.phase ≡ Ended status → Conversation start contents sent after → Conversation start (contents ++ more) other end → (sent ≡ other) × (end ≡ after)
+  longer status contents more sent other after end over h k =
+      let parts : Cut start contents more other end = cut start contents more other end k in
+      let same = one start contents sent parts.first after parts.between h parts.begins in
+      let quiet = silent status parts.between more parts.later end (ap (λ (s : ServerState). s.phase) (sym same.1) ∙ over) parts.goes_on in
+      (sym (parts.is ∙ (λ i. sym same.0 i ++ quiet.0 i) ∙ append-nil sent), quiet.1 ∙ sym same.1)
+
+  all_one : (r q : Rest) (put other : List ℕ) → AllServed taken r put → AllServed taken q other → (put ≡ other) × (with_rest r ≡ with_rest q)
+  all_one r q put other h k =
+      let fed = feeds (Open []) r q taken (h.served.answered ++ []) (k.served.answered ++ []) h.served.feeds k.served.feeds in
+      let contents : h.served.answered ≡ k.served.answered = sym (append-nil h.served.answered) ∙ fed.0 ∙ append-nil k.served.answered in
+      let same = one start k.served.answered h.served.sent k.served.sent h.after k.after (subst (λ cs. Conversation start cs h.served.sent h.after) contents h.served.conversation) k.served.conversation in
+      (h.served.frames ∙ ap (flat_map frame) same.0 ∙ sym k.served.frames, ap with_rest fed.1)
+
+  end_one : (status another : ℕ) (put other : List ℕ) → EndsWith status taken put → EndsWith another taken other → (put ≡ other) × (at_exit status ≡ at_exit another)
+  end_one status another put other h k =
+      let fed = (feeds (Open []) h.rest k.rest taken (h.served.answered ++ h.waiting) (k.served.answered ++ k.waiting) h.served.feeds k.served.feeds).0 in
+      let same : (h.served.sent ≡ k.served.sent) × (k.after ≡ h.after) =
+      elim (begins_other h.served.answered h.waiting k.served.answered k.waiting fed) [
+        | inl (mid, is) ↦ longer status h.served.answered mid h.served.sent k.served.sent h.after k.after h.ended h.served.conversation (subst (λ cs. Conversation start cs k.served.sent k.after) is k.served.conversation)
+        | inr (mid, is) ↦ (let back = longer another k.served.answered mid k.served.sent h.served.sent k.after h.after k.ended k.served.conversation (subst (λ cs. Conversation start cs h.served.sent h.after) is h.served.conversation) in (sym back.0, sym back.1))
+      ] in
+      let statuses : status ≡ another = same_status status another (sym h.ended ∙ ap (λ (s : ServerState). s.phase) (sym same.1) ∙ k.ended) in
+      (h.served.frames ∙ ap (flat_map frame) same.0 ∙ sym k.served.frames, ap at_exit statuses)
+
+  ended_goes_on : (status : ℕ) (s : ServerState) → s.phase ≡ Ended status → IsGoingOn s.phase → ⊥
+  ended_goes_on status s over going = let no : IsGoingOn (Ended status) = subst IsGoingOn over going in cc
+
+  -- where the one came to its end, the other would have too
+  never_both : (status : ℕ) (q : Rest) (put other : List ℕ) → EndsWith status taken put → AllServed taken q other → ⊥
+  never_both status q put other h k =
+      let fed : h.served.answered ++ h.waiting ≡ k.served.answered =
+      (feeds (Open []) h.rest q taken (h.served.answered ++ h.waiting) (k.served.answered ++ []) h.served.feeds k.served.feeds).0 ∙ append-nil k.served.answered in
+      let end : k.after ≡ h.after = (longer status h.served.answered h.waiting h.served.sent k.served.sent h.after k.after h.ended h.served.conversation (subst (λ cs. Conversation start cs k.served.sent k.after) (sym fed) k.served.conversation)).1 in
+      ended_goes_on status k.after (ap (λ (s : ServerState). s.phase) end ∙ h.ended) k.going
+
+  one_ending : (e f : Ending) (put other : List ℕ) → EndsIn e taken put → EndsIn f taken other → (put ≡ other) × (e ≡ f)
+  one_ending (at_exit s) (at_exit t) put other h k = end_one s t put other h k
+  one_ending (at_exit s) (with_rest q) put other h k = absurd (never_both s q put other h k)
+  one_ending (with_rest r) (at_exit t) put other h k = absurd (never_both t r other put k h)
+  one_ending (with_rest r) (with_rest q) put other h k = all_one r q put other h k
+
+-- ---- by the result
+
+-- where neither an allocation nor the writer failed
+pub ending_of : (result : Result ℕ ServeFault) (taken put : List ℕ) → IsWritten result → MayServe result taken put → (e : Ending) × EndsIn e taken put
+ending_of (Ok status) taken put written (r, w, (inl ends, none)) = (at_exit status, ends)
+ending_of (Ok status) taken put written (r, w, (inr (all, at_end, is), none)) = (with_rest (Open []), all)
+ending_of (Err BadHead) taken put written (r, w, (all, none)) = (with_rest Broken, all)
+ending_of (Err Truncated) taken put written (r, w, ((left, all, some, at_end), none)) = (with_rest (Open left), all)
+ending_of (Err Read) taken put written (r, w, ((left, all), failed, writes, flushed)) = (with_rest (Open left), all)
+ending_of (Err TooManyReads) taken put written (r, w, ((left, all, long), none)) = (with_rest (Open left), all)
+ending_of (Err Write) taken put written served = absurd written
+ending_of (Err Memory) taken put written served = absurd written
+
+pub one_output : OneConversation → OneFeed → OneOutput
+one_output one feeds taken put other result end written written_too h k =
+    let e = ending_of result taken put written h in
+    let f = ending_of end taken other written_too k in
+    (one_ending one feeds taken e.0 f.0 put other e.1 f.1).0
+
+-- the ending gives the result back
+abbrev result_of : Ending → Result ℕ ServeFault
+result_of (at_exit status) = Ok status
+result_of (with_rest (Open [])) = Ok 1
+result_of (with_rest (Open (x ∷ xs))) = Err Truncated
+result_of (with_rest Broken) = Err BadHead
+
+truncated : (left : List ℕ) → left ≢ [] → result_of (with_rest (Open left)) ≡ Err Truncated
+truncated [] some = absurd (some refl)
+truncated (x ∷ xs) some = refl
+
+led_to : (result : Result ℕ ServeFault) (taken put : List ℕ) → IsOfBytes result → MayServe result taken put → (e : Ending) × EndsIn e taken put × (result_of e ≡ result)
+led_to (Ok status) taken put of (r, w, (inl ends, none)) = (at_exit status, ends, refl)
+led_to (Ok status) taken put of (r, w, (inr (all, at_end, is), none)) = (with_rest (Open []), all, ap Ok (sym is))
+led_to (Err BadHead) taken put of (r, w, (all, none)) = (with_rest Broken, all, refl)
+led_to (Err Truncated) taken put of (r, w, ((left, all, some, at_end), none)) = (with_rest (Open left), all, truncated left some)
+led_to (Err Read) taken put of served = absurd of
+led_to (Err TooManyReads) taken put of served = absurd of
+led_to (Err Write) taken put of served = absurd of
+led_to (Err Memory) taken put of served = absurd of
+
+pub one_result : OneConversation → OneFeed → OneResult
+one_result one feeds taken put other result end of of_too h k =
+    let e = led_to result taken put of h in
+    let f = led_to end taken other of_too k in
+    sym e.2 ∙ ap result_of (one_ending one feeds taken e.0 f.0 put other e.1 f.1).1 ∙ f.2

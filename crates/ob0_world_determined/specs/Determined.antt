@@ -1,0 +1,99 @@
+-- What the server sends is determined by what it has read: the diagnostics of a text, the replies
+-- to a message, the bytes that are written.
+-- Rule: none; laws of the session.
+use Rattle.std.specs.Prelude.{◌≡◌, ◌++◌, ℕ, List, Bool, Result, Ok, Err, ⊤}
+use Rattle.ob0_scope_table.specs.Resolution.{Resolution, IsResolution, ordinal_in}
+use Rattle.ob0_tree.specs.Parsed.{Parsed, tree_of}
+use Rattle.ob0_analysis.specs.Diagnosed.{Complaint, Reports}
+use Rattle.ob0_session_server.specs.Answers.{ServerState, Reply, SaysReply, Answers, Conversation}
+use Rattle.ob0_session.specs.Serving.{Serves}
+use Rattle.ob0_session.specs.declared.serving.ServeFault.{ServeFault}
+use Rattle.ob0_session.specs.declared.serving.ServeFault.TheVariants.{BadHead, Truncated, Read, Write, Memory, TooManyReads}
+
+-- ---- diagnostics
+
+-- two readings of one module have the same tokens, and the same tree over them
+abbrev pub AreOneModule : Parsed → Parsed → Type 0
+AreOneModule m n = (m.source ≡ n.source) × (tree_of m ≡ tree_of n)
+
+-- in one module each token has one ordinal, or none
+abbrev pub OneTable : Type 0
+OneTable =
+    (r q : Resolution) → IsResolution r → IsResolution q
+    → AreOneModule r.module_read q.module_read
+    → (token : ℕ) → ordinal_in r.ordinals token ≡ ordinal_in q.ordinals token
+
+-- a text has one list of diagnostics
+abbrev pub OneDiagnosis : Type 0
+OneDiagnosis =
+    (text : List ℕ) (found other : List Complaint)
+    → Reports text found → Reports text other → found ≡ other
+
+-- ---- replies
+
+-- a reply is sent in one way
+abbrev pub OneReply : Type 0
+OneReply =
+    (reply : Reply) (sent other : List (List ℕ))
+    → SaysReply reply sent → SaysReply reply other → sent ≡ other
+
+-- in one state, one content has one list of replies, and leaves one state
+abbrev pub OneAnswer : Type 0
+OneAnswer =
+    (before : ServerState) (content : List ℕ) (sent other : List (List ℕ)) (after end : ServerState)
+    → Answers before content sent after → Answers before content other end
+    → (sent ≡ other) × (after ≡ end)
+
+-- the same of contents one after the other
+abbrev pub OneConversation : Type 0
+OneConversation =
+    (before : ServerState) (contents sent other : List (List ℕ)) (after end : ServerState)
+    → Conversation before contents sent after → Conversation before contents other end
+    → (sent ≡ other) × (after ≡ end)
+
+-- ---- bytes
+
+-- `serve` may return this, having read and written these bytes, whatever its devices did
+abbrev pub MayServe : Result ℕ ServeFault → List ℕ → List ℕ → Type 0
+MayServe result taken put =
+    (reader_failed : Bool) × (writer_failed : Bool)
+    × Serves result taken put ⊤ reader_failed writer_failed ⊤
+
+-- neither an allocation nor the writer failed
+abbrev pub IsWritten : Result ℕ ServeFault → Type 0
+IsWritten (Ok status) = ⊤
+IsWritten (Err BadHead) = ⊤
+IsWritten (Err Truncated) = ⊤
+IsWritten (Err Read) = ⊤
+IsWritten (Err TooManyReads) = ⊤
+IsWritten (Err Write) = ⊥
+IsWritten (Err Memory) = ⊥
+
+-- the bytes read led to it: an `exit`, the end of the input, or a bad head
+abbrev pub IsOfBytes : Result ℕ ServeFault → Type 0
+IsOfBytes (Ok status) = ⊤
+IsOfBytes (Err BadHead) = ⊤
+IsOfBytes (Err Truncated) = ⊤
+IsOfBytes (Err Read) = ⊥
+IsOfBytes (Err TooManyReads) = ⊥
+IsOfBytes (Err Write) = ⊥
+IsOfBytes (Err Memory) = ⊥
+
+-- for the same bytes read the same bytes are written, unless an allocation or the writer fails
+abbrev pub OneOutput : Type 0
+OneOutput =
+    (taken put other : List ℕ) (result end : Result ℕ ServeFault) → IsWritten result → IsWritten end
+    → MayServe result taken put → MayServe end taken other → put ≡ other
+
+-- and whatever fails, what is written is a beginning of that
+abbrev pub OneBeginning : Type 0
+OneBeginning =
+    (taken put all : List ℕ) (result end : Result ℕ ServeFault) → IsWritten end
+    → MayServe result taken put → MayServe end taken all
+    → (unwritten : List ℕ) × (all ≡ put ++ unwritten)
+
+-- the result is the same, unless an allocation or a device fails or there are too many reads
+abbrev pub OneResult : Type 0
+OneResult =
+    (taken put other : List ℕ) (result end : Result ℕ ServeFault) → IsOfBytes result → IsOfBytes end
+    → MayServe result taken put → MayServe end taken other → result ≡ end
