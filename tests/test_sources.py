@@ -7,6 +7,7 @@ import re
 
 import common
 import edits
+import rooms
 from harness import TOP, holds, same, test, text_of
 
 
@@ -25,6 +26,22 @@ def mutants_explained():
     same([name for name, line in lines.items() if not re.match("# .*refused by ", line)], [], "those without such a line")
     counts = re.search(r"every proof, (\d+) wrong versions.*?tries all (\d+) mutants", text_of("README.md"), re.S)
     same([int(it) for it in counts.groups()], [len(of_gate), len(found)], "the mutants of the gate, and all of them")
+
+
+@test("sources: the picture of the rooms, and what each crate rests on, are as crates.txt has them")
+def rooms_drawn():
+    page = text_of(os.path.relpath(rooms.PAGE, TOP))
+    found = rooms.PICTURE.search(page)
+    holds(found, "no picture was found")
+    same(found[0], found[1] + rooms.draw() + found[2], "the picture (tools/rooms.py draws it)")
+    nearest = rooms.nearest(common.libraries())
+    rows = re.findall(r"^\| `(ob0\w*)` \| (.*?) \|", page, re.M)
+    given = {crate: {low for low in re.findall(r"`(\w+)`", lower) if low in nearest} for crate, lower in rows}
+    wanted = {crate: set(lower) for crate, lower in nearest.items() if not crate.startswith("ob0_tests")}
+    same(given, wanted, "the nearest crates that each crate rests on")
+    order = [room.name for room in rooms.read_rooms()]
+    upwards = [(name, low) for name, lower in rooms.rooms_below(rooms.read_rooms()).items() for low in lower if order.index(low) > order.index(name)]
+    same(upwards, [], "arrows that go up")
 
 
 @test("sources: no file of tests imports another")
