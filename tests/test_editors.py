@@ -446,6 +446,8 @@ def in_vscode_by(*kind):
     same(found["published"], ["Undeclared"], "the diagnostics")
     matched = [[file, "2", "7", "Undeclared", "not declared"]]
     same(found["tasks"], {"executed": ["check", "run"], "matched": matched, "provided": ["check", "run"]}, "the tasks")
+    told = ["Request textDocument/formatting failed."] if "real" in kind else []
+    same((found["faulty"], found["told"]), ("ill-typed", told), "a layout of a module with a fault, and what is shown of it")
     same(found["edits"]["made"], MADE_AT_ONCE, "what answers leave that come at once")
     same(found["edits"]["late"], MADE_LATE, "what answers leave that come after a change")
     same(found["edits"]["said"], ["The text was changed since the action was offered: ask for it again."], "what is said of an old action")
@@ -526,11 +528,12 @@ def in_kate(steps, text, **given):
 
     own = {}
     words = ["xvfb-run", "-a", "dbus-run-session", "--", "python3", os.path.join(EDITORS, "kate.py")]
-    # (keys can come before a window takes them, where the machine has much else to do: then all is done once more)
+    # (keys can come before a window takes them, where the machine has much else to do, and what Kate has started can still write
+    # into the room when it is taken away: then all is done once more)
     for _ in range(2):
         try:
             return play("kate", words, steps, text, given, set_up, more=own)
-        except Failed as why:
+        except (Failed, OSError) as why:
             print(f"Kate is tried again: {why}".splitlines()[0], flush=True)
     return play("kate", words, steps, text, given, set_up, more=own)
 

@@ -19,10 +19,11 @@ class LanguageClient {
   ask(method, params) {
     const id = ++this.ident;
     this.send({ id, method, params });
-    return new Promise((settle) => (this.waiting[id] = settle));
+    return new Promise((settle, fail) => (this.waiting[id] = [settle, fail]));
   }
   take(message) {
-    if (message.id) return this.waiting[message.id](message.result);
+    if (message.error) return this.waiting[message.id][1](new Error(message.error.message));
+    if (message.id) return this.waiting[message.id][0](message.result);
     const diagnostics = message.params.diagnostics.map((it) => ({ code: it.code }));
     this.shown.set(vscode.Uri.parse(message.params.uri), diagnostics);
   }
@@ -190,11 +191,14 @@ async function main() {
   const manifest = JSON.parse(fs.readFileSync(path.join(folder, "package.json"), "utf8"));
   const extension = require(path.join(folder, manifest.main));
   const found = { without: await withoutProgram(extension) };
-  user.open(file);
+  const faulty = user.open(file);
   user.set("path", "ob0");
   await until(() => done.diagnostics[file], "the diagnostics");
   found.published = done.diagnostics[file];
   found.tasks = await tasksThatRun(manifest);
+  done.messages = [];
+  found.faulty = await user.layOut(faulty).then(String, (why) => why.message);
+  found.told = done.messages;
   found.edits = await edits();
   found.stopped = await extension.deactivate().then(() => "deactivated", String);
   found.settings = Object.keys(manifest.contributes.configuration.properties);
