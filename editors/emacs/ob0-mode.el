@@ -191,6 +191,8 @@ A record is neither."
               comment-end " *)"
               comment-start-skip "(\\*+[ \t]*"
               comment-end-skip "[ \t]*\\*+)"
+              ;; (names differ by case; and a replacement that meets another case has eglot report a wrong change)
+              case-fold-search nil
               font-lock-defaults '(ob0-font-lock-keywords)
               indent-line-function #'ob0-indent-line
               indent-tabs-mode nil
