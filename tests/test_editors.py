@@ -14,7 +14,9 @@ import tempfile
 
 import harness
 import holding
-from harness import Failed, TOP, edited, ends, extent, on_file, same, test, want
+import keyed
+from harness import Failed, TOP, edited, ends, extent, holds, on_file, same, test, want
+from holding import edits_of, patched
 from homes import at_home, run_in_terminal, run_plainly, write
 from modules import CALLS, FAULTY, LEAST, NESTED, RECORDS, WRITES_A_GLOBAL
 from snippets import snippets
@@ -554,3 +556,70 @@ def kate_inline():
     steps = [("opened", []), ("offered", ["Inline here", "Inline everywhere"]), ("acted", []), ("text", wanted)]
     same(in_kate("inlining", text, place=[2, 12]), steps)
     keeps_the_run(text, wanted, " 7")
+
+
+# (each line of an `n` is followed by one of a `k` of the same form, so that an edit a line off is hard to see)
+LATE = """MODULE M;
+CONST k = 7;
+VAR n: INTEGER;
+BEGIN
+  n := 1;
+  Write(n);
+  Write(k); n := n + 1;
+  Write(n)
+END M.
+"""
+NEW_LINE = "(* new *)\n"
+LATE_AT = {keyed.RENAME: (2, 4), keyed.ACTION: (6, 8), keyed.LAYOUT: (0, 0)}
+HELD = 0.4  # how many seconds an answer is held at least before an editor that waits for it
+WHEN = ["in the first version", "in a later version", "closed and opened again"]
+
+
+def is_late(editor, asked, when):
+    """An answer comes after a line was typed above, or after the file was closed, has another text, and was opened again: nothing
+    comes of it. An editor that waits for the answer makes its edits first."""
+    keys, method, waits = editor.asks[asked]
+    write(editor.file, LATE)
+    editor.keys(editor.reopening())
+    same(editor.text(comes_last=True), LATE, f"the text before the {asked}")
+    for typed, text in ((editor.line_above, NEW_LINE + LATE), (editor.line_removed, LATE)) if when == WHEN[1] else ():
+        editor.keys(typed)
+        editor.reports(text)
+    editor.wire.hold(method)
+    editor.keys(editor.going(*LATE_AT[method]) + keys)
+    editor.await_(f"the request of a {asked}", editor.wire.is_held)
+    wanted = NEW_LINE + LATE
+    if when == WHEN[2] and not waits:
+        write(editor.file, wanted)
+    editor.keys(editor.reopening() if when == WHEN[2] else editor.line_above)
+    text = editor.asked_for_text()
+    if waits:
+        holds(not editor.waits(lambda: text() is not None, HELD), f"it takes keys while it waits for the {asked}")
+    else:
+        editor.await_("the line above", lambda: text() is not None)
+    editor.wire.release()
+    edits = edits_of(editor.wire.answers(method)[-1].get("result"))
+    holds(edits, f"the {asked} had edits")
+    if waits:
+        wanted = LATE if when == WHEN[2] else NEW_LINE + patched(LATE, edits, editor.wire.encoding())
+    same(editor.text(comes_last=True), wanted, f"the text after the {asked}, {when}")
+
+
+def late_answers(which, *names):
+    want(*names)
+    harness.need_program()
+    with tempfile.TemporaryDirectory() as folder, which(folder, LATE) as editor:
+        for asked in editor.asks:
+            for when in WHEN:
+                is_late(editor, asked, when)
+
+
+KEYED = {
+    "Neovim": (keyed.Neovim, "Neovim"),
+    "Vim by ALE": (keyed.Ale, "Vim", "ALE"),
+    "Vim by YouCompleteMe": (keyed.Ycm, "Vim", "YouCompleteMe"),
+    "Emacs by eglot": (keyed.Eglot, "Emacs", "eglot"),
+    "Emacs by lsp-mode": (keyed.LspMode, "Emacs", "lsp-mode"),
+}
+for name, which in KEYED.items():
+    test(f"{name}: no late answer changes another text than its own")(functools.partial(late_answers, *which))
