@@ -1,21 +1,26 @@
 """A program in a terminal, for the tests of editors and shells."""
+import fcntl
 import os
 import pty
 import re
 import select
 import signal
+import struct
+import termios
 import time
 
 from harness import Failed
 
 
 class Screen:
-    """A program in a terminal: keys go to it, and what it draws is waited for."""
+    """A program in a terminal (of a size in lines and columns): keys go to it, and what it draws is waited for."""
 
-    def __init__(self, words, environment, cwd):
+    def __init__(self, words, environment, cwd, size=None):
         self.drawn = b""
         self.process, self.terminal = pty.fork()
         if self.process == 0:
+            if size:
+                fcntl.ioctl(0, termios.TIOCSWINSZ, struct.pack("HHHH", *size, 0, 0))
             os.chdir(cwd)
             os.execvpe(words[0], words, environment)
 
@@ -23,7 +28,8 @@ class Screen:
         return self
 
     def __exit__(self, *why):
-        os.kill(self.process, signal.SIGKILL)
+        # (with what it has started)
+        os.killpg(self.process, signal.SIGKILL)
         os.close(self.terminal)
         os.waitpid(self.process, 0)
 

@@ -10,3 +10,16 @@ call ale#linter#Define('ob0', {
       \ 'language': 'oberon0',
       \ 'project_root': {buffer -> expand('#' . buffer . ':p:h')},
       \ })
+
+" ALE applies the edits of an answer to the text that is there when it comes. Here it forgets the rename and the code actions
+" that it waits for when a buffer of Oberon-0 changes or is closed, so that such an answer does nothing.
+function! s:Forget(buffer) abort
+  if getbufvar(a:buffer, '&filetype') ==# 'ob0'
+    silent! call ale#rename#ClearLSPData()
+    silent! call ale#codefix#ClearLSPData()
+  endif
+endfunction
+augroup ob0_ale
+  autocmd!
+  autocmd TextChanged,TextChangedI,TextChangedP,BufUnload * call s:Forget(str2nr(expand('<abuf>')))
+augroup END

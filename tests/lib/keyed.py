@@ -1,0 +1,328 @@
+"""Editors in a terminal, each set up by its page and driven by keys as its user presses them, with tests/lib/holding.py between
+editor and server. Keys don't wait for one another: an editor takes them in order, and that it has taken them is seen by a file
+which it writes."""
+import os
+import shlex
+import sys
+import time
+
+import harness
+from harness import Failed
+from holding import Wire
+from homes import at_home, write
+from screen import Screen
+from snippets import snippets
+
+HOLDING = os.path.join(harness.TOP, "tests", "lib", "holding.py")
+SECONDS = 120  # the longest that something is waited for
+# the requests whose answers are edits
+RENAME, ACTION, LAYOUT = "textDocument/rename", "textDocument/codeAction", "textDocument/formatting"
+
+
+class Keyed:
+    """An editor on a file with a text, in a folder of its own."""
+
+    page = ""  # the folder of its page
+    asks = {}  # of each edit that it can ask for: the keys, the method, and whether it takes no other key until the answer is there
+    line_above = line_removed = ""  # the keys that put the line `(* new *)` above the text, and take it away
+    letters = "é☺𝒳😀"  # what is typed beside ASCII
+
+    def __init__(self, folder, text):
+        self.folder, self.wire, self.count = folder, Wire(folder), 0
+        self.file = os.path.join(folder, "work", "m.mod")
+        write(self.file, text)
+        own = {**at_home(folder, self.page), "LC_ALL": "C.UTF-8", "TERM": "xterm-256color"}
+        ob0, program = shlex.quote(os.path.abspath(harness.BINARY)), os.path.join(folder, "bin", "ob0")
+        os.unlink(program)
+        write(program, f'#!/bin/sh\n[ "$1" = serve ] && exec {sys.executable} {HOLDING} {folder} {ob0} "$@"\nexec {ob0} "$@"\n')
+        os.chmod(program, 0o755)
+        for path, lines in self.settings().items():
+            write(os.path.join(folder, path), lines)
+        self.screen = Screen(self.words(), own, os.path.dirname(self.file), (40, 120))
+
+    def __enter__(self):
+        try:
+            self.await_("the first diagnostics", self.wire.published)
+            self.text(comes_last=True)
+            return self
+        except BaseException as why:
+            self.__exit__(why)
+            raise
+
+    def __exit__(self, *why):
+        self.wire.release()
+        self.screen.__exit__(*why)
+
+    def settings(self):
+        """The files of its settings, by their paths in its home."""
+        raise NotImplementedError
+
+    def words(self):
+        """The words that it is started by."""
+        raise NotImplementedError
+
+    def going(self, line, character):
+        """The keys that go to a place, counted from 0, in a line of ASCII."""
+        raise NotImplementedError
+
+    def reopening(self):
+        """The keys that close the file, without saving, and open it again."""
+        raise NotImplementedError
+
+    def writing(self, path, comes_last):
+        """The keys that have it write its text to a path: where `comes_last`, once a server is there for it, and all that this
+        has sent is handled."""
+        raise NotImplementedError
+
+    def change(self, chance):
+        """The keys of a change by chance."""
+        raise NotImplementedError
+
+    def waits(self, holds, seconds=SECONDS):
+        """Whether something holds in time; what the editor draws is read meanwhile."""
+        end = time.monotonic() + seconds
+        while not holds():
+            if time.monotonic() > end:
+                return False
+            self.screen.read(0.01)
+        return True
+
+    def await_(self, what, holds):
+        if not self.waits(holds):
+            raise Failed(f"waited in vain for {what}: {self.screen.drawn[-1500:]!r}")
+
+    def keys(self, typed):
+        self.screen.keys(typed.encode())
+
+    def asked_for_text(self, comes_last=False):
+        """Has it write its text, and gives what gives that once it is there, and None before."""
+        self.count += 1
+        path = os.path.join(self.folder, f"text{self.count}")
+        self.keys(self.writing(path, comes_last))
+
+        def text():
+            if not os.path.exists(path):
+                return None
+            with open(path, encoding="utf-8", newline="") as file:
+                return file.read()
+
+        return text
+
+    def reports(self, text):
+        """Waits until the server has this text of the file."""
+        self.await_(f"the text that the server has: {text!r}", lambda: self.wire.text() == text)
+
+    def text(self, comes_last=False):
+        text = self.asked_for_text(comes_last)
+        self.await_("the editor's text", lambda: text() is not None)
+        return text()
+
+
+NORMAL = "\x1c\x0e"  # to normal mode, from every mode
+VIM_SETTINGS = """
+set nomore shortmess=aoOtTIWAF cmdheight=6 noswapfile nobackup nowritebackup
+function! Written(path) abort
+  call writefile(getline(1, '$'), a:path . '.new')
+  call rename(a:path . '.new', a:path)
+endfunction
+"""
+
+
+def vim_change(chance, letters):
+    """The keys of a change in Vim, from normal mode to normal mode."""
+    word = chance.choice(["x", "yy", "n := 1;", "\t", *letters, f"(* {letters} *)"])
+    line = f":{chance.randint(1, 12)}\r"
+    old, new = chance.choice(["n", "x", ";", letters[-1], "$"]), chance.choice(["nn", "", letters[-1], "\\r"])
+    return chance.choice(
+        [
+            *(f"{line}{command}{word}{NORMAL}" for command in ("A", "I", "o", "O", "cc", "0wcw")),
+            *(f"{line}{command}" for command in ("x", "D", "dd", "J", "gJ", "yyp", "0ww~", "0vjd", "V>")),
+            *("p", "P", "3p", "u", "uu", "\x12", "."),
+            *(f":silent! {command}\r" for command in ("undo 3", "earlier 4", "later 2", "%normal A;", "m0", "t$", "sort", "$put ='a'")),
+            f":silent! %s/{old}/{new}/\r",
+            f':let @q = "A{letters[-1]}\\<Esc>0ix\\<Esc>j"\r{line}2@q',
+            f":call append(0, '{word}')\r",
+        ]
+    )
+
+
+class Vimish(Keyed):
+    line_above, line_removed = f"ggO(* new *){NORMAL}", "ggdd"
+
+    def going(self, line, character):
+        return f"{NORMAL}:call cursor({line + 1}, {character + 1})\r"
+
+    def reopening(self):
+        return f"{NORMAL}:silent bdelete! {self.file}\r:silent edit {self.file}\r"
+
+    def writing(self, path, comes_last):
+        return f"{NORMAL}:call {'Last' if comes_last else 'Written'}('{path}')\r"
+
+    def change(self, chance):
+        return NORMAL + vim_change(chance, self.letters)
+
+
+class Neovim(Vimish):
+    page = "neovim"
+    asks = {
+        "rename": (":lua vim.lsp.buf.rename('tot')\r", RENAME, False),
+        "inlining": (":lua vim.lsp.buf.code_action()\r", ACTION, False),
+        "layout by the page's key": ("grf", LAYOUT, True),
+        "layout": (":lua if vim.lsp.buf.format then vim.lsp.buf.format({ async = true }) else vim.lsp.buf.formatting() end\r", LAYOUT, False),
+    }
+    # a request that is answered after all others; the first action is chosen at once, or by `Choose`
+    lines = """
+vim.cmd([[{settings}]])
+function _G.Last(path)
+  local at_start = {{ textDocument = {{ uri = vim.uri_from_bufnr(0) }}, position = {{ line = 0, character = 0 }} }}
+  vim.lsp.buf_request_sync(0, "textDocument/hover", at_start, {milliseconds})
+  vim.fn.Written(path)
+end
+vim.cmd("function! Last(path) abort\\ncall v:lua.Last(a:path)\\nendfunction")
+function _G.Choose() end
+vim.ui.select = function(items, _, choose)
+  if vim.g.chooses_later then
+    _G.Choose = function() choose(items[1], 1) end
+  else
+    choose(items[1], 1)
+  end
+end
+"""
+
+    def settings(self):
+        lines = self.lines.format(settings=VIM_SETTINGS, milliseconds=1000 * SECONDS)
+        return {".config/nvim/init.lua": "\n".join([*snippets("neovim", "lua"), lines])}
+
+    def words(self):
+        return ["nvim", "-n", "-i", "NONE", self.file]
+
+
+class Ale(Vimish):
+    page = "vim"
+    asks = {"rename": (":ALERename\r", RENAME, False), "inlining": (":ALECodeAction\r", ACTION, False)}
+    lines = """
+runtime autoload/ale/util.vim
+function! ale#util#Input(message, value, ...) abort
+  return a:message =~# '^New name' ? 'tot' : '1'
+endfunction
+function! Last(path) abort
+  let l:at_start = {'textDocument': {'uri': ale#path#ToFileURI(expand('%:p'))}, 'position': {'line': 0, 'character': 0}}
+  call ale#lsp_linter#SendRequest(bufnr(''), 'ob0', [0, 'textDocument/hover', l:at_start], {-> Written(a:path)})
+endfunction
+"""
+
+    def settings(self):
+        return {".vimrc": "\n".join([*snippets("vim", "vim"), VIM_SETTINGS]), "keyed.vim": self.lines}
+
+    def words(self):
+        return ["vim.nox", "-n", "-i", "NONE", "-S", os.path.join(self.folder, "keyed.vim"), self.file]
+
+
+class Ycm(Vimish):
+    page = "vim"
+    asks = {
+        "rename": (":YcmCompleter RefactorRename tot\r", RENAME, True),
+        "inlining": (":YcmCompleter FixIt\r", ACTION, True),
+        "layout": (":YcmCompleter Format\r", LAYOUT, True),
+    }
+    # (it handles an answer before the next key; of a list of actions the first is chosen)
+    lines = """
+function! Last(path) abort
+  py3 import ycm.vimsupport
+  py3 ycm.vimsupport.SelectFromList = lambda *_: 0
+  cclose
+  call Written(a:path)
+endfunction
+"""
+
+    def settings(self):
+        # (its server wants the system's Python, whichever one is first on PATH)
+        python = "let g:ycm_server_python_interpreter = '/usr/bin/python3'\nlet g:ycm_auto_hover = ''"
+        return {".vimrc": "\n".join([*snippets("vim", "viml"), python, VIM_SETTINGS]), "keyed.vim": self.lines}
+
+    def words(self):
+        return ["vim.nox", "-n", "-i", "NONE", "-S", os.path.join(self.folder, "keyed.vim"), self.file]
+
+
+EMACS_SETTINGS = """
+(setq inhibit-startup-screen t make-backup-files nil create-lockfiles nil auto-save-default nil initial-scratch-message nil
+      ring-bell-function #'ignore use-dialog-box nil lsp-enable-file-watchers nil lsp-enable-suggest-server-download nil
+      lsp-warn-no-matched-clients nil lsp-modeline-code-actions-enable nil
+      eval-expression-debug-on-error nil native-comp-deferred-compilation nil native-comp-async-report-warnings-errors nil
+      eglot-send-changes-idle-time 0.05 lsp-debounce-full-sync-notifications-interval 0.05)
+(electric-indent-mode -1)
+(defun written (path)
+  (let ((coding-system-for-write 'utf-8-unix))
+    (write-region nil nil (concat path ".new") nil 0))
+  (rename-file (concat path ".new") path))
+(defun reopened (file)
+  (with-current-buffer (get-file-buffer file)
+    (set-buffer-modified-p nil)
+    (kill-buffer))
+  (find-file file))
+(defun go (line character)
+  (goto-char (point-min))
+  (forward-line line)
+  (forward-char (min character (- (line-end-position) (point)))))
+(package-initialize)
+"""
+
+
+def emacs_change(chance, letters):
+    """The keys of a change in Emacs. (An error would throw away the keys after it.)"""
+    word = chance.choice(["x", "yy", "n := 1;", *letters, f"(* {letters} *)"])
+    place = f"\x1b:(go {chance.randint(0, 11)} {chance.choice([0, 0, 3, 99])})\r"
+    old, new = chance.choice(["n", "x", ";", letters[-1]]), chance.choice(["nn", "", letters[-1], "x"])
+    forms = [
+        *("(undo)", "(undo)", "(undo-redo)", "(progn (undo) (undo-more 1))", "(delete-char 1)", "(kill-line)", "(kill-line 2)", "(join-line)"),
+        *("(yank)", "(yank)", "(transpose-chars 1)", "(transpose-lines 1)", "(upcase-word 1)", "(kill-word 1)", "(delete-blank-lines)"),
+        *("(sort-lines nil 1 (point-max))", "(indent-rigidly 1 (point-max) 2)", "(insert-buffer-substring (current-buffer) 1 5)"),
+        *(f'(progn (goto-char 1) (replace-string "{old}" "{new}"))', '(progn (goto-char 1) (replace-regexp "$" ";"))'),
+        f'(atomic-change-group (insert "ab") (goto-char 1) (insert "{letters[-1]}\\n"))',
+        f'(execute-kbd-macro "\x11\x05{letters[-1]}\x11\x0e" 2)'.replace("\x11", ""),
+    ]
+    return place + chance.choice([word, word, word + "\r", "\r", *(f"\x1b:(ignore-errors {it})\r" for it in forms)])
+
+
+class Emacs(Keyed):
+    page, block, managed = "emacs", 0, ""
+    line_above, line_removed = "\x1b<(* new *)\r", "\x1b<\x0b\x0b"
+
+    def settings(self):
+        more = "(advice-add 'completing-read :override (lambda (&rest _) \"Inline here\"))"
+        return {".emacs.d/init.el": "\n".join([EMACS_SETTINGS, snippets("emacs", "elisp")[self.block], more])}
+
+    def words(self):
+        return ["emacs", "-nw", self.file]
+
+    def going(self, line, character):
+        return f"\x1b:(go {line} {character})\r"
+
+    def reopening(self):
+        return f'\x1b:(reopened "{self.file}")\r'
+
+    def writing(self, path, comes_last):
+        # (such an editor handles an answer before it takes the next key)
+        first = f"(while (not {self.managed}) (accept-process-output nil 0.01))" if comes_last else ""
+        return f'\x1b:(progn {first} (written "{path}"))\r'
+
+    def change(self, chance):
+        return emacs_change(chance, self.letters)
+
+
+class Eglot(Emacs):
+    managed = "(and (eglot-managed-p) (eglot-current-server))"
+    asks = {
+        "rename": ('\x1b:(eglot-rename "tot")\r', RENAME, True),
+        "inlining": ("\x1b:(let ((last-nonmenu-event ?x)) (eglot-code-actions (point) (point) nil t))\r", ACTION, True),
+        "layout": ("\x1b:(eglot-format-buffer)\r", LAYOUT, True),
+    }
+
+
+class LspMode(Emacs):
+    block, managed, letters = 1, "(lsp-workspaces)", "é☺"  # (its page: no characters past U+FFFF)
+    asks = {
+        "rename": ('\x1b:(lsp-rename "tot")\r', RENAME, True),
+        "inlining": ("\x1b:(call-interactively #'lsp-execute-code-action)\r", ACTION, True),
+        "layout": ("\x1b:(lsp-format-buffer)\r", LAYOUT, True),
+    }
