@@ -168,9 +168,9 @@ def helped():
 HELP = {
     "": ("012345", ["serve ", "check ", "run ", "rename ", "help COMMAND"]),
     "serve": ("012345", ["--stdio", "--clientProcessId <N>", "UTF-16 units"]),
-    "check": ("01245", ["<FILE>", "count from 0", "UTF-16", "LINE:COLUMN: CODE: MESSAGE"]),
-    "run": ("01245", ["<FILE>", "--calls <N>", "--turns <N>", "0 to 64", "0 to 100000", "to the end of standard input", "Ctrl-D", "-2147483648", "fault: END"]),
-    "rename": ("01245", ["<FILE> <LINE> <COLUMN> <NAME>", "count from 0", "in UTF-16 units", "refused: REASON"]),
+    "check": ("01245", ["<FILE>", "count from 0", "UTF-16", "LINE:COLUMN: CODE: MESSAGE", "/dev/stdin", "`man ob0` lists the CODEs", "docs/MESSAGES.md"]),
+    "run": ("01245", ["<FILE>", "--calls <N>", "--turns <N>", "0 to 64", "0 to 100000", "to the end of standard input", "Ctrl-D", "-2147483648", "fault: END", "--turns 5"]),
+    "rename": ("01245", ["<FILE> <LINE> <COLUMN> <NAME>", "count from 0", "in UTF-16 units", "refused: REASON", "look at the status", "`man ob0` lists the REASONs", "docs/MESSAGES.md"]),
 }
 
 
@@ -215,6 +215,8 @@ def prompted():
     said = b"ob0: reading numbers to the end of input (Ctrl-D at the start of a line)\n"
     same(at_terminal("MODULE M; VAR x, y: INTEGER; BEGIN Read(x); Read(y); Write(x + y) END M."), (b" 42", said, 0))
     same(at_terminal("MODULE M; BEGIN x := 1 END M."), (b"0:16: Undeclared: not declared\n", b"", 1))
+    for page in (text_of("docs", "MESSAGES.md"), text_of("share", "ob0.1").replace("\\-", "-")):
+        holds(said.decode().strip() in page, "a page that doesn't have this line")
 
 
 @test("program: the version is printed on standard output, status 0, and is that of CHANGELOG.md and of the manual page")

@@ -75,8 +75,16 @@ def first(snippet, module):
 
 
 def mistakes(title, module):
-    wanted = [(CODE.fullmatch(written)[1], *CODE.findall(what)) for written, what, _ in rows(title)]
-    for (snippet, message, at), (_, said, rest) in zip(wanted, [first(it[0], module) for it in wanted]):
+    """Holds each row of a section to what is reported of it: what `check` reports first, or the fault of a run."""
+    for written, what, _ in rows(title):
+        snippet, found = CODE.fullmatch(written)[1], CODE.findall(what)
+        if what.startswith("nothing by `check`"):
+            same(found[0::2], ["check", "run"], f"the commands in {what}")
+            ends(on_file("check", filled(module, snippet)), "", 0)
+            ends(on_file("run", filled(module, snippet)), "", 1, found[1] + "\n")
+            continue
+        message, at = found
+        _, said, rest = first(snippet, module)
         same((said, rest[: len(at)]), (message, at), f"what is reported of {snippet}")
 
 
@@ -88,6 +96,7 @@ def beginners():
     for module, snippet in ((STATEMENTS, "x := 1"), (DECLARATIONS, "VAR x: INTEGER;")):
         same(reported(filled(module, snippet)), [], "what is reported of a module without a mistake")
     same(first("\ufeffMODULE M; END M.", None)[:2], ("BadChar", "bad character"), "a byte order mark")
+    same(first("x := y\u00a0+ 1", STATEMENTS), ("BadChar", "bad character", "\u00a0+ 1"), "a no-break space")
 
 
 @test("messages: each diagnostic is on the page, with its message and an example")
@@ -108,8 +117,8 @@ def diagnostics():
 
 @test("messages: each end of a run is on the page, with an example")
 def run_ends():
-    names = []
-    for end, _, _, body, numbers in rows("Ends of a run"):
+    names, (*listed, endless) = [], rows("Ends of a run")
+    for end, _, _, body, numbers in listed:
         name = CODE.fullmatch(end)[1]
         names.append(name)
         text = filled(STATEMENTS, CODE.fullmatch(body)[1]) if body.startswith("`") else "MODULE M; PROCEDURE P; BEGIN P END P; BEGIN P END M."
@@ -119,6 +128,11 @@ def run_ends():
     same(names, [it for it in listed if it != "End"], "the ends")
     said = run(["help", "run"]).out.decode()
     holds(all(it in said for it in names), f"`ob0 help run` has all of {names}")
+    # (a run that doesn't end, and what the page says to do)
+    flags, text = re.search(r"`ob0 run (--turns \d) FILE`", endless[2])[1], filled(STATEMENTS, CODE.fullmatch(endless[3])[1])
+    ends(on_file("run", text, *flags.split()), " 0 1 2" * 5, 1, "fault: TurnBound\n")
+    for name, page in (("ob0 help run", said), ("the manual page", text_of("share", "ob0.1").replace("\\-", "-"))):
+        holds(flags in page, f"{name} has no {flags}")
 
 
 TITLES = ["Inline here", "Inline everywhere"]
@@ -230,6 +244,7 @@ def protocol():
 @test("messages: the manual page has each code, end, refusal and fault")
 def manual():
     page = re.sub(r"\\f.", "", text_of("share", "ob0.1").replace("\\-", "-"))
-    names = [*harness.MESSAGES, "Syntax", *(CODE.match(it[0])[1].split()[0] for title in ("Ends of a run", "Refusals of a rename or an inlining", "Faults of the program") for it in rows(title))]
-    for it in names:
+    titles = ("Ends of a run", "Refusals of a rename or an inlining", "Faults of the program")
+    listed = [it[0] for title in titles for it in rows(title) if it[0].startswith("`")]
+    for it in [*harness.MESSAGES, "Syntax", *(CODE.match(name)[1].split()[0] for name in listed)]:
         holds(re.search(rf"\b{it}\b", page), f"the manual page has no {it}")

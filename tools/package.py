@@ -1,12 +1,14 @@
 #!/usr/bin/env python3
 """Packs and installs bin/ob0, the proved program, with its manual page, completions, editor files, pages and examples.
 
-  tools/package.py package                   a Debian package and a .tar.gz with the same tree, in bin/
+  tools/package.py package                   a Debian package and a .tar.gz with the same tree, and their SHA256SUMS, in bin/
   tools/package.py install PREFIX DESTDIR    copies that tree to PREFIX
-  tools/package.py uninstall PREFIX DESTDIR  removes what was installed there
+  tools/package.py uninstall PREFIX DESTDIR  removes what was installed there, or unpacked there from the .tar.gz
 
-The tree is that of a folder such as /usr: each editor's files are where that editor looks for them. The same sources and the
-same program give the same bytes. Nothing but Python is needed."""
+The tree is that of a folder such as /usr: each editor's files are where that editor looks for them. The same sources, the same
+program and the same maintainer (DEBFULLNAME, DEBEMAIL) give the same bytes. Nothing but Python is needed."""
+import datetime
+import glob
 import gzip
 import hashlib
 import io
@@ -21,11 +23,13 @@ import common
 from common import TOP
 
 DOC = "share/doc/ob0"
-LIST = f"{DOC}/installed"  # what an installation put there, for its removal
+LIST = f"{DOC}/installed"  # what an installation put there, for its removal: files, and then folders, which end with /
 VIM = "share/vim/vimfiles/pack/ob0/start/ob0"
 NVIM = "share/nvim/site/pack/ob0/start"
 EMACS = "share/emacs/site-lisp/elpa/ob0-mode-0.1"
-MAINTAINER = "The authors of ob0 <ob0@example.org>"
+# folders that a system has without ob0: they stay, also where nothing else is in them
+SHARED = {"bin", "share", "share/man"}
+DEFAULT_NAME, DEFAULT_ADDRESS = "The authors of ob0", "ob0@example.org"
 
 # where a file or a folder of the repository goes
 COPIED = {
@@ -86,6 +90,27 @@ def version():
     return ran.stdout.decode().split()[1]
 
 
+def build_version() -> str:
+    """The version of the packages: the program's where the commit has its tag, and otherwise one below it that grows with the time of
+    the commit, so that a mended build replaces an earlier one."""
+    number = version()
+    if f"v{number}" in git("tag", "--points-at", "HEAD").split() and not has_changes():
+        return number
+    time = datetime.datetime.fromtimestamp(moment(), datetime.timezone.utc)
+    commit = git("log", "-1", "--format=%H")[:8] or "unknown"
+    return f"{number}~git{time:%Y%m%d.%H%M%S}.{commit}" + (".changed" if has_changes() else "")
+
+
+def has_changes() -> bool:
+    """Whether files of the commit are changed."""
+    return bool(git("status", "--porcelain", "--untracked-files=no"))
+
+
+def maintainer() -> str:
+    """Who hands the package round, named as Debian's own tools name that."""
+    return f"{os.environ.get('DEBFULLNAME') or DEFAULT_NAME} <{os.environ.get('DEBEMAIL') or DEFAULT_ADDRESS}>"
+
+
 def squeezed(content):
     return gzip.compress(content, 9, mtime=0)
 
@@ -106,9 +131,10 @@ def files_of(source):
 def proved():
     """What is known of the proofs of the program that is packed."""
     found = common.stamp()
-    changed = "" if not git("status", "--porcelain", "--untracked-files=no") else ", with changes that are not committed"
+    changed = ", with changes that are not committed" if has_changes() else ""
     rows = {
         "program": f"ob0 {version()} for x86-64 Linux with glibc 2.34 or later",
+        "version of the package": build_version(),
         "kit": found["kit"],
         "commit": (git("log", "-1", "--format=%H") or "unknown") + changed,
         "gate": found.get("gate") or "was not run on this program: `make build` proved each of its functions, and no tests were run",
@@ -127,7 +153,7 @@ def changelog(number):
         ["date", "-u", "-R", "-d", f"@{moment()}"], stdout=subprocess.PIPE, env={**os.environ, "LC_ALL": "C"}, check=True
     ).stdout.decode()
     listed = "".join("  * " + "\n    ".join(textwrap.wrap(it, 74)) + "\n" for it in lines)
-    return f"ob0 ({number}) unstable; urgency=medium\n\n{listed}\n -- {MAINTAINER}  {date}".encode()
+    return f"ob0 ({number}) unstable; urgency=medium\n\n{listed}\n -- {maintainer()}  {date}".encode()
 
 
 def copyright_page():
@@ -151,12 +177,13 @@ def indented(text):
 
 def tree():
     """The paths below the prefix, each with its content (or its link) and its mode."""
-    number = version()
     found = {
         "bin/ob0": (read("bin", "ob0"), 0o755),
+        "bin/ob0-format": (read("share", "ob0-format"), 0o755),
         "share/man/man1/ob0.1.gz": (squeezed(read("share", "ob0.1")), 0o644),
+        "share/man/man1/ob0-format.1.gz": (squeezed(read("share", "ob0-format.1")), 0o644),
         f"{DOC}/PROVED": (proved(), 0o644),
-        f"{DOC}/changelog.gz": (squeezed(changelog(number)), 0o644),
+        f"{DOC}/changelog.gz": (squeezed(changelog(build_version())), 0o644),
         f"{DOC}/copyright": (copyright_page(), 0o644),
         # (the packed program is the proved one, byte for byte)
         "share/lintian/overrides/ob0": (b"ob0: unstripped-binary-or-object [usr/bin/ob0]\n", 0o644),
@@ -185,16 +212,15 @@ def entry(name, mode, time, kind=tarfile.REGTYPE, size=0, link=""):
     return found
 
 
-def archive(found, top):
-    """A tar archive of a tree, below a folder."""
+def archive(found, top, with_folders):
+    """A tar archive of a tree, below a folder. Entries of folders would change the modes of those that are there, where it is unpacked;
+    dpkg wants them, and changes none."""
     time, out = moment(), io.BytesIO()
     with tarfile.open(fileobj=out, mode="w", format=tarfile.GNU_FORMAT) as tar:
-        inside = [os.path.join(top, it) for it in found]
-        if top.startswith("."):
-            tar.addfile(entry("./", 0o755, time, tarfile.DIRTYPE))
-        for it in folders_of([os.path.relpath(it, ".") for it in inside]):
-            tar.addfile(entry(("./" if top.startswith(".") else "") + it + "/", 0o755, time, tarfile.DIRTYPE))
-        for name, (content, mode) in zip(inside, found.values()):
+        for it in ["", *(f"{it}/" for it in folders_of(found))] if with_folders else []:
+            tar.addfile(entry(f"{top}/{it}", 0o755, time, tarfile.DIRTYPE))
+        for path, (content, mode) in found.items():
+            name = f"{top}/{path}"
             if isinstance(content, Link):
                 tar.addfile(entry(name, mode, time, tarfile.SYMTYPE, link=str(content)))
             else:
@@ -202,15 +228,26 @@ def archive(found, top):
     return out.getvalue()
 
 
-def control(found, number):
+def list_of(files, folders):
+    """The lines of the list: what is removed, in this order. A folder is removed where nothing else is in it."""
+    return "".join(f"{it}\n" for it in [*files, *(f"{it}/" for it in sorted(folders, reverse=True))])
+
+
+def with_list(found):
+    """The tree with a list for its removal, which names the folders that ob0 may have been the first to need."""
+    folders = {*folders_of([*found, LIST])} - SHARED
+    return {**found, LIST: (list_of([*found, LIST], folders).encode(), 0o644)}
+
+
+def control(found):
     size = sum(1 if isinstance(it, Link) else -(-len(it) // 1024) for it, _ in found.values())
     return f"""Package: ob0
-Version: {number}
+Version: {build_version()}
 Architecture: amd64
-Maintainer: {MAINTAINER}
+Maintainer: {maintainer()}
 Installed-Size: {size}
-Depends: libc6 (>= 2.34)
-Suggests: neovim | vim-ale | elpa-eglot | kate, kakoune
+Depends: libc6 (>= 2.34), python3
+Suggests: bash-completion, neovim | vim-ale | elpa-eglot | kate, kakoune
 Section: devel
 Priority: optional
 Description: language server, checker and interpreter for Oberon-0
@@ -220,7 +257,8 @@ Description: language server, checker and interpreter for Oberon-0
  and its renames, inlining of constants and layout keep what a module does.
  .
  The package has files for Neovim, Vim, Emacs, Kate, Kakoune, nano and editors
- with GtkSourceView, and completions for bash, zsh and fish.
+ with GtkSourceView, completions for bash, zsh and fish, and ob0-format, which
+ lays files out by what the server answers.
 """.encode()
 
 
@@ -230,11 +268,12 @@ def part(name, content):
     return head.encode() + content + b"\n" * (len(content) % 2)
 
 
-def debian_package(found, number):
+def debian_package(found):
     below_usr = {f"usr/{name}": it for name, it in found.items()}
     sums = "".join(f"{hashlib.md5(it).hexdigest()}  {name}\n" for name, (it, _) in below_usr.items() if not isinstance(it, Link))
-    about = {"control": (control(found, number), 0o644), "md5sums": (sums.encode(), 0o644)}
-    parts = [("debian-binary", b"2.0\n"), ("control.tar.xz", lzma.compress(archive(about, "./"))), ("data.tar.xz", lzma.compress(archive(below_usr, "./")))]
+    about = {"control": (control(found), 0o644), "md5sums": (sums.encode(), 0o644)}
+    packed = {name: lzma.compress(archive(it, ".", True)) for name, it in (("control", about), ("data", below_usr))}
+    parts = [("debian-binary", b"2.0\n"), *((f"{name}.tar.xz", it) for name, it in packed.items())]
     return b"!<arch>\n" + b"".join(part(*it) for it in parts)
 
 
@@ -244,18 +283,28 @@ def need_program():
         common.stop("bin/ob0 is not the proved program of these sources: `make build` makes it")
 
 
-def package():
-    found, number = tree(), version()
+def write_packages(found, folder: str) -> None:
+    """Writes both packages of a tree to a folder, with their sums, and takes away those of earlier builds."""
+    number = build_version()
     made = {
-        f"ob0_{number}_amd64.deb": debian_package(found, number),
-        f"ob0-{number}-x86_64-linux.tar.gz": squeezed(archive(found, f"ob0-{number}")),
+        f"ob0_{number}_amd64.deb": debian_package(found),
+        f"ob0-{number}-x86_64-linux.tar.gz": squeezed(archive(with_list(found), f"ob0-{number}", False)),
     }
-    for name, content in made.items():
-        path = os.path.join(os.path.dirname(common.BINARY), name)
+    sums = "".join(f"{hashlib.sha256(content).hexdigest()}  {name}\n" for name, content in made.items())
+    for path in (it for pattern in ("ob0_*_amd64.deb", "ob0-*-x86_64-linux.tar.gz") for it in glob.glob(os.path.join(folder, pattern))):
+        remove(path)
+    for name, content in {**made, "SHA256SUMS": sums.encode()}.items():
+        path = os.path.join(folder, name)
         with open(path + ".new", "wb") as file:
             file.write(content)
         os.replace(path + ".new", path)
-        print(f"{hashlib.sha256(content).hexdigest()}  {os.path.relpath(path, TOP)}")
+    print(sums, end="")
+
+
+def package():
+    write_packages(tree(), os.path.dirname(common.BINARY))
+    if not os.environ.get("DEBEMAIL"):
+        print(f"the maintainer's address is {DEFAULT_ADDRESS}, which is nobody's: DEBFULLNAME and DEBEMAIL name yours")
 
 
 def listed(room):
@@ -268,13 +317,21 @@ def listed(room):
     return [it for it in lines if not it.endswith("/")], [it.rstrip("/") for it in lines if it.endswith("/")]
 
 
+def make_folders(path: str) -> list:
+    """Makes a folder and those around it, and returns the ones that were not there."""
+    made = []
+    while not os.path.isdir(path):
+        made.append(path)
+        path = os.path.dirname(path)
+    for it in reversed(made):
+        os.mkdir(it)
+    return made
+
+
 def install(room):
     found = tree()
     before, folders = listed(room)
-    for it in folders_of([*found, LIST]):
-        if not os.path.isdir(os.path.join(room, it)):
-            os.makedirs(os.path.join(room, it))
-            folders.append(it)
+    made = [path for it in folders_of([*found, LIST]) for path in make_folders(os.path.join(room, it))]
     for path in (it for it in before if it not in found):
         remove(os.path.join(room, path))
     for path, (content, mode) in found.items():
@@ -286,9 +343,11 @@ def install(room):
         with open(target, "wb") as file:
             file.write(content)
         os.chmod(target, mode)
+    # (the folders around the prefix that were made are `.`, `..` and so on, from there)
+    folders = {*folders, *(os.path.relpath(it, room) for it in made)}
     with open(os.path.join(room, LIST), "w", encoding="utf-8") as file:
-        file.writelines(f"{it}\n" for it in [*found, LIST, *(f"{it}/" for it in sorted(set(folders)))])
-    print(f"installed {room}/bin/ob0, its manual page, completions, editor files, pages and examples")
+        file.write(list_of([*found, LIST], folders))
+    print(f"installed {os.path.join(room, 'bin/ob0')}, its manual pages, completions, editor files, pages and examples")
 
 
 def remove(path):
@@ -304,21 +363,29 @@ def uninstall(room):
         common.stop(f"nothing of ob0 is installed in {room}: there is no {LIST}", 1)
     for it in files:
         remove(os.path.join(room, it))
-    for it in sorted(folders, reverse=True):
+    for path in sorted((os.path.normpath(os.path.join(room, it)) for it in folders), key=len, reverse=True):
         try:
-            os.rmdir(os.path.join(room, it))
+            os.rmdir(path)
         except OSError:
             pass  # (others have files there now)
     print(f"removed what was installed in {room}")
 
 
+def room_of(prefix: str, root: str) -> str:
+    """The folder that a prefix is: below DESTDIR, the root of another system, where one is given."""
+    if not prefix:
+        common.stop("PREFIX is empty: leave it out for /usr/local, or name a folder (PREFIX=~/.local, PREFIX=/)")
+    # (not every shell expands a ~ after the =)
+    room = os.path.expanduser(prefix)
+    room = os.path.abspath(os.path.join(root, room.lstrip("/")) if root else room)
+    if os.path.realpath(room) == os.path.realpath(TOP):
+        common.stop("PREFIX is the folder of the sources, whose own bin/ob0 would be replaced and removed: name another")
+    return room
+
+
 def main(words):
     command, *places = words
-    # (not every shell expands a ~ after the =; a prefix is below DESTDIR, the root of another system)
-    prefix, root = (*places, "", "")[:2]
-    room = os.path.expanduser(prefix)
-    if root:
-        room = os.path.join(root, room.lstrip("/"))
+    room = None if command == "package" else room_of(*(*places, "", "")[:2])
     try:
         if command == "uninstall":
             return uninstall(room)

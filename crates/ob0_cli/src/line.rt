@@ -43,6 +43,9 @@ const CHECK_NOTES: &str = "\
 A line `LINE:COLUMN: CODE: MESSAGE` is printed for each of at most 100 faults,
 and nothing for a correct module. Lines and columns count from 0, columns in
 UTF-16 units; the lines and columns that an editor shows count from 1.
+The FILE /dev/stdin is standard input: `COMMAND | ob0 check /dev/stdin`.
+`man ob0` lists the CODEs. docs/MESSAGES.md explains each, with what to do; that
+page is below /usr/share/doc/ob0 or /usr/local/share/doc/ob0.
 
 Exit status:
   0  the module is correct
@@ -66,6 +69,9 @@ nothing; the others print `fault: END` to standard error:
   InputEnd   Read comes after the last number
   CallBound  one call more is open than --calls allows
   TurnBound  a loop goes on after as many iterations as --turns allows
+What the module writes is printed when the run has ended. If one doesn't end, or
+prints nothing, `--turns 5` ends it after five iterations of a loop, with what
+was written until then. Ctrl-C ends it without.
 
 Exit status:
   0  the run ended with Done
@@ -81,7 +87,10 @@ in UTF-16 units; the lines and columns that an editor shows count from 1.
 The new text is printed, and the file stays as it is (so don't print into that
 file: a shell empties it first). A name that would change what the module does
 is refused, with `refused: REASON` on standard error. In a module with faults
-nothing is renamed: they are printed as `ob0 check` prints them.
+nothing is renamed: they are printed as `ob0 check` prints them, to standard
+output. So look at the status before you use what was printed.
+`man ob0` lists the REASONs. docs/MESSAGES.md explains each, with what to do;
+that page is below /usr/share/doc/ob0 or /usr/local/share/doc/ob0.
 
 Exit status:
   0  the new text was printed

@@ -1,0 +1,213 @@
+"""For scripts: ob0-format, the scripts of docs/CI.md, and the lines of the manual page that list faults as compilers do."""
+import os
+import re
+import shutil
+import subprocess
+import tempfile
+
+import harness
+from harness import TOP, examples, frame, holds, need_program, published, same, test, text_of
+from homes import write
+from snippets import fenced
+
+FORMAT = os.path.join(TOP, "share", "ob0-format")
+LAID_OUT = "MODULE M;\nVAR\n  x: INTEGER;\nBEGIN\n  x := 1\nEND M.\n"
+LOOSE = "MODULE  M;\nVAR x:INTEGER;\nBEGIN x:=1 END M.\n"
+FAULTY = "MODULE M;\nBEGIN\n  x := 1;\n  y := 2\nEND M.\n"
+MODULES = {"good.mod": LAID_OUT, "loose.ob0": LOOSE, "two words.Mod": FAULTY}
+
+
+def in_folder(files, function):
+    """Runs a function in a folder with these files: it gets the folder and an environment where `ob0` and `ob0-format` are commands."""
+    need_program()
+    with tempfile.TemporaryDirectory() as room:
+        work = os.path.join(room, "work")
+        for name, text in files.items():
+            write(os.path.join(work, name), text)
+        for name, path in (("ob0", os.path.abspath(harness.BINARY)), ("ob0-format", FORMAT)):
+            os.makedirs(os.path.join(room, "bin"), exist_ok=True)
+            os.symlink(path, os.path.join(room, "bin", name))
+        kept = {key: value for key, value in os.environ.items() if key != "GITHUB_ACTIONS" and not key.startswith("GIT_")}
+        return function(work, {**kept, "HOME": room, "PATH": os.path.join(room, "bin") + os.pathsep + os.environ["PATH"]})
+
+
+def ran(words, work, environment, given=""):
+    """The status of a command, and what it wrote to standard output and to standard error."""
+    how = {"input": given.encode(), "capture_output": True, "cwd": work, "env": environment, "timeout": harness.SECONDS}
+    found = subprocess.run(words, check=False, **how)
+    return found.returncode, found.stdout.decode(), found.stderr.decode()
+
+
+@test("scripts: ob0-format lays files out and names them, and changes neither those that are laid out nor those with faults")
+def lays_out():
+    def trial(work, own):
+        os.chmod(os.path.join(work, "loose.ob0"), 0o640)
+        os.symlink("loose.ob0", os.path.join(work, "link.mod"))
+        fault = "two words.Mod has faults, so it isn't laid out: `ob0 check` lists them\n"
+        same(ran(["ob0-format", "--check", "link.mod", *MODULES], work, own), (1, "link.mod\nloose.ob0\n", fault), "with --check")
+        same({it: text_of(work, it) for it in MODULES}, MODULES, "what --check leaves")
+        same(ran(["ob0-format", "link.mod", *MODULES], work, own), (1, "link.mod\n", fault), "without --check")
+        same({it: text_of(work, it) for it in MODULES}, {**MODULES, "loose.ob0": LAID_OUT}, "the files")
+        same(sorted(os.listdir(work)), sorted([*MODULES, "link.mod"]), "the names of the files")
+        same(os.stat(os.path.join(work, "loose.ob0")).st_mode & 0o777, 0o640, "the mode of a file that was laid out")
+        holds(os.path.islink(os.path.join(work, "link.mod")), "a symbolic link became a file")
+        same(ran(["ob0-format", "--check", "good.mod", "loose.ob0"], work, own), (0, "", ""), "once more")
+        paths = [os.path.join(TOP, it) for it in examples()]
+        same(ran(["ob0-format", "--check", *paths], work, own), (0, "", ""), "the examples")
+
+    in_folder(MODULES, trial)
+
+
+@test("scripts: ob0-format counts in bytes, takes each line ending and reads /dev/stdin")
+def in_bytes():
+    text = "MODULE M;\r\n(* \u00e4\U0001f600 *)VAR x:INTEGER;\rBEGIN(*\u20ac*)x:=1 END M.\n"
+
+    def trial(work, own):
+        same(ran(["ob0-format", "m.mod"], work, own), (0, "m.mod\n", ""), "a text with other characters")
+        new = text_of(work, "m.mod")
+        same(re.sub(r"\s", "", new), re.sub(r"\s", "", text), "the text without white space")
+        same(ran(["ob0-format", "--check", "/dev/stdin"], work, own, new), (0, "", ""), "its layout, through a pipe")
+        same(ran(["ob0-format", "--check", "/dev/stdin"], work, own, LOOSE), (1, "/dev/stdin\n", ""), "another text, through a pipe")
+
+    in_folder({"m.mod": text}, trial)
+
+
+@test("scripts: ob0-format ends with 2 for its command line and with 4 for files, and goes on with the others")
+def format_statuses():
+    def trial(work, own):
+        with open(os.path.join(work, "latin.mod"), "wb") as file:
+            file.write(b"MODULE M; (* \xe4 *) END M.")
+        found = ran(["ob0-format", "nowhere.mod", "latin.mod", ".", "loose.ob0"], work, own)
+        same(found, (4, "loose.ob0\n", "nowhere.mod: No such file or directory\nlatin.mod isn't UTF-8\n.: Is a directory\n"))
+        for words in ([], ["--chekc", "good.mod"], ["--check"]):
+            same(ran(["ob0-format", *words], work, own)[:2], (2, ""), f"the status of {words}")
+        same(ran(["ob0-format", "--help"], work, own)[::2], (0, ""), "help")
+        path = {**own, "PATH": os.path.dirname(shutil.which("python3"))}
+        said = "ob0-format: ob0 is neither beside this program nor on PATH\n"
+        same(ran(["python3", FORMAT, "good.mod"], work, path), (4, "", said), "without ob0")
+
+    in_folder(MODULES, trial)
+
+
+def server_with(edits):
+    """A server that answers each request for a layout with these edits."""
+    answers = [{"id": 1, "result": {"capabilities": {"positionEncoding": "utf-8"}}}, published([]), {"id": 3, "result": edits}, published([])]
+    answers += [published([]), {"id": 5, "result": []}, published([]), {"id": 6, "result": None}]
+    return "#!/usr/bin/env python3\nimport sys\nsys.stdout.buffer.write(%r)\nsys.stdout.flush()\nsys.stdin.read()\n" % b"".join(map(frame, answers))
+
+
+@test("scripts: ob0-format writes no text whose tokens differ, whatever a server answers")
+def guarded():
+    for new, wanted in (("2", LAID_OUT), ("", LAID_OUT), ("1 ", LAID_OUT.replace("1\n", "1 \n"))):
+
+        def trial(work, own, new=new, wanted=wanted):
+            write(os.path.join(work, "..", "other", "ob0"), server_with([{"range": harness.extent("4:7-4:8"), "newText": new}]))
+            os.chmod(os.path.join(work, "..", "other", "ob0"), 0o755)
+            found = ran(["python3", FORMAT, "good.mod"], work, {**own, "PATH": os.path.join(work, "..", "other") + os.pathsep + own["PATH"]})
+            same((found[0], text_of(work, "good.mod")), (0 if wanted != LAID_OUT else 4, wanted), f"with {new!r}: {found}")
+
+        in_folder(MODULES, trial)
+
+
+@test("scripts: a failed write leaves the old file, and nothing beside it")
+def failed_write():
+    if os.geteuid() == 0 and not shutil.which("setpriv"):
+        harness.leave_out("it wants setpriv, to be another user than root")
+
+    def trial(work, own):
+        os.chmod(os.path.dirname(work), 0o755)
+        os.chmod(work, 0o555)
+        another = ["setpriv", "--reuid=65534", "--clear-groups"] if os.geteuid() == 0 else []
+        found = ran([*another, "ob0-format", "loose.ob0"], work, own)
+        same((found[0], text_of(work, "loose.ob0"), sorted(os.listdir(work))), (4, LOOSE, sorted(MODULES)), str(found))
+        os.chmod(work, 0o755)
+
+    in_folder(MODULES, trial)
+
+
+BLOCKS = [text for name, text in fenced("docs/CI.md") if name == "sh"]
+CHECK, RUN, HOOK, JOB = BLOCKS
+LISTED = ["two words.Mod:3:3: Undeclared: not declared", "two words.Mod:4:3: Undeclared: not declared"]
+MARKED = [f"::error file=two words.Mod,line={line},col=3::Undeclared: not declared" for line in (3, 4)]
+
+
+@test("scripts: the page's ob0-check lists the faults of several files as compilers do, and as GitHub wants them, and keeps the status")
+def check_script():
+    def trial(work, own):
+        same(ran(["sh", "ob0-check", "two words.Mod", "good.mod"], work, own), (1, "\n".join(LISTED) + "\n", ""), "as compilers do")
+        found = ran(["sh", "ob0-check", *MODULES], work, {**own, "GITHUB_ACTIONS": "true"})
+        same(found, (1, "\n".join(MARKED) + "\n", ""), "for GitHub")
+        same(ran(["sh", "ob0-check", "good.mod", "loose.ob0"], work, own), (0, "", ""), "without faults")
+        same(ran(["sh", "ob0-check", "nowhere.mod", "good.mod"], work, own), (1, "", "fault: File\n"), "a file that isn't there")
+
+    in_folder({**MODULES, "ob0-check": CHECK}, trial)
+
+
+@test("scripts: the page's line compares what a module prints with what is known")
+def run_script():
+    files = {f"Gcd.{it}": text_of("examples", f"Gcd.{it}") for it in ("mod", "in", "out")}
+    for changed, status in (("", 0), (" 1", 1)):
+        in_folder(files, lambda work, own, it=changed, status=status: (
+            write(os.path.join(work, "Gcd.out"), files["Gcd.out"] + it),
+            same(ran(["sh", "-c", RUN], work, own)[0], status, f"the status with {it!r} added"),
+        ))  # fmt: skip
+
+
+def git(work, own, *words):
+    names = ["-c", "user.name=x", "-c", "user.email=x@example.org", "-c", "init.defaultBranch=main"]
+    return ran(["git", *names, *words], work, own)
+
+
+@test("scripts: the page's hook refuses a commit with faults or without a layout, by what is to be committed")
+def hook():
+    if not shutil.which("git"):
+        harness.leave_out("it wants git")
+
+    def trial(work, own):
+        same(git(work, own, "init", "-q")[0], 0, "git init")
+        write(os.path.join(work, ".git", "hooks", "pre-commit"), HOOK)
+        os.chmod(os.path.join(work, ".git", "hooks", "pre-commit"), 0o755)
+        git(work, own, "add", ".")
+        status, out, err = git(work, own, "commit", "-q", "-m", "all")
+        same((status, "loose.ob0 isn't laid out: ob0-format loose.ob0\n" in err), (1, True), f"the commit of all: {out}{err}")
+        holds("two words.Mod has faults\n" in err and "3:2: Undeclared: not declared" in out + err, f"the faults: {out}{err}")
+        # (what is in the folder doesn't count)
+        write(os.path.join(work, "two words.Mod"), LAID_OUT)
+        same(git(work, own, "commit", "-q", "-m", "all")[0], 1, "a commit of what isn't in the folder any more")
+        same(ran(["ob0-format", "loose.ob0"], work, own)[0], 0, "ob0-format")
+        git(work, own, "add", ".")
+        write(os.path.join(work, "good.mod"), FAULTY)
+        same(git(work, own, "commit", "-q", "-m", "all")[0], 0, "a commit without faults")
+
+    in_folder({**MODULES, "other.txt": FAULTY}, trial)
+
+
+@test("scripts: the page's job finds faults and what isn't laid out")
+def job():
+    if not shutil.which("git"):
+        harness.leave_out("it wants git")
+    install, *lines = JOB.splitlines()
+    same(install.split()[:3], ["sudo", "apt-get", "install"], "the first line")
+
+    def trial(work, own, statuses, said):
+        git(work, own, "init", "-q")
+        git(work, own, "add", ".")
+        found = [ran(["sh", "-c", it], work, own) for it in lines]
+        same(([it[0] != 0 for it in found], "".join(it[1] for it in found)), (statuses, said), str(found))
+
+    in_folder({**MODULES, "ob0-check": CHECK}, lambda *at: trial(*at, [True, True], "\n".join([*LISTED, "loose.ob0"]) + "\n"))
+    in_folder({"good.mod": LAID_OUT, "ob0-check": CHECK}, lambda *at: trial(*at, [False, False], ""))
+    in_folder({"ob0-check": CHECK}, lambda *at: trial(*at, [False, False], ""))
+
+
+@test("scripts: the lines of the manual page list faults as compilers do, and keep the status")
+def manual_lines():
+    page = text_of("share", "ob0.1").partition("List faults as compilers do")[2].partition(".nf\n")[2].partition(".fi\n")[0]
+    lines = page.replace("\\(aq", "'").replace("\\e", "\\").replace("\\-", "-")
+    for text, status, said in ((FAULTY, 1, "\n".join(LISTED) + "\n"), (LAID_OUT, 0, "")):
+        for shell in (["sh", "-c"], ["sh", "-e", "-c"], ["bash", "-e", "-o", "pipefail", "-c"]):
+            if shutil.which(shell[0]):
+                wanted = (status, said.replace("two words.Mod", "Sort.mod"), "")
+                same(in_folder({"Sort.mod": text}, lambda work, own, shell=shell: ran([*shell, lines], work, own)), wanted, " ".join(shell))
+    missing = in_folder({"other.mod": LAID_OUT}, lambda work, own: ran(["sh", "-c", lines], work, own))
+    same(missing, (4, "", "fault: File\n"), "a file that isn't there")
