@@ -17,7 +17,7 @@ def dozen():
     holds(len(examples()) >= 12, f"there are {len(examples())}")
     faults = [f"{it[:-4]}.err" for it in examples() if os.path.basename(it).startswith("Fault")]
     wanted = sorted([f"{it[:-4]}{end}" for it in examples() for end in (".in", ".mod", ".out")] + faults)
-    same(sorted(os.path.join("examples", it) for it in os.listdir(os.path.join(TOP, "examples")) if it != "README.md"), wanted)
+    same(sorted(os.path.join("examples", it) for it in os.listdir(os.path.join(TOP, "examples")) if it not in ("README.md", "exercises")), wanted)
 
 
 @test("examples: each is checked and run")

@@ -1,0 +1,99 @@
+"""docs/TUTORIAL.md: its modules, what is typed and printed there, and its tables."""
+import os
+import re
+import subprocess
+import tempfile
+
+import harness
+from harness import TOP, Server, did_open, ends, holds, need_program, on_file, same, test, text_of
+from homes import write
+from snippets import fenced
+
+PAGE = os.path.join("docs", "TUTORIAL.md")
+# modules that are there to show what is reported of them
+FAULTY = ["Broken", "Mended", "Types"]
+VALUES = {"TRUE": "1", "FALSE": "0"}
+
+
+def modules():
+    """The modules of the page, by their names."""
+    found = [text for language, text in fenced(PAGE) if language == "oberon"]
+    return {re.match(r"MODULE (\w+);", it)[1]: it for it in found}
+
+
+def typed(block):
+    """Pairs of a command and what it prints, in a block of the page."""
+    return [tuple(it.split("\n", 1)) for it in re.split(r"^\$ ", block, flags=re.M)[1:]]
+
+
+def rows(head):
+    """The code in the cells of the rows of each table that begins with this head."""
+    tables = text_of(PAGE).split(f"{head}\n")[1:]
+    holds(tables, f"there is no table {head}")
+    lines = [line for table in tables for line in table.partition("\n\n")[0].splitlines()[1:]]
+    return [[re.findall(r"`([^`]*)`", cell) for cell in line.split("|")[1:-1]] for line in lines]
+
+
+@test("tutorial: every command on the page prints what it has there")
+def commands():
+    need_program()
+    blocks = [text for language, text in fenced(PAGE) if language == "console"]
+    same({language for language, _ in fenced(PAGE)}, {"oberon", "console"}, "the kinds of blocks")
+    with tempfile.TemporaryDirectory() as room:
+        os.mkdir(os.path.join(room, "bin"))
+        os.symlink(os.path.abspath(harness.BINARY), os.path.join(room, "bin", "ob0"))
+        own = {**os.environ, "PATH": os.path.join(room, "bin") + os.pathsep + os.environ["PATH"]}
+        for name, text in modules().items():
+            write(os.path.join(room, f"{name}.mod"), text)
+        how = {"cwd": room, "env": own, "stdin": subprocess.DEVNULL, "stdout": subprocess.PIPE, "stderr": subprocess.STDOUT}
+        for words, wanted in (it for block in blocks for it in typed(block)):
+            ran = subprocess.run(["sh", "-c", words], timeout=harness.SECONDS, check=False, **how)
+            same(ran.stdout.decode(), wanted, f"what `{words}` prints")
+    used = {name for block in blocks for words, _ in typed(block) for name in re.findall(r"(\w+)\.mod", words)}
+    same(sorted(used), sorted(modules()), "the modules that a command on the page names")
+
+
+@test("tutorial: its modules have no fault and are laid out as the server does it, but for those that show a fault")
+def laid_out():
+    with Server() as server:
+        for name, text in modules().items():
+            uri = f"file:///{name}"
+            same(bool(server.notify(did_open(text, uri=uri))), name in FAULTY, f"whether {name} has a fault")
+            if name not in FAULTY:
+                options = {"textDocument": {"uri": uri}, "options": {"tabSize": 2, "insertSpaces": True}}
+                same(server.query("textDocument/formatting", options).get("result"), [], f"the layout of {name}")
+
+
+@test("tutorial: each expression has the value that the page gives it")
+def expressions():
+    found = rows("| Expression | Value | |")
+    holds(len(found) >= 12, f"there are {len(found)}")
+    for (expression,), (value,), *_ in found:
+        shown = f"IF {expression} THEN Write(1) ELSE Write(0) END" if value in VALUES else f"Write({expression})"
+        ends(on_file("run", f"MODULE M; BEGIN {shown} END M."), f" {VALUES.get(value, value)}", 0)
+
+
+@test("tutorial: the ends of a run are the language's")
+def run_ends():
+    named = [it[0][0] for it in rows("| The run ends with | because |")]
+    listed = re.findall(r"^\| (\w+) \|", text_of("docs", "LANGUAGE.md").partition("| End | Because |")[2].partition("\n\n")[0], re.M)
+    same(named, [it for it in listed if it != "Done"], "the ends")
+
+
+@test("tutorial: what it translates from other languages is in the language")
+def translated():
+    found = [it[1] for it in rows("| C, Java, Python, Pascal | Oberon-0 |")]
+    holds(len(found) >= 12, f"there are {len(found)}")
+    names = re.search(r"declares `([^`]*)`,\s+`([^`]*)`, `([^`]*)`, `([^`]*)` and procedures\s+`([^`]*)` and\s+`([^`]*)`", text_of(PAGE))
+    *variables, largest, go = (" ".join(it.split()) for it in names.groups())
+    head = f"MODULE M; VAR {'; '.join(variables)}; PROCEDURE {largest}; END Max; PROCEDURE {go}; END Go; BEGIN "
+    for (statement,) in found:
+        ends(on_file("check", f"{head}{statement} END M."), "", 0)
+
+
+@test("tutorial: README and the page of examples lead to it")
+def led_to():
+    holds("(docs/TUTORIAL.md)" in text_of("README.md"), "README has no link to it")
+    holds("(../docs/TUTORIAL.md)" in text_of("examples", "README.md"), "examples/README.md has no link to it")
+    for target in re.findall(r"\]\(([^)#:]+)(?:#[^)]*)?\)", text_of(PAGE)):
+        holds(os.path.exists(os.path.join(TOP, "docs", target)), f"it has a link to {target}")
