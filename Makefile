@@ -11,6 +11,7 @@
 # (where bin/ob0 is there and up to date, build, package, install and demo need no toolchain)
 # and beside them:
 #   make editors           installs the editors and tools that the end-to-end tests want, by apt-get
+#   make editors RELEASE=trixie  runs the tests of editors on those of another release of Debian, in a root of its own, as root; WORDS=".." names some
 #   make try               the tables of check, run and rename, with the program compiled without its proofs, in two to four minutes
 #   make end-to-end        the end-to-end tests alone, on bin/ob0
 #   make faults            what takes longer: each allocation fails in turn, two long conversations, many random changes, texts and runs; WORDS=".." names some
@@ -36,7 +37,7 @@ build: python
 	@$(PYTHON) tools/build.py
 
 editors: python
-	@$(PYTHON) tools/editors.py
+	@$(PYTHON) $(if $(RELEASE),tools/editors_of.py $(RELEASE) $(WORDS),tools/editors.py)
 
 try: python
 	@$(PYTHON) tools/try_cases.py $(WORDS)

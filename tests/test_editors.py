@@ -9,10 +9,13 @@ import json
 import os
 import random
 import re
+import shlex
 import shutil
+import sys
 import tempfile
 
 import harness
+import holding
 import keyed
 from harness import Failed, TOP, edited, ends, extent, holds, on_file, same, test, want
 from holding import edits_of, patched
@@ -398,25 +401,81 @@ def lsp_mode_format():
             keeps_the_run(text, dict(found)["text"], out, given)
 
 
-@test("VS Code: the extension, with stand-ins for the editor, starts the server, and its tasks check and run")
+CONSTANT = "MODULE M;\nCONST k = 7;\nBEGIN Write(k) END M.\n"
+WITH_A_LINE = CONSTANT.replace("\n", "\n(* new *)\n", 1)
+# what VS Code's extension leaves in a document: by answers that come at once, and by those that come after a change
+MADE_AT_ONCE = {
+    "rename": CONSTANT.replace("k", "z"),
+    "layout": "MODULE M;\nCONST\n  k = 7;\nBEGIN\n  Write(k)\nEND M.\n",
+    "inlining": CONSTANT.replace("(k)", "(7)"),
+}
+MADE_LATE = {
+    **{f"{asked}, {when}": WITH_A_LINE for asked in MADE_AT_ONCE for when in ("first version", "reopened")},
+    **{f"{asked}, later version": " " + WITH_A_LINE for asked in MADE_AT_ONCE},
+    "list of actions": WITH_A_LINE,
+}
+CLIENT = "vscode-languageclient"
+
+
+def real_client():
+    """The folder of the packages of Node that has the real client, or None."""
+    folders = [os.path.join(TOP, "editors", "vscode", "node_modules"), "/usr/share/nodejs", "/usr/local/lib/node_modules"]
+    return next((it for it in folders if os.path.isdir(os.path.join(it, CLIENT))), None)
+
+
+def in_vscode(*kind):
+    """What VS Code's extension did under Node, and the record of what its client and the server said."""
+    with tempfile.TemporaryDirectory() as room:
+        own = at_home(room, "vscode")
+        program = os.path.join(room, "bin", "ob0")
+        os.unlink(program)
+        real = os.path.abspath(harness.BINARY)
+        server = shlex.join([sys.executable, holding.__file__, room, real])
+        write(program, f'#!/bin/sh\n[ "$1" = serve ] && exec {server} "$@"\nexec {shlex.quote(real)} "$@"\n')
+        os.chmod(program, 0o755)
+        own["NODE_PATH"] = os.pathsep.join(it for it in (real_client(), own.get("NODE_PATH"), "/usr/share/nodejs") if it)
+        file = os.path.join(room, "work", "it's a.mod")
+        write(file, "MODULE M;\nBEGIN x := 1 END M.\n")
+        words = ["node", os.path.join(EDITORS, "vscode.js"), os.path.join(TOP, "editors", "vscode"), file, room, *kind]
+        status, said = run_plainly(words, own, room)
+        same(status, 0, said[-2000:])
+        wire = holding.Wire(room)
+        return file, json.loads(said.splitlines()[-1]), wire.sent("initialize"), wire.answers("textDocument/rename")
+
+
+def in_vscode_by(*kind):
+    file, found, started, renamed = in_vscode(*kind)
+    nothing = {"ended": "activated", "stopped": "deactivated", "said": ["There is no program no-such-program; the setting ob0.path names another."]}
+    same(found["without"], nothing, "what is said where there is no program")
+    same(found["published"], ["Undeclared"], "the diagnostics")
+    matched = [[file, "2", "7", "Undeclared", "not declared"]]
+    same(found["tasks"], {"executed": ["check", "run"], "matched": matched, "provided": ["check", "run"]}, "the tasks")
+    told = ["Request textDocument/formatting failed."] if "real" in kind else []
+    same((found["faulty"], found["told"]), ("ill-typed", told), "a layout of a module with a fault, and what is shown of it")
+    same(found["edits"]["made"], MADE_AT_ONCE, "what answers leave that come at once")
+    same(found["edits"]["late"], MADE_LATE, "what answers leave that come after a change")
+    same(found["edits"]["said"], ["The text was changed since the action was offered: ask for it again."], "what is said of an old action")
+    same(found["stopped"], "deactivated", "how it ends")
+    same(found["settings"], ["ob0.path", "ob0.trace.server"], "the settings that are declared")
+    announced = [it["params"]["capabilities"]["workspace"]["workspaceEdit"]["documentChanges"] for it in started]
+    same(announced, [True], "whether the client announces that it takes versions")
+    same({version for it in renamed for change in it["result"]["documentChanges"] for version in [change["textDocument"]["version"]]}, {1, 2}, "the versions")
+
+
+@test("VS Code: the extension, with stand-ins for the editor and its client, starts the server, drops late answers, checks and runs")
 def vscode():
     want("Node")
     harness.need_program()
-    with tempfile.TemporaryDirectory() as room:
-        own = at_home(room, "vscode")
-        file = os.path.join(room, "it's a.mod")
-        write(file, "MODULE M;\nBEGIN x := 1 END M.\n")
-        words = ["node", os.path.join(EDITORS, "vscode.js"), os.path.join(TOP, "editors", "vscode"), file]
-        status, said = run_plainly(words, own, room)
-        same(status, 0, said[-2000:])
-        found = json.loads(said)
-    same(found["published"], [["Undeclared"]], "the diagnostics")
-    same(found["ended"], 0, "the server's status")
-    same(found["language"], "oberon0", "the language")
-    same(found["registered"], found["declared"], "the commands")
-    same(found["executed"], ["check", "run"], "the tasks that the commands start")
-    same(found["tasks"], {"type": "ob0", "names": ["check", "run"]}, "the tasks")
-    same(found["matched"], [[file, "2", "7", "Undeclared", "not declared"]], "what the problem matcher finds")
+    in_vscode_by()
+
+
+@test("VS Code: the extension, with the real vscode-languageclient and a stand-in for the editor, does the same")
+def vscode_client():
+    want("Node")
+    harness.need_program()
+    if not real_client():
+        harness.leave_out(f"{CLIENT} missing: `npm install` in editors/vscode gets it, and `make editors RELEASE=trixie` makes it in its root")
+    in_vscode_by("real")
 
 
 def in_vim_by_ycm(steps, text, **given):
@@ -473,11 +532,12 @@ def in_kate(steps, text, **given):
 
     own = {}
     words = ["xvfb-run", "-a", "dbus-run-session", "--", "python3", os.path.join(EDITORS, "kate.py")]
-    # (keys can come before a window takes them, where the machine has much else to do: then all is done once more)
+    # (keys can come before a window takes them, where the machine has much else to do, and what Kate has started can still write
+    # into the room when it is taken away: then all is done once more)
     for _ in range(2):
         try:
             return play("kate", words, steps, text, given, set_up, more=own)
-        except Failed as why:
+        except (Failed, OSError) as why:
             print(f"Kate is tried again: {why}".splitlines()[0], flush=True)
     return play("kate", words, steps, text, given, set_up, more=own)
 

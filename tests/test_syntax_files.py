@@ -179,6 +179,19 @@ FILES = [
     ("b.mod", "IMPLEMENTATION MODULE M;", False),
     ("c.mod", "DEFINITION MODULE M;", False),
     ("d.mod", "(* MODULE M; *) x", False),
+    # (a slip in the first line: the server tells of it, so the file has to be Oberon-0)
+    ("e.mod", "MODULE New", True),
+    ("f.mod", "MODULE New\nVAR x: INTEGER;\nBEGIN x := 1 END New.", True),
+    ("g.mod", "MODULE New();\nEND New.", True),
+    ("h.mod", "MODULE New.\nEND New.", True),
+    ("i.mod", "\n(* a (* b *) *)\nMODULE;\nEND New.", True),
+    ("j.mod", "MODULE my_prog;\nEND my_prog.", True),
+    ("k.mod", "MODULE 1st;\nEND 1st.", True),
+    ("l.Mod", "MODULE", True),
+    ("m.mod", "MODULES M;", False),
+    ("n.mod", "Module M;", False),
+    ("o.mod", "MODULE_M;", False),
+    ("p.mod", "(* MODULE M;", False),
 ]
 COLOURS = [
     (1, "MODULE", "Keyword"),
@@ -310,6 +323,12 @@ def settings():
     same(server["command"], ["ob0", "serve"], "Kate's command")
     holds(re.search(server["highlightingModeRegex"], "Oberon-0"), "Kate's mode")
     package = json.loads(text_of("editors", "vscode", "package.json"))
+    # (VS Code looks at the first line alone, in files that nothing else takes)
+    first = re.compile(package["contributes"]["languages"][0]["firstLine"])
+    for file, text, taken in FILES:
+        line = text.split("\n")[0]
+        if "MODULE" in line and "(* two" not in line:
+            same(bool(first.search(line)), taken, f"whether VS Code takes {line} as Oberon-0")
     for it in package["main"], package["contributes"]["languages"][0]["configuration"], package["contributes"]["grammars"][0]["path"]:
         holds(os.path.isfile(os.path.join(TOP, "editors", "vscode", it)), f"package.json names {it}")
     json.loads(text_of("editors", "vscode", "language-configuration.json"))

@@ -13,6 +13,7 @@ STAMP = BINARY + ".stamp"
 HOW_TO_GET = {
     "rt": "it is the command of the Rattle toolchain, with which this repository is proved: install the "
     "toolchain, and put the folder that holds rt on PATH",
+    "debootstrap": "it makes the root that another release's editors are in: apt-get install debootstrap",
     "apt-get": "it installs Debian's packages: on another system install what is missing by hand",
 }
 

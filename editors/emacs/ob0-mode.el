@@ -22,6 +22,10 @@
   "The program: its name, or the path of its file."
   :type 'string)
 
+(defcustom ob0-mod t
+  "Whether files that end in .mod or .Mod are Oberon-0 if they begin with MODULE."
+  :type 'boolean)
+
 (defcustom ob0-indent-offset 2
   "How many columns a level has, in indentation and in layouts."
   :type 'integer
@@ -198,18 +202,19 @@ A record is neither."
               imenu-generic-expression '((nil "^\\s-*PROCEDURE\\s-+\\([A-Za-z][A-Za-z0-9]*\\)" 1))))
 
 (defun ob0-begins-with-module ()
-  "Whether the first word of this buffer, comments left out, is MODULE."
+  "Whether the first word of this buffer, comments left out, is MODULE.
+What follows doesn't matter: a slip there is for the server to tell."
   (save-excursion
     (goto-char (point-min))
     (with-syntax-table ob0-mode-syntax-table
       (forward-comment (buffer-size)))
     (let ((case-fold-search nil))
-      (looking-at "MODULE[ \t\r\n]+[A-Za-z][A-Za-z0-9]*[ \t\r\n]*\\(?:;\\|(\\*\\|\\'\\)"))))
+      (looking-at "MODULE\\(?:[^A-Za-z0-9_]\\|\\'\\)"))))
 
 ;;;###autoload
 (defun ob0-maybe-mode ()
   "Take `ob0-mode' if the first word is MODULE, else what Emacs takes without it."
-  (if (ob0-begins-with-module)
+  (if (and ob0-mod (ob0-begins-with-module))
       (ob0-mode)
     (let ((auto-mode-alist (rassq-delete-all 'ob0-maybe-mode (copy-alist auto-mode-alist))))
       (set-auto-mode))))
@@ -218,7 +223,8 @@ A record is neither."
 (defun ob0-maybe-mode-once-saved ()
   "Take `ob0-mode' for a file that is looked into and begins with MODULE now.
 A new file has no first word when it is opened."
-  (when (and buffer-file-name
+  (when (and ob0-mod
+             buffer-file-name
              (not (derived-mode-p 'ob0-mode))
              (let ((case-fold-search nil)) (string-match-p "\\.[Mm]od\\'" buffer-file-name))
              (ob0-begins-with-module))

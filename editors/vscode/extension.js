@@ -1,4 +1,5 @@
 // Starts `ob0 serve` for buffers of Oberon-0, and has tasks that check and run the file that is shown.
+const { execFile } = require("child_process");
 const vscode = require("vscode");
 const { LanguageClient } = require("vscode-languageclient/node");
 
@@ -46,20 +47,75 @@ async function execute(command) {
   await vscode.tasks.executeTask(taskOf(command, file));
 }
 
+// An answer is of the text that it was asked about, and the client makes its edits in whatever the document has by then. So
+// it is dropped where the document was changed, or closed (and maybe opened again), since.
+function asItIs(document) {
+  const { version } = document;
+  return () => !document.isClosed && document.version === version;
+}
+
+async function unlessLate(document, ...more) {
+  const next = more.pop();
+  const isCurrent = asItIs(document);
+  const found = await next(document, ...more);
+  return isCurrent() ? found : undefined;
+}
+
+// An action waits in a list until it is chosen: its edit is made then, by a command that looks once more.
+async function actionsUnlessLate(document, ...more) {
+  const isCurrent = asItIs(document);
+  const found = await unlessLate(document, ...more);
+  for (const action of found || []) {
+    action.command = { title: action.title, command: "ob0.apply", arguments: [action.edit, isCurrent] };
+    action.edit = undefined;
+  }
+  return found;
+}
+
+async function apply(edit, isCurrent) {
+  if (isCurrent()) await vscode.workspace.applyEdit(edit);
+  else vscode.window.showWarningMessage("The text was changed since the action was offered: ask for it again.");
+}
+
+const middleware = {
+  provideRenameEdits: unlessLate,
+  provideDocumentFormattingEdits: unlessLate,
+  provideCodeActions: actionsUnlessLate,
+};
+
+function isThere(name) {
+  return new Promise((settle) => execFile(name, ["--version"], (error) => settle(!(error && error.syscall))));
+}
+
+async function start() {
+  const name = program();
+  if (!(await isThere(name))) {
+    vscode.window.showErrorMessage(`There is no program ${name}; the setting ob0.path names another.`);
+    return;
+  }
+  const documentSelector = ["file", "untitled"].map((scheme) => ({ language: "oberon0", scheme }));
+  client = new LanguageClient("ob0", "Oberon-0", { command: name, args: ["serve"] }, { documentSelector, middleware });
+  await client.start();
+}
+
+async function restart() {
+  await deactivate();
+  await start();
+}
+
 async function activate(context) {
   context.subscriptions.push(
     vscode.tasks.registerTaskProvider("ob0", { provideTasks: tasks, resolveTask: () => undefined }),
     vscode.commands.registerCommand("ob0.check", () => execute("check")),
     vscode.commands.registerCommand("ob0.run", () => execute("run")),
+    vscode.commands.registerCommand("ob0.apply", apply),
+    vscode.workspace.onDidChangeConfiguration((change) => (change.affectsConfiguration("ob0.path") ? restart() : undefined)),
   );
-  const server = { command: program(), args: ["serve"] };
-  const options = { documentSelector: [{ language: "oberon0", scheme: "file" }, { language: "oberon0", scheme: "untitled" }] };
-  client = new LanguageClient("ob0", "Oberon-0", server, options);
-  await client.start();
+  await start();
 }
 
 function deactivate() {
-  return client ? client.stop() : undefined;
+  return client && client.needsStop() ? client.stop() : undefined;
 }
 
 module.exports = { activate, deactivate, commandLine };

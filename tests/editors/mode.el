@@ -54,6 +54,15 @@
       (let ((inhibit-message t)) (indent-region (point-min) (point-max)))
       (should (equal (buffer-string) text)))))
 
+(ert-deftest left-alone ()
+  (let ((ob0-mod nil)
+        (file (make-temp-file "l" nil ".mod" "MODULE M; END M.\n")))
+    (with-current-buffer (find-file-noselect file)
+      (should-not (derived-mode-p 'ob0-mode))
+      (insert " ")
+      (let ((inhibit-message t)) (save-buffer))
+      (should-not (derived-mode-p 'ob0-mode)))))
+
 (ert-deftest new-file ()
   (with-current-buffer (find-file-noselect (expand-file-name "new.mod" (make-temp-file "n" t)))
     (should-not (derived-mode-p 'ob0-mode))

@@ -1,28 +1,15 @@
-// Loads the extension under Node with stand-ins for VS Code and for vscode-languageclient, activates it, lets it start the
-// server, opens a document, and prints what it found as JSON. What VS Code itself does isn't shown by this.
+// Loads the extension under Node with a stand-in for VS Code (vscode_api.js), and with a stand-in for vscode-languageclient or,
+// where the last word is `real`, with the real one. It is activated without a program and then with one; a document is opened,
+// edits are asked for, and asked for while their answers are held back (tests/lib/holding.py). Prints what it found as JSON.
 const { spawn, execSync } = require("child_process");
 const fs = require("fs");
 const Module = require("module");
 const path = require("path");
+const { vscode, done, user } = require("./vscode_api.js");
 
-const [folder, file] = process.argv.slice(2);
-const found = { registered: [], published: [], executed: [] };
-const commands = {};
+const [folder, file, wire, kind] = process.argv.slice(2);
 
-const vscode = {
-  workspace: { getConfiguration: (part) => ({ get: (name, otherwise) => (found.setting = `${part}.${name}`) && otherwise }) },
-  window: { activeTextEditor: { document: { languageId: "oberon0", uri: { fsPath: file }, save: async () => true } }, showErrorMessage: () => {} },
-  tasks: {
-    registerTaskProvider: (type, provider) => (found.tasks = { type, names: provider.provideTasks().map((it) => it.name) }),
-    executeTask: async (task) => found.executed.push(task),
-  },
-  commands: { registerCommand: (name, run) => (commands[name] = run) },
-  Task: class { constructor(definition, scope, name, source, execution, matchers) { Object.assign(this, { definition, name, execution, matchers }); } },
-  ShellExecution: class { constructor(line) { this.line = line; } },
-  TaskScope: { Workspace: 2 },
-};
-
-// A client that says as little as one can: it starts the server, and opens a document.
+// A client that says as little as one can. Like the real one it makes the edits of an answer without a look at versions.
 class LanguageClient {
   constructor(id, name, server, options) { Object.assign(this, { server, options, ident: 0, waiting: {} }); }
   send(message) {
@@ -32,57 +19,193 @@ class LanguageClient {
   ask(method, params) {
     const id = ++this.ident;
     this.send({ id, method, params });
-    return new Promise((settle) => (this.waiting[id] = settle));
+    return new Promise((settle, fail) => (this.waiting[id] = [settle, fail]));
+  }
+  take(message) {
+    if (message.error) return this.waiting[message.id][1](new Error(message.error.message));
+    if (message.id) return this.waiting[message.id][0](message.result);
+    const diagnostics = message.params.diagnostics.map((it) => ({ code: it.code }));
+    this.shown.set(vscode.Uri.parse(message.params.uri), diagnostics);
+  }
+  read(piece) {
+    this.held = Buffer.concat([this.held || Buffer.alloc(0), piece]);
+    for (;;) {
+      const head = /^Content-Length: (\d+)\r\n\r\n/.exec(this.held.toString("latin1"));
+      if (!head || this.held.length < head[0].length + Number(head[1])) return;
+      const end = head[0].length + Number(head[1]);
+      const message = JSON.parse(this.held.subarray(head[0].length, end).toString());
+      this.held = this.held.subarray(end);
+      this.take(message);
+    }
   }
   async start() {
     this.process = spawn(this.server.command, this.server.args);
+    await new Promise((settle, fail) => this.process.on("spawn", settle).on("error", fail));
     this.ended = new Promise((settle) => this.process.on("exit", settle));
-    let held = "";
-    this.process.stdout.on("data", (piece) => {
-      held += piece;
-      for (;;) {
-        const head = /^Content-Length: (\d+)\r\n\r\n/.exec(held);
-        if (!head || held.length < head[0].length + Number(head[1])) return;
-        const message = JSON.parse(held.slice(head[0].length, head[0].length + Number(head[1])));
-        held = held.slice(head[0].length + Number(head[1]));
-        if (message.id) this.waiting[message.id](message.result);
-        else found.published.push(message.params.diagnostics.map((it) => it.code));
-      }
-    });
-    found.capabilities = Object.keys((await this.ask("initialize", { capabilities: {} })).capabilities);
+    this.process.stdout.on("data", (piece) => this.read(piece));
+    this.shown = vscode.languages.createDiagnosticCollection();
+    const textDocument = { codeAction: { codeActionLiteralSupport: { codeActionKind: { valueSet: ["refactor"] } } } };
+    await this.ask("initialize", { capabilities: { workspace: { workspaceEdit: { documentChanges: true } }, textDocument } });
     this.send({ method: "initialized", params: {} });
-    const { language } = this.options.documentSelector[0];
-    const textDocument = { uri: "file://" + file, languageId: language, version: 1, text: fs.readFileSync(file, "utf8") };
-    found.language = language;
-    this.send({ method: "textDocument/didOpen", params: { textDocument } });
+    for (const document of vscode.workspace.textDocuments) this.opened(document);
+    vscode.workspace.onDidOpenTextDocument(this.opened, this);
+    vscode.workspace.onDidChangeTextDocument(this.changed, this);
+    vscode.workspace.onDidCloseTextDocument(this.closed, this);
+    this.provide();
+    this.running = true;
   }
+  opened({ uri, version, text }) {
+    const { language } = this.options.documentSelector[0];
+    this.send({ method: "textDocument/didOpen", params: { textDocument: { uri: String(uri), languageId: language, version, text } } });
+  }
+  changed({ document: { uri, version, text } }) {
+    const textDocument = { uri: String(uri), version };
+    this.send({ method: "textDocument/didChange", params: { textDocument, contentChanges: [{ text }] } });
+  }
+  closed({ uri }) {
+    this.send({ method: "textDocument/didClose", params: { textDocument: { uri: String(uri) } } });
+  }
+  asEdit(result) {
+    const edit = new vscode.WorkspaceEdit();
+    for (const it of result.documentChanges) edit.set(vscode.Uri.parse(it.textDocument.uri), it.edits);
+    return edit;
+  }
+  provide() {
+    const of = (document) => ({ uri: String(document.uri) });
+    const through = (name, next) => (...given) => (this.options.middleware?.[name] ? this.options.middleware[name](...given, next) : next(...given));
+    const provideRenameEdits = through("provideRenameEdits", async (document, position, newName) =>
+      this.asEdit(await this.ask("textDocument/rename", { textDocument: of(document), position, newName })));
+    const provideDocumentFormattingEdits = through("provideDocumentFormattingEdits", (document, options) =>
+      this.ask("textDocument/formatting", { textDocument: of(document), options }));
+    const provideCodeActions = through("provideCodeActions", async (document, range, context) =>
+      (await this.ask("textDocument/codeAction", { textDocument: of(document), range, context }))
+        .map((it) => Object.assign(new vscode.CodeAction(it.title), { edit: this.asEdit(it.edit) })));
+    vscode.languages.registerRenameProvider(null, { provideRenameEdits });
+    vscode.languages.registerDocumentFormattingEditProvider(null, { provideDocumentFormattingEdits });
+    vscode.languages.registerCodeActionsProvider(null, { provideCodeActions });
+  }
+  needsStop() { return Boolean(this.running); }
   async stop() {
+    if (!this.running) throw new Error("the client isn't running");
+    this.running = false;
     await this.ask("shutdown");
     this.send({ method: "exit" });
-    found.ended = await this.ended;
+    await this.ended;
   }
 }
 
 const load = Module._load;
 Module._load = (name, ...more) =>
-  name === "vscode" ? vscode : name === "vscode-languageclient/node" ? { LanguageClient } : load(name, ...more);
+  name === "vscode" ? vscode : name === "vscode-languageclient/node" && kind !== "real" ? { LanguageClient } : load(name, ...more);
 
-(async () => {
+async function until(holds, what) {
+  for (let count = 0; count < 6000; count++) {
+    if (holds()) return;
+    await new Promise((settle) => setTimeout(settle, 10));
+  }
+  throw new Error(`waited in vain for ${what}`);
+}
+
+const TEXT = "MODULE M;\nCONST k = 7;\nBEGIN Write(k) END M.\n";
+let count = 0;
+
+// A document of its own for each step, so that each begins at the first version.
+async function fresh(isFirst) {
+  const name = path.join(path.dirname(file), `n${++count}.ob0`);
+  fs.writeFileSync(name, TEXT);
+  const document = user.open(name);
+  await until(() => done.diagnostics[name], "the diagnostics of a new document");
+  if (!isFirst) user.type(document, 0, 0, " ");
+  return document;
+}
+
+const rename = (document) => user.rename(document, 1, 6, "z");
+const layOut = (document) => user.layOut(document);
+const inline = async (document) => {
+  for (const it of await user.actions(document, 2, 12)) if (it.title === "Inline here") await user.choose(it);
+};
+const ASKED = { rename: ["textDocument/rename", rename], layout: ["textDocument/formatting", layOut], inlining: ["textDocument/codeAction", inline] };
+
+const typed = async (document) => (user.type(document, 1, 0, "(* new *)\n"), document);
+const reopened = async (document) => {
+  user.close(document);
+  fs.writeFileSync(document.fileName, TEXT.replace("\n", "\n(* new *)\n"));
+  return user.open(document.fileName);
+};
+const WHEN = { "first version": [true, typed], "later version": [false, typed], "reopened": [true, reopened] };
+
+const heldAnswers = () => fs.readFileSync(path.join(wire, "wire"), "utf8").split('{"held"').length;
+
+// What a document's text is where it was changed while an answer was on its way.
+async function late([method, ask], [isFirst, change]) {
+  const document = await fresh(isFirst);
+  const [hold, before] = [path.join(wire, "hold"), heldAnswers()];
+  fs.writeFileSync(hold, method);
+  const asked = ask(document);
+  await until(() => heldAnswers() > before, "an answer that is held");
+  const shown = await change(document);
+  fs.unlinkSync(hold);
+  await asked;
+  return shown.text;
+}
+
+async function edits() {
+  const found = { made: {}, late: {} };
+  for (const [name, [method, ask]] of Object.entries(ASKED)) {
+    const document = await fresh(true);
+    await ask(document);
+    found.made[name] = document.text;
+    for (const [when, how] of Object.entries(WHEN)) found.late[`${name}, ${when}`] = await late([method, ask], how);
+  }
+  // (a list of actions that is there, and the text changes)
+  const document = await fresh(true);
+  const [action] = await user.actions(document, 2, 12);
+  await typed(document);
+  done.messages = [];
+  await user.choose(action);
+  found.late["list of actions"] = document.text;
+  found.said = done.messages;
+  return found;
+}
+
+async function withoutProgram(extension) {
+  user.set("path", "no-such-program");
+  const ended = await extension.activate({ subscriptions: [] }).then(() => "activated", String);
+  const stopped = await Promise.resolve().then(extension.deactivate).then(() => "deactivated", String);
+  return { ended, stopped, said: done.messages };
+}
+
+async function tasksThatRun(manifest) {
+  const matcher = manifest.contributes.problemMatchers[0];
+  for (const it of manifest.contributes.commands) await done.commands[it.command]();
+  // (what the tasks print, and what the problem matcher makes of it)
+  const matched = done.executed
+    .filter((task) => task.matchers.includes("$" + matcher.name))
+    .flatMap((task) => execSync(task.execution.line + "; true", { encoding: "utf8" }).trim().split("\n"))
+    .map((line) => new RegExp(matcher.pattern.regexp).exec(line))
+    .map((it) => it && ["file", "line", "column", "code", "message"].map((part) => it[matcher.pattern[part]]));
+  return { executed: done.executed.map((it) => it.name), matched, provided: done.tasks.provider.provideTasks().map((it) => it.name) };
+}
+
+async function main() {
   const manifest = JSON.parse(fs.readFileSync(path.join(folder, "package.json"), "utf8"));
   const extension = require(path.join(folder, manifest.main));
-  const context = { subscriptions: [] };
-  await extension.activate(context);
-  found.registered = Object.keys(commands).sort();
-  for (const name of found.registered) await commands[name]();
-  await extension.deactivate();
-  // what the tasks print, and what the problem matcher makes of it
-  const pattern = manifest.contributes.problemMatchers[0].pattern;
-  found.matched = found.executed
-    .filter((task) => task.matchers.includes("$" + manifest.contributes.problemMatchers[0].name))
-    .flatMap((task) => execSync(task.execution.line + "; true", { encoding: "utf8" }).trim().split("\n"))
-    .map((line) => new RegExp(pattern.regexp).exec(line))
-    .map((it) => it && ["file", "line", "column", "code", "message"].map((part) => it[pattern[part]]));
-  found.executed = found.executed.map((it) => it.name);
-  found.declared = manifest.contributes.commands.map((it) => it.command).sort();
+  const found = { without: await withoutProgram(extension) };
+  const faulty = user.open(file);
+  user.set("path", "ob0");
+  await until(() => done.diagnostics[file], "the diagnostics");
+  found.published = done.diagnostics[file];
+  found.tasks = await tasksThatRun(manifest);
+  done.messages = [];
+  found.faulty = await user.layOut(faulty).then(String, (why) => why.message);
+  found.told = done.messages;
+  found.edits = await edits();
+  found.stopped = await extension.deactivate().then(() => "deactivated", String);
+  found.settings = Object.keys(manifest.contributes.configuration.properties);
   console.log(JSON.stringify(found));
-})();
+}
+
+main().catch((why) => {
+  console.error(why);
+  process.exit(1);
+});

@@ -17,22 +17,36 @@ if vim.lsp.start then -- Neovim 0.8 and later: clients with settings of the user
   })
 end
 
+local warned = false
+
+-- Whether the program is there; where it isn't, that is said once.
+local function is_there(program)
+  if vim.fn.executable(program) == 1 then
+    return true
+  end
+  if not warned then
+    vim.notify("There is no program " .. program .. "; vim.g.ob0_program names another", vim.log.levels.WARN)
+    warned = true
+  end
+  return false
+end
+
 if vim.lsp.enable then -- Neovim 0.11 and later: by lsp/ob0.lua
+  vim.api.nvim_create_autocmd("FileType", {
+    pattern = "ob0",
+    callback = function()
+      is_there(ob0.settings().cmd[1])
+    end,
+  })
   vim.lsp.enable("ob0")
   return
 end
 
 local running = nil -- the client's number, for Neovim 0.7, which has no vim.lsp.start
-local warned = false
 
 local function attach(buffer)
   local settings = ob0.settings()
-  local program = settings.cmd[1]
-  if vim.fn.executable(program) == 0 then
-    if not warned then
-      vim.notify("There is no program " .. program .. "; vim.g.ob0_program names another", vim.log.levels.WARN)
-      warned = true
-    end
+  if not is_there(settings.cmd[1]) then
     return
   end
   settings.root_dir = vim.fn.fnamemodify(vim.api.nvim_buf_get_name(buffer), ":p:h")

@@ -1,5 +1,5 @@
-" Oberon-0. The endings .mod and .Mod belong to others too, so such a file is taken only if its first word is MODULE;
-" let g:ob0_mod = 0 leaves them alone. Vim's own rule for them uses setf, which keeps an earlier choice: hence setlocal.
+" Oberon-0. The endings .mod and .Mod belong to others too, so such a file is taken only if its first word is MODULE,
+" whatever follows: a slip there is for the server to tell. let g:ob0_mod = 0 leaves them alone. Vim's own rule for them uses setf, which keeps an earlier choice: hence setlocal.
 " A new file has no first word yet, so it is looked at when it is saved too.
 function! s:BeginsWithModule() abort
   let l:text = join(getline(1, 100), "\n")
@@ -19,7 +19,7 @@ function! s:BeginsWithModule() abort
       let l:at += 2
     endif
   endwhile
-  return l:text[l:at :] =~# '^MODULE\_s\+\a\w*\_s*\%(;\|(\*\|$\)'
+  return l:text[l:at :] =~# '^MODULE\w\@!'
 endfunction
 
 augroup filetypedetect

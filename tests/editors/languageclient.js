@@ -1,0 +1,23 @@
+// Makes a package of Node from the sources of vscode-languageclient, which Debian has as a source package alone:
+// languageclient.js SOURCES PACKAGE. Types are not looked at. NODE_PATH leads to typescript.
+const fs = require("fs");
+const path = require("path");
+const ts = require("typescript");
+
+const [sources, made] = process.argv.slice(2);
+const compilerOptions = { module: ts.ModuleKind.CommonJS, target: ts.ScriptTarget.ES2020 };
+
+function make(from, to) {
+  for (const it of fs.readdirSync(from, { withFileTypes: true })) {
+    const [source, target] = [path.join(from, it.name), path.join(to, it.name)];
+    if (it.isDirectory()) make(source, target);
+    else if (it.name.endsWith(".ts")) {
+      const { outputText } = ts.transpileModule(fs.readFileSync(source, "utf8"), { compilerOptions });
+      fs.mkdirSync(to, { recursive: true });
+      fs.writeFileSync(target.replace(/ts$/, "js"), outputText);
+    }
+  }
+}
+
+make(path.join(sources, "src"), path.join(made, "lib"));
+for (const it of ["package.json", "node.js"]) fs.copyFileSync(path.join(sources, it), path.join(made, it));
