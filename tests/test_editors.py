@@ -651,10 +651,18 @@ def every_change(which, count, seed, text, *names):
             found = lines_of(editor.text())
             editor.waits(lambda: lines_of(editor.wire.text()) == found, 20)
             same(lines_of(editor.wire.text()), found, f"the server's text after {len(made)} changes, at last {made[-10:]}")
+    return f"{count} changes"
 
 
 for name, which in KEYED.items():
     test(f"{name}: the server has the text after 40 changes")(functools.partial(every_change, which[0], 40, 3, CHANGED, *which[1:]))
+
+
+def changes_by_keys():
+    """What `make faults` tries besides: an editor, a text and a name for each editor and kind of file."""
+    for name, which in KEYED.items():
+        for kind, text in (("LF", LATE), ("CR LF", LATE.replace("\n", "\r\n")), ("no end of the last line", LATE.rstrip("\n"))):
+            yield which, text, f"changes by keys: {name}, {kind}"
 
 
 def replaced_in_other_cases(which, *names):
