@@ -7,8 +7,10 @@ A test of an editor that isn't here is left out, by name; `make editors` install
 import functools
 import json
 import os
+import random
 import re
 import shlex
+import shutil
 import sys
 import tempfile
 
@@ -582,6 +584,7 @@ def is_late(editor, asked, when):
     write(editor.file, LATE)
     editor.keys(editor.reopening())
     same(editor.text(comes_last=True), LATE, f"the text before the {asked}")
+    editor.reports(LATE)
     for typed, text in ((editor.line_above, NEW_LINE + LATE), (editor.line_removed, LATE)) if when == WHEN[1] else ():
         editor.keys(typed)
         editor.reports(text)
@@ -623,3 +626,98 @@ KEYED = {
 }
 for name, which in KEYED.items():
     test(f"{name}: no late answer changes another text than its own")(functools.partial(late_answers, *which))
+
+
+CHANGED = LATE.replace("VAR", "VAR (* N and n *)").rstrip("\n").replace("\n", "\r\n")  # (with CR LF, and none after the last line)
+
+
+def lines_of(text):
+    """A text with LF at the end of each line, and of the last one."""
+    plain = (text or "").replace("\r\n", "\n")
+    return plain if plain.endswith("\n") else plain + "\n"
+
+
+def every_change(which, count, seed, text, *names):
+    """After each ten of many changes by chance the server has the editor's text."""
+    want(*names)
+    harness.need_program()
+    chance = random.Random(seed)
+    with tempfile.TemporaryDirectory() as folder, which(folder, text) as editor:
+        made = []
+        for _ in range(count // 10):
+            for _ in range(10):
+                made.append(editor.change(chance))
+                editor.keys(made[-1])
+            found = lines_of(editor.text())
+            editor.waits(lambda: lines_of(editor.wire.text()) == found, 20)
+            same(lines_of(editor.wire.text()), found, f"the server's text after {len(made)} changes, at last {made[-10:]}")
+    return f"{count} changes"
+
+
+for name, which in KEYED.items():
+    test(f"{name}: the server has the text after 40 changes")(functools.partial(every_change, which[0], 40, 3, CHANGED, *which[1:]))
+
+
+def changes_by_keys():
+    """What `make faults` tries besides: an editor, a text and a name for each editor and kind of file."""
+    for name, which in KEYED.items():
+        for kind, text in (("LF", LATE), ("CR LF", LATE.replace("\n", "\r\n")), ("no end of the last line", LATE.rstrip("\n"))):
+            yield which, text, f"changes by keys: {name}, {kind}"
+
+
+def replaced_in_other_cases(which, *names):
+    """The server has the editor's text after a name was replaced in a text that has it in the other case too."""
+    want(*names)
+    harness.need_program()
+    with tempfile.TemporaryDirectory() as folder, which(folder, CHANGED) as editor:
+        new = editor.letters[-1]
+        editor.keys(f'\x1b:(progn (goto-char 1) (replace-string "n" "{new}"))\r')
+        found = editor.text()
+        same(lines_of(found), lines_of(re.sub("n", new, CHANGED)), "the replaced text")
+        editor.waits(lambda: lines_of(editor.wire.text()) == lines_of(found), 20)
+        same(lines_of(editor.wire.text()), lines_of(found), "the server's text")
+
+
+for name in ("Emacs by eglot", "Emacs by lsp-mode"):
+    test(f"{name}: a replacement leaves names of another case, and the server has the text")(functools.partial(replaced_in_other_cases, *KEYED[name]))
+
+
+@test("Neovim: an action that is chosen after the text has changed does nothing")
+def neovim_chosen_late():
+    want("Neovim")
+    harness.need_program()
+    with tempfile.TemporaryDirectory() as folder, keyed.Neovim(folder, LATE) as editor:
+        editor.keys(":let g:chooses_later = 1\r")
+        for change, wanted in ((editor.line_above, NEW_LINE + LATE), (editor.reopening(), LATE), ("", LATE.replace("Write(k)", "Write(7)"))):
+            write(editor.file, LATE)
+            editor.keys(editor.reopening() + editor.going(*LATE_AT[keyed.ACTION]) + editor.asks["inlining"][0])
+            same(editor.text(comes_last=True), LATE, "the text while the list is open")
+            editor.keys(change + f"{keyed.NORMAL}:lua Choose()\r")
+            same(editor.text(comes_last=True), wanted, "the text after the choice")
+
+
+@test("Neovim: two copies of the files start one server")
+def neovim_copied_twice():
+    want("Neovim")
+    harness.need_program()
+
+    class Twice(keyed.Neovim):
+        # (Neovim 0.8 and later have `vim.lsp.start`, which starts none for a second time)
+        lines = keyed.Neovim.lines + """
+_G.started = 0
+local start = vim.lsp.start_client
+vim.lsp.start_client = function(...)
+  started = started + 1
+  return start(...)
+end
+"""
+
+        def settings(self):
+            start = os.path.join(self.folder, ".local", "share", "nvim", "site", "pack")
+            shutil.copytree(os.path.join(start, "ob0"), os.path.join(start, "another"))
+            return super().settings()
+
+    with tempfile.TemporaryDirectory() as folder, Twice(folder, LATE) as editor:
+        editor.keys(f"{keyed.NORMAL}:call setline(1, luaeval('started'))\r")
+        started = int(editor.text().split("\n")[0])
+        holds(started <= 1, f"{started} servers were started")

@@ -2,7 +2,7 @@
 """What is done to the program beyond the end-to-end tests, since it takes long: each allocation fails in turn, of longer
 conversations and commands, and of the tests of the crates that are made for it (`a_refused_..`); one long conversation; many
 random changes of documents; many random modules, run by the program and by the reference; one long conversation about several
-documents, each answer compared with that of a server that keeps nothing.
+documents, each answer compared with that of a server that keeps nothing; many changes by keys in editors.
 
   tools/faults.py [WORD..]   what has one of these words in its name; with no word all of it
 
@@ -28,12 +28,14 @@ import long_conversation  # noqa: E402
 import random_changes  # noqa: E402
 import refused_tests  # noqa: E402
 import several_documents  # noqa: E402
+import test_editors  # noqa: E402
 
 WALK = int(os.environ.get("OB0_WALK", "10000"))
 LONG = int(os.environ.get("OB0_LONG", "100000"))
 TEXTS = int(os.environ.get("OB0_TEXTS", "20000"))
 CHANGES = int(os.environ.get("OB0_CHANGES", "20000"))
 RUNS = int(os.environ.get("OB0_RUNS", "20000"))
+KEYED_CHANGES = 200  # in each editor and kind of file
 SEED = int(os.environ.get("OB0_SEED", "0"))
 
 
@@ -61,6 +63,8 @@ def all_of_it():
     yield f"random changes: {CHANGES:,}", lambda: random_changes.many_changes(CHANGES, SEED, failing.PROCESSORS)
     yield f"a long conversation about several documents: {LONG:,} messages", lambda: several_documents.converse(LONG, SEED)
     yield f"random texts: {TEXTS:,}", lambda: against_reference.many_texts(TEXTS, SEED, failing.PROCESSORS)
+    for editor, text, name in test_editors.changes_by_keys():
+        yield name, lambda editor=editor, text=text: test_editors.every_change(editor[0], KEYED_CHANGES, SEED, text, *editor[1:])
     yield f"random runs: {RUNS:,} modules", lambda: against_reference.many_runs(RUNS, SEED, failing.PROCESSORS)
 
 

@@ -248,7 +248,8 @@ EMACS_SETTINGS = """
 (setq inhibit-startup-screen t make-backup-files nil create-lockfiles nil auto-save-default nil initial-scratch-message nil
       ring-bell-function #'ignore use-dialog-box nil lsp-enable-file-watchers nil lsp-enable-suggest-server-download nil
       lsp-warn-no-matched-clients nil lsp-modeline-code-actions-enable nil
-      eval-expression-debug-on-error nil native-comp-deferred-compilation nil native-comp-async-report-warnings-errors nil
+      eval-expression-debug-on-error nil native-comp-deferred-compilation nil native-comp-enable-subr-trampolines nil
+      native-comp-async-report-warnings-errors nil
       eglot-send-changes-idle-time 0.05 lsp-debounce-full-sync-notifications-interval 0.05)
 (electric-indent-mode -1)
 (defun written (path)
@@ -279,7 +280,7 @@ def emacs_change(chance, letters):
         *("(sort-lines nil 1 (point-max))", "(indent-rigidly 1 (point-max) 2)", "(insert-buffer-substring (current-buffer) 1 5)"),
         *(f'(progn (goto-char 1) (replace-string "{old}" "{new}"))', '(progn (goto-char 1) (replace-regexp "$" ";"))'),
         f'(atomic-change-group (insert "ab") (goto-char 1) (insert "{letters[-1]}\\n"))',
-        f'(execute-kbd-macro "\x11\x05{letters[-1]}\x11\x0e" 2)'.replace("\x11", ""),
+        f'(execute-kbd-macro "\\C-e{letters[-1]}\\C-a" 2)',
     ]
     return place + chance.choice([word, word, word + "\r", "\r", *(f"\x1b:(ignore-errors {it})\r" for it in forms)])
 
