@@ -65,13 +65,13 @@ def same_state(root: str, before: dict, what: str) -> None:
 
 def make_builds(folder: str) -> dict:
     """Packs two builds, the second a day younger and with another page: for each its Debian package and its archive."""
-    builds, time = {}, package.moment()
+    builds, now = {}, package.moment()
     for name, page, age in (("first", b"", DAY), ("mended", MENDED, 0)):
+        os.environ["SOURCE_DATE_EPOCH"] = str(now - age)
         found = package.tree()
         found[PAGE] = (found[PAGE][0] + page, 0o644)
         room = os.path.join(folder, name)
         os.makedirs(room, exist_ok=True)
-        os.environ["SOURCE_DATE_EPOCH"] = str(time - age)
         package.write_packages(found, room)
         made = os.listdir(room)
         builds[name] = [next(os.path.join(room, it) for it in made if it.endswith(end)) for end in (".deb", ".tar.gz")]
@@ -85,6 +85,7 @@ def try_debian(root: str, builds: dict) -> None:
         shutil.copy(deb, os.path.join(root, "tmp"))
         inside(root, f"apt-get install -y --no-install-recommends ./tmp/{os.path.basename(deb)}")
         versions.append(inside(root, "dpkg-query -W -f '${Version}' ob0"))
+        inside(root, f"grep -F 'version of the package: {versions[-1]}' /usr/{package.DOC}/PROVED")
         inside(root, f"ob0 check /usr/{package.DOC}/examples/Gcd.mod; ob0-format --check /usr/{package.DOC}/examples/*.mod")
     with open(os.path.join(root, "usr", PAGE), "rb") as file:
         if not file.read().endswith(MENDED):
