@@ -2,7 +2,7 @@
 #   make demo              plays a conversation with the server: with bin/ob0 where that is proved and up to date, else with
 #                          the program compiled without its proofs, in one to three minutes
 #   make build             proves and builds the program, bin/ob0
-#   make package           packs the proved program: a Debian package and a .tar.gz with the same tree, in bin/
+#   make package           packs the proved program: a Debian package, a .tar.gz with the same tree and their SHA256SUMS, in bin/
 #   make install PREFIX=.. copies that tree to PREFIX: the program, manual page, completions, editor files, pages and examples
 #   make uninstall PREFIX=.. removes what was installed there
 #   make test              the gate (every proof; the kit keeps what passed before on this machine) and the end-to-end tests

@@ -10,6 +10,7 @@ import tempfile
 import time
 
 import common
+import package
 from harness import TOP, examples, holds, leave_out, same, test, text_of, want, want_proved
 from homes import run_plainly, write
 from screen import Screen
@@ -66,9 +67,11 @@ def packed():
     with tempfile.TemporaryDirectory() as room:
         usr = placed(room)
         with tarfile.open(archive) as tar:
+            same([it.name for it in tar if it.isdir()], [], "entries of folders, which would change their modes")
             tar.extractall(room)
         unpacked = os.path.join(room, os.path.basename(archive).partition("-x86_64")[0])
-        same(paths_in(unpacked), paths_in(usr), "the files of the archive")
+        same(paths_in(unpacked), sorted([*paths_in(usr), package.LIST]), "the files of the archive")
+        same(run_plainly(["sha256sum", "--check", "--quiet", "SHA256SUMS"], dict(os.environ), os.path.join(TOP, "bin")), (0, ""), "the sums")
         if shutil.which("dpkg-deb"):
             subprocess.run(["dpkg-deb", "-x", deb, os.path.join(room, "deb")], check=True)
             same(os.listdir(os.path.join(room, "deb")), ["usr"], "what the Debian package has outside /usr")
@@ -92,14 +95,93 @@ def as_readme_says():
         line = by_tar.replace("sudo ", "").replace("/usr/local", room)
         status, said = run_plainly(["sh", "-e", "-c", line], dict(os.environ), os.path.join(TOP, "bin"))
         found = paths_in(room)
-        same((status, found), (0, paths_in(placed(os.path.join(room, "other")))), said)
+        same((status, found), (0, sorted([*paths_in(placed(os.path.join(room, "other"))), package.LIST])), said)
         if shutil.which("apt-get"):
             line = by_apt.replace("sudo apt install ", "apt-get install --simulate ")
             status, said = run_plainly(["sh", "-e", "-c", line], dict(os.environ), os.path.join(TOP, "bin"))
             holds(status == 0 and "Inst ob0 " in said, said)
 
 
-LIBC = "Package: libc6\nStatus: install ok installed\nVersion: {}\nArchitecture: amd64\nMaintainer: x <x@example.org>\nDescription: x\n"
+@test("package: the archive changes no folder's mode, and README's line and `make uninstall` take it away, but no folder that was there")
+def taken_away():
+    want_proved()
+    made("package")
+    lines = [it[4:].replace("sudo ", "") for it in text_of("README.md").splitlines() if it.startswith(("    sudo tar ", "    cd /usr/local"))]
+    unpack, take_away = (it.partition("  #")[0] for it in lines)
+    for remove in ("line", "make"):
+        with tempfile.TemporaryDirectory() as room:
+            for it, mode in (("bin", 0o2775), ("share", 0o2770), ("share/man", 0o750), ("share/doc", 0o755), ("share/doc/other", 0o700), ("share/zsh", 0o711)):
+                os.makedirs(os.path.join(room, it), exist_ok=True)
+                os.chmod(os.path.join(room, it), mode)
+            write(os.path.join(room, "share/zsh/mine"), "")
+            before = modes_in(room)
+            status, said = run_plainly(["sh", "-e", "-c", unpack.replace("/usr/local", room)], dict(os.environ), os.path.join(TOP, "bin"))
+            after = modes_in(room)
+            same((status, {it: after.get(it) for it in before}), (0, before), f"the folders that were there: {said}")
+            holds(len(after) > len(before) + 100 and after["bin/ob0-format"] == after["bin/ob0"] == 0o100755, "what was unpacked")
+            if remove == "line":
+                run_plainly(["sh", "-c", take_away.replace("/usr/local", room)], dict(os.environ), room)
+            else:
+                made(f"PREFIX={room}", "uninstall")
+            same(modes_in(room), before, f"what is there after `{remove}`")
+
+
+def modes_in(room):
+    """The modes of what is in a folder."""
+    found = [os.path.join(at, it) for at, folders, files in os.walk(room) for it in folders + files]
+    return {os.path.relpath(it, room): os.lstat(it).st_mode for it in found}
+
+
+@test("package: a prefix that is empty or the folder of the sources is refused")
+def refused_prefixes():
+    want_proved()
+    with tempfile.TemporaryDirectory() as room:
+        link = os.path.join(room, "link")
+        os.symlink(TOP, link)
+        for prefix, word in (("", "is empty"), (".", "folder of the sources"), (TOP, "folder of the sources"), (link + "/", "folder of the sources")):
+            for command in ("install", "uninstall"):
+                status, said = run_plainly(["make", "--silent", f"PREFIX={prefix}", command], dict(os.environ), TOP)
+                same((status != 0, word in said), (True, True), f"make {command} PREFIX={prefix}: {said}")
+    holds(os.path.exists(common.BINARY), "bin/ob0 is gone")
+
+
+def in_copy(*commits):
+    """The version of the packages in a repository of its own, which has the scripts and these commits: a time and a tag for each."""
+    versions = []
+    with tempfile.TemporaryDirectory() as room:
+        shutil.copytree(os.path.join(TOP, "tools"), os.path.join(room, "tools"))
+        git = ["git", "-c", "user.name=x", "-c", "user.email=x@example.org"]
+        own = {key: value for key, value in os.environ.items() if key != "SOURCE_DATE_EPOCH"}
+        subprocess.run([*git, "init", "--quiet"], cwd=room, check=True)
+        script = "import package; package.version = lambda: '0.1.0'; print(package.build_version())"
+        for time_of, tag, change in commits:
+            subprocess.run([*git, "add", "."], cwd=room, check=True)
+            subprocess.run([*git, "commit", "--quiet", "--allow-empty", "-m", "x"], cwd=room, check=True, env={**own, "GIT_COMMITTER_DATE": f"@{time_of} +0000"})
+            if tag:
+                subprocess.run([*git, "tag", tag], cwd=room, check=True)
+            with open(os.path.join(room, "tools", "common.py"), "a", encoding="utf-8") as file:
+                file.write(change)
+            versions.append(run_plainly(["python3", "-B", "-c", script], own, os.path.join(room, "tools"))[1].strip())
+    return versions
+
+
+@test("package: its version grows with the time of the commit, and is the program's where that has its tag")
+def versions():
+    if not shutil.which("git"):
+        leave_out("it wants git")
+    day = 1795823088
+    # (at the last commit a file is changed: so it isn't the tagged one)
+    found = in_copy((day, "", ""), (day + 1, "v0.0.9", ""), (day + 86400, "", "# x\n"), (day + 90000, "v0.1.0", ""), (day + 90001, "v0.1.0-2", ""), (day + 90002, "", ""))
+    holds(all(re.fullmatch(r"0\.1\.0~git\d{8}\.\d{6}\.[0-9a-f]{8}(\.changed)?", it) for it in found[:3]), str(found))
+    same([found[0].split("git")[1][:15], found[1].split("git")[1][:15], found[2].split("git")[1][:15]], ["20261127.234448", "20261127.234449", "20261128.234448"], "their times")
+    same([it.endswith(".changed") for it in found], [False, False, True, False, False, False], f"with changes: {found}")
+    same(found[3], "0.1.0", "the version of the tagged commit")
+    if shutil.which("dpkg"):
+        for earlier, later in zip(found[:3], found[1:4]):
+            subprocess.run(["dpkg", "--compare-versions", earlier, "lt", later], check=True)
+
+
+INSTALLED = "Package: {}\nStatus: install ok installed\nVersion: {}\nArchitecture: amd64\nMaintainer: x <x@example.org>\nDescription: x\n\n"
 
 
 @test("package: dpkg installs it in a root of its own, where libc6 is new enough, and removing it leaves nothing")
@@ -115,7 +197,7 @@ def by_dpkg():
         os.unlink(os.path.join(admin, "updates", "x"))
         words = ["dpkg", f"--root={room}", "--log=/dev/null", "--force-bad-path"]
         for version, well in (("2.31", False), ("2.36", True)):
-            write(os.path.join(admin, "status"), LIBC.format(version))
+            write(os.path.join(admin, "status"), INSTALLED.format("libc6", version) + INSTALLED.format("python3", "3.8.2"))
             status, said = run_plainly([*words, "--install", packages()[1]], dict(os.environ), room)
             same(status == 0, well, f"with libc6 {version}: {said}")
         same(paths_in(os.path.join(room, "usr")), paths_in(placed(os.path.join(room, "other"))), "the files")
@@ -165,10 +247,11 @@ def installed():
         home = os.path.join(room, "home")
         os.mkdir(home)
         for command, found in (("install", ["bin", "share"]), ("uninstall", [])):
-            status, said = run_plainly(["make", "--silent", "PREFIX=~/local", command], {**environment, "HOME": home}, TOP)
+            status, said = run_plainly(["make", "--silent", "PREFIX=~/some/local", command], {**environment, "HOME": home}, TOP)
             same(status, 0, said)
-            local = os.path.join(home, "local")
-            same(sorted(os.listdir(local)) if os.path.isdir(local) else [], found, f"what is in ~/local after `make {command}`")
+            local = os.path.join(home, "some", "local")
+            same(sorted(os.listdir(local)) if os.path.isdir(local) else [], found, f"what is in that folder after `make {command}`")
+        same(os.listdir(home), [], "what is in the home: the folders around the prefix")
 
 
 @test("package: a stamp beside another program doesn't make it the proved one")
@@ -194,6 +277,8 @@ def in_shells():
         write(os.path.join(work, "New.mod"), MODULE)
         status, said = run_plainly(["ob0", "--version"], environment, work)
         same((status, said), (0, f"ob0 {re.search('ob0 ([0-9.]+)', text_of('share', 'ob0.1'))[1]}\n"), "the version")
+        status, said = run_plainly(["ob0-format", "--check", *(os.path.join(TOP, it) for it in examples())], environment, work)
+        same((status, said), (0, ""), "ob0-format, which finds ob0 beside it")
         if shutil.which("man"):
             status, said = run_plainly(["man", "-M", os.path.join(usr, "share", "man"), "ob0"], environment, work)
             holds(status == 0 and "CallBound" in said, f"man ob0: {said[:300]}")
@@ -325,6 +410,7 @@ def others():
             same(kinds[0], "text/x-oberon0", "the type of a module")
             same(kinds[1], "text/plain", "the type of go.mod, which is Go's")
         unpacked = lambda at: gzip.decompress(open(os.path.join(usr, at), "rb").read()).decode()
-        same(unpacked("share/man/man1/ob0.1.gz"), text_of("share", "ob0.1"), "the manual page")
+        for it in ("ob0.1", "ob0-format.1"):
+            same(unpacked(f"share/man/man1/{it}.gz"), text_of("share", it), "a manual page")
         words = lambda text: [it for it in text.split() if it not in "-*"]
         same(words(unpacked("share/doc/ob0/changelog.gz").partition("medium\n")[2].partition("\n -- ")[0]), words(text_of("CHANGELOG.md").partition("yet\n")[2]), "the changes")

@@ -89,22 +89,31 @@ def format_statuses():
     in_folder(MODULES, trial)
 
 
-def server_with(edits):
-    """A server that answers each request for a layout with these edits."""
+FAULT = harness.diagnostic("Undeclared", "not declared", "4:2-4:3")
+
+
+def server_with(edits, more=(), faults=()):
+    """A server that answers the first request for a layout with these edits; of the text that they make it has these faults, and
+    answers with more edits."""
     answers = [{"id": 1, "result": {"capabilities": {"positionEncoding": "utf-8"}}}, published([]), {"id": 3, "result": edits}, published([])]
-    answers += [published([]), {"id": 5, "result": []}, published([]), {"id": 6, "result": None}]
+    answers += [published([*faults]), {"id": 5, "result": [*more]}, published([]), {"id": 6, "result": None}]
     return "#!/usr/bin/env python3\nimport sys\nsys.stdout.buffer.write(%r)\nsys.stdout.flush()\nsys.stdin.read()\n" % b"".join(map(frame, answers))
 
 
 @test("scripts: ob0-format writes no text whose tokens differ, whatever a server answers")
 def guarded():
-    for new, wanted in (("2", LAID_OUT), ("", LAID_OUT), ("1 ", LAID_OUT.replace("1\n", "1 \n"))):
+    change = lambda new: [{"range": harness.extent("4:7-4:8"), "newText": new}]
+    spaced = LAID_OUT.replace("1\n", "1 \n")
+    answers = [([change("2")], LAID_OUT), ([change("")], LAID_OUT), ([change("1 ")], spaced)]
+    answers += [([change("1 "), change("1")], LAID_OUT), ([change("1 "), [], [FAULT]], LAID_OUT)]
+    for given, wanted in answers:
 
-        def trial(work, own, new=new, wanted=wanted):
-            write(os.path.join(work, "..", "other", "ob0"), server_with([{"range": harness.extent("4:7-4:8"), "newText": new}]))
-            os.chmod(os.path.join(work, "..", "other", "ob0"), 0o755)
-            found = ran(["python3", FORMAT, "good.mod"], work, {**own, "PATH": os.path.join(work, "..", "other") + os.pathsep + own["PATH"]})
-            same((found[0], text_of(work, "good.mod")), (0 if wanted != LAID_OUT else 4, wanted), f"with {new!r}: {found}")
+        def trial(work, own, given=given, wanted=wanted):
+            other = os.path.join(work, "..", "other")
+            write(os.path.join(other, "ob0"), server_with(*given))
+            os.chmod(os.path.join(other, "ob0"), 0o755)
+            found = ran(["python3", FORMAT, "good.mod"], work, {**own, "PATH": other + os.pathsep + own["PATH"]})
+            same((found[0], text_of(work, "good.mod")), (0 if wanted != LAID_OUT else 4, wanted), f"with {given}: {found}")
 
         in_folder(MODULES, trial)
 

@@ -131,11 +131,12 @@ def in_zsh():
                 holds(it not in shown, f"{it} is offered after `ob0 {typed}`: {shown!r}")
 
 
-@test("shell: the manual page is well formed and says what the program says")
+@test("shell: the manual pages are well formed")
 def manual():
     want("mandoc")
-    status, said = run_plainly(["mandoc", "-Tlint", "-W", "warning", os.path.join(SHARE, "ob0.1")], dict(os.environ), TOP)
-    same((status, said), (0, ""), "mandoc -Tlint")
+    for it in ("ob0.1", "ob0-format.1"):
+        status, said = run_plainly(["mandoc", "-Tlint", "-W", "warning", os.path.join(SHARE, it)], dict(os.environ), TOP)
+        same((status, said), (0, ""), f"mandoc -Tlint {it}")
 
 
 PAGES = ["README.md", "examples/README.md"]
