@@ -133,6 +133,7 @@ def changelog(number):
 def copyright_page():
     return b"Format: https://www.debian.org/doc/packaging-manuals/copyright-format/1.0/\nUpstream-Name: ob0\n\n" + (
         b"Files: *\nCopyright: " + licence_holder() + b"\nLicense: Expat\n" + indented(licence_text())
+        + f"\nFiles: usr/{DOC}/editors/tree-sitter/src/tree_sitter/parser.h\nCopyright: 2018-2024 Max Brunsfeld\nLicense: Expat\n".encode()
     )
 
 
