@@ -103,6 +103,50 @@ def kate():
                 holds(it in said, f"no {it} in what was shown of {file}: {said}")
 
 
+FOLDED = """MODULE M;
+TYPE
+  T = RECORD
+    a: INTEGER
+  END;
+PROCEDURE P;
+END P;
+PROCEDURE Q;
+BEGIN
+  REPEAT
+    IF TRUE THEN (* END
+      *) WHILE FALSE DO
+      END
+    ELSE
+    END
+  UNTIL TRUE
+END Q;
+BEGIN
+END M.
+"""
+
+
+@test("syntax files: what Kate folds, by KDE's highlighter")
+def kate_folds():
+    want("kate-syntax-highlighter")
+    with tempfile.TemporaryDirectory() as room:
+        own, file = at_home(room, "kate"), os.path.join(room, "folded.mod")
+        write(file, FOLDED)
+        status, said = run_plainly(["kate-syntax-highlighter", "--output-format", "ansi", "--syntax-trace", "region", file], own, room)
+        same(status, 0, said)
+    # (above each line of the text are the regions that begin `(2--` or end `--2)` in it)
+    folds, opened, line = [], {}, 0
+    for it in re.sub(r"\x1b\[[0-9;]*[mK]", "", said).split("\n"):
+        if line < FOLDED.count("\n") and it == FOLDED.split("\n")[line]:
+            line += 1
+            continue
+        for begun, ended in re.findall(r"\((\d+)|(\d+)\)", it):
+            if begun:
+                opened.setdefault(begun, []).append(line)
+            else:
+                folds.append((opened[ended].pop(), line))
+    same(sorted(folds), [(0, 18), (2, 4), (5, 6), (7, 16), (9, 15), (10, 11), (10, 14), (11, 12)], "the lines of each fold")
+
+
 @test("syntax files: the lines of Qt Creator's page copy Kate's")
 def qtcreator():
     with tempfile.TemporaryDirectory() as room:
