@@ -348,6 +348,22 @@ def in_kakoune():
         same(text_of(report, "commented"), "MODULE N; END N.\n", "the text after :comment-line")
 
 
+@test("syntax files: Kakoune's indentation, typed line by line, is the server's layout")
+def kakoune_indents():
+    want("Kakoune")
+    with tempfile.TemporaryDirectory() as room:
+        own = at_home(room, "kakoune")
+        for name in [*examples(), "record"]:
+            text = RECORD if name == "record" else text_of(name)
+            keys = {"<": "<lt>", ">": "<gt>", "'": "''"}
+            lines = ["".join(keys.get(sign, sign) for sign in line.strip()) for line in text.rstrip("\n").split("\n")]
+            file = os.path.join(room, f"{os.path.basename(name)}.ob0")
+            script = f"edit '{file}'; execute-keys -with-hooks 'i{'<ret>'.join(lines)}<esc>'; write; kill!"
+            status, said = run_plainly(["timeout", "60", "kak", "-ui", "dummy", "-e", script], own, room)
+            holds(os.path.exists(file), f"{name}: Kakoune ended with {status}: {said[-500:]}")
+            same(text_of(file), text, f"{name} as it was typed")
+
+
 @test("syntax files: settings of Kate, Helix, kak-lsp and VS Code name the server and what is there")
 def settings():
     server = json.loads(text_of("editors", "kate", "settings.json"))["servers"]["oberon0"]
