@@ -35,6 +35,7 @@ COPIED = {
     "editors/vim": VIM,
     "editors/neovim": f"{NVIM}/ob0",
     "editors/emacs/ob0-mode.el": f"{EMACS}/ob0-mode.el",
+    "editors/emacs/snippets": f"{EMACS}/snippets",
     "share/emacs/ob0-mode-autoloads.el": f"{EMACS}/ob0-mode-autoloads.el",
     "share/emacs/ob0-mode-pkg.el": f"{EMACS}/ob0-mode-pkg.el",
     "editors/kate/oberon0.xml": "share/org.kde.syntax-highlighting/syntax/oberon0.xml",

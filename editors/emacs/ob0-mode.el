@@ -272,6 +272,17 @@ A new file has no first word when it is opened."
 ;;;###autoload
 (add-to-list 'auto-mode-alist '("\\.[Mm]od\\'" . ob0-maybe-mode))
 
+;;; Snippets
+
+(defconst ob0--snippets
+  (expand-file-name "snippets" (file-name-directory (or load-file-name buffer-file-name default-directory)))
+  "The folder of snippets beside this file.")
+
+(declare-function yas-load-directory "ext:yasnippet")
+(with-eval-after-load 'yasnippet
+  (when (file-directory-p ob0--snippets)
+    (yas-load-directory ob0--snippets t)))
+
 ;;; The language server
 
 (defvar eglot-server-programs)
