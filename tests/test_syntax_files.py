@@ -103,6 +103,50 @@ def kate():
                 holds(it in said, f"no {it} in what was shown of {file}: {said}")
 
 
+FOLDED = """MODULE M;
+TYPE
+  T = RECORD
+    a: INTEGER
+  END;
+PROCEDURE P;
+END P;
+PROCEDURE Q;
+BEGIN
+  REPEAT
+    IF TRUE THEN (* END
+      *) WHILE FALSE DO
+      END
+    ELSE
+    END
+  UNTIL TRUE
+END Q;
+BEGIN
+END M.
+"""
+
+
+@test("syntax files: what Kate folds, by KDE's highlighter")
+def kate_folds():
+    want("kate-syntax-highlighter")
+    with tempfile.TemporaryDirectory() as room:
+        own, file = at_home(room, "kate"), os.path.join(room, "folded.mod")
+        write(file, FOLDED)
+        status, said = run_plainly(["kate-syntax-highlighter", "--output-format", "ansi", "--syntax-trace", "region", file], own, room)
+        same(status, 0, said)
+    # (above each line of the text are the regions that begin `(2--` or end `--2)` in it)
+    folds, opened, line = [], {}, 0
+    for it in re.sub(r"\x1b\[[0-9;]*[mK]", "", said).split("\n"):
+        if line < FOLDED.count("\n") and it == FOLDED.split("\n")[line]:
+            line += 1
+            continue
+        for begun, ended in re.findall(r"\((\d+)|(\d+)\)", it):
+            if begun:
+                opened.setdefault(begun, []).append(line)
+            else:
+                folds.append((opened[ended].pop(), line))
+    same(sorted(folds), [(0, 18), (2, 4), (5, 6), (7, 16), (9, 15), (10, 11), (10, 14), (11, 12)], "the lines of each fold")
+
+
 @test("syntax files: the lines of Qt Creator's page copy Kate's")
 def qtcreator():
     with tempfile.TemporaryDirectory() as room:
@@ -315,6 +359,22 @@ def in_kakoune():
         same(text_of(report, "unsaved"), "", "the type of a new file")
         same(text_of(report, "saved"), "ob0", "the type of a new file once it is saved")
         same(text_of(report, "commented"), "MODULE N; END N.\n", "the text after :comment-line")
+
+
+@test("syntax files: Kakoune's indentation, typed line by line, is the server's layout")
+def kakoune_indents():
+    want("Kakoune")
+    with tempfile.TemporaryDirectory() as room:
+        own = at_home(room, "kakoune")
+        for name in [*examples(), "record"]:
+            text = RECORD if name == "record" else text_of(name)
+            keys = {"<": "<lt>", ">": "<gt>", "'": "''"}
+            lines = ["".join(keys.get(sign, sign) for sign in line.strip()) for line in text.rstrip("\n").split("\n")]
+            file = os.path.join(room, f"{os.path.basename(name)}.ob0")
+            script = f"edit '{file}'; execute-keys -with-hooks 'i{'<ret>'.join(lines)}<esc>'; write; kill!"
+            status, said = run_plainly(["timeout", "60", "kak", "-ui", "dummy", "-e", script], own, room)
+            holds(os.path.exists(file), f"{name}: Kakoune ended with {status}: {said[-500:]}")
+            same(text_of(file), text, f"{name} as it was typed")
 
 
 @test("syntax files: settings of Kate, Helix, kak-lsp and VS Code name the server and what is there")

@@ -46,6 +46,7 @@ TOOLS = {
     "Emacs": (here("emacs"), "emacs-nox"),
     "eglot": (in_emacs("eglot"), "elpa-eglot"),
     "lsp-mode": (in_emacs("lsp-mode"), "elpa-lsp-mode"),
+    "yasnippet": (in_emacs("yasnippet"), "elpa-yasnippet"),
     "Vim": (here("vim.nox"), "vim-nox"),
     "ALE": (folder("/usr/share/vim/vimfiles/pack/*/*/ale"), "vim-ale"),
     "YouCompleteMe": (folder("/usr/share/vim/vimfiles/pack/*/*/youcompleteme"), "vim-youcompleteme"),

@@ -39,6 +39,7 @@ COPIED = {
     "editors/vim": VIM,
     "editors/neovim": f"{NVIM}/ob0",
     "editors/emacs/ob0-mode.el": f"{EMACS}/ob0-mode.el",
+    "editors/emacs/snippets": f"{EMACS}/snippets",
     "share/emacs/ob0-mode-autoloads.el": f"{EMACS}/ob0-mode-autoloads.el",
     "share/emacs/ob0-mode-pkg.el": f"{EMACS}/ob0-mode-pkg.el",
     "editors/kate/oberon0.xml": "share/org.kde.syntax-highlighting/syntax/oberon0.xml",
@@ -159,6 +160,7 @@ def changelog(number):
 def copyright_page():
     return b"Format: https://www.debian.org/doc/packaging-manuals/copyright-format/1.0/\nUpstream-Name: ob0\n\n" + (
         b"Files: *\nCopyright: " + licence_holder() + b"\nLicense: Expat\n" + indented(licence_text())
+        + f"\nFiles: usr/{DOC}/editors/tree-sitter/src/tree_sitter/parser.h\nCopyright: 2018-2024 Max Brunsfeld\nLicense: Expat\n".encode()
     )
 
 

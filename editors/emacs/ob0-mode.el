@@ -179,6 +179,47 @@ A record is neither."
         (when (> (- (point-max) from-end) (point))
           (goto-char (- (point-max) from-end)))))))
 
+;;; Procedures
+
+(defun ob0--find (pattern move)
+  "Go to the next PATTERN outside comments by the search MOVE, if there is one."
+  (let ((case-fold-search nil) (found nil))
+    (while (and (not found) (funcall move pattern nil t))
+      (setq found (save-match-data (not (nth 4 (save-excursion (syntax-ppss (match-beginning 0))))))))
+    found))
+
+(defun ob0-end-of-defun ()
+  "Go from the start of a procedure or module to its end."
+  (let ((depth 1))
+    (ob0--find "\\_<\\(?:MODULE\\|PROCEDURE\\)\\_>" #'re-search-forward)
+    (while (and (> depth 0) (ob0--find "\\_<\\(?:PROCEDURE\\|IF\\|WHILE\\|RECORD\\|END\\)\\_>" #'re-search-forward))
+      (setq depth (+ depth (if (equal (match-string 0) "END") -1 1))))
+    (if (> depth 0)
+        (goto-char (point-max))
+      (skip-chars-forward " \t\r\n")
+      (skip-chars-forward "A-Za-z0-9")
+      (skip-chars-forward ";."))))
+
+(defun ob0-beginning-of-defun (&optional arg)
+  "Go back to the start of the procedure or module that point is in.
+From a start go to the one before; with a negative ARG to the next."
+  (let* ((words "\\_<\\(?:MODULE\\|PROCEDURE\\)\\_>")
+         (from (point))
+         (case-fold-search nil)
+         (at-start (save-excursion
+                     (beginning-of-line)
+                     (and (looking-at (concat "[ \t]*\\(" words "\\)")) (<= from (match-beginning 1)))))
+         (found nil))
+    (if (< (or arg 1) 0)
+        (progn
+          (when (looking-at words) (goto-char (match-end 0)))
+          (when (setq found (ob0--find words #'re-search-forward))
+            (goto-char (match-beginning 0))))
+      (while (and (not found) (ob0--find words #'re-search-backward))
+        (setq found (or at-start (>= (save-excursion (ob0-end-of-defun) (point)) from)))))
+    (unless found (goto-char from))
+    found))
+
 ;;; The mode
 
 ;; (the server has no index: imenu goes by `imenu-generic-expression', also where eglot 1.9 would ask the server)
@@ -195,6 +236,8 @@ A record is neither."
               case-fold-search nil
               font-lock-defaults '(ob0-font-lock-keywords)
               indent-line-function #'ob0-indent-line
+              beginning-of-defun-function #'ob0-beginning-of-defun
+              end-of-defun-function #'ob0-end-of-defun
               indent-tabs-mode nil
               tab-width ob0-indent-offset
               standard-indent ob0-indent-offset
@@ -236,6 +279,17 @@ A new file has no first word when it is opened."
 (add-to-list 'auto-mode-alist '("\\.ob0\\'" . ob0-mode))
 ;;;###autoload
 (add-to-list 'auto-mode-alist '("\\.[Mm]od\\'" . ob0-maybe-mode))
+
+;;; Snippets
+
+(defconst ob0--snippets
+  (expand-file-name "snippets" (file-name-directory (or load-file-name buffer-file-name default-directory)))
+  "The folder of snippets beside this file.")
+
+(declare-function yas-load-directory "ext:yasnippet")
+(with-eval-after-load 'yasnippet
+  (when (file-directory-p ob0--snippets)
+    (yas-load-directory ob0--snippets t)))
 
 ;;; The language server
 

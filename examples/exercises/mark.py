@@ -11,6 +11,7 @@ import os
 import re
 import resource
 import shutil
+import signal
 import subprocess
 import sys
 import tempfile
@@ -84,7 +85,7 @@ def cases_of(exercise: str) -> List[Case]:
 def limit() -> None:
     """Bounds what a run may write and take (in the new process)."""
     resource.setrlimit(resource.RLIMIT_FSIZE, (MOST_PRINTED, MOST_PRINTED))
-    resource.setrlimit(resource.RLIMIT_AS, (MOST_MEMORY, MOST_MEMORY))
+    resource.setrlimit(resource.RLIMIT_DATA, (MOST_MEMORY, MOST_MEMORY))
 
 
 def call(bounds: Bounds, words: List[str], given: str = "") -> Ended:
@@ -134,8 +135,10 @@ def why_wrong(bounds: Bounds, file: str, case: Case) -> Optional[str]:
     found = call(bounds, ["run", file], case.given)
     if found.status is None:
         return f"it had not ended after {bounds.seconds:g} seconds: does each loop end?"
-    if found.status < 0:
+    if found.status == -signal.SIGXFSZ:
         return CAUSES["Write"]
+    if found.status < 0:
+        return f"ob0 was stopped by signal {-found.status}"
     if found.status:
         name = found.err.strip().partition("fault: ")[2]
         return f"the run ends with {name}: {CAUSES[name]}" if name in CAUSES else found.err.strip()

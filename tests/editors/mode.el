@@ -79,6 +79,25 @@
   (with-text "MODULE M;\nPROCEDURE P; END P;\n  PROCEDURE Q(x: INTEGER); END Q;\nEND M.\n"
     (should (equal (mapcar #'car (imenu--make-index-alist t)) '("*Rescan*" "P" "Q")))))
 
+(defun line-after (text command)
+  "The line that point is in after COMMAND from the first TEXT."
+  (goto-char (point-min))
+  (search-forward text)
+  (funcall command)
+  (string-trim (buffer-substring (line-beginning-position) (line-end-position))))
+
+(ert-deftest defuns ()
+  (with-text "MODULE M; (* PROCEDURE C; *)\n  PROCEDURE P;\n    PROCEDURE Q;\n    BEGIN\n      IF TRUE THEN WriteLn END\n    END Q;\n  BEGIN\n    Write(1)\n  END P;\n  PROCEDURE R;\n  END R;\nBEGIN\n  P\nEND M.\n"
+    (dolist (it '(("TRUE" "PROCEDURE Q;") ("Write(1" "PROCEDURE P;") ("END R" "PROCEDURE R;") ("\n  P\n" "MODULE M; (* PROCEDURE C; *)")))
+      (should (equal (line-after (car it) #'beginning-of-defun) (cadr it))))
+    ;; (from a start to the one before)
+    (should (equal (line-after "END R" (lambda () (beginning-of-defun) (beginning-of-defun))) "PROCEDURE Q;"))
+    (dolist (it '(("TRUE" "END Q;") ("Write(1" "END P;") ("END R" "END R;") ("\n  P\n" "END M.")))
+      (should (equal (line-after (car it) (lambda () (end-of-defun) (skip-chars-backward "\n"))) (cadr it))))
+    (should (equal (line-after "Write(1" (lambda () (narrow-to-defun) (goto-char (point-max)) (skip-chars-backward "\n"))) "END P;"))
+    (goto-char (point-min))
+    (should (looking-at "  PROCEDURE P;"))))
+
 (ert-deftest check ()
   (let ((file (make-temp-file "c" nil ".mod" "MODULE M;\nBEGIN x := 1 END M.\n")))
     (with-current-buffer (find-file-noselect file)
