@@ -3,7 +3,8 @@ first line names.
 
 `make test` calls this after `rt ci`, over the libraries that `rt ci` has proved. A mutant is tried by a check from nothing of
 the function that it turns and of what that calls (`rattle check --only`), as many side by side as processors and memory allow.
-Where such a check ends without a verdict, the crate is proved as `make wrong-bodies` does, and the mutant tried over that."""
+Where such a check ends without a verdict it is made once more, alone; and where that has none either, all crates are proved as
+`make check` does, and the mutant is tried over what that keeps."""
 import os
 import re
 import shutil
@@ -161,9 +162,9 @@ class Mutant:
         """Tries it by a check of its functions alone."""
         if self.fault:
             return Outcome(self.edit, BAD, self.fault)
-        words = libraries.words(self.edit.crate, self.asked)
+        words = libraries.words(self.edit.crate, self.asked) if self.edit.crate in libraries.proved else None
         if not words:
-            return Outcome(self.edit, NOT_TRIED, "a library below its crate is missing")
+            return Outcome(self.edit, NOT_TRIED, "`rt ci` left no library of it, or of a crate below")
         with tempfile.TemporaryDirectory(dir=build.ROOMS) as room:
             self.furnish(room)
             how = {"stdin": subprocess.DEVNULL, "stdout": subprocess.PIPE, "stderr": subprocess.STDOUT}
@@ -214,9 +215,11 @@ def try_side_by_side(chosen: list, libraries: Libraries, lanes: int) -> list:
         return list(pool.map(one, chosen))
 
 
-def try_again(left: list, named: dict) -> list:
-    """Tries mutants of which nothing is known, one by one, over what a check of their crates keeps."""
-    found = []
+def try_over_all(left: list) -> list:
+    """Tries mutants of which nothing is known, one by one, over what a check of all crates keeps."""
+    if build.main(["--check"]):
+        return [say(Outcome(it.edit, NOT_TRIED, "not all crates are proved")) for it in left]
+    found, named = [], common.libraries()
     for crate in dict.fromkeys(it.edit.crate for it in left):
         chosen = [it for it in left if it.edit.crate == crate]
         if not wrong_bodies.prove(crate, build.processors()):
@@ -250,11 +253,13 @@ def counted(outcomes: list, wanted: int) -> tuple:
 def try_all(libraries: Libraries, lanes: int, is_gate_passed: bool) -> tuple:
     """Tries all mutants of the gate, and returns how many were refused, and how many were not. Those of crates that the gate didn't
     prove are not tried."""
-    chosen = mutants_of_gate()
-    found = try_side_by_side(chosen, libraries, lanes)
-    left = [it for it, outcome in zip(chosen, found) if outcome.word == NOT_TRIED]
-    settled = [it for it in found if it.word != NOT_TRIED]
+    left, settled = mutants_of_gate(), []
+    for count in (lanes, 1):
+        found = try_side_by_side(left, libraries, count)
+        left = [it for it, outcome in zip(left, found) if outcome.word == NOT_TRIED]
+        settled += [it for it in found if it.word != NOT_TRIED]
+    unknown = [it for it in found if it.word == NOT_TRIED]
     if left and is_gate_passed:
-        print(f"{len(left)} had no verdict, and are tried over what a check of the whole crate keeps", flush=True)
-        return counted(settled + try_again(left, common.libraries()), count_of_readme())
-    return counted(settled + [say(it) for it in found if it.word == NOT_TRIED], count_of_readme())
+        print(f"{len(left)} had no verdict, as {unknown[0].edit.path}: {unknown[0].why}", flush=True)
+        return counted(settled + try_over_all(left), count_of_readme())
+    return counted(settled + [say(it) for it in unknown], count_of_readme())
