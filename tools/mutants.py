@@ -21,8 +21,10 @@ import wrong_bodies
 from common import TOP
 from wrong_bodies import Said
 
-# What a try comes to. Only the first counts; only after the last another try can say more.
-REFUSED, PROVED, BAD, LIMIT, ELSEWHERE, NOT_TRIED = "refused", "NOT REFUSED", "BAD EDIT", "ONLY A LIMIT", "ELSEWHERE", "NOT TRIED"
+# What a try comes to. Only after the last another try can say more.
+REFUSED, ELSEWHERE, PROVED, BAD, LIMIT, NOT_TRIED = "refused", "refused elsewhere", "NOT REFUSED", "BAD EDIT", "ONLY A LIMIT", "NOT TRIED"
+# What counts: that the function is refused. One that is refused elsewhere than its first line says is told and counted.
+COUNTED = (REFUSED, ELSEWHERE)
 README = os.path.join(TOP, "README.md")
 COUNT = re.compile(r"every proof, (\d+) wrong versions")
 # (what `rt ci` says of a crate that it has proved, or that an earlier run on the machine has)
@@ -71,8 +73,8 @@ def claim_of(text: str) -> Optional[Claim]:
 
 
 def judge(edit: edits.Edit, claim: Claim, said: Said, functions: Iterable[reading.Function]) -> Outcome:
-    """What a check says of a mutant. It is refused where the function that its first line names is not proved, by a goal of a
-    clause that the line names."""
+    """What a check says of a mutant. It is refused where the function that its first line names is not proved; elsewhere, where no
+    goal of a clause that the line names is among what refuses it."""
     error = wrong_bodies.unreadable(said, edit)
     if error:
         return Outcome(edit, BAD, f"it can't be read, so no contract was tried: {error}")
@@ -242,8 +244,11 @@ def count_of_readme() -> int:
 
 def counted(outcomes: list, wanted: int) -> tuple:
     """How many mutants were refused, and how many were not or are more or fewer than README says."""
-    refused = sum(it.word == REFUSED for it in outcomes)
+    refused = sum(it.word in COUNTED for it in outcomes)
     failed = len(outcomes) - refused
+    elsewhere = [it.edit.path for it in outcomes if it.word == ELSEWHERE]
+    if elsewhere:
+        print(f"refused, but not by a clause that the first line names: {' '.join(elsewhere)}", flush=True)
     if len({it.edit.path for it in outcomes}) != wanted or len(outcomes) != wanted:
         print(f"README says that {wanted} wrong versions are tried, and these were {len(outcomes)}", flush=True)
         failed += 1
