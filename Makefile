@@ -5,13 +5,15 @@
 #   make package           packs the proved program: a Debian package, a .tar.gz with the same tree and their SHA256SUMS, in bin/
 #   make install PREFIX=.. copies that tree to PREFIX: the program, manual page, completions, editor files, pages and examples
 #   make uninstall PREFIX=.. removes what was installed there
-#   make test              the gate (every proof; the kit keeps what passed before on this machine) and the end-to-end tests
+#   make test              the gate (every proof; the kit keeps what passed before on this machine), its mutants and the end-to-end tests
 #   make test ANEW=1       the same, and every proof from nothing
 #   make help              prints these lines
 # (where bin/ob0 is there and up to date, build, package, install and demo need no toolchain)
 # and beside them:
 #   make editors           installs the editors and tools that the end-to-end tests want, by apt-get
 #   make editors RELEASE=trixie  runs the tests of editors on those of another release of Debian, in a root of its own, as root; WORDS=".." names some
+#   make check             proves all crates and their tests over what earlier checks kept, links and runs nothing, and says how much was
+#                          proved again: some minutes after a change of a function. It isn't the gate
 #   make try               the tables of check, run and rename, with the program compiled without its proofs, in two to four minutes
 #   make end-to-end        the end-to-end tests alone, on bin/ob0
 #   make faults            what takes longer: each allocation fails in turn, two long conversations, many random changes, texts and runs; WORDS=".." names some
@@ -22,7 +24,7 @@
 PREFIX ?= /usr/local
 PYTHON ?= python3
 
-.PHONY: demo help test build editors try end-to-end faults wrong-bodies surface statement bench package install uninstall python
+.PHONY: demo help test build check editors try end-to-end faults wrong-bodies surface statement bench package install uninstall python
 
 demo: python
 	@$(PYTHON) tools/demo.py
@@ -35,6 +37,9 @@ test: python
 
 build: python
 	@$(PYTHON) tools/build.py
+
+check: python
+	@$(PYTHON) tools/build.py --check
 
 editors: python
 	@$(PYTHON) $(if $(RELEASE),tools/editors_of.py $(RELEASE) $(WORDS),tools/editors.py)

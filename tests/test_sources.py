@@ -7,6 +7,7 @@ import re
 
 import common
 import edits
+import mutants
 import rooms
 from harness import TOP, holds, same, test, text_of
 
@@ -18,12 +19,11 @@ def mutants_fit():
     same([f"{it.crate}/{it.name}: {it.why}" for it in found if it.why], [], "mutants that don't fit their sources")
 
 
-@test("sources: each mutant of the gate says what it does and which clause refuses it; README says how many there are")
+@test("sources: each mutant of the gate says what it does and which clause of which function refuses it; README says how many there are")
 def mutants_explained():
     found = [it for crate in common.listed() for it in edits.edits_of(crate)]
-    of_gate = [it for it in found if it.name.startswith("must-fail/")]
-    lines = {f"{it.crate}/{it.name}": text_of(it.file).partition("\n")[0] for it in of_gate}
-    same([name for name, line in lines.items() if not re.match("# .*refused by ", line)], [], "those without such a line")
+    of_gate = [it for it in found if it.is_of_gate]
+    same([it.path for it in of_gate if not mutants.claim_of(text_of(it.file))], [], "those without such a line")
     counts = re.search(r"every proof, (\d+) wrong versions.*?tries all (\d+) mutants", text_of("README.md"), re.S)
     same([int(it) for it in counts.groups()], [len(of_gate), len(found)], "the mutants of the gate, and all of them")
 
@@ -42,6 +42,14 @@ def rooms_drawn():
     order = [room.name for room in rooms.read_rooms()]
     upwards = [(name, low) for name, lower in rooms.rooms_below(rooms.read_rooms()).items() for low in lower if order.index(low) > order.index(name)]
     same(upwards, [], "arrows that go up")
+
+
+@test("sources: no mutant adds a loop, and none is in a folder that `rt ci` reads")
+def mutants_without_loops():
+    found = [it for crate in common.listed() for it in edits.edits_of(crate)]
+    # (the prover asks for the invariant of a new loop, or takes that of another one for it: such a mutant is refused whatever it does)
+    same([it.path for it in found if it.adds_loop], [], "mutants that add a loop")
+    same(glob.glob(os.path.join(TOP, "crates", "*", "must-fail")), [], "folders by whose mutants `rt ci` checks whole crates")
 
 
 @test("sources: no file of tests imports another")
@@ -63,7 +71,7 @@ def named_files():
 # pages whose names in backticks are those of functions, definitions, types and files
 CITING = ["docs/PROMISES.md", "docs/ARCHITECTURE.md", "docs/GLOSSARY.md", "docs/PROVING.md", "CONTRIBUTING.md", "docs/notes/*.md"]
 # words in backticks that name no part of the sources: of the kit, of the system, of commands, or examples
-OTHERS = {"FILE", "NAME", "WORDS", "XWritten", "X_made", "Lts", "tidy", "Serialize", "getrusage"}
+OTHERS = {"FILE", "NAME", "WORDS", "XWritten", "X_made", "Lts", "Proof", "tidy", "Serialize", "getrusage"}
 
 
 @test("sources: the names that the pages on promises, architecture, words and proofs, and the notes cite are in the sources")

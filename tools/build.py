@@ -1,8 +1,12 @@
 #!/usr/bin/env python3
-"""Proves the program's crates, lowest first, builds the program and leaves it as bin/ob0.
+"""Proves crates, lowest first, over what earlier checks kept in crates/*/out.
 
-It says which crate is being proved, how many are left and the time so far. What is proved already is kept in
-crates/*/out and not proved again; a program that is up to date is left as it is.
+  tools/build.py           the program's crates; builds the program too, and leaves it as bin/ob0
+  tools/build.py --check   all crates and their tests; builds no program, and runs no test
+
+It says which crate is being proved, how many are left and the time so far. A program that is up to date is left as it is. With
+--check it says of each crate how many modules were loaded and how many proved again; what is kept is trusted, so this is not
+the gate.
 
 Two runs of rt in one tree wait for each other where they depend on the same crate. So each crate is proved in a tree of
 its own, a room: copies of its sources and of those below, with their proved libraries as hard links."""
@@ -13,8 +17,10 @@ import signal
 import subprocess
 import sys
 import time
+from typing import NamedTuple
 
 import common
+import edits
 from common import TOP, BINARY
 
 STEP = 15  # seconds between two lines about a crate that takes long
@@ -58,24 +64,53 @@ def furnish(room, name, named):
     common.write_list(os.path.join(room, "crates.txt"), common.below(name, named))
     for it in common.below(name, named):
         crate, copied = os.path.join(TOP, "crates", it), os.path.join(room, "crates", it)
-        shutil.copytree(crate, copied, ignore=shutil.ignore_patterns("out", "must-fail", "wrong-bodies"))
+        shutil.copytree(crate, copied, ignore=shutil.ignore_patterns("out", *edits.PLACES))
         if it != name:
             library = os.path.join("out", "rlib")
             shutil.copytree(os.path.join(crate, library), os.path.join(copied, library), copy_function=link)
 
 
+def command(name: str, named: dict, is_check: bool) -> list:
+    """What proves a crate: where others rest on it, its library is made too, and of the program an executable where that is
+    wanted."""
+    if name == "ob0" and not is_check:
+        return ["rt", "run", "--", "--help"]
+    if any(name in below for below in named.values()):
+        return ["rt", "lib"]
+    return ["rt", "check", *["--test"] * name.startswith("ob0_tests_")]
+
+
+class Modules(NamedTuple):
+    """How many modules of a crate a check loaded, and how many it proved."""
+
+    loaded: int
+    checked: int
+
+    def __str__(self):
+        return f"{self.loaded} modules loaded, {self.checked} proved again" if any(self) else "up to date"
+
+
+def modules_of(name: str, said: str) -> Modules:
+    """What a check says of a crate's modules."""
+    found = re.findall(rf"^crate {name}: modules loaded=(\d+) checked=(\d+)", said, re.M)
+    return Modules(*map(int, found[-1])) if found else Modules(0, 0)
+
+
 class Work:
     """One crate that is being proved, in a room of its own."""
 
-    def __init__(self, name, named, jobs):
+    def __init__(self, name, named, jobs, is_check):
         self.name, self.room = name, os.path.join(ROOMS, name)
         self.out, self.moved = os.path.join(TOP, "crates", name, "out"), os.path.join(self.room, "crates", name, "out")
         self.furnish(named)
         self.log = os.path.join(self.moved, "build.log")
-        words = ["rt", "run", "--", "--help"] if name == "ob0" else ["rt", "lib", "--jobs", str(jobs)]
+        words = command(name, named, is_check)
+        words += ["--jobs", str(jobs)] if "--" not in words else []
         with open(self.log, "wb") as out:
             how = {"cwd": os.path.join(self.room, "crates", name), "stdin": subprocess.DEVNULL, "stdout": out}
-            self.process = subprocess.Popen(words, start_new_session=True, stderr=subprocess.STDOUT, **how)
+            # (a group of its own, by which it is ended. In a session of its own `nice` would have no effect: the system shares
+            # the processors out by session first)
+            self.process = subprocess.Popen(words, preexec_fn=os.setpgrp, stderr=subprocess.STDOUT, **how)
 
     def furnish(self, named):
         """Makes the room, and moves what was kept of the crate's own proofs there."""
@@ -105,6 +140,10 @@ class Work:
         with open(self.log, encoding="utf-8", errors="replace") as file:
             return file.read()
 
+    def modules(self) -> Modules:
+        """How many of the crate's modules were loaded, and how many proved again: none where its library is up to date."""
+        return modules_of(self.name, self.said())
+
     def at(self):
         """How far the check is, by its own word."""
         found = re.findall(r"^so far: (\d+ of \d+ functions) checked", self.said(), re.M)
@@ -116,16 +155,17 @@ def end_all(running):
         work.end()
 
 
-def build():
-    """Proves and builds, and returns the exit status."""
+def main(words):
+    """Proves, and builds the program where that is wanted; returns the exit status."""
+    is_check = "--check" in words
     # (a program that is up to date needs no toolchain)
-    if common.is_current():
+    if not is_check and common.is_current():
         print("bin/ob0 is up to date", flush=True)
         return 0
     common.need("rt")
     running = {}
     try:
-        return prove_all(running)
+        return prove_all(running, is_check)
     except KeyboardInterrupt:
         # (a second interrupt would leave in the rooms what was proved)
         signal.signal(signal.SIGINT, signal.SIG_IGN)
@@ -135,10 +175,11 @@ def build():
         shutil.rmtree(ROOMS, ignore_errors=True)
 
 
-def prove_all(running):
+def prove_all(running, is_check):
     timer, named = common.Timer(), common.libraries()
-    left, done = common.below("ob0", named), []
-    total = len(left)
+    tops = named if is_check else ["ob0"]
+    left = list(dict.fromkeys(it for top in tops for it in common.below(top, named)))
+    total, done = len(left), {}
 
     def say(text):
         print(f"[{timer}] {text}", flush=True)
@@ -155,7 +196,7 @@ def prove_all(running):
         for name in ready:
             if len(running) < most:
                 left.remove(name)
-                running[name] = Work(name, named, jobs)
+                running[name] = Work(name, named, jobs, is_check)
                 say(f"{name}: proving it; {total - len(done)} of {total} crates are left")
         time.sleep(0.2)
         for name, work in list(running.items()):
@@ -168,17 +209,22 @@ def prove_all(running):
                 print(work.said()[-4000:], file=sys.stderr)
                 say(f"{name}: NOT PROVED; the end of crates/{name}/out/build.log is above")
                 return 1
-            done.append(name)
-            say(f"{name}: proved; {total - len(done)} of {total} crates are left")
+            done[name] = work.modules()
+            say(f"{name}: proved{f', {done[name]}' if is_check else ''}; {total - len(done)} of {total} crates are left")
         if time.monotonic() - shown_at > STEP:
             shown_at = time.monotonic()
             at = "; ".join(f"{it.name}{it.at()}" for it in running.values())
             if at:
                 say(f"at {at}; {total - len(done)} of {total} crates are left")
+    if is_check:
+        again = sum(it.checked > 0 for it in done.values())
+        sums = Modules(*(sum(it) for it in zip(*done.values())))
+        say(f"{total} crates are proved over kept work: {sums}, in {again} crates. This is not the gate: `make test` is")
+        return 0
     common.keep(os.path.join(TOP, "crates", "ob0", "out", "ob0"))
     say(f"built {os.path.relpath(BINARY, TOP)}")
     return 0
 
 
 if __name__ == "__main__":
-    sys.exit(build())
+    sys.exit(main(sys.argv[1:]))

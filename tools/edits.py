@@ -1,11 +1,12 @@
-"""The mutants of the crates: files of lines 'file: PATH', 'old: TEXT' and 'new: TEXT', in must-fail/ (the gate tries
+"""The mutants of the crates: files of lines 'file: PATH', 'old: TEXT' and 'new: TEXT', in gate-mutants/ (`make test` tries
 those) and in wrong-bodies/ (`make wrong-bodies` tries both)."""
 import os
 import re
 
 import common
 
-PLACES = ("must-fail", "wrong-bodies")
+OF_GATE, OTHERS = "gate-mutants", "wrong-bodies"
+PLACES = (OF_GATE, OTHERS)
 
 
 class Edit:
@@ -15,7 +16,16 @@ class Edit:
         self.crate, self.name = crate, f"{place}/{name}"
         self.file = os.path.join(common.TOP, "crates", crate, place, name)
         self.lines, self.why = changed_lines(self.file, os.path.join(common.TOP, "crates", crate))
+        self.adds_loop = loops_added(self.file) > 0
         self.turned = None
+
+    @property
+    def is_of_gate(self) -> bool:
+        return self.name.startswith(OF_GATE)
+
+    @property
+    def path(self) -> str:
+        return f"{self.crate}/{self.name}"
 
     def find_turned(self, source):
         """Finds the functions that it turns: None where a line belongs to none, as a type's does."""
@@ -66,6 +76,14 @@ def changed_lines(file, folder):
             if was != now:
                 found[path, number] = now
     return found, None if found else "it changes nothing"
+
+
+def loops_added(file: str) -> int:
+    """How many loops more an edit's new texts have than its old ones."""
+    with open(file, encoding="utf-8") as it:
+        rows = [re.sub(r'"[^"]*"', "", row) for row in it.read().split("\n")]
+    count = lambda start: sum(len(re.findall(r"\b(?:for|while|loop)\b", row)) for row in rows if row.startswith(start))
+    return count("new:") - count("old: ")
 
 
 def turned_by(source, lines):

@@ -21,7 +21,7 @@ REASONS = os.path.join(TOP, "tools", "surface_reasons.txt")
 HEAD = """# Public functions
 
 Made by `make surface`: the functions that each crate has for others, who uses them, and the mutants that turn them,
-which the prover refuses (`must-fail/` in the gate, `wrong-bodies/` by `make wrong-bodies`). Users are found by names:
+which the prover refuses (`gate-mutants/` in `make test`, `wrong-bodies/` by `make wrong-bodies`). Users are found by names:
 of a method by what the names before it say of its type, and where they say nothing, by the method's own name. A
 function with neither a result nor an argument that it writes is a law: its contract is all there is of it.
 """
@@ -161,8 +161,8 @@ def keep(text, only_looks):
 
 def keep_counts():
     """Writes into README how many mutants the gate tries, and how many there are (a test compares them)."""
-    found = [it.name for crate in common.listed() for it in edits.edits_of(crate)]
-    of_gate = sum(it.startswith("must-fail/") for it in found)
+    found = [it for crate in common.listed() for it in edits.edits_of(crate)]
+    of_gate = sum(it.is_of_gate for it in found)
     with open(README, encoding="utf-8") as file:
         text = file.read()
     with open(README, "w", encoding="utf-8") as file:

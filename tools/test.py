@@ -1,33 +1,37 @@
 #!/usr/bin/env python3
-"""The whole test: the gate (`rt ci`), and then the end-to-end tests on the program that the gate built.
+"""The whole test: the gate (`rt ci`), its mutants, and then the end-to-end tests on the program that the gate built.
 
   tools/test.py [--anew]   with --anew nothing is taken that an earlier run on this machine passed
 
-The gate is every proof, the edits that must fail, the tests, and the program as two compilers build it. The last line is
-'N passed, M failed' over both; it also goes into bin/results."""
+The gate is every proof, the tests, and the program as two compilers build it; each mutant has to be refused
+(tools/mutants.py). The last line is 'N passed, M failed' over all three; it also goes into bin/results."""
 import os
 import re
 import shutil
 import subprocess
 import sys
 
+import build
 import common
 import editors
+import mutants
 from common import TOP
 
 LINE = re.compile(r"^(\d+) passed, (\d+) failed$")
 RESULTS = os.path.join(TOP, "bin", "results")
 
 
-def stream(words, timer, **named):
-    """Runs a command, prints what it says, and returns its status and the counts of its last line that has them. What `rt`
-    says of a crate has the time before it."""
+def stream(words, timer, take=None, **named):
+    """Runs a command, prints what it says, and returns the counts of its last line that has them. What `rt` says of a crate has
+    the time before it. Each line is given to `take`."""
     counts = None
     how = {"cwd": TOP, "stdin": subprocess.DEVNULL, "stdout": subprocess.PIPE, "stderr": subprocess.STDOUT}
     how["env"] = {**os.environ, **named}
     with subprocess.Popen(words, **how) as process:
         for line in process.stdout:
             text = line.decode(errors="replace")
+            if take:
+                take(text)
             found = LINE.match(text.strip())
             if found:
                 counts = int(found[1]), int(found[2])
@@ -41,24 +45,28 @@ def stream(words, timer, **named):
     return passed, failed
 
 
-def jobs():
-    """RT_JOBS for the gate, by which it makes that many checks side by side, of one job each: up to four processors their number,
-    and no more than one for each 3.5 GB of memory (a check takes 1 to 3 GB; left to itself `rt ci` reserves up to 5). With more
-    processors it is left unset, since `rt ci` then gives what is idle to the checks that run."""
-    processors = len(os.sched_getaffinity(0))
+def lanes() -> int:
+    """How many checks are made side by side, of one job each: one for each processor, and for each 3.5 GB of memory (a check takes
+    1 to 3 GB)."""
     memory = os.sysconf("SC_PAGE_SIZE") * os.sysconf("SC_PHYS_PAGES")
-    if "RT_JOBS" in os.environ or processors > 4:
+    return max(1, min(build.processors(), memory // 3_500_000_000))
+
+
+def jobs():
+    """RT_JOBS for the gate, by which it makes that many checks side by side (left to itself `rt ci` reserves up to 5 GB for one).
+    With more than four processors it is left unset, since `rt ci` then gives what is idle to the checks that run."""
+    if "RT_JOBS" in os.environ or build.processors() > 4:
         return {}
-    return {"RT_JOBS": str(max(1, min(processors, memory // 3_500_000_000)))}
+    return {"RT_JOBS": str(lanes())}
 
 
-def gate(timer, flags):
+def gate(timer, flags, libraries):
     """The gate's counts. The program that it builds becomes bin/ob0: it is not proved a second time."""
     linked = os.path.join(TOP, "crates", "ob0", "out", "ob0")
     for old in (linked, common.BINARY):
         if os.path.exists(old):
             os.remove(old)
-    counts = stream(["rt", "ci", *flags], timer, **jobs())
+    counts = stream(["rt", "ci", *flags], timer, libraries.take, **jobs())
     if os.path.isfile(linked):
         common.keep(linked, f"{counts[0]} passed, {counts[1]} failed")
     return counts
@@ -93,12 +101,18 @@ def main(flags):
     if os.path.exists(RESULTS):
         os.remove(RESULTS)
     # (what a build that was killed left: the gate takes no source outside crates/)
-    shutil.rmtree(os.path.join(TOP, "bin", "rooms"), ignore_errors=True)
+    shutil.rmtree(build.ROOMS, ignore_errors=True)
     common.need("rt")
     say_missing()
     print("== the gate", flush=True)
-    passed, failed = gate(timer, known(flags))
+    libraries = mutants.Libraries(os.path.join(build.ROOMS, "libraries"))
+    passed, failed = gate(timer, known(flags), libraries)
     print(f"== the gate: {passed} passed, {failed} failed, {timer}, of the processors {common.clock(spent())}", flush=True)
+    print("== mutants: each has to be refused", flush=True)
+    refused, others = mutants.try_all(libraries, lanes(), not failed)
+    shutil.rmtree(build.ROOMS, ignore_errors=True)
+    print(f"== mutants: {refused} refused, {others} failed, {timer}, of the processors {common.clock(spent())}", flush=True)
+    passed, failed = passed + refused, failed + others
     print("== end to end", flush=True)
     if os.path.isfile(common.BINARY):
         more, wrong = stream([sys.executable, os.path.join("tests", "run.py")], timer, OB0_WHOLE="1")

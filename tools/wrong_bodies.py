@@ -1,11 +1,11 @@
 #!/usr/bin/env python3
-"""Tries the mutants of crates/*/must-fail and crates/*/wrong-bodies: the prover has to refuse each.
+"""Tries the mutants of crates/*/gate-mutants and crates/*/wrong-bodies: the prover has to refuse each.
 
   tools/wrong_bodies.py [--jobs N] [--quiet] [CRATE..]   all crates where none is named; with --quiet no refused one is listed
   tools/wrong_bodies.py CRATE/WORD..                     those of a crate with this word in their path
 
-The gate tries its own one by one. Here as many of a crate as can be are in one check over what is kept of its proofs:
-the checker judges each function for itself. A function that only calls one that isn't proved is judged in a later
+`make test` tries those of the gate one by one (tools/mutants.py). Here as many of a crate as can be are in one check over what
+is kept of its proofs: the checker judges each function for itself. A function that only calls one that isn't proved is judged in a later
 check, and so is the second of two mutants of one function. What isn't refused among others is tried alone.
 
 It works on a copy of the crate, in bin/rooms. The status is 1 where a mutant isn't refused, or could not be tried."""
@@ -40,6 +40,8 @@ class Said:
         self.text, self.status = text, status
         self.verdicts = dict(VERDICT.findall(text))
         self.reached = "logic=proved" in text or "logic=not-proved" in text
+        # (with --only the last line is another)
+        self.ended = self.reached or bool(re.search(r"^only=\d+ proved=\d+", text, re.M))
 
     def is_proved(self):
         return self.status == 0 and "\nlogic=proved " in self.text
