@@ -235,6 +235,14 @@ function! Last(path) abort
 endfunction
 """
 
+    def __exit__(self, *why):
+        # (what it has started would go on for half an hour)
+        self.wire.release()
+        self.keys(f"{NORMAL}:silent! py3 ycm_state.OnVimLeave()\r")
+        text = self.asked_for_text()
+        self.waits(lambda: text() is not None, 10)
+        super().__exit__(*why)
+
     def settings(self):
         # (its server wants the system's Python, whichever one is first on PATH)
         python = "let g:ycm_server_python_interpreter = '/usr/bin/python3'\nlet g:ycm_auto_hover = ''"
