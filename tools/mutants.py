@@ -144,7 +144,9 @@ class Mutant:
         with open(edit.file, encoding="utf-8") as file:
             self.claim = claim_of(file.readline())
         turned = source.proved_with(edit.turned or ())
-        self.functions = [it for it in turned if self.claim and self.claim.is_of(it)]
+        self.named = [it for it in turned if self.claim and self.claim.is_of(it)]
+        # (functions that call each other have one proof, and the prover may refuse it under any of their names)
+        self.functions = source.proved_with(self.named)
 
     @property
     def fault(self) -> Optional[str]:
@@ -153,12 +155,12 @@ class Mutant:
             return self.edit.why
         if not self.claim:
             return "its first line doesn't say by which clause of which function it is refused"
-        return None if self.functions else f"it doesn't turn `{self.claim.function}`, which its first line names"
+        return None if self.named else f"it doesn't turn `{self.claim.function}`, which its first line names"
 
     @property
     def asked(self) -> list:
         """The paths under which its functions are asked for: of a method of a trait its type's, which stands for all of it."""
-        return sorted({"::".join([*it.module, it.owner]) if it.trait else it.path for it in self.functions})
+        return sorted({"::".join([*it.module, it.owner]) if it.trait else it.path for it in self.named})
 
     def try_over(self, libraries: Libraries) -> Outcome:
         """Tries it by a check of its functions alone."""
