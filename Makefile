@@ -18,7 +18,7 @@
 #   make end-to-end        the end-to-end tests alone, on bin/ob0
 #   make faults            what takes longer: each allocation fails in turn, two long conversations, many random changes, texts and runs; WORDS=".." names some
 #   make wrong-bodies      tries each crate's mutants, all at once where that can be; CRATE="NAME.." names some
-#   make surface           the public functions, who uses them and their mutants: docs/SURFACE.md, and how many mutants: README.md
+#   make surface           the public functions and their mutants: docs/SURFACE.md, and how many mutants: README.md
 #   make statement         all definitions that the headline is made of, in reading order: docs/STATEMENT.md
 #   make bench             times the program; nothing fails by time
 PREFIX ?= /usr/local

@@ -506,7 +506,7 @@ def many_documents():
 
 @measure("serve: documents of 1 MB that become a comment that isn't closed")
 def commented_out():
-    """What is kept of a text without lexemes is bounded by its own length: both lines are about the same."""
+    """What is kept of a text without lexemes is bounded by what it counts for: both lines are about the same."""
     text = corpus.module(MIB - 1000)
     with Talk(text) as talk:
         talk.after(did_change("(*"))
@@ -515,6 +515,19 @@ def commented_out():
             talk.after(did_open(text, uri))
             talk.after(did_change("(*", uri))
             if number in (0, 39):
+                said(f"{number + 1} of them: peak memory", megabytes(peak_until_now(talk.process.pid)))
+
+
+@measure("serve: documents of 8 KB that each become one bad character")
+def bad_characters():
+    """What a text without lexemes keeps of the text before counts too: the lines are about the same."""
+    text = corpus.module(8_000)
+    with Talk(text) as talk:
+        for number in range(2000):
+            uri = f"file:///{number}"
+            talk.after(did_open(text, uri))
+            talk.after(did_change("$", uri))
+            if number + 1 in (500, 1000, 2000):
                 said(f"{number + 1} of them: peak memory", megabytes(peak_until_now(talk.process.pid)))
 
 

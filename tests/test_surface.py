@@ -1,4 +1,4 @@
-"""docs/SURFACE.md is of the present sources, and each function that another crate uses has a mutant, or a reason why not."""
+"""docs/SURFACE.md is of the present sources, and each public function has a mutant, or a reason why not."""
 import os
 import shutil
 import subprocess
@@ -7,7 +7,7 @@ import sys
 from harness import TOP, Failed, Skipped, test
 
 
-@test("surface: each public function that another crate uses has a mutant, or a reason why not")
+@test("surface: each public function has a mutant, or a reason why not")
 def surface():
     if not shutil.which("rt"):
         raise Skipped("rt, which reads the sources, isn't here")

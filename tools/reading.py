@@ -34,10 +34,6 @@ class Function:
         result = re.search(r"- > (?!\( \)$)", text)
         return bool(result or re.search(r"& (?:'\w+ )?mut ", text))
 
-    @property
-    def takes_self(self):
-        return bool(re.search(r"\( (?:& )?(?:'\w+ )?(?:mut )?self\b", " ".join(self.head)))
-
     def is_named(self, symbol):
         """Whether the checker means this function, or a closure in it, by the name of a line of its output."""
         at = "::".join([self.crate, *self.module, ""])
@@ -155,7 +151,6 @@ class Source:
 
     def __init__(self, crate):
         self.crate, self.functions, self.constants, self.types = crate, [], {}, {}
-        self.shapes, self.aliases = {}, set()
         self.public_modules, self.brought_out, self.imports = {()}, [], []
         self.words = words_of(sources(crate))
         self.folder = os.path.join(common.TOP, "crates", crate)
@@ -202,8 +197,6 @@ class Source:
                 self.types[name] = (scope.module, is_pub)
         elif word in ("struct", "enum", "type"):
             self.types[name] = (scope.module, is_pub)
-            self.shapes[name] = [it.text for it in words[at + 2 :]]
-            self.aliases |= {name} if word == "type" else set()
         elif word in ("const", "static"):
             self.constants[name] = (scope.file, words[0].line, words[-1].line)
         elif word == "use":

@@ -1,6 +1,6 @@
 //! What a text is, as one value that is kept.
 
-ghost use Rattle.std.specs.Prelude.{◌≡◌, [], true, IfErr, IfOk, MatchOption, map};
+ghost use Rattle.std.specs.Prelude.{◌≡◌, ◌≤◌, [], true, IfErr, IfOk, MatchOption, length, map};
 ghost use Rattle.std.specs.Str.{IsUtf8};
 ghost use Rattle.ob0_scan.specs.Refused.{AreFaults, IsRightRefusalOver};
 ghost use Rattle.ob0_scan.specs.Reused.{kinds, names_in};
@@ -343,6 +343,26 @@ impl Analysis {
         }
     }
 
+    /// How many bytes of text it keeps something of: those of its own text, and those of the text before it whose
+    /// tokens it keeps for the next one.
+    pub fn bytes(&self) -> usize
+        ensures { length self.now ≤ result }
+    {
+        self.text().len().saturating_add(self.last_bytes())
+    }
+
+    /// How many bytes the text has whose tokens are kept beside the own text.
+    fn last_bytes(&self) -> usize {
+        match &self.found {
+            Findings::NoLexemes(ill) => match &ill.last {
+                Some(last) => last.tokens.text().len(),
+                None => 0,
+            },
+            Findings::NoTree(_) => 0,
+            Findings::Module(_) => 0,
+        }
+    }
+
     /// The module that the text is, with its names bound. None where it has no tree.
     pub(crate) fn module_parts(&self) -> Option<&ModuleParts>
         ensures { MatchOption result (¬ IsWellTypedModule self.now)
@@ -381,8 +401,7 @@ impl Analysis {
     }
 }
 
-/// What a text without lexemes keeps of the last text that had some: nothing where that was much longer, so that what
-/// is kept of a text is bounded by its own length.
+/// What a text without lexemes keeps of the last text that had some: nothing where that was much longer.
 fn last_tokens(text: &str, tokens: Tokens, kept: Kept) -> Option<LastTokens>
     requires { AreKept tokens.tokens kept }
     ensures { HasProcedures result }

@@ -113,7 +113,7 @@ visible_from = visit.visible_from
 abbrev pub left_to : ℕ → Visit → Visit
 left_to = visit.left_to
 
--- `types_after_heading` of `Visiting`, with a list of marks
+-- `after_heading` of `Visiting`, with a list of marks
 abbrev pub after_heading : ℕ → ℕ → Visit → Visit
 after_heading = visit.after_heading
 

@@ -107,7 +107,7 @@ visit_procedure = visit.visit_procedure put
 abbrev pub visit_module : Tree ℕ module_text → Visit → Visit
 visit_module = visit.visit_module put
 
--- `shown` of `Visiting`, with a table by token
+-- `visible` of `Visiting`, with a table by token
 abbrev pub visible : ℕ → ℕ → Visit → Visit
 visible = visit.visible
 
@@ -119,7 +119,7 @@ visible_from = visit.visible_from
 abbrev pub left_to : ℕ → Visit → Visit
 left_to = visit.left_to
 
--- `types_after_heading` of `Visiting`, with a table by token
+-- `after_heading` of `Visiting`, with a table by token
 abbrev pub after_heading : ℕ → ℕ → Visit → Visit
 after_heading = visit.after_heading
 

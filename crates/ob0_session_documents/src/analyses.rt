@@ -7,10 +7,11 @@ use lru::LruCache;
 use ob0_analysis::Analysis;
 use std::alloc::{AllocError, Global};
 
-/// How many bytes the analyses that are kept count for together, at most: those of two of the longest texts.
+/// How many bytes the analyses that are kept count for together, at most, where there are several: those of two of the
+/// longest texts.
 const MAX_BYTES: usize = 2_099_200;
 
-/// What an analysis counts for beside the bytes of its text, so that those of empty texts are bounded too.
+/// What an analysis counts for beside the bytes of what it keeps, so that those of empty texts are bounded too.
 const BYTES_PER_ANALYSIS: usize = 1_024;
 
 /// Analyses of texts by the uris of their documents. What is put in may be dropped at any time.
@@ -49,15 +50,11 @@ impl Analyses {
     }
 
     /// Keeps the analysis of a document, and drops those that weren't used for longest where there is too much in all.
-    /// One that is too much alone isn't kept.
+    /// One that is too much alone, as that of a text that is too long, is kept alone.
     pub fn put(&mut self, uri: &str, analysis: Analysis) -> Result<(), AllocError>
         ensures { KeepsAlso self.old uri.now analysis self.new }
     {
-        let bytes = bytes_of(&analysis);
-        if bytes > MAX_BYTES {
-            return Ok(());
-        }
-        self.free(bytes);
+        self.free(bytes_of(&analysis));
         self.insert(uri, analysis)
     }
 
@@ -101,7 +98,7 @@ impl Analyses {
 fn bytes_of(analysis: &Analysis) -> usize
     ensures { BYTES_PER_ANALYSIS ≤ result }
 {
-    analysis.text().len().saturating_add(BYTES_PER_ANALYSIS)
+    analysis.bytes().saturating_add(BYTES_PER_ANALYSIS)
 }
 
 /// A cache with one analysis.

@@ -1,5 +1,4 @@
-//! Faults of worked texts: code, start and end of each, in the order of their places. Which faults a module has, and
-//! where, no contract says.
+//! Faults of worked texts: code, start and end of each, in the order of their places.
 
 ghost use Rattle.std.specs.Prelude.{⊤};
 

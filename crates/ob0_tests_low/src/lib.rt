@@ -1,5 +1,5 @@
-//! Tests of the low layers: streams, texts, lexemes, numbers and messages. They test what no contract says, and
-//! examples with known answers.
+//! Tests of the low layers: streams, texts, lexemes, numbers and messages. They are examples with known answers, calls
+//! with ample memory, and allocations that fail.
 #![tactic(auto)]
 
 #[cfg(test)]

@@ -79,7 +79,7 @@ fn are_held(alloc: Global) -> bool {
     }
 }
 
-// `make faults` runs this with each allocation refused in turn.
+// `make test` runs this with each allocation refused in turn.
 #[test]
 fn a_refused_note_leaves_its_document_alone_out_of_step(rt: HostRuntime) {
     assert!(rt; are_held(rt.alloc()));

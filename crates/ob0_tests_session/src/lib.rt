@@ -1,5 +1,6 @@
 //! Tests of the session, of `serve`, of the commands and of command lines, and of worlds of an editor and a server. They
-//! check what no contract says, and examples with known answers; what the built program displays is tested end to end.
+//! are examples with known answers, and devices and allocations that fail; what the built program displays is tested end
+//! to end.
 #![tactic(auto)]
 
 #[cfg(test)]

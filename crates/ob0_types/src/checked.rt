@@ -172,7 +172,7 @@ impl<'t> Checked<'t> {
     ghost use Rattle.ob0_types.specs.CheckedModules.{AreTypesOf, IsChecked, checked_by};
 
     /// Joins what was found of a module's types to the module.
-    pub fn new(resolved: &'t Resolved<'t>, types: ModuleTypes) -> Checked<'t>
+    fn new(resolved: &'t Resolved<'t>, types: ModuleTypes) -> Checked<'t>
         requires { AreTypesOf resolved.now types }
         ensures { result ≡ checked_by resolved.now types }
     {

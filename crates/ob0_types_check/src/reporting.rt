@@ -46,13 +46,13 @@ pub fn report_faults<'t>(alloc: Global, resolved: &'t Resolved<'t>) -> Result<Re
         × HasDeclarations (named_tree_of resolved.now.module_read) t)) }
 {
     declarations_known();
-    let mut teller = Reporter::new(alloc, resolved)?;
-    teller.block(resolved.module().block())?;
+    let mut reporter = Reporter::new(alloc, resolved)?;
+    reporter.block(resolved.module().block())?;
     let Reporter {
         alloc: _,
         supposed,
         faults,
-    } = teller;
+    } = reporter;
     if faults.is_empty() {
         let known = known_of(alloc, supposed)?;
         Ok(Report {

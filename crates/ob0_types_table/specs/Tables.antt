@@ -3,6 +3,7 @@
 use Rattle.std.specs.Prelude.{◌≡◌, ℕ, ◌<◌, Bool, true, false, List, [], ◌∷◌, ◌++◌, map, length, slice_index_or, All, Some, None, Option, string_bytes}
 use Rattle.ob0_language_values.specs.Scalars.{scalar_value}
 use Rattle.ob0_language_values.specs.Values.{FieldShapes, Shape, array_shape, boolean_shape, integer_shape, next_field_shape, no_field_shape, record_shape}
+use Rattle.ob0_scan.specs.Scanned.{max_text}
 use Rattle.ob0_types_table.specs.declared.types.TypeId.{TypeId}
 use Rattle.ob0_types_table.specs.declared.types.TypeId.TheVariants as type
 use Rattle.ob0_types_table.specs.declared.known.TypeEntry as code
@@ -17,9 +18,10 @@ use Rattle.ob0_language_types.specs.Expressions.{Object, Standard, a_constant, a
 use Rattle.ob0_language_types.specs.Typing.{depth, scalars}
 use Rattle.ob0_language_types.specs.WellTyped.{Formal, Mode, Signature, by_place, by_value}
 
--- the shape of what has a fault
+-- The shape of what has a fault. No ARRAY or RECORD has its ordinal, since a text has fewer of them
+-- than bytes: so it isn't the shape of a type of a module.
 abbrev pub no_shape : Shape
-no_shape = record_shape 0 no_field_shape
+no_shape = record_shape max_text no_field_shape
 
 -- an array, or the type without parts
 abbrev pub only_array : Shape → Shape

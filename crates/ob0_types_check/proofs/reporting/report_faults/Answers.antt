@@ -11,14 +11,14 @@ known_of-requires c =
     let r = c.args.resolved.now in
     let t = c.block-2.new.self in
     let ok = t.faults.ok.0 in
-    in_order r c.block.result.now c.in_ok-teller.teller.faults.items t.faults.items (so_far_in c.in_ok-teller.teller.supposed) t.supposed (c.block.ensures ∙ ap (λ m. m.block) c.module.ensures.value) c.in_ok-teller.ensures.faults c.in_ok-teller.ensures.supposed c.in_ok-block.ensures c.declarations_known.ensures c.module.ensures.resolved
+    in_order r c.block.result.now c.in_ok-reporter.reporter.faults.items t.faults.items (so_far_in c.in_ok-reporter.reporter.supposed) t.supposed (c.block.ensures ∙ ap (λ m. m.block) c.module.ensures.value) c.in_ok-reporter.ensures.faults c.in_ok-reporter.ensures.supposed c.in_ok-block.ensures c.declarations_known.ensures c.module.ensures.resolved
     (is_nothing t.faults.items (vec_len t.faults) c.is_empty.result (omega (arith, ok)) c.is_empty.ensures c.if-is_empty.true)
 
 pub returns-in_ok-known-clause-faults : goal.returns-in_ok-known-clause-faults
 returns-in_ok-known-clause-faults c =
     let r = c.args.resolved.now in
     let t = c.block-2.new.self in
-    all_reported r c.block.result.now c.in_ok-teller.teller.faults.items t.faults.items (so_far_in c.in_ok-teller.teller.supposed) t.supposed (c.block.ensures ∙ ap (λ m. m.block) c.module.ensures.value) c.in_ok-teller.ensures.faults c.in_ok-teller.ensures.supposed c.in_ok-block.ensures
+    all_reported r c.block.result.now c.in_ok-reporter.reporter.faults.items t.faults.items (so_far_in c.in_ok-reporter.reporter.supposed) t.supposed (c.block.ensures ∙ ap (λ m. m.block) c.module.ensures.value) c.in_ok-reporter.ensures.faults c.in_ok-reporter.ensures.supposed c.in_ok-block.ensures
 
 pub returns-in_ok-known-clause-known : goal.returns-in_ok-known-clause-known
 returns-in_ok-known-clause-known c =
@@ -26,20 +26,20 @@ returns-in_ok-known-clause-known c =
     let t = c.block-2.new.self in
     let ok = t.faults.ok.0 in
     let none = is_nothing t.faults.items (vec_len t.faults) c.is_empty.result (omega (arith, ok)) c.is_empty.ensures c.if-is_empty.true in
-    let all = all_reported r c.block.result.now c.in_ok-teller.teller.faults.items t.faults.items (so_far_in c.in_ok-teller.teller.supposed) t.supposed (c.block.ensures ∙ ap (λ m. m.block) c.module.ensures.value) c.in_ok-teller.ensures.faults c.in_ok-teller.ensures.supposed c.in_ok-block.ensures in
-    let table = declares r c.block.result.now c.in_ok-teller.teller.faults.items t.faults.items (so_far_in c.in_ok-teller.teller.supposed) t.supposed (c.block.ensures ∙ ap (λ m. m.block) c.module.ensures.value) c.in_ok-teller.ensures.faults c.in_ok-teller.ensures.supposed c.in_ok-block.ensures c.declarations_known.ensures c.module.ensures.resolved none in
+    let all = all_reported r c.block.result.now c.in_ok-reporter.reporter.faults.items t.faults.items (so_far_in c.in_ok-reporter.reporter.supposed) t.supposed (c.block.ensures ∙ ap (λ m. m.block) c.module.ensures.value) c.in_ok-reporter.ensures.faults c.in_ok-reporter.ensures.supposed c.in_ok-block.ensures in
+    let table = declares r c.block.result.now c.in_ok-reporter.reporter.faults.items t.faults.items (so_far_in c.in_ok-reporter.reporter.supposed) t.supposed (c.block.ensures ∙ ap (λ m. m.block) c.module.ensures.value) c.in_ok-reporter.ensures.faults c.in_ok-reporter.ensures.supposed c.in_ok-block.ensures c.declarations_known.ensures c.module.ensures.resolved none in
     (sym all ∙ none, subst (HasDeclarations (named_tree_of r.module_read)) (sym c.in_ok-known.ensures) table)
 
 pub returns-else-is_empty-clause-faults : goal.returns-else-is_empty-clause-faults
 returns-else-is_empty-clause-faults c =
     let r = c.args.resolved.now in
     let t = c.block-2.new.self in
-    all_reported r c.block.result.now c.in_ok-teller.teller.faults.items t.faults.items (so_far_in c.in_ok-teller.teller.supposed) t.supposed (c.block.ensures ∙ ap (λ m. m.block) c.module.ensures.value) c.in_ok-teller.ensures.faults c.in_ok-teller.ensures.supposed c.in_ok-block.ensures
+    all_reported r c.block.result.now c.in_ok-reporter.reporter.faults.items t.faults.items (so_far_in c.in_ok-reporter.reporter.supposed) t.supposed (c.block.ensures ∙ ap (λ m. m.block) c.module.ensures.value) c.in_ok-reporter.ensures.faults c.in_ok-reporter.ensures.supposed c.in_ok-block.ensures
 
 pub returns-else-is_empty-clause-known : goal.returns-else-is_empty-clause-known
 returns-else-is_empty-clause-known c =
     let r = c.args.resolved.now in
     let t = c.block-2.new.self in
     let ok = t.faults.ok.0 in
-    let all = all_reported r c.block.result.now c.in_ok-teller.teller.faults.items t.faults.items (so_far_in c.in_ok-teller.teller.supposed) t.supposed (c.block.ensures ∙ ap (λ m. m.block) c.module.ensures.value) c.in_ok-teller.ensures.faults c.in_ok-teller.ensures.supposed c.in_ok-block.ensures in
+    let all = all_reported r c.block.result.now c.in_ok-reporter.reporter.faults.items t.faults.items (so_far_in c.in_ok-reporter.reporter.supposed) t.supposed (c.block.ensures ∙ ap (λ m. m.block) c.module.ensures.value) c.in_ok-reporter.ensures.faults c.in_ok-reporter.ensures.supposed c.in_ok-block.ensures in
     λ none. is_something t.faults.items (vec_len t.faults) c.is_empty.result (omega (arith, ok)) c.is_empty.ensures c.if-is_empty.false (all ∙ none)
