@@ -1,4 +1,8 @@
 //! A type with its parts.
+//!
+//! The scalars and the depth that come with an array or a record are those of its shape (`PartsAreCounted`). There are
+//! no parts exactly where the `TypeId` is none of the module's (`is_known_type`), though the empty record with the
+//! ordinal 0 has the same shape as what has a fault.
 
 ghost use Rattle.std.specs.Prelude.{◌≡◌};
 ghost use Rattle.ob0_types_table.specs.Parts.{PartsAreCounted, has_parts, is_known_type, parts_shape};
