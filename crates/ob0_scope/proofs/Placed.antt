@@ -1,5 +1,4 @@
 -- The identifiers of a module and what they are bound to, by the table of ordinals and by token.
--- That equal names at all leaves make equal trees is a file of one line a constructor (`Alike`).
 use Rattle.std.proofs.Common.{◌≡◌, ℕ, ◌+◌, Bool, true, false, not, cond, ◌&&◌, ◌||◌, Option, Some, None, List, [], ◌∷◌, ◌++◌, map, length, refl, sym, ap, ◌∙◌, subst, option_map, option_and_then, slice_get, append_assoc, arith, length-append}
 use Rattle.std.specs.List.{filter, find, position_from, zip}
 use Rattle.ob0_scan.specs.Scanned.{Scanned}

@@ -1,5 +1,5 @@
 -- What is supposed is what is known so far.
--- So nothing about expressions and statements knows of the value that goes along in what is reported of declarations.
+-- So what is said of expressions and statements needs no value that goes along, as declarations do (`facts_same`).
 use Rattle.std.proofs.Common.{◌≡◌, ℕ, Bool, List, [], ◌∷◌, if◌then◌else◌, string_bytes, Option, Some, None, map, option_map, option_and_then, slice_get, slice_index_or, set, refl, sym, ap, ◌∙◌}
 use Rattle.std.proofs.lemmas.List.{map-set}
 use Rattle.std.proofs.lemmas.Option.{slice_get-map}

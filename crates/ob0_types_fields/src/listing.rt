@@ -4,8 +4,7 @@
 //! finds nothing the walk over all isn't made, since a field that is selected is declared (`fields_declared`). So a
 //! module without RECORD costs a look at its declarations. The laws require `IsResolution` and `WellTyped`.
 //!
-//! The field at a place is found by halving: of identifiers in text order it is the first that doesn't end before the
-//! place. A list doesn't hold its text, and a token that a text hasn't got has the empty span at its start, so the
+//! A list doesn't hold its text, and a token that a text hasn't got has the empty span at its start, so the
 //! clause of `FieldList::at` has a premise (`AreInTextOrder`). A module's fields fulfil it (`fields_ascend`).
 
 ghost use Rattle.std.specs.Prelude.{◌≡◌, [], IfOk};
