@@ -1,4 +1,6 @@
 -- What is answered at a name of a constant.
+-- As at uses, `Made` and `Refused` carry what the edits say over to the module of the contract; `all_seen` turns "no
+-- use is hidden" into what the law of inlining everywhere requires.
 use Rattle.std.proofs.Common.{zero, arith, ◌≡◌, ◌⊎◌, ℕ, ℤ, suc, ◌+◌, ◌-◌, ◌<◌, ◌≤◌, ◌&&◌, ◌||◌, not, Bool, true, false, nat_lt, if◌then◌else◌, Option, Some, None, List, [], ◌∷◌, length, map, refl, sym, ap, ◌∙◌, inl, inr, IsSomeAnd, MatchOption, option_and_then, slice_get, eq-eqb, true≢false}
 use Rattle.std.proofs.lemmas.Bool.{le-ltb, lt-ltb}
 use Rattle.std.specs.List.{list_any, range_with_len}

@@ -1,4 +1,5 @@
 -- What is answered at a use.
+-- What the edits say is carried over to the module of the contract as one record (`Made`, `Refused`), by one `subst`.
 use Rattle.std.proofs.Common.{cond, zero, arith, eq-eqb, ◌≡◌, ◌⊎◌, ℕ, suc, ◌+◌, ◌<◌, ◌≤◌, ◌==◌, ◌||◌, Bool, true, false, nat_lt, if◌then◌else◌, Option, Some, None, List, [], ◌∷◌, length, map, refl, sym, ap, ◌∙◌, subst, inl, inr, option_and_then, option_map, slice_get, eqb-true, true≢false}
 use Rattle.std.proofs.lemmas.Bool.{le-ltb, lt-ltb}
 use Rattle.std.specs.List.{position_from}

@@ -1,4 +1,6 @@
 -- Where the declaration of a constant begins and ends, and that its uses follow it.
+-- The code finds the declaring token and the first semicolon after it, and between them no token is one; so a constant
+-- with a value always has both (`token_known`, `end_known`).
 use Rattle.std.proofs.Common.{◌≡◌, ℕ, suc, ◌+◌, ◌-◌, Bool, true, false, cond, if◌then◌else◌, Option, Some, None, List, [], ◌∷◌, ◌++◌, drop, map, length, refl, sym, ap, ◌∙◌, subst, arith, slice_get, append_assoc}
 use Rattle.std.proofs.lemmas.Bool.{le-ltb}
 use Rattle.std.specs.List.{filter, position_from, zip}

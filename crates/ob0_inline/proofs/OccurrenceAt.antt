@@ -1,4 +1,5 @@
 -- The occurrence at a token, found by halving: tokens of occurrences ascend.
+-- What halving finds is what a walk finds (`halved`). The occurrence is looked for last, once the name is a constant's.
 use Rattle.std.proofs.Common.{◌≡◌, ◌≢◌, ℕ, zero, suc, ◌+◌, ◌<◌, ◌≤◌, ◌==◌, Bool, true, false, cond, Some, None, Result, Ok, Err, List, [], ◌∷◌, length, get_or, refl, sym, ap, ◌∙◌, eq-eqb, arith}
 use Rattle.std.specs.Prelude.{nat_lt}
 use Rattle.std.specs.Result.{result_ok}

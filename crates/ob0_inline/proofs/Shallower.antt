@@ -1,4 +1,6 @@
 -- The inlined module is nested at most one level deeper than the module.
+-- So the new text is parsed only where the module is nested as deep as a module may be; taking a declaration out makes
+-- no tree deeper.
 use Rattle.std.proofs.Common.{ℕ, suc, ◌+◌, ◌≤◌, ◌==◌, Bool, true, false, List, if◌then◌else◌, subst, arith}
 use Rattle.ob0_tree.specs.Parsed.{Parsed, tree_of}
 use Rattle.ob0_tree.specs.Tree.{Tree, block, constant, constants, declares, declares_constants, declares_procedure, end, has_body, is_module, item, items, maybe, module_text, more, nesting, none, one, procedure}

@@ -1,4 +1,7 @@
 -- The declaration of a constant taken out of a tree: what is left, over any names, and which tokens are gone.
+-- `gone_module` is the module without the declaration over any names. Taking out and putting factors in place of names
+-- come to the same in either order (`gone_module_inlined`). `Taken`: the tokens of the tree are those before (with
+-- CONST or a semicolon), then the declaration from its name to its semicolon, then the rest; no semicolon is inside.
 use Rattle.std.proofs.Common.{zero, slice_get, length-append, ◌≡◌, ◌⊎◌, ℕ, suc, ◌+◌, ◌<◌, ◌≤◌, ◌==◌, Bool, true, false, if◌then◌else◌, Option, Some, None, List, [], ◌∷◌, ◌++◌, length, refl, sym, ap, ◌∙◌, arith, append_assoc, append-nil, ne_eqb}
 use Rattle.ob0_scan.specs.declared.lexeme.Reserved.TheVariants as reserved
 use Rattle.ob0_scan.specs.declared.lexeme.Symbol.TheVariants as symbol

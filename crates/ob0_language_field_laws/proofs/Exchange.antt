@@ -1,4 +1,7 @@
 -- Where a new name for a field is free, that a field is renamed is that its name and the new one change places.
+-- Renaming is no injection: it writes both the field and the new name as the new name. The exchange keeps all names
+-- apart, and where the new name is free it agrees with the renaming on every field that a record of the module
+-- declares; two ways to write fields that agree on these write a module that fits alike.
 use Rattle.std.proofs.Common.{◌≡◌, ℕ, Bool, true, false, not, ◌&&◌, ◌||◌, List, [], ◌∷◌, if◌then◌else◌, ◌==◌, sym, refl, ap, ◌∙◌, subst}
 use Rattle.std.specs.List.{list_any}
 use Rattle.std.proofs.lemmas.Slice.Eq.{bytes_eq-Decides}

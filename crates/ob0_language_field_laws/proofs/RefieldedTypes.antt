@@ -1,4 +1,6 @@
 -- Types of expressions, and types that texts denote, with fields under other names.
+-- Everything is natural in how fields are written: over an environment with its types rewritten, the tree rewritten has
+-- the types rewritten. Each step is an equation, so no premise is needed.
 use Rattle.std.proofs.Common.{◌≡◌, ℕ, suc, ◌+◌, ◌∷◌, map, Some, None, Option, option_map, option_and_then, refl, ap, ◌∙◌, sym}
 use Rattle.ob0_tree.specs.Tree.{Tree, addend, adds, array_type, compares, designator, end, expression, factor, field, fields, further_fields, further_name, index, integer, items, listed, more, multiplier, multiplies, named_type, names, negation, no_fields, none, one, parenthesised, product, record_type, relates, selector, simple, some_fields, sum, term, then_fields, then_name, written_type}
 use Rattle.ob0_language_names.specs.Mapping.{with_names}

@@ -1,4 +1,9 @@
 -- Values, places and the store of two runs: one with the ordinal of its record before each field's name, the other with its fields under other names.
+-- In the first run, that of tagged fields, a selector finds a field only in a value of its own record. So where it
+-- finds something, the second run finds the same, each step of the first is stuck or the second makes the same one, and
+-- the tagged module fits, so its run is never stuck. A module as written and a module with fields under other names are
+-- each compared with the tagged one; so no typing of the store is carried along. What both runs hold is a function of
+-- one thing (`value_by`, `place_by`, `state_by`).
 use Rattle.std.proofs.Common.{◌≡◌, ℕ, zero, suc, Bool, true, false, ◌&&◌, List, [], ◌∷◌, map, ◌⊎◌, inl, inr, if◌then◌else◌, ◌==◌, slice_get, slice_set, Some, None, Option, option_map, option_and_then, sym, refl, ap, ◌∙◌, subst, subst₂, eq-eqb}
 use Rattle.std.proofs.Math.Dec.{eqb-suc-suc, eqb-zero-suc}
 use Rattle.std.proofs.lemmas.Bool.{eqb-true}

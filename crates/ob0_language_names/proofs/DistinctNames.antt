@@ -1,4 +1,6 @@
 -- Names of which none is twice: in any order, and after a renaming.
+-- A scope is a list, newest first; the names of a block in text order are its names in reverse. `onto xs ys` is xs in
+-- reverse before ys, and `onto (xs ++ ys) zs` is `onto ys (onto xs zs)`.
 use Rattle.std.proofs.Common.{Bool, List, Some, [], ap, arith, eqb-true, falls, false, if◌then◌else◌, ne_eqb, not, refl, sym, true, ℕ, ◌&&◌, ◌++◌, ◌<◌, ◌==◌, ◌||◌, ◌∙◌, ◌∷◌, ◌≡◌, ◌≤◌}
 use Rattle.ob0_language_names.specs.DeclaredOnce.{are_distinct, is_among}
 use Rattle.ob0_language_names.specs.Names.{Name, same_name}

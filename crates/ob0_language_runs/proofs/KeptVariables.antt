@@ -1,4 +1,8 @@
 -- Freeing a call's variables at its return leaves every run as it is.
+-- A list says where each variable of the smaller store is in the larger one, each at a place of its own; bindings and
+-- arguments are the same but for their places. Statements leave the list as it is, since a call that returns cuts the
+-- smaller store back to it; declarations and parameters put new variables after (`FrameGrown`). It requires no types:
+-- what isn't there is stuck in both.
 use Rattle.std.proofs.Common.{◌≡◌, ℕ, zero, suc, ◌+◌, true, false, List, [], ◌∷◌, ◌++◌, length, ℤ, Some, None, Option, option_map, option_and_then, sym, refl, ap, ◌∙◌, subst, append_assoc, append-nil}
 use Rattle.ob0_tree.specs.Tree.{Tree, begins, block, body, constant, declares_constant, declares_type, declares_variable, end, expression, items, maybe, module_text, more, none, one, procedure, type_name, variable, written_type}
 use Rattle.ob0_language_names.specs.Names.{Naming}

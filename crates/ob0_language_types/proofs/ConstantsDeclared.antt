@@ -1,4 +1,7 @@
 -- The value of a constant by its ordinal is what its declaration is bound to in the numbered tree.
+-- `value_of_constant` walks over names with ordinals on the way, `declared_object` over the numbered tree. For each
+-- block and each list of procedures at once: they bind ordinals of one range alone (`Binds`), and the value of each
+-- ordinal from the range's first on is what is bound to it (`AreValuesBetween`).
 use Rattle.std.proofs.Common.{◌≡◌, ℕ, suc, ◌+◌, ◌<◌, ◌≤◌, ◌==◌, Bool, true, false, cond, if◌then◌else◌, nat_lt, ◌&&◌, List, [], ◌∷◌, ◌++◌, map, Some, None, Option, option_map, option_and_then, refl, sym, ap, ◌∙◌, subst, subst₂, append_assoc, arith, le_refl, le_of_lt, lit<, eq-eqb, eqb-true, true≢false}
 use Rattle.std.proofs.lemmas.Bool.{and_parts, le-ltb, lt-ltb, ltb-false, ltb-true, ne_eqb}
 use Rattle.std.proofs.lemmas.List.{append-nil}

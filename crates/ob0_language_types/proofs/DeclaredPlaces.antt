@@ -1,4 +1,6 @@
 -- Where statements are checked, names are bound to what their declarations are.
+-- `Has k n all xs` says that of a range of ordinals all bindings have what these have, `Includes all env` that they
+-- have what an environment has.
 use Rattle.std.proofs.Common.{◌≡◌, ℕ, suc, ◌+◌, ◌<◌, ◌≤◌, Bool, true, false, nat_lt, List, [], ◌∷◌, ◌++◌, All, Some, None, refl, sym, ap, ◌∙◌, subst, arith, le_refl, le_of_lt}
 use Rattle.std.proofs.lemmas.Bool.{ltb-false, ltb-true}
 use Rattle.std.proofs.lemmas.List.{append-nil}

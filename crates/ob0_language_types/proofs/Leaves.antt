@@ -1,4 +1,6 @@
 -- Edited expressions and types at a place: over the environment that an edit leaves they mean what they meant.
+-- A tree means the same where its occurrences mean the same, by tagging each name with what it means (`Tag`) and the
+-- lemmas of naturality; so no walk over expressions or statements is needed for it.
 use Rattle.std.proofs.Common.{Bool, List, None, Option, Some, [], ap, codes, eqb-true, false, option_map, refl, suc, sym, true, true≢false, ℕ, ⊎_elim, ◌∙◌, ◌∷◌, ◌≡◌, ◌≤◌}
 use Rattle.ob0_tree.specs.Tree.{Tree, expression, occurrences, written_type}
 use Rattle.ob0_language_names.specs.Mapping.{with_names}

@@ -1,4 +1,5 @@
 -- Environments with the ordinals of their bindings: read as they are, and as an edit leaves them.
+-- A mark is a name, an ordinal and an object; `read` has the marks as they are, `read_edited` as the edit leaves them.
 use Rattle.std.proofs.Common.{Bool, List, None, Option, Some, [], ap, arith, eqb-true, false, if◌then◌else◌, le_of_lt, option_map, refl, sym, true, ℕ, ◌&&◌, ◌<◌, ◌==◌, ◌∙◌, ◌∷◌, ◌≡◌, ◌≤◌}
 use Rattle.ob0_language_names.specs.Names.{Name, as_names, same_name}
 use Rattle.ob0_language_names.specs.Scopes.{Scope, ordinal_of}

@@ -1,4 +1,6 @@
 -- A pass over the tokens and comments of a text: which comes next, and the gap before it.
+-- `next_of` says which of two lists comes first, and `comment_step`, `token_step`, `sited_ends` give all that the loop
+-- needs; `sited_moved` moves the loop's fact along equations.
 use Rattle.std.proofs.Common.{◌≡◌, ℕ, ◌+◌, ◌-◌, ◌<◌, ◌≤◌, Bool, true, false, ◌||◌, ◌⊎◌, inl, inr, Option, Some, None, List, [], ◌∷◌, ◌++◌, length, take, drop, slice_range, refl, sym, ap, ◌∙◌, subst, arith, append_assoc, append-nil, length-drop, is_none}
 use Rattle.std.proofs.Math.Seq.{take-append-add}
 use Rattle.std.proofs.lemmas.Bool.Decides.{nat_tests}

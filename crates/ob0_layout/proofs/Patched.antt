@@ -1,4 +1,5 @@
 -- The edits of the gaps, made at once, give the layout.
+-- No gap begins or ends inside a line's ending.
 use Rattle.std.proofs.Common.{◌≡◌, ℕ, zero, suc, ◌+◌, ◌-◌, ◌*◌, ◌<◌, Bool, true, false, ◌||◌, cond, Option, Some, None, List, [], ◌∷◌, ◌++◌, length, take, drop, get_or, map, replicate, sym, ap, ◌∙◌, subst, arith, append_assoc, append-nil, string_bytes}
 use Rattle.std.specs.Str.{IsUtf8, IsCharBoundary, chars, IsAscii}
 use Rattle.std.proofs.lemmas.Str.{IsCharBoundary-start, IsUtf8-from_ascii, IsUtf8-append, IsUtf8-drop, IsUtf8-between}

@@ -1,4 +1,7 @@
 //! The gaps of a text, each with what is to be there.
+//!
+//! One pass over tokens and comments keeps the gaps that change alone: of the others nothing is stored, and no text is
+//! made to compare.
 
 ghost use Rattle.std.specs.Prelude.{◌≡◌, ◌||◌, ◌==◌, ◌++◌, ◌∷◌, [], IfOk, OnOk, is_none, drop, length};
 ghost use Rattle.ob0_scan.specs.Scanned.{IsScan};

@@ -1,4 +1,6 @@
 -- Parameters gathered from names and a signature side by side.
+-- Those found so far and those left are all (`Gathered`). It is over any two lists with a function from each, so that
+-- code and definition meet without a `map` in between.
 use Rattle.std.proofs.Common.{◌≡◌, ℕ, ◌<◌, zero, suc, min, List, [], ◌∷◌, ◌++◌, length, drop, map, get_or, refl, ap, sym, ◌∙◌, arith, append_assoc, append-nil}
 use Rattle.ob0_refs.specs.Declarations.{parameter_hover, parameters_hover}
 use Rattle.ob0_refs.specs.Hovers.{HoverParameter}

@@ -1,4 +1,10 @@
 //! Questions about a place: about the name that is there, or else about the field.
+//!
+//! A place is on a name where `name_at` of `ob0_scope` returns one, else on a field where `field_at` of `ob0_types`
+//! does. Renaming uses the same two, so what can be renamed at a place is what is answered there, and the references to
+//! a field are the identifiers that its renaming writes. At names a search by halving in the tokens takes no memory,
+//! and references take one pass over the table of ordinals, from the declaring token on; at fields a search by halving
+//! in the module's fields, which are kept with it.
 
 ghost use Rattle.std.specs.Prelude.{◌≡◌, IfOk, Some};
 ghost use Rattle.ob0_refs.specs.Questions.{AreReferencesAt, at_field, definition_at, field_declared, field_named_at, field_references, index_of, identified_at, other_tokens};

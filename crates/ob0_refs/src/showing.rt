@@ -1,4 +1,7 @@
 //! The hover texts of names, by what their declarations are.
+//!
+//! A procedure is bound to its signature, which has no names: its parameters are the declarations after its own in the
+//! text, as many as the signature has. Predeclared names are known by their ordinals (0 to 6).
 
 ghost use Rattle.std.specs.Prelude.{◌≡◌, ◌+◌, ◌-◌, [], IfOk, Some, drop, map, option_map, string_bytes};
 ghost use Rattle.ob0_tree.specs.Parsed.{tree_of};

@@ -1,4 +1,6 @@
 //! The texts of types.
+//!
+//! A text is made by the shape, level by level; that of an array of arrays is copied once for each level (100 at most).
 
 ghost use Rattle.std.specs.Prelude.{◌≡◌, IfOk, string_bytes};
 ghost use Rattle.ob0_refs.specs.Hovers.{type_text};

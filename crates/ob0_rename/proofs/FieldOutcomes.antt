@@ -1,4 +1,6 @@
 -- What is answered for a field: by another field of its record that has the new name, or by the edits.
+-- `field_there` makes the tree with the new name at the tokens of a field the module with the field renamed; where the
+-- new name is the old one, each of these tokens has it (`written-so`).
 use Rattle.std.proofs.Common.{◌≡◌, ℕ, ◌<◌, Bool, true, false, not, is_some, ◌&&◌, ◌||◌, ◌==◌, if◌then◌else◌, Option, Some, None, Result, Ok, Err, Vec, List, [], ◌∷◌, length, option_map, inl, inr, refl, sym, ap, ◌∙◌, subst, arith, eqb-true}
 use Rattle.std.specs.List.{list_any}
 use Rattle.std.specs.declared.alloc.Global.{Global}

@@ -1,4 +1,5 @@
 -- A declaration's own name is free, and what has a name in its block is declared in the module.
+-- No other declaration of its block has the name, since names are declared once (`own_name_free`).
 use Rattle.std.proofs.Common.{◌≡◌, ℕ, suc, ◌≤◌, ◌<◌, ◌==◌, ◌&&◌, ◌||◌, not, Bool, true, false, if◌then◌else◌, Option, Some, None, List, [], ◌∷◌, ◌++◌, refl, sym, ap, ◌∙◌, arith, append-nil, le_trans, le_refl, subst}
 use Rattle.std.specs.List.{list_any}
 use Rattle.std.specs.Option.{option_or}

@@ -1,4 +1,8 @@
 -- Values whose texts are written one after the other, and read back.
+-- `object_of` is the one lemma for every object: the calls are handed to it in order, and that the names need no escape
+-- and are in order is `refl` twice where they are literals. `array_of` ends a list, whose loop uses `each_none`,
+-- `each_next`, `each_done`. `written` ends a message: what was written after nothing has the value's text, and reads
+-- back. A range's pieces are taken in order by `position_written` and `range_text`.
 use Rattle.std.proofs.Common.{◌≡◌, ◌∙◌, ◌≤◌, ◌<◌, ◌^◌, ℕ, zero, suc, ℤ, pos, negsuc, List, [], ◌∷◌, ◌++◌, Bool, true, false, Option, Some, option_map, option_and_then, decimal, SFits, w64, length, take, get_or, map, ◌+◌, refl, sym, ap, ap₂, subst, arith, add-one, append_assoc, append-nil, take_all, nat_le, nat_lt, ◌&&◌, ◌==◌, not, codes}
 use Rattle.std.proofs.Math.Bool.{and-true as and_true}
 use Rattle.std.proofs.lemmas.Bool.{and_parts, eqb-false, leb-true, lt-ltb, not-true}

@@ -1,4 +1,9 @@
 //! The changes of a document, as they are reported.
+//!
+//! A text that is reported isn't copied here: params are taken out of the message by value, and the text out of them,
+//! last, when all that is borrowed from the same map has been read. A uri and a method are copied, since they are short
+//! and the value that they are in is still needed. A range that is null counts as absent (the whole text); one that
+//! can't be read makes the whole notification one that can't be read.
 ghost use Rattle.std.specs.Prelude.{◌≡◌, IfOk, codes, option_and_then, option_map, map};
 ghost use Rattle.ob0_text.specs.OpenDocuments.{reported_change};
 ghost use Rattle.serde_json.specs.Find.{get, as_array};

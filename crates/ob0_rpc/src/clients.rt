@@ -1,4 +1,6 @@
 //! What clients can do.
+//!
+//! A member of another shape counts as absent, also on the way to it.
 ghost use Rattle.std.specs.Prelude.{◌≡◌, ◌∷◌, [], codes, is_some, option_map, option_and_then};
 ghost use Rattle.serde_json.specs.Find.{as_object, as_str};
 ghost use Rattle.serde_json.specs.View.{view, items_view};

@@ -1,4 +1,9 @@
 //! What is written as JSON, straight into the text of a message.
+//!
+//! Each message that the server sends, and each part of one, is a type that says which JSON value it is and writes it
+//! (`Written`); nothing is made as a `Value` first. A writing function has `Appends` of its value as its contract: the
+//! value's compact text comes after what was there, and it reads back as the value. A text without escapes is put down
+//! whole.
 ghost use Rattle.std.specs.Prelude.{◌≡◌, ◌<◌, ◌≤◌, ◌^◌, ◌++◌, [], ◌∷◌, true, false, OnOk, map};
 ghost use Rattle.std.specs.Char.{digit_char};
 ghost use Rattle.json.specs.Print.{escape, escape_byte, escape_letter};

@@ -1,4 +1,7 @@
 //! Positions, ranges and edits. A range is put together from its end on, so that its digits are where they are made.
+//!
+//! It is made in an array of fixed size on the stack and put down once: put down piece by piece, each of its sixteen
+//! pieces would cost a test of the capacity and a copy.
 
 ghost use Rattle.std.specs.Prelude.{◌≡◌, ◌++◌, ◌∷◌, [], ◌+◌, ◌<◌, ◌≤◌, ◌^◌, OnOk, codes, decimal, drop, length};
 ghost use Rattle.serde_json.specs.Written.{compact_text};

@@ -1,4 +1,6 @@
 -- A name that no token of a text has is free: nothing else is called so, and each occurrence stays bound to its declaration.
+-- Relabelled with such a name, each part is numbered as it was: the new name replaces names of that one declaration
+-- alone, and no other name is like it.
 use Rattle.std.proofs.Common.{◌≡◌, ◌≤◌, ◌==◌, ◌∙◌, ◌++◌, ◌∷◌, ◌&&◌, ◌||◌, not, [], List, Option, Some, None, Bool, true, false, ℕ, suc, refl, sym, ap, subst, eqb-true, ne_eqb, arith, if◌then◌else◌}
 use Rattle.std.specs.List.{list_any}
 use Rattle.std.proofs.lemmas.Cmp.{nat_list_eq_equiv}

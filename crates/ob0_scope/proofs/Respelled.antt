@@ -1,4 +1,7 @@
 -- Bindings stay where the tokens of a text are named as they were.
+-- The numbers of a tree are in no scope, so what is known of each part holds for any numbers, and the table of the old
+-- text, which has all marks of its module, numbers the new one. Faults have spans, which move, so this is about modules
+-- without any.
 use Rattle.std.proofs.Common.{◌≡◌, ◌<◌, ℕ, zero, suc, Bool, true, false, not, ◌||◌, Option, Some, None, List, [], ◌∷◌, ◌++◌, length, drop, get_or, slice_get, is_some, if◌then◌else◌, refl, sym, ap, ◌∙◌, subst, arith}
 use Rattle.std.specs.List.{HoldsAt, filter, list_any}
 use Rattle.ob0_scan.specs.declared.fault.Fault.{Fault}

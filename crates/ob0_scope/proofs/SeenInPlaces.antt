@@ -1,4 +1,6 @@
 -- What one name would be bound to in place of each occurrence: what it is bound to where all occurrences are written so.
+-- `number` goes over a writing that has the name at each occurrence. Labels that forget the names (`forget`) make the
+-- trees comparable by their occurrences alone, so no walk over expressions and statements is needed.
 use Rattle.std.proofs.Common.{◌≡◌, ◌≢◌, ℕ, suc, ◌+◌, ◌<◌, ◌≤◌, Option, Some, None, List, [], ◌∷◌, ◌++◌, map, length, replicate, set, refl, sym, ap, ◌∙◌, subst, arith, le_refl, get_or-set_other, get_or-set_same, true, false, if◌then◌else◌, nat_lt, option_and_then, option_map, slice_get}
 use Rattle.std.proofs.Math.ListN.{length-set}
 use Rattle.std.proofs.lemmas.Bool.{ltb-true, ltb-false}

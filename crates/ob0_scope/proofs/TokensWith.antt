@@ -1,4 +1,7 @@
 -- The tokens at which a declaration is named are those at which the table has its ordinal, and none is before the one that declares it.
+-- A table has nothing at tokens that are no names (`names_alone`), and along the identifiers each declaring one has the
+-- next ordinal and every other one that of a declaration before it, or none (`AreInOrder`). So of the identifiers with
+-- one ordinal the first is the one that declares.
 use Rattle.std.proofs.Common.{◌≡◌, ◌≢◌, ◌==◌, ◌<◌, ◌≤◌, ℕ, zero, suc, ◌+◌, ◌-◌, Bool, true, false, not, cond, ◌&&◌, ◌||◌, if◌then◌else◌, Option, Some, None, List, [], ◌∷◌, map, length, drop, get_or, refl, sym, ap, ◌∙◌, subst, arith, append-nil, replicate, slice_get, eq-eqb, eqb-true, le_refl}
 use Rattle.std.proofs.Math.Dec.{ltb}
 use Rattle.std.proofs.lemmas.Bool.{eqb-false, ltb-false, ltb-true}

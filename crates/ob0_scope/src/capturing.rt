@@ -1,4 +1,8 @@
 //! What conflicts with another name for a declaration.
+//!
+//! A name that no token of the text has is free, and then nothing is walked. Otherwise first another declaration of
+//! that name in the same block is searched for, over the tokens of the blocks, then the first occurrence whose ordinal
+//! differs from the table's once the name is new. Each name is looked at once; the second walk takes O(n log n).
 
 ghost use Rattle.std.specs.Prelude.{◌≡◌, ◌↔◌, IfOk, None, not, option_map, true};
 ghost use Rattle.std.specs.List.{position_from};

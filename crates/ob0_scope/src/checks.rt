@@ -1,4 +1,7 @@
 //! Names that are declared twice, and closing names that differ.
+//!
+//! In clauses `Checks` is the list of the faults found so far; each check appends its own. The names of a block or
+//! record are compared with one another where they are at most 16, and are put into a set where they are more.
 
 ghost use Rattle.std.specs.Prelude.{◌≡◌, ◌++◌, [], IfOk, OnOk, map};
 ghost use Rattle.ob0_tree.specs.Places.{text_at};

@@ -1,4 +1,8 @@
 //! The names of a module: the one at a place of its text, and where a declaration is named.
+//!
+//! The definitions pair the identifiers of the tree, each with its role and token, with the leaves of the numbered
+//! tree; no table of ordinals is in them. In code, where a declaration is named is read off the table, from the
+//! declaring token on, and the tree isn't walked.
 
 ghost use Rattle.std.specs.Prelude.{◌≡◌, ◌≤◌, IfOk, false, length, nat_lt, true};
 ghost use Rattle.std.specs.List.{position_from};

@@ -1,4 +1,6 @@
 -- Loops that go through a list: what is left to do comes to what there was to do at first.
+-- The invariant is a record with one equation, so that `init` and `preserved` close by themselves, also where the step
+-- is a call.
 use Rattle.std.proofs.Common.{◌≡◌, ℕ, ◌+◌, ◌<◌, ◌≤◌, List, [], ◌∷◌, length, get_or, drop, sym, ap, ◌∙◌}
 use Rattle.std.proofs.lemmas.List.{drop_all, drop_more}
 

@@ -1,4 +1,11 @@
 //! The newest binding of each name.
+//!
+//! Each name that was bound once is in a list with its newest binding, and a map has its place in that list. A name
+//! keeps its place, so hiding a binding and giving one up change the list alone and allocate nothing: a binding has its
+//! name's place, and no text is looked at when it is left. A key is a name with a number of its last eight bytes before
+//! it: nearly all comparisons are of two numbers, and where these are the same the names decide, so no text makes a
+//! look-up slow. Before the map a small list is searched, by a few bytes of the name, for the place at which such a
+//! name was last. What it holds is only a hint, which is compared with the name, so nothing is proved of it.
 
 ghost use Rattle.std.specs.Prelude.{◌≡◌, [], IfOk, IfSome, OnErr, OnOk, None, Some};
 ghost use Rattle.ob0_scope_numbering.specs.Keys.{number_of, with_byte, with_bytes};

@@ -1,4 +1,21 @@
 //! Goes through the declarations of a module in text order, and gives each identifier the ordinal of its declaration.
+//!
+//! Through the expressions, types and statements, which declare nothing, goes the walk of `ob0_tree`, of which
+//! `Numbering` is a `Visitor`. A clause is an equation of whole states: `self.new ≡ visit_constant c self.old`. With
+//! such clauses most descents and loops over declarations close without an answer.
+//!
+//! Names become visible in the order of their ordinals (`show_from`). That serves constants, groups, and a procedure's
+//! heading: after it the scope is cut back and `show_from` shows the procedure and then its parameters, so that the
+//! procedure lies beneath them.
+//!
+//! Each identifier's ordinal is written into the table at its token as soon as it is known, that of fields and of the
+//! module's name too. How ordinals are kept is open in the definition of the walk (`Visiting`): `Tabling` has the
+//! table, as the code, `Marking` a list of marks (token, ordinal). The contract says that the table is what the marks
+//! make of an empty one, so all other proofs are about the marks, whose tokens ascend.
+//!
+//! An entry of the table has 32 bits (`OrdinalEntry`). An ordinal past the greatest counts as the greatest, so no
+//! function of the walk needs a bound. A text has no more tokens than bytes and each declaration a token of its own, so
+//! entries have the ordinals of all marks.
 
 ghost use Rattle.std.specs.Prelude.{◌≡◌, ◌+◌, ◌<◌, ◌^◌, [], OnOk, IfOk, length, Some, None};
 ghost use Rattle.ob0_tree.specs.declared.tree.Role.TheVariants as roles;

@@ -1,4 +1,7 @@
 //! How the identifiers of a text are written.
+//!
+//! An identifier is written as in the text, or, where the table gives it the declaration's ordinal, by the new name. So
+//! the same walk gives the numbered tree of the renamed module.
 
 ghost use Rattle.std.specs.Prelude.{◌≡◌};
 ghost use Rattle.ob0_scope_numbering.specs.Written.{as_in, is_renamed};

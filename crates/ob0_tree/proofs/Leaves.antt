@@ -1,4 +1,6 @@
 -- The identifiers of a tree are the names that it spells, in the same order; and those of a module that was read are all of its text's.
+-- That tree and spelling have the same names holds whatever role names in lists get; all else is an induction over
+-- tokens.
 use Rattle.std.proofs.Common.{◌≡◌, ℕ, ◌+◌, ◌≤◌, ◌<◌, Some, None, List, [], ◌∷◌, ◌++◌, length, refl, sym, ◌∙◌, ap, arith, append-nil, subst, zero-add, append_assoc, slice_index_or}
 use Rattle.std.proofs.lemmas.List.{map-append}
 use Rattle.ob0_scan.specs.declared.lexeme.TokenKind.{TokenKind}

@@ -1,4 +1,7 @@
 //! How deeply the constructs of a module are nested.
+//!
+//! The private functions saturate, so that no function of the cycle has a premise: their clauses say `capped (nesting
+//! ..)`, and `Module::nesting` takes the cap away by the invariant (at most 100).
 
 ghost use Rattle.std.specs.Prelude.{◌≡◌, ◌+◌};
 ghost use Rattle.ob0_tree.specs.Tree.{nesting};

@@ -1,4 +1,8 @@
 //! One walk over the identifiers of a module, for whatever goes along.
+//!
+//! What a `Visitor` is afterwards is the fold of its ghost member `seen` over the tree's identifiers. An invariant or
+//! an answer of the cycle takes `g` first, and `g.V.Visitor.seen` is the member. A visitor of which clauses speak has a
+//! model: an equation of a `Vec` would be one of its capacity too.
 
 #![tactic(auto, using(std::proofs::lemmas::Grind::common_steps, crate::proofs::Visits::visited_append))]
 

@@ -1,4 +1,12 @@
 //! Checking a module, and what is known of a well-typed one.
+//!
+//! `ModuleTypes` is all that checking finds. It borrows nothing, so it can be kept beside the module's bindings.
+//! `Checked` joins it to them: `check` makes one that owns its part, `Checked::from_parts` one of a part that is kept
+//! elsewhere, which takes no memory.
+//!
+//! Faults are sorted by (start, end, code). The lists of fields are made for a module that fits (`known_fields`); in
+//! `Checked`'s invariant is that they are the module's fields where it has no fault (`fields_kept`), so that the value
+//! of a `Checked` doesn't have them.
 
 ghost use Rattle.ob0_scope_table.specs.Resolution.{is_of_declarations};
 ghost use Rattle.ob0_types.specs.CheckedModules.{AreTypesOf, IsChecked, checked_by};

@@ -1,4 +1,5 @@
 -- What a module's declarations bind by name, their labels bind in the numbered tree: the same objects, ordinal by ordinal.
+-- `Ordered` joins both bindings to their ordinals and objects, one by one.
 use Rattle.std.proofs.Common.{◌≡◌, ℕ, suc, ◌+◌, true, ◌&&◌, List, [], ◌∷◌, ◌++◌, length, map, take, Option, Some, None, option_map, option_and_then, if◌then◌else◌, refl, sym, ap, ◌∙◌, subst, subst₂, le_refl, le_of_lt, append_assoc, arith, length-append, lit<}
 use Rattle.std.proofs.lemmas.Bool.{and_parts}
 use Rattle.std.proofs.Math.Seq.{take-append_seam}

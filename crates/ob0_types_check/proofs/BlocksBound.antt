@@ -1,4 +1,6 @@
 -- What declarations bind, ordinal by ordinal, and what is known of each ordinal.
+-- Bindings are in the order of their ordinals, the latest first, so the last binding is that of the first ordinal, and
+-- so on (`BindingsKnown`): what is bound by name needs no look-up.
 use Rattle.std.proofs.Common.{◌≡◌, ℕ, suc, ◌<◌, ◌≤◌, false, List, [], ◌∷◌, ◌++◌, length, Option, Some, None, slice_index_or, refl, sym, ap, ◌∙◌, subst, append_assoc, arith}
 use Rattle.ob0_language_names.specs.Names.{Name}
 use Rattle.ob0_language_names.specs.Scopes.{Scope, after_names, declare_names}

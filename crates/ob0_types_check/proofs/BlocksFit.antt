@@ -1,4 +1,5 @@
 -- Blocks, procedures and modules of which nothing is reported fit.
+-- The walk is over names as they are written (`as_names`), not over ordinals, so that fields need nothing.
 use Rattle.std.proofs.Common.{◌≡◌, ◌≢◌, ℕ, suc, ◌+◌, ◌<◌, ◌≤◌, Bool, true, false, ◌&&◌, List, [], ◌∷◌, ◌++◌, length, map, Option, Some, None, option_and_then, refl, sym, ap, ◌∙◌, subst, le_refl, le_trans, arith, length-append, lit<}
 use Rattle.std.proofs.lemmas.List.{length-map}
 use Rattle.std.specs.List.{filter}

@@ -1,4 +1,6 @@
 -- Formal parameters of which nothing is reported have the types of a signature.
+-- Parameters are reported before their procedure's own name is set. They are in a list of their own
+-- (`ParametersKnown`), which is put over the procedure's name afterwards (`parameters_over`).
 use Rattle.std.proofs.Common.{◌≡◌, ℕ, suc, ◌+◌, ◌<◌, ◌≤◌, Bool, true, false, List, [], ◌∷◌, ◌++◌, length, map, Option, Some, None, option_and_then, slice_index_or, refl, sym, ap, ◌∙◌, subst, subst₂, le_refl, le_of_lt, le_trans, append_assoc, append-nil, arith}
 use Rattle.std.proofs.lemmas.List.{map-append}
 use Rattle.ob0_tree.specs.Places.{named, text_at, value_at}

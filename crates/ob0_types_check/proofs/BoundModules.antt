@@ -1,4 +1,6 @@
 -- Each name of a module that is well-typed is bound.
+-- The walk is over the numbered tree, in which a name that is only written is the same as none, itself included, so
+-- that no environment binds it (`only-written`). It needs no invariant.
 use Rattle.std.proofs.Common.{◌≡◌, ℕ, ◌+◌, Bool, true, false, ◌&&◌, List, [], ◌∷◌, ◌++◌, map, Option, Some, None, option_and_then, if◌then◌else◌, refl, sym, ap, ◌∙◌}
 use Rattle.ob0_scan.specs.declared.fault.Code.TheVariants as code
 use Rattle.ob0_scan.specs.Scanned.{Scanned}

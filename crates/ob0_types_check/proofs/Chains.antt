@@ -1,4 +1,6 @@
 -- What is reported in steps, one after the other, and by a loop over the items of a chain.
+-- `steps` joins two steps, `reports_same` goes from a step to one that gives the same, and `Chained` is what a loop
+-- keeps. Loops over declarations are such chains too, with what is known so far in place of the operand.
 use Rattle.std.proofs.Common.{◌≡◌, ℕ, ◌+◌, ◌<◌, ◌≤◌, List, ◌∷◌, ◌++◌, length, get_or, drop, refl, sym, ap, ◌∙◌, append-nil, append_assoc}
 use Rattle.std.proofs.lemmas.List.{drop_all, drop_more}
 use Rattle.ob0_scan.specs.declared.fault.Fault.{Fault}

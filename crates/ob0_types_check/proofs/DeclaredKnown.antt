@@ -1,4 +1,10 @@
 -- What is known at a place of a module, beside the scope and the environment there.
+-- Scope and environment grow by the same steps, so they are side by side (`NamesKnown`): a name that the scope finds at
+-- an ordinal, the environment finds at the same place, and what is known at that ordinal agrees with it. No look-up by
+-- ordinal is needed, and no fact that ordinals differ. Standard procedures are known by their parameters as any other;
+-- that the objects of ordinals from 7 on are none of them is said beside. All walks keep `Later n p q before after`:
+-- declarations below the ordinal n are what they were, and what had a shape has it. What is at a place is later
+-- (`holds_later`), so a procedure's outer names survive its whole block.
 use Rattle.std.proofs.Common.{map, ◌≡◌, ◌≢◌, ℕ, suc, ◌<◌, ◌≤◌, Bool, true, false, List, [], ◌∷◌, length, Option, Some, None, option_and_then, slice_index_or, slice_set, refl, sym, ap, ◌∙◌, subst, arith, le_trans, le_of_lt, le_refl, get_or-set_other, get_or-set_same}
 use Rattle.std.proofs.lemmas.List.{length-set}
 use Rattle.ob0_tree.proofs.Occurring.{looked_up-occurrences, looked_up_only}

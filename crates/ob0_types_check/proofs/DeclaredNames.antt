@@ -1,4 +1,7 @@
 -- Each name of a module has its ordinal: one that is looked up that of the scope there, and one that declares that of its place.
+-- `BlockPlaced` says so by recursion on the tree of tokens. It comes from `IsBinding`, an equation of trees, by taking
+-- both sides apart with the same projections, and from counting declaring tokens. What rests on it knows nothing of
+-- relabelled trees.
 use Rattle.std.proofs.Common.{◌≡◌, ℕ, suc, ◌<◌, ◌≤◌, Option, Some, None, List, [], ◌∷◌, ◌++◌, map, refl, sym, ap, ◌∙◌, subst, le_trans}
 use Rattle.std.proofs.lemmas.List.{map-append}
 use Rattle.ob0_scan.specs.Scanned.{Scanned}

@@ -1,4 +1,5 @@
 -- Tables of types and their shapes: one more array or record changes none before it, and sizes are those of the shapes.
+-- `Longer before after` says that what had a shape has it. It isn't that one is a prefix, so nothing is reassociated.
 use Rattle.std.proofs.Common.{◌≡◌, ℕ, zero, suc, ◌+◌, ◌*◌, max, true, ◌&&◌, List, [], ◌∷◌, ◌++◌, length, Option, Some, None, option_and_then, slice_get, nat_le, if◌then◌else◌, map, refl, sym, ap, ◌∙◌, subst, append_assoc, append-nil, arith}
 use Rattle.std.proofs.Math.Nat.{max_comm, mul_comm}
 use Rattle.ob0_tree.specs.Places.{text_at}

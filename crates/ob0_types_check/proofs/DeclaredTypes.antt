@@ -1,4 +1,6 @@
 -- Types as they are written, of which nothing is reported, denote the shapes of what is known of them.
+-- Fields go from the left, their shapes from the right: a group gives its own fields with any that follow
+-- (`GroupGathers`). Two sums of one definition are nested otherwise in the other: `grouped`.
 use Rattle.std.proofs.Common.{◌≡◌, ℕ, suc, ◌+◌, Bool, true, false, List, [], ◌∷◌, ◌++◌, length, map, Option, Some, None, option_and_then, if◌then◌else◌, refl, sym, ap, ◌∙◌, subst, subst₂, le_refl, arith}
 use Rattle.ob0_scan.specs.declared.fault.Fault.{Fault}
 use Rattle.ob0_tree.specs.Places.{named, text_at, value_at}

@@ -1,4 +1,8 @@
 -- Expressions of which nothing is reported: what is known of them is their type and their value.
+-- The walk is over any meanings with `TokenFits`, and is taken once with what names mean and once with constants alone:
+-- over these a variable is stuck and its operand has no value, so the value that is known is the one over constants in
+-- both. A production's lemma isn't recursive (`addend-whole`); the recursion only splits lists of tokens and of faults,
+-- and cites these lemmas.
 use Rattle.std.proofs.Common.{◌≡◌, ℕ, true, false, List, [], ◌∷◌, ◌++◌, Option, Some, None, option_and_then, is_some, pos, refl, sym, ap, ◌∙◌}
 use Rattle.ob0_tree.specs.declared.tree.AddOperator.{AddOperator}
 use Rattle.ob0_tree.specs.declared.tree.MultiplyOperator.{MultiplyOperator}

@@ -1,4 +1,7 @@
 -- Names: what is known of one that means something is so.
+-- Names are looked at by the tree's own tokens, not by all: a declaration stays known after its scope, where it means
+-- nothing any more. A field's token has to be written as it is in the text, by the same list; so fields need nothing
+-- more than names, whatever the labels are.
 use Rattle.std.proofs.Common.{◌≡◌, ℕ, Bool, true, false, true≢false, List, [], ◌∷◌, Option, Some, None, option_map, is_some, if◌then◌else◌, refl, sym, subst, subst₂}
 use Rattle.ob0_tree.specs.declared.tree.Role.{Role}
 use Rattle.ob0_tree.specs.declared.tree.Role.TheVariants as role

@@ -1,4 +1,7 @@
 -- The fields of a record as they are gathered, name by name and group by group.
+-- A record's fields are in order, and the first of a name counts; the code has them in a table with a map of them.
+-- Sizes in the definition are sums, and the code counts to the end of `usize`: `IsGathered` says that what is gathered
+-- in the code is what the definition gathers, with its size so counted.
 use Rattle.std.proofs.Common.{◌≡◌, ℕ, ◌+◌, ◌-◌, ◌^◌, ◌<◌, ◌≤◌, min, max, List, [], ◌∷◌, ◌++◌, length, get_or, drop, refl, sym, ap, ◌∙◌, subst, arith}
 use Rattle.std.proofs.lemmas.List.{drop_all, drop_more}
 use Rattle.ob0_scan.specs.declared.fault.Fault.{Fault}

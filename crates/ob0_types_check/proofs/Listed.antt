@@ -1,4 +1,6 @@
 -- Faults that are reported one list after the other, and by a loop over what is side by side.
+-- `reported_both` joins two lists, `reported_following` one after something that is known. Loops keep `EachSoFar` or,
+-- for arguments beside parameters, `PairSoFar`.
 use Rattle.std.proofs.Common.{◌≡◌, ℕ, ◌+◌, ◌<◌, ◌≤◌, List, [], ◌∷◌, ◌++◌, length, get_or, drop, map, refl, sym, ap, ◌∙◌, append-nil, append_assoc, arith}
 use Rattle.std.proofs.lemmas.List.{drop_all, drop_more}
 use Rattle.ob0_scan.specs.declared.fault.Fault.{Fault}

@@ -1,4 +1,8 @@
 -- Each ARRAY and RECORD of the text makes one type: from one place to a later one, types are made by those between them alone.
+-- So one type is at one place of the table, which statements need where an assignment or an argument compares two types
+-- (`Fresh`). `Apart k l before after` says which constructors made what is new, as a relation between two tables:
+-- constructors outside of these are as before. It composes without a premise, so it is a field of each record of the
+-- walk over declarations.
 use Rattle.std.proofs.Common.{◌≡◌, ℕ, zero, suc, ◌+◌, ◌<◌, ◌≤◌, List, [], ◌∷◌, ◌++◌, length, slice_get, Some, refl, sym, ap, ◌∙◌, subst, arith, le_refl, le_trans, length-append}
 use Rattle.ob0_language_values.specs.Values.{Shape}
 use Rattle.ob0_types_check.specs.WellTypedLaws.{EachOnce, constructor_of}

@@ -1,4 +1,6 @@
 -- Operations of which nothing is reported: the types of their operands are those that are required, and so is their own.
+-- What has a shape isn't the same as the unknown type (`is-known`), so "known" needs no fact of its own, and by this
+-- the definitions' guards against the unknown go away.
 use Rattle.std.proofs.Common.{◌≡◌, ℕ, Bool, true, false, ◌||◌, cond, [], if◌then◌else◌, Option, Some, None, option_and_then, option_map, ℤ, ◌+ℤ◌, ◌-ℤ◌, ◌*ℤ◌, neg_ℤ, refl, sym, ap, ◌∙◌, subst}
 use Rattle.ob0_scan.specs.declared.fault.Code.TheVariants as code
 use Rattle.ob0_types_table.specs.Operators.{product_value, sum_value}

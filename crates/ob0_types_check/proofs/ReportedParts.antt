@@ -1,4 +1,6 @@
 -- What is reported of expressions, part by part.
+-- An expression of one factor is reported as the factor is (`factor_reported`), with no step for the parts that it
+-- hasn't, and a name without selectors as the name (`nothing_selected`).
 use Rattle.std.proofs.Common.{◌≡◌, ℕ, List, [], ◌∷◌, ◌++◌, length, None, Option, refl, ◌∙◌, append-nil, arith}
 use Rattle.ob0_tree.specs.declared.tree.Relation.{Relation}
 use Rattle.ob0_tree.specs.declared.tree.Selector.{Selector}

@@ -1,4 +1,5 @@
 -- What is supposed is what is known so far.
+-- So what is said of expressions and statements needs no value that goes along, as declarations do (`facts_same`).
 use Rattle.std.proofs.Common.{◌≡◌, ℕ, Bool, List, [], ◌∷◌, if◌then◌else◌, string_bytes, Option, Some, None, map, option_map, option_and_then, slice_get, slice_index_or, set, refl, sym, ap, ◌∙◌}
 use Rattle.std.proofs.lemmas.List.{map-set}
 use Rattle.std.proofs.lemmas.Option.{slice_get-map}

@@ -1,4 +1,7 @@
 -- The table that the reporting walk has after a module without faults holds what the module's declarations are.
+-- Each entry is made over those before it, so the shapes of the table are those of the law. That the ordinals of shapes
+-- are right needs how many were made before: from one place to a later one the table grows by as many as constructors
+-- are between.
 use Rattle.std.proofs.Common.{◌≡◌, ℕ, zero, suc, ◌<◌, ◌≤◌, false, All, List, [], ◌∷◌, ◌++◌, length, map, set, slice_get, slice_index_or, Option, Some, None, option_map, option_and_then, refl, sym, ap, ◌∙◌, subst, arith, append_assoc, append-nil, get_or-set_other, get_or-set_same}
 use Rattle.std.proofs.Math.ListN.{get_or-map}
 use Rattle.std.proofs.lemmas.List.{length-map, length-set}

@@ -1,4 +1,6 @@
 -- What is known of types by what was made is so of their shapes.
+-- Only one direction is asked of types (`TypesAgree`): one that has a shape is formed as its shape says. What forms
+-- without a shape may be anything, so a table with odd entries does no harm.
 use Rattle.std.proofs.Common.{◌≡◌, ℕ, zero, suc, true, false, List, [], ◌∷◌, ◌++◌, slice_get, if◌then◌else◌, Option, Some, option_map, option_and_then, append_assoc, refl, sym, ap, ◌∙◌, subst, eqb-true}
 use Rattle.std.proofs.lemmas.Option.{option_and_then_some}
 use Rattle.ob0_types_table.specs.declared.types.TypeId.{TypeId}

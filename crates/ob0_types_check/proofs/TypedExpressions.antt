@@ -1,4 +1,6 @@
 -- Expressions that have a type: no fault is reported of them.
+-- The walk goes down the definition of types, and takes what is known of a part that has no fault from the laws of what
+-- fits where nothing is reported: `known-as` joins both, so nothing is said twice about what is known.
 use Rattle.std.proofs.Common.{◌≡◌, ℕ, List, [], ◌∷◌, ◌++◌, Option, Some, option_and_then, refl, sym, ap, ◌∙◌}
 use Rattle.ob0_tree.specs.declared.tree.Role.{Role}
 use Rattle.ob0_tree.specs.declared.tree.Role.TheVariants as role

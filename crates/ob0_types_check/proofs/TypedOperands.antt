@@ -1,4 +1,6 @@
 -- Operations on operands of the right types: no fault is reported of them.
+-- `TypesApart` is what is needed of types here: INTEGER and BOOLEAN differ from others, and what is formed as a scalar
+-- is one. What comes of two steps comes of each (`and-then`).
 use Rattle.std.proofs.Common.{◌≡◌, ℕ, true, ◌||◌, List, [], ◌++◌, if◌then◌else◌, Option, Some, None, option_map, option_and_then, refl, sym, ap, ◌∙◌}
 use Rattle.ob0_scan.specs.declared.fault.Code.TheVariants as code
 use Rattle.ob0_scan.specs.declared.fault.Fault.{Fault}

@@ -1,4 +1,6 @@
 -- Types as they are written that denote one: no fault is reported of them.
+-- A hypothesis on what comes of two steps is carried over to the value that the other law gives by `given-again`,
+-- without an equality of values.
 use Rattle.std.proofs.Common.{◌≡◌, ℕ, suc, ◌+◌, Bool, true, false, ◌&&◌, List, [], map, Option, Some, None, option_and_then, if◌then◌else◌, is_some, nat_le, refl, sym, ap, ◌∙◌, le_refl, length, arith}
 use Rattle.ob0_tree.specs.Places.{named, text_at, value_at}
 use Rattle.ob0_tree.specs.Tree.{Tree, array_type, end, fields, further_fields, items, mapped, more, named_type, no_fields, occurrences, record_type, some_fields, then_fields, written_type}

@@ -1,4 +1,6 @@
 -- Where nothing is reported of a whole, nothing is reported of its parts.
+-- Where a definition decides by a condition, there is a lemma over any Bool in its place (`first-reported`,
+-- `second-reported`).
 use Rattle.std.proofs.Common.{◌≡◌, Bool, true, false, ◌||◌, ◌&&◌, List, [], ◌∷◌, ◌++◌, if◌then◌else◌, Option, Some, None, option_and_then, refl, ap, ◌∙◌}
 use Rattle.ob0_scan.specs.declared.fault.Fault.{Fault}
 use Rattle.ob0_types_check.specs.Known.{Reported}

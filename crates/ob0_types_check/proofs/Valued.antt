@@ -1,4 +1,6 @@
 -- The values of expressions over constants, part by part, as operands have them.
+-- What precedes a chain of operands is an operand as well, and the chain's value is that over an operand's value, an
+-- Option. So for each operator what is known and the evaluation meet in one lemma, without a case on what is known.
 use Rattle.std.proofs.Common.{◌≡◌, Bool, true, false, cond, [], ◌∷◌, Option, Some, None, option_and_then, option_map, is_some, refl, ap, ◌∙◌}
 use Rattle.ob0_tree.specs.declared.tree.AddOperator.{AddOperator}
 use Rattle.ob0_tree.specs.declared.tree.MultiplyOperator.{MultiplyOperator}

@@ -2,6 +2,36 @@
 //! whole module.
 //!
 //! What has a fault is of an unknown type, which raises no second fault.
+//!
+//! Nothing decides beside this walk. Of a module that doesn't fit something is reported (`modules_fit`), of a
+//! well-typed one nothing (`no_fault_in_modules`), and after a module of which nothing is reported the walk knows what
+//! each declaration is (`declarations_known`).
+//!
+//! What is reported of a part is defined, with a clause for each production: its faults in order, with codes and spans,
+//! and what is known of it. `Reported` is a value with faults, and its `>>=` puts the faults of one step before those
+//! of the next. A statement gives faults alone. The one clause of each function that gives a value is `ReportsAfter
+//! before after x t`. An operand has its value where it is constant, so one walk over an expression gives its type, its
+//! value, whether it may be for a place, and its first and last token.
+//!
+//! The definitions are over any types with an unknown one (`Types`). The code's `TypeId` with its table is one of them
+//! (`known_types`), `Option Shape` with None for unknown another, which needs no table.
+//!
+//! Types as they are written, declarations and blocks are reported over a value that goes along (`SoFar`): what
+//! declarations are, by their ordinals, and what arrays and records are made of, by their places. `so_far_in` is the
+//! code's `Supposed` as such a value; so what is said of expressions and statements knows nothing of it. `Supposed` and
+//! the list of faults are apart: expressions and statements take `&self` and the list, declarations take `Reporter`,
+//! which has both.
+//!
+//! The words ARRAY and RECORD aren't in the definition's trees, so the code doesn't take them from its own tree either:
+//! ARRAY is the token before its length, RECORD precedes the name of its first field, and a semicolon for each group
+//! without fields before that (`record_word`). A token always has neighbours (`token_after` stays at the end of the
+//! text), and a fault is always reported, at the text's start where there is no token (`span_at`).
+//!
+//! No counter of ARRAY and RECORD goes along. Each makes one type, those inside before the one around them, so where
+//! nothing is reported the ordinal of a word is how many were made and how many are around it (`ordinal_here`). A sum
+//! that 64 bits can't hold is out of memory, so the definition has no cap; no text is long enough for it.
+//!
+//! Names that nothing binds are copied from the faults of scopes; the walk says nothing at such a name.
 
 mod declarations;
 mod expressions;

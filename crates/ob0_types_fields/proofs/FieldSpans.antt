@@ -1,4 +1,6 @@
 -- The spans of identifiers in text order, and what is found among them by halving.
+-- Tokens follow one another, so where tokens ascend neither starts nor ends descend (`starts_rise`, `ends_rise`); what
+-- is found where those end that end before the place is what a walk finds (`halved`).
 use Rattle.std.proofs.Common.{◌≡◌, ℕ, zero, suc, ◌+◌, ◌<◌, ◌≤◌, Bool, true, false, if◌then◌else◌, List, [], ◌∷◌, ◌++◌, length, get_or, Some, None, Option, refl, ap, ◌∙◌, sym, subst, arith, ⊎_elim}
 use Rattle.std.specs.Prelude.{nat_le, nat_lt, slice_get}
 use Rattle.std.specs.List.Sorted.{IsNonDecreasingBy, IsPartitionPoint}

@@ -1,5 +1,10 @@
 -- A module with its fields under other names is the module with each token written by a table of owners: at each place the
 -- environment says of a name what its declaration is.
+-- One induction over blocks and procedures takes a list of names with their ordinals and objects, which is at once the
+-- environment by name, that by ordinal, and the scope. It gives that the bindings of the part have descending ordinals
+-- (`Descends`), and, where each of them is what its ordinal means (`Right`), the part with fields under other names.
+-- Descending bindings are each what is found at their ordinal (`bound_right`), so the whole module's bindings are
+-- `Right`, and each part's by splitting lists.
 use Rattle.std.proofs.Common.{◌≡◌, ℕ, suc, ◌+◌, Bool, true, false, ◌&&◌, if◌then◌else◌, List, [], ◌∷◌, ◌++◌, map, Some, None, Option, option_map, option_and_then, unwrap_or, refl, sym, ap, ◌∙◌, subst, arith, le_refl, le_of_lt, lit<, true≢false, append-nil}
 use Rattle.std.proofs.lemmas.Bool.{and_parts}
 use Rattle.ob0_tree.specs.Tree.{Tree, block, body, constants, declares, declares_procedure, end, formals, has_body, is_module, item, items, Item, mapped, maybe, more, occurrences, procedure, type_names, variables}

@@ -1,4 +1,7 @@
 -- In a well-typed module each identifier of a field is of a field that has a type.
+-- A field that is selected is declared, so only what records declare is gone through. `Has made k ordinal x` says that
+-- of the types `made`, the first of which has the ordinal k, the one with this ordinal has the field x. A record
+-- declares a field once, so the fields of a group are found from the whole record.
 use Rattle.std.proofs.Common.{◌≡◌, ◌⊎◌, inl, inr, ℕ, suc, ◌+◌, ◌<◌, ◌==◌, Bool, true, false, ◌&&◌, ◌||◌, not, if◌then◌else◌, nat_le, List, [], ◌∷◌, ◌++◌, map, length, get_or, is_some, Some, None, Option, option_map, option_and_then, refl, sym, ap, ◌∙◌, subst, true≢false, arith, length-append, eqb-true}
 use Rattle.std.proofs.lemmas.Bool.{and_parts}
 use Rattle.std.proofs.lemmas.List.{get_or-append-add, get_or_append_left}

@@ -1,4 +1,10 @@
 //! The field that an identifier is of, with its type: as the RECORD has it that declares it.
+//!
+//! The type of a field is kept nowhere. The list has the ordinal of the field's record, so the type is what this RECORD
+//! gives to the name (`typed_field`). The walk goes through declarations, what they are declared as and the text side
+//! by side, and counts ARRAY and RECORD (`constructed`); no array's length is evaluated again, and no fact is needed on
+//! the ordinals in the checker's table. It takes the search and returns it (`Search`), so its contracts are of one form
+//! (`after_all`), and there is no early return.
 
 ghost use Rattle.std.specs.Prelude.{◌≡◌, List, None, option_and_then, option_map};
 ghost use Rattle.ob0_tree.specs.View.{block_of, fields_of, formals_of, procedure_of, record_in, section_of, type_of, types_of, variables_of};

@@ -1,4 +1,11 @@
 //! The fields of a module in lists, and what is found in them.
+//!
+//! A list is made once for a module, by `check` of `ob0_types`. The walk over the declarations comes first; where it
+//! finds nothing the walk over all isn't made, since a field that is selected is declared (`fields_declared`). So a
+//! module without RECORD costs a look at its declarations. The laws require `IsResolution` and `WellTyped`.
+//!
+//! A list doesn't hold its text, and a token that a text hasn't got has the empty span at its start, so the
+//! clause of `FieldList::at` has a premise (`AreInTextOrder`). A module's fields fulfil it (`fields_ascend`).
 
 ghost use Rattle.std.specs.Prelude.{◌≡◌, [], IfOk};
 ghost use Rattle.std.specs.List.{position_from};

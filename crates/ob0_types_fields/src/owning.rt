@@ -1,4 +1,9 @@
 //! The walk over a module that finds its fields: where records declare them, and where selectors select them.
+//!
+//! A designator's path is one loop with the type so far, which visits the indexes itself, so all is found in text
+//! order. Constants and array lengths aren't visited. What selects nothing is passed at once: an expression of one
+//! factor is that factor, and of a designator without selectors the type isn't looked up. A selected name is looked up
+//! once, for its type.
 
 ghost use Rattle.std.specs.Prelude.{◌≡◌, ◌++◌, ◌+◌, IfOk, Some, option_and_then, option_map};
 ghost use Rattle.ob0_tree.specs.View.{expression_of, compound_of, simple_of, term_of, factor_of, designator_of, selector_of, assignment_of, call_of, arguments_in, statement_of, if_of, elsifs_in, sequence_in, body_of, block_of, procedure_of};

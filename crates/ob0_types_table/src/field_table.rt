@@ -1,4 +1,7 @@
 //! The fields of a record, each found by its name in logarithmic time.
+//!
+//! In clauses a table is the list of fields alone. A map has no code, so it can't be in a value; that it is the list's
+//! index is an invariant (`IsIndex`).
 
 ghost use Rattle.std.specs.Prelude.{◌≡◌, List, IfOk, option_map};
 ghost use Rattle.ob0_language_values.specs.Values as shape;

@@ -1,4 +1,9 @@
 //! A type with its parts.
+//!
+//! The scalars and the depth that come with an array or a record are those of its shape (`PartsAreCounted`). There are
+//! no parts exactly where the `TypeId` is none of the module's (`is_known_type`). What has a fault has a shape too
+//! (`no_shape`), with an ordinal that no ARRAY or RECORD of a text has: so no clause on shapes lets a type of a module be
+//! given as `Unknown`.
 
 ghost use Rattle.std.specs.Prelude.{◌≡◌};
 ghost use Rattle.ob0_types_table.specs.Parts.{PartsAreCounted, has_parts, is_known_type, parts_shape};
