@@ -22,7 +22,8 @@ from common import TOP
 from wrong_bodies import Said
 
 # What a try comes to. Only after the last another try can say more.
-REFUSED, ELSEWHERE, PROVED, BAD, LIMIT, NOT_TRIED = "refused", "refused elsewhere", "NOT REFUSED", "BAD EDIT", "ONLY A LIMIT", "NOT TRIED"
+REFUSED, ELSEWHERE, PROVED = "refused", "refused elsewhere", "NOT REFUSED"
+BAD, LIMIT, NOT_TRIED = "BAD EDIT", "ONLY A LIMIT", "NOT TRIED"
 # What counts: that the function is refused. One that is refused elsewhere than its first line says is told and counted.
 COUNTED = (REFUSED, ELSEWHERE)
 README = os.path.join(TOP, "README.md")
@@ -90,8 +91,9 @@ def judge(edit: edits.Edit, claim: Claim, said: Said, functions: Iterable[readin
     named = [it for it in goals if claim.is_goal(it.partition(" ")[0])]
     if named:
         return Outcome(edit, REFUSED, f"`{claim.function}`, {named[0]}")
-    others = goals or [it for name in refused for it in said.proof_errors(name, symbols[name])] or [said.verdicts[it] for it in refused]
-    return Outcome(edit, ELSEWHERE, f"`{claim.function}` is refused, but not by {' or '.join(claim.clauses)}: {'; '.join(others)[:300]}")
+    errors = [it for name in refused for it in said.proof_errors(name, symbols[name])]
+    others = "; ".join(goals or errors or [said.verdicts[it] for it in refused])
+    return Outcome(edit, ELSEWHERE, f"`{claim.function}` is refused, but not by {' or '.join(claim.clauses)}: {others[:300]}")
 
 
 class Libraries:
