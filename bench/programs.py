@@ -365,6 +365,262 @@ for i in range(200):
 print(x, y)
 """,
     ),
+    "fields of a record, 1,000,000 turns": (
+        """MODULE Fields;
+TYPE R = RECORD sum, turns: INTEGER; rest: ARRAY 4 OF INTEGER END;
+VAR r: R; i, j: INTEGER;
+BEGIN
+  i := 0; r.sum := 0; r.turns := 0;
+  WHILE i < 1000 DO
+    j := 0;
+    WHILE j < 1000 DO r.sum := (r.sum + j) MOD 10007; r.turns := r.turns + 1; j := j + 1 END;
+    i := i + 1
+  END;
+  Write(r.sum + r.turns); WriteLn
+END Fields.
+""",
+        """local r, i = {sum = 0, turns = 0}, 0
+while i < 1000 do
+  local j = 0
+  while j < 1000 do r.sum = (r.sum + j) % 10007; r.turns = r.turns + 1; j = j + 1 end
+  i = i + 1
+end
+print(r.sum + r.turns)
+""",
+        """class R:
+    __slots__ = ("sum", "turns")
+def main():
+    r, i = R(), 0
+    r.sum, r.turns = 0, 0
+    while i < 1000:
+        j = 0
+        while j < 1000:
+            r.sum = (r.sum + j) % 10007
+            r.turns = r.turns + 1
+            j = j + 1
+        i = i + 1
+    print(r.sum + r.turns)
+main()
+""",
+    ),
+    "fields of an array's records, 500,000 turns": (
+        """MODULE Points;
+TYPE Point = RECORD at, speed: INTEGER END;
+VAR points: ARRAY 1000 OF Point; i, turn, sum: INTEGER;
+BEGIN
+  i := 0;
+  WHILE i < 1000 DO points[i].at := i; points[i].speed := i MOD 7; i := i + 1 END;
+  turn := 0;
+  WHILE turn < 500 DO
+    i := 0;
+    WHILE i < 1000 DO
+      IF points[i].at > 60000 THEN points[i].at := 0 END;
+      points[i].at := points[i].at + points[i].speed; i := i + 1
+    END;
+    turn := turn + 1
+  END;
+  i := 0; sum := 0;
+  WHILE i < 1000 DO sum := (sum + points[i].at) MOD 1000003; i := i + 1 END;
+  Write(sum); WriteLn
+END Points.
+""",
+        """local points, sum = {}, 0
+for i = 0, 999 do points[i] = {at = i, speed = i % 7} end
+for turn = 1, 500 do
+  for i = 0, 999 do
+    if points[i].at > 60000 then points[i].at = 0 end
+    points[i].at = points[i].at + points[i].speed
+  end
+end
+for i = 0, 999 do sum = (sum + points[i].at) % 1000003 end
+print(sum)
+""",
+        """class Point:
+    __slots__ = ("at", "speed")
+def main():
+    points = [Point() for _ in range(1000)]
+    for i in range(1000):
+        points[i].at, points[i].speed = i, i % 7
+    for turn in range(500):
+        for i in range(1000):
+            if points[i].at > 60000:
+                points[i].at = 0
+            points[i].at = points[i].at + points[i].speed
+    total = 0
+    for i in range(1000):
+        total = (total + points[i].at) % 1000003
+    print(total)
+main()
+""",
+    ),
+    "200,000 calls with a record as a VAR parameter": (
+        """MODULE Moves;
+TYPE Point = RECORD at, speed: INTEGER END;
+VAR p: Point; i, k: INTEGER;
+PROCEDURE Move(VAR p: Point; by: INTEGER);
+BEGIN p.at := (p.at + p.speed * by) MOD 65521; p.speed := (p.speed + p.at) MOD 251 END Move;
+BEGIN
+  p.at := 1; p.speed := 2; i := 0;
+  WHILE i < 200 DO
+    k := 0;
+    WHILE k < 1000 DO Move(p, k); k := k + 1 END;
+    i := i + 1
+  END;
+  Write(p.at + p.speed); WriteLn
+END Moves.
+""",
+        """local p = {at = 1, speed = 2}
+local function move(p, by)
+  p.at = (p.at + p.speed * by) % 65521
+  p.speed = (p.speed + p.at) % 251
+end
+for i = 1, 200 do
+  for k = 0, 999 do move(p, k) end
+end
+print(p.at + p.speed)
+""",
+        """class Point:
+    __slots__ = ("at", "speed")
+def move(p, by):
+    p.at = (p.at + p.speed * by) % 65521
+    p.speed = (p.speed + p.at) % 251
+p = Point()
+p.at, p.speed = 1, 2
+for i in range(200):
+    for k in range(1000):
+        move(p, k)
+print(p.at + p.speed)
+""",
+    ),
+    "a queue of 64 numbers, 200,000 put and taken": (
+        """MODULE Queues;
+TYPE Queue = RECORD items: ARRAY 64 OF INTEGER; first, count: INTEGER END;
+VAR q: Queue; i, k, sum, taken: INTEGER;
+PROCEDURE Put(VAR q: Queue; n: INTEGER);
+BEGIN q.items[(q.first + q.count) MOD 64] := n; q.count := q.count + 1 END Put;
+PROCEDURE Take(VAR q: Queue; VAR n: INTEGER);
+BEGIN n := q.items[q.first]; q.first := (q.first + 1) MOD 64; q.count := q.count - 1 END Take;
+BEGIN
+  q.first := 0; q.count := 0; sum := 0; i := 0;
+  WHILE i < 4000 DO
+    k := 0;
+    WHILE k < 50 DO Put(q, i + k); k := k + 1 END;
+    WHILE q.count > 0 DO Take(q, taken); sum := (sum + taken) MOD 1000003 END;
+    i := i + 1
+  END;
+  Write(sum); WriteLn
+END Queues.
+""",
+        """local q, sum = {items = {}, first = 0, count = 0}, 0
+local function put(q, n)
+  q.items[(q.first + q.count) % 64] = n; q.count = q.count + 1
+end
+local function take(q)
+  local n = q.items[q.first]
+  q.first = (q.first + 1) % 64; q.count = q.count - 1
+  return n
+end
+for i = 0, 3999 do
+  for k = 0, 49 do put(q, i + k) end
+  while q.count > 0 do sum = (sum + take(q)) % 1000003 end
+end
+print(sum)
+""",
+        """class Queue:
+    __slots__ = ("items", "first", "count")
+def put(q, n):
+    q.items[(q.first + q.count) % 64] = n
+    q.count = q.count + 1
+def take(q):
+    n = q.items[q.first]
+    q.first = (q.first + 1) % 64
+    q.count = q.count - 1
+    return n
+q, total = Queue(), 0
+q.items, q.first, q.count = [0] * 64, 0, 0
+for i in range(4000):
+    for k in range(50):
+        put(q, i + k)
+    while q.count > 0:
+        total = (total + take(q)) % 1000003
+print(total)
+""",
+    ),
+    "a matrix of 100 by 100 records, 30 times": (
+        """MODULE Board;
+TYPE Cell = RECORD now, next: INTEGER END;
+VAR board: ARRAY 100 OF ARRAY 100 OF Cell; i, j, turn, sum: INTEGER;
+BEGIN
+  i := 0;
+  WHILE i < 100 DO
+    j := 0;
+    WHILE j < 100 DO board[i][j].now := (i * 7 + j) MOD 5; j := j + 1 END;
+    i := i + 1
+  END;
+  turn := 0;
+  WHILE turn < 30 DO
+    i := 1;
+    WHILE i < 99 DO
+      j := 1;
+      WHILE j < 99 DO
+        board[i][j].next := (board[i - 1][j].now + board[i][j - 1].now + board[i][j].now) MOD 5; j := j + 1
+      END;
+      i := i + 1
+    END;
+    i := 1;
+    WHILE i < 99 DO
+      j := 1;
+      WHILE j < 99 DO board[i][j].now := board[i][j].next; j := j + 1 END;
+      i := i + 1
+    END;
+    turn := turn + 1
+  END;
+  i := 0; sum := 0;
+  WHILE i < 100 DO
+    j := 0;
+    WHILE j < 100 DO sum := sum + board[i][j].now; j := j + 1 END;
+    i := i + 1
+  END;
+  Write(sum); WriteLn
+END Board.
+""",
+        """local board, sum = {}, 0
+for i = 0, 99 do
+  board[i] = {}
+  for j = 0, 99 do board[i][j] = {now = (i * 7 + j) % 5, next = 0} end
+end
+for turn = 1, 30 do
+  for i = 1, 98 do
+    for j = 1, 98 do
+      board[i][j].next = (board[i - 1][j].now + board[i][j - 1].now + board[i][j].now) % 5
+    end
+  end
+  for i = 1, 98 do
+    for j = 1, 98 do board[i][j].now = board[i][j].next end
+  end
+end
+for i = 0, 99 do
+  for j = 0, 99 do sum = sum + board[i][j].now end
+end
+print(sum)
+""",
+        """class Cell:
+    __slots__ = ("now", "next")
+    def __init__(self, now):
+        self.now, self.next = now, 0
+def main():
+    board = [[Cell((i * 7 + j) % 5) for j in range(100)] for i in range(100)]
+    for turn in range(30):
+        for i in range(1, 99):
+            for j in range(1, 99):
+                board[i][j].next = (board[i - 1][j].now + board[i][j - 1].now + board[i][j].now) % 5
+        for i in range(1, 99):
+            for j in range(1, 99):
+                board[i][j].now = board[i][j].next
+    print(sum(cell.now for row in board for cell in row))
+main()
+""",
+    ),
 }
 
 

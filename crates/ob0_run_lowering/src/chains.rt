@@ -1,4 +1,4 @@
-//! Operations in a row: a few are one inside the other, many in a list.
+//! Operations in a row, in a list from the second on. Two truths that are joined are a pair, more of them a list.
 
 ghost use Rattle.std.specs.Prelude.{◌≡◌, ◌≤◌, IfOk, IfSome, max, suc};
 ghost use Rattle.ob0_run_machine.specs.Lowered as machine;

@@ -1,6 +1,6 @@
 //! The machine: the cells of all variables, the rest of the input, and what was output.
 
-ghost use Rattle.std.specs.Prelude.{◌≡◌, OnErr, OnOk, length, slice_set, true};
+ghost use Rattle.std.specs.Prelude.{◌≡◌, ◌≤◌, OnErr, OnOk, length, slice_set, true, vec_capacity, vec_len};
 ghost use Rattle.ob0_run_machine.specs.Execution.{copied, append_output, read_number};
 ghost use Rattle.ob0_run_machine.specs.Machines.{item_of, after_step, state_of};
 ghost use Rattle.ob0_run_machine.specs.Allocations.{has_failed};
@@ -82,6 +82,8 @@ impl<'i> Machine<'i> {
         ensures appended { OnOk result
             (state_of self.new ≡ append_output (state_of self.old) (item_of item)) }
         ensures failed { OnErr result (has_failed self.new.memory ≡ true) }
+        ensures full { OnErr result
+            (vec_capacity self.old.output ≤ vec_len self.old.output) }
     {
         self.memory.push(&mut self.output, item)
     }

@@ -1,6 +1,6 @@
 //! Memory of a run: its lists grow here alone, so that it is known whether an allocation has failed.
 
-ghost use Rattle.std.specs.Prelude.{◌≡◌, ◌++◌, ◌∷◌, [], OnErr, OnOk, false, true};
+ghost use Rattle.std.specs.Prelude.{◌≡◌, ◌++◌, ◌∷◌, ◌≤◌, [], OnErr, OnOk, false, true, vec_capacity, vec_len};
 ghost use Rattle.ob0_run_machine.specs.Execution.{block_at, zeros};
 ghost use Rattle.ob0_run_machine.specs.Allocations.{has_failed};
 
@@ -40,6 +40,7 @@ impl Memory {
     pub(crate) fn push<T: Copy>(&mut self, list: &mut Vec<T>, item: T) -> Result<(), AllocError>
         ensures items { OnOk result (list.new.items ≡ list.old.items ++ item ∷ []) }
         ensures failed { OnErr result (has_failed self.new ≡ true) }
+        ensures full { OnErr result (vec_capacity list.old ≤ vec_len list.old) }
     {
         match list.push(item) {
             Ok(()) => Ok(()),
