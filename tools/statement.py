@@ -18,10 +18,9 @@ PAGE = os.path.join(TOP, "docs", "STATEMENT.md")
 
 # ---- what is on the page
 
-# (the contracts that carry the headline, those that tie it to the program, and that of `serve` by its results)
+# (the contracts that carry the headline, and those of the program step by step)
 HEADLINE = [("ob0_world", "world", "play"), ("ob0_world", "world", "play_in")]
-STEP = [("ob0_world", "world", "new_in"), ("ob0_world", "world", "step")]
-RESULTS = [("ob0_session", "serving", "serve")]
+STEPS = [("ob0_world", "world", "step"), ("ob0_session", "serving", "serve")]
 # (what `serve` promises in each of its rows)
 TIE = [("ob0_session", "Serving", "Served")]
 # (on the first screen, in this order)
@@ -39,6 +38,8 @@ CLOSED = {
     ("ob0_session_server", "Steps", "IsGoingOn"): "the lifecycle isn't at its end",
     ("ob0_world_editor", "Beginning", "client_for"): "what this editor can do: it takes edits with the versions of their "
     "documents and code actions as literals, and counts positions in this unit",
+    ("ob0_world_editor", "Beginning", "initialize_message"): "the JSON of its `initialize`",
+    ("ob0_rpc", "Messages", "ReadsContent"): "the bytes are the JSON text of this value",
     ("ob0_world_editor", "Heard", "SaysToServer"): "by the protocol's own reader the content is the notification or the request "
     "that this message of the model stands for",
     ("ob0_world_editor", "Understood", "understood"): "what the editor reads in a content: a publication, or the edits that answer "
@@ -56,13 +57,14 @@ PARTS = [
     ("Part 1: client and server", "that client, server and the two queues between them are what the premises say, and that an edit "
      "is applied exactly where the document is the one that was asked about, unchanged"),
     ("Part 2: texts and patches", "LSP 3.17 on positions and lists of edits, and docs/PROTOCOL.md, Positions and Documents"),
-    ("Part 3: the tie to the program", "that each event of a `World` is a step of the session that `ob0 serve` runs, or of none. "
-     "`play_in` makes such steps; its own contract doesn't say so"),
+    ("Part 3: the tie to the program", "that `play_in` runs the session that `ob0 serve` runs: it returns what that session took and "
+     "sent, which is a `Conversation` from a session's beginning on, and so is what `serve` has read and written"),
     ("Part 4: Oberon-0", "docs/LANGUAGE.md: each group is under the rules of that page that it states, and says the same again"),
     ("Part 5: which edits answer a request", "docs/PROTOCOL.md, Requests on documents 6 to 10. The other parts name `GivesEdits` and "
      "`Refuses` without them: that each edit keeps the run needs nothing of this part; that a server that refuses all is excluded "
      "needs it"),
-    ("Part 6: `serve`, by each of its results", "that in each of its rows it promises `Served`"),
+    ("Part 6: step by step, and by each result of `serve`", "that `World::step` promises of each event what `Plays` says of all, and "
+     "that in each of its rows `serve` promises `Served`"),
 ]
 SENTENCE = (
     "> In every interleaving of an editor and the server, each edit that the editor applies to a well-typed document leaves a "
@@ -218,13 +220,13 @@ class Page:
         named = lambda key: self.sources.files[key[0], key[1]].named[key[2]]
         self.closed = {named(key): (key, says) for key, says in CLOSED.items()}
         edits, self.first = [named(key) for key in EDITS], [named(key) for key in FIRST]
-        main = self.sources.closure(roots(self.sources, HEADLINE + STEP) + [named(key) for key in TIE], [*edits, *self.closed])
+        main = self.sources.closure(roots(self.sources, HEADLINE) + [named(key) for key in TIE], [*edits, *self.closed])
         parts = [[] for _ in PARTS]
         for item in main:
             if item not in self.first:
                 parts[part_of(item)].append(item)
         parts[5] = [item for item in self.sources.closure(edits, [*self.closed]) if item not in main]
-        steps = self.sources.closure(roots(self.sources, RESULTS), [*edits, *self.closed])
+        steps = self.sources.closure(roots(self.sources, STEPS), [*edits, *self.closed])
         parts[6] = [item for item in steps if item not in main + parts[5]]
         self.groups = [by_file(items, self.sources.needs) for items in parts]
         self.groups[4].sort(key=Group.section)
@@ -340,8 +342,8 @@ class Page:
         items = [item for group in self.groups[part] for item in group.items]
         many, lines = self.counts(items)
         out = [f"## {title}", "", *wrapped(f"{many} definitions, {lines:,} lines: {minutes(lines)}. Or believe {believe}."), ""]
-        shown = {3: STEP, 6: RESULTS}.get(part)
-        out += ["```rust", *between(contract(*name) for name in shown), "```", ""] if shown else []
+        if part == 6:
+            out += ["```rust", *between(contract(*name) for name in STEPS), "```", ""]
         for group in self.groups[part]:
             out += self.group_lines(group, part == 4)
         return out + (self.closed_lines() if part == 3 else [])
