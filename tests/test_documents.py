@@ -1,4 +1,6 @@
 """Documents and what is published of them: opens, changes, closes, versions, faults of scanning."""
+import json
+
 from harness import answer, did_change, did_close, did_open, error, holds, initialize, notice, place, published, request, same, serve
 from harness import Server, capabilities, diagnostic, extent, frames, test
 
@@ -121,6 +123,15 @@ def out_of_step():
     skipped = did_change([{"range": extent("0:0-0:1"), "text": ""}], version=3)
     found = talk(did_open("$"), broken, skipped, did_change([], version=4), did_change(MODULE, version=5))
     same(found[1:], [published([], version=5)])
+
+
+@test("documents: a change with half a surrogate pair isn't JSON, and changes nothing")
+def half_a_pair():
+    halves = [json.dumps(did_change(text, version=2)) for text in ("\ud83d", "\ude00", "\ude00\ud83d", "$\ud83dx")]
+    whole = json.dumps(did_change("$\ud83d\ude00", version=4))
+    found = talk(did_open("$"), *halves, did_change([{"range": extent("0:0-0:1"), "text": "$$"}], version=3), whole)
+    bad = [diagnostic("BadChar", "bad character", at) for at in ("0:0-0:1", "0:1-0:2", "0:1-0:3")]
+    same(found[1:], [error(None, -32700, "not JSON")] * len(halves) + [published(bad[:2], version=3), published([bad[0], bad[2]], version=4)])
 
 
 @test("documents: an open that can't be read, of an open document, puts it out of step")

@@ -1,11 +1,10 @@
 #!/usr/bin/env python3
-"""Writes docs/STATEMENT.md: all that has to be read to know what the headline says, the contract of `World::play` and
-`World::play_in`. Each definition is there once, with its comment, in reading order: what it uses comes before it.
+"""Writes docs/STATEMENT.md: all that has to be read to know what the headline says, from the top down. Each definition is
+there once, with its comment, and before what it is made of.
 
-A definition is needed where the clauses name it, or a needed definition does. Names are looked up by the `use` lines of
-their file. What is needed only for the edits that answer an ask, and for their refusals, is the second part. Definitions of the
-standard library are not followed; its names are listed at the end. With --check the page isn't written: it fails
-where the page isn't of these sources."""
+A definition is needed where a contract of the page names it, or a needed definition does (tools/definitions.py). Some are
+named and not unfolded (`CLOSED`); what is needed only for the edits that answer a request, and for their refusals, is the
+last part. With --check the page isn't written: it fails where the page isn't of these sources."""
 import os
 import re
 import sys
@@ -13,19 +12,85 @@ import textwrap
 
 import common
 from common import TOP
+from definitions import OPERATOR, WORD, Block, Declared, File, Sources, lines_of, words_of
 
 PAGE = os.path.join(TOP, "docs", "STATEMENT.md")
-CRATES = os.path.join(TOP, "crates")
-ROOT = ("ob0_world", "world", ("play", "play_in"))
-# (where the second part begins)
+
+# ---- what is on the page
+
+# (the contracts that carry the headline, and those of the program step by step)
+HEADLINE = [("ob0_world", "world", "play"), ("ob0_world", "world", "play_in")]
+STEPS = [("ob0_world", "world", "step"), ("ob0_session", "serving", "serve")]
+# (what `serve` promises in each of its rows)
+TIE = [("ob0_session", "Serving", "Served")]
+# (on the first screen, in this order)
+FIRST = [("ob0_world_rules", "Headline", name) for name in ("Headline", "Holds", "KeepsTheRun", "IsRight", "AreUpToDate")]
+# (where the last part begins)
 EDITS = [("ob0_world_rules", "Answers", name) for name in ("GivesEdits", "Refuses")]
+# (what is named and not unfolded, and what it says)
+CLOSED = {
+    ("ob0_session_server", "Answers", "Answers"): "in the one state the session replies to this content with these contents, and "
+    "then it is in the other state: docs/PROTOCOL.md, all but the framing",
+    ("ob0_session_server", "Answers", "ServerState"): "what a session keeps: how far its lifecycle is, what the client can do, "
+    "and `held`, the open documents",
+    ("ob0_session_server", "Answers", "start"): "the state of a new session, before `initialize`",
+    ("ob0_session_server", "Answers", "begins"): "the state after the `initialize` of this client, with no document open",
+    ("ob0_session_server", "Steps", "IsGoingOn"): "the lifecycle isn't at its end",
+    ("ob0_world_editor", "Beginning", "client_for"): "what this editor can do: it takes edits with the versions of their "
+    "documents and code actions as literals, and counts positions in this unit",
+    ("ob0_world_editor", "Beginning", "initialize_message"): "the JSON of its `initialize`",
+    ("ob0_rpc", "Messages", "ReadsContent"): "the bytes are the JSON text of this value",
+    ("ob0_world_editor", "Heard", "SaysToServer"): "by the protocol's own reader the content is the notification or the request "
+    "that this message of the model stands for",
+    ("ob0_world_editor", "Understood", "understood"): "what the editor reads in a content: a publication, or the edits that answer "
+    "a request that it sent",
+    ("ob0_frame", "Framing", "Feeds"): "these bytes, after what was left before, are messages with these contents, and leave this: "
+    "a part of a message, or what no message can begin with",
+    ("ob0_frame", "Framing", "Rest"): "what is left: `Open` with the bytes of a part of a message, or `Broken`",
+    ("ob0_frame", "Frames", "frame"): "the message with this content, as it is written: its head, which gives the length, and it",
+}
+# (the sections of docs/LANGUAGE.md by which the language is ordered)
+SECTIONS = ["Runs", "Types", "Scopes", "Nesting and limits", "Grammar", "Lexemes"]
+# (the title of a part, and what one may believe instead of reading it)
+PARTS = [
+    ("Part 0: the headline", None),
+    ("Part 1: client and server", "that client, server and the two queues between them are what the premises say, and that an edit "
+     "is applied exactly where the document is the one that was asked about, unchanged"),
+    ("Part 2: texts and patches", "LSP 3.17 on positions and lists of edits, and docs/PROTOCOL.md, Positions and Documents"),
+    ("Part 3: the tie to the program", "that `play_in` runs the session that `ob0 serve` runs: it returns what that session took and "
+     "sent, which is a `Conversation` from a session's beginning on, and so is what `serve` has read and written"),
+    ("Part 4: Oberon-0", "docs/LANGUAGE.md: each group is under the rules of that page that it states, and says the same again"),
+    ("Part 5: which edits answer a request", "docs/PROTOCOL.md, Requests on documents 6 to 10. The other parts name `GivesEdits` and "
+     "`Refuses` without them: that each edit keeps the run needs nothing of this part; that a server that refuses all is excluded "
+     "needs it"),
+    ("Part 6: step by step, and by each result of `serve`", "that `World::step` promises of each event what `Plays` says of all, and "
+     "that in each of its rows `serve` promises `Served`"),
+]
+SENTENCE = (
+    "> In every interleaving of an editor and the server, each edit that the editor applies to a well-typed document leaves a "
+    "well-typed module with the same run: the same output and end for every input and every bound on calls and loop turns; and an "
+    "open document's latest diagnostics are empty exactly when the text they were made for is a well-typed module."
+)
+# (the premises, an item each)
+PREMISES = (
+    "It holds with any editor that sends every change, makes the edits of an answer at once and as the protocol says, and drops an "
+    "answer whose document was changed, or closed and opened again, since it asked. The editor of part 1 does; it also counts "
+    "versions from 1 in steps of 1, and sends the whole text after an edit.",
+    "Nothing is lost, added or reordered between the two, and no content is longer than a frame may be. A text is a list of "
+    "Unicode scalar values: half a surrogate pair is none.",
+    "Where memory runs out the server ends, and what it sent before stands (`PlaysBefore`).",
+    "`serve` promises its bytes of a reader and a writer that tell theirs. The standard streams don't: there the same code is tested. "
+    "Of a device's failures it knows what `Noted` was told, and no more.",
+    "What the program's `main` does (it calls `serve`, and hands its status on) has no contract.",
+)
 # (what a reader has to know of the notation, an item each)
 READING = (
     "`name : type`, and then equations, by cases; `_` is any other case. `data` lists the cases of a type; a `record` is a value with "
     "named parts, or a list of facts that all hold. `record { a = x; b = y }` is one with these parts, `record e { a = x }` is `e` with "
     "that part replaced.",
     "`(x : A) → B` is 'for all x', `A → B` 'if A then B', `A × B` 'A and B', `(x : A) × B` 'some x with B', `A ⊎ B` 'A or B', `¬ A` "
-    "'not A', `A ↔ B` 'A exactly if B', `≡` equality; `⊤` and `Unit {0}` always hold, `⊥` never. `IsTrue b` is `b ≡ true`.",
+    "'not A', `A ↔ B` 'A exactly if B', `≡` equality, `≢` its contrary; `⊤` and `Unit {0}` always hold, `⊥` never. `IsTrue b` is "
+    "`b ≡ true`; `All P xs` says P of each element.",
     "`λ x. y` is the function that gives y for x; `let x = y in z` gives y a name in z; `elim x [ p ↦ y | q ↦ z ]` is y or z, by what x "
     "is, and `if b then y else z` by a truth value. In a `do`, `x ← o` takes the value out of `o`; where `o` has none, the whole has "
     "none. An argument in braces is left out where it is clear.",
@@ -35,464 +100,326 @@ READING = (
     "beginning; `slice_get xs n` is the element with index n, if there is one; `take` and `drop` cut after n elements.",
     "`codes` gives the bytes of a text, `string_bytes` those of a string of the code, `chars` the characters of bytes. A text is the "
     "list of its bytes or of its characters, as the comments say.",
-    "In `reserved.Module` the word before the dot stands for the type whose case it is, of the same name. `abbrev`, `unfoldable`, "
-    "`unfolding`, `pub` and the 0 of `Type 0` matter to the checker alone; `mutual` comes before definitions that name one another.",
-    "In the contracts `result` is what is returned and `x.now` what an argument is; `IfOk result f` says f of the value of an `Ok`, "
-    "`IfErr result f` says f of the error of an `Err`. What `requires` says is for the caller to see to.",
+    "No name stands twice. In `TokenKind.Comma` the word before the dot is the type whose case it is; in `Lexed.joined` it is the "
+    "group that defines this `joined`, where another group has one too (an operator has a stroke then); `code.Event` is a type of "
+    "the code, where the model has one of that name. `abbrev`, `unfoldable`, `unfolding`, `pub` and the 0 of `Type 0` matter to the checker alone; `mutual` comes "
+    "before definitions that name one another.",
+    "In the contracts `result` is what is returned, `x.now` what an argument is, `x.old` and `x.new` what it was and is afterwards; "
+    "`IfOk result f` and `IfErr result f` say f of the value of an `Ok` and of the error of an `Err`, `OnOk result P` says P where the "
+    "result is an `Ok`. What `requires` says is for the caller to see to.",
 )
-WORD = re.compile(r"[^\W\d][\w'-]*(?:\.[^\W\d][\w'-]*)*")
-OPERATOR = re.compile(r"[^\w\s(){}\[\];,.\"◌]+")
+LINES_A_MINUTE = 10
 
 
-# ---- sources
+# ---- contracts
 
 
-def lines_of(path):
-    with open(path, encoding="utf-8") as file:
-        return file.read().splitlines()
+def source(crate, module):
+    return lines_of(os.path.join(TOP, "crates", crate, "src", module + ".rt"))
 
 
-class Block:
-    """One definition, or some that name one another, with the comment over it."""
-
-    def __init__(self, file, comment, code):
-        self.file, self.comment, self.code = file, comment, code
-        self.names = list(names_in(code))
-        self.heading = None
-        self.needs = None
-
-
-def names_in(code):
-    """The names that a block defines: of `data` its constructors too."""
-    first = code[0]
-    if not re.match(r"^(?:\w+ )*mutual\b", first):
-        inside, depth = code, ""
-    else:
-        inside, depth = code[1:], "  "
-    of_data = False
-    for line in inside:
-        found = re.match(rf"^{depth}(?:(?:abbrev|unfoldable|pub)\s+)*(?:(record|data)\s+)?(\S+)\s(?:.*\s)?:(?:\s|$)", line)
-        if found and found[2] != "--" and not found[2].startswith("unfolding"):
-            of_data = found[1] == "data"
-            yield found[2]
-        elif of_data:
-            constructors = re.match(rf"^{depth}  ((?:[^\s:(){{}}]+ )+):(?:\s|$)", line)
-            if constructors:
-                yield from constructors[1].split()
+def contract(crate, module, name):
+    """The contract of a function, with what is said over it, without indent."""
+    text = source(crate, module)
+    at = next(i for i, line in enumerate(text) if re.search(rf"\bfn {name}\b[(<]", line))
+    first = at
+    while text[first - 1].lstrip().startswith("///"):
+        first -= 1
+    last = next(i for i in range(at, len(text)) if text[i].strip() == "{")
+    return textwrap.dedent("\n".join(text[first:last])).splitlines()
 
 
-class File:
-    """A file of definitions: its blocks, and what its `use` lines bring in, by name."""
-
-    def __init__(self, crate, name, path):
-        self.crate, self.name = crate, name
-        self.title, self.blocks, self.uses, self.passed_on = "", [], {}, {}
-        text = lines_of(path)
-        while text and text[0].startswith("--"):
-            self.title = (self.title + " " + text.pop(0).lstrip("- ")).strip()
-        for line in [it for it in text if re.match(r"^(pub )?use ", it)]:
-            self.take_use(line)
-        self.cut([it for it in text if not re.match(r"^(pub )?(use|mod) ", it)])
-        self.named = {name: block for block in self.blocks for name in block.names}
-
-    def take_use(self, line):
-        found = re.match(r"^(pub )?use ([\w.'-]+?)(?:\.\{(.*)\}| as (.*))?$", line)
-        passes_on, module, names, alias = found[1], found[2], found[3], found[4]
-        if names is None:
-            self.uses[alias or module.rpartition(".")[2]] = (module, None)
-            return
-        for one in re.split(r",\s*", names):
-            was, _, new = one.partition(" as ")
-            self.uses[new or was] = (module, was)
-            if passes_on:
-                self.passed_on[new or was] = (module, was)
-
-    def cut(self, text):
-        """Cuts the text into blocks. A line of dashes over a part is a heading; other comments stay with what is below."""
-        heading, comment, code = None, [], []
-
-        def end():
-            nonlocal comment, code
-            if code:
-                block = Block(self, comment, code)
-                block.heading = heading
-                self.blocks.append(block)
-                comment, code = [], []
-
-        for line in text:
-            if line.startswith("-- ----"):
-                end()
-                heading, comment = line.lstrip("- "), []
-            elif line.startswith("--"):
-                end()
-                comment.append(line)
-            elif not line.strip():
-                if not is_open(code):
-                    end()
-                elif code:
-                    code.append(line)
-            elif line.startswith(" ") or not code or begins_as(code, line):
-                code.append(line)
-            else:
-                end()
-                code.append(line)
-        end()
-        for block in self.blocks:
-            while block.code and not block.code[-1].strip():
-                block.code.pop()
-
-
-def is_open(code):
-    """Whether what comes after an empty line may belong to the same block."""
-    return bool(code) and bool(re.match(r"^(?:\w+ )*mutual\b|^module ", code[0]))
-
-
-def begins_as(code, line):
-    """Whether a line is an equation of the definition above it."""
-    if code[-1].startswith("unfolding"):
-        return True
-    if line.startswith("unfolding"):
-        return True
-    return not re.match(r"^(abbrev|unfoldable|pub|module|mutual)\b", line)
-
-
-def all_files():
-    found = {}
-    for crate in common.crates() if hasattr(common, "crates") else sorted(os.listdir(CRATES)):
-        folder = os.path.join(CRATES, crate, "specs")
-        for name in sorted(os.listdir(folder)) if os.path.isdir(folder) else []:
-            if name.endswith(".antt"):
-                found[crate, name[:-5]] = File(crate, name[:-5], os.path.join(folder, name))
-    return found
-
-
-# ---- the types of the code
-
-
-class Declared:
-    """A type of the code, as it is declared there."""
-
-    def __init__(self, crate, module, name):
-        self.crate, self.module, self.name = crate, module, name
-        text = lines_of(os.path.join(CRATES, crate, "src", *module) + ".rt")
-        at = next(i for i, it in enumerate(text) if re.match(rf"^(pub(\(crate\))? )?(struct|enum) {name}\b", it))
-        first = at
-        while first and text[first - 1].startswith(("///", "#[")):
-            first -= 1
-        last = at
-        while not (text[last].startswith("}") or text[last].endswith(";") and last == at or re.search(r"\{.*\}$", text[last]) and last == at):
-            last += 1
-        self.code = [it for it in text[first : last + 1] if not it.lstrip().startswith("#[")]
-
-    def named_types(self):
-        """The names of the types of its fields."""
-        text = "\n".join(re.sub(r"//.*$", "", it) for it in self.code[1:])
-        fields = re.findall(r":\s*([^,{}]+)|\(([^()]*)\)", text)
-        return re.findall(r"\b[A-Z]\w*", " ".join(a or b for a, b in fields))
-
-
-def module_with(crate, name):
-    """The module of a crate that declares a public type, if it has one of this name."""
-    folder = os.path.join(CRATES, crate, "src")
-    for at, _, files in os.walk(folder):
-        for file in sorted(it for it in files if it.endswith(".rt")):
-            path = os.path.join(at, file)
-            if any(re.match(rf"pub (struct|enum) {name}\b", line) for line in lines_of(path)):
-                return os.path.relpath(path, folder)[: -len(".rt")].split(os.sep)
-    return None
-
-
-# ---- looking up
-
-
-class Statement:
-    def __init__(self):
-        self.files = all_files()
-        self.std = set()
-        self.declared = {}
-
-    def resolve(self, module, name):
-        """What a name of a module is: a block, a declared type, or a name of the library."""
-        parts = module.split(".")
-        if parts[0] != "Rattle" or not parts[1].startswith("ob0_"):
-            if name:
-                self.std.add((module, name))
-            return None
-        crate, rest = parts[1], parts[3:]
-        if rest[:1] == ["declared"]:
-            words = [it for it in rest[1:] if it != "TheVariants"]
-            return self.type_of(crate, words[:-1], words[-1])
-        file = self.file_of(crate, rest)
-        if file is None or name is None:
-            return None
-        head = name.split(".")[0]
-        if head in file.named:
-            return file.named[head]
-        if head in file.passed_on:
-            return self.resolve(*file.passed_on[head])
-        raise SystemExit(f"statement.py: {module} has no {name}")
-
-    def file_of(self, crate, rest):
-        found = self.files.get((crate, rest[0])) if rest else None
-        if found is None and rest:
-            lib = self.files.get((crate, "Lib"))
-            passed = lib.uses.get(rest[0]) if lib else None
-            if passed:
-                parts = passed[0].split(".")
-                return self.file_of(parts[1], parts[3:])
-        return found
-
-    def type_of(self, crate, module, name):
-        key = crate, name
-        if key not in self.declared:
-            self.declared[key] = Declared(crate, module, name)
-        return self.declared[key]
-
-    def needs(self, block):
-        """What a block names, in order."""
-        if block.needs is None:
-            found = []
-            for word in words_of(block.code):
-                it = self.look_up(block.file, word)
-                if it is not None and it is not block and it not in found:
-                    found.append(it)
-            block.needs = found
-        return block.needs
-
-    def types_in(self, declared):
-        """The types of the same crate that are in the fields of one."""
-        modules = [(module_with(declared.crate, name), name) for name in declared.named_types() if name != declared.name]
-        return [self.type_of(declared.crate, module, name) for module, name in modules if module]
-
-    def look_up(self, file, word):
-        if word in file.named:
-            return file.named[word]
-        head, _, rest = word.partition(".")
-        if word in file.uses:
-            module, name = file.uses[word]
-            return self.resolve(module, name) if name or "declared" in module else None
-        if head in file.uses and rest:
-            module, name = file.uses[head]
-            if name is None:
-                return self.resolve_in(module, rest)
-        return None
-
-    def resolve_in(self, module, rest):
-        if ".declared." in module or not module.startswith("Rattle.ob0_"):
-            return self.resolve(module, rest)
-        return self.resolve(module, rest.split(".")[0])
-
-    def closure(self, roots, without=()):
-        """All that these need, what is needed before what needs it."""
-        done, order = set(), []
-
-        def go(it):
-            if id(it) in done or it in without:
-                return
-            done.add(id(it))
-            for other in self.needs(it) if isinstance(it, Block) else self.types_in(it):
-                go(other)
-            order.append(it)
-
-        for root in roots:
-            go(root)
-        return order
-
-
-def words_of(code):
-    """The names in some lines, without comments and texts; an operator stands for its name with a place on each side."""
-    for line in code:
-        line = re.sub(r'"[^"]*"', '""', re.sub(r"--.*$", "", line))
-        yield from WORD.findall(line)
-        for sign in OPERATOR.findall(line):
-            yield sign
-            yield f"◌{sign}◌"
-            if sign == "←":
-                yield "◌>>=◌"
-
-
-# ---- the page
-
-
-def clauses():
-    """The contracts at the root, with what is said over each."""
-    crate, module, functions = ROOT
-    text = lines_of(os.path.join(CRATES, crate, "src", module + ".rt"))
+def roots(sources, functions):
+    """What the clauses of these functions name."""
     found = []
-    for name in functions:
-        at = next(i for i, it in enumerate(text) if re.search(rf"\bfn {name}\(", it))
-        first = at
-        while text[first - 1].lstrip().startswith("///"):
-            first -= 1
-        last = next(i for i in range(at, len(text)) if text[i].strip() == "{")
-        found.append([it[4:] for it in text[first:last]])
+    for crate, module, name in functions:
+        uses = File.__new__(File)
+        uses.crate, uses.name, uses.uses, uses.passed_on, uses.named = crate, module, {}, {}, {}
+        for line in source(crate, module):
+            if line.startswith("ghost use "):
+                uses.take_use(line[6:].rstrip(";"))
+        for word in words_of([line for line in contract(crate, module, name) if not line.startswith("///")]):
+            item = sources.look_up(uses, word)
+            if item is not None and item not in found:
+                found.append(item)
     return found
 
 
-def roots(statement):
-    crate, module, _ = ROOT
-    text = lines_of(os.path.join(CRATES, crate, "src", module + ".rt"))
-    uses = File.__new__(File)
-    uses.uses, uses.passed_on, uses.named = {}, {}, {}
-    for line in text:
-        if line.startswith("ghost use "):
-            uses.take_use(line[6:].rstrip(";"))
-    found = []
-    for clause in clauses():
-        for word in words_of([it for it in clause if not it.startswith("///")]):
-            it = statement.look_up(uses, word)
-            if it is not None and it not in found:
-                found.append(it)
-    return found
+# ---- parts and groups
 
 
-def by_file(order, crates):
-    """The blocks by their files, in the order of the crates and in that of the files' needs; types are before the blocks of
-    their crate."""
-    places = {crate: i for i, crate in enumerate(crates)}
-    files, types = [], {}
-    for it in order:
-        if isinstance(it, Declared):
-            types.setdefault(it.crate, []).append(it)
-        elif it.file not in files:
-            files.append(it.file)
-    parts = []
-    for crate in sorted({it.crate for it in files} | set(types), key=lambda it: places[it]):
-        if crate in types:
-            parts.append((crate, None, types[crate]))
-        for file in sorted_files([it for it in files if it.crate == crate], order):
-            parts.append((crate, file, [it for it in file.blocks if it in order]))
-    return parts
+class Group:
+    """Definitions of one file, or types of the code of one crate, from the top down."""
+
+    def __init__(self, crate, file, items):
+        self.crate, self.file, self.items = crate, file, items
+
+    def rule(self):
+        """The rules of docs/LANGUAGE.md that the file states, as its first lines have them."""
+        found = re.search(r"Rule: (?:.*; )?docs/LANGUAGE\.md, ([^;]*?)\.?$", self.file.title) if self.file else None
+        return found[1] if found else None
+
+    def heading(self, by_rule):
+        if self.file is None:
+            return f"Types of the code of `{self.crate}`"
+        name = f"`{self.file.name}` of `{self.crate}`"
+        return f"{self.rule()}: {name}" if by_rule and self.rule() else name
+
+    def section(self):
+        """The place of its section of docs/LANGUAGE.md in the order of the page; what is of none comes first."""
+        if self.file is None:
+            return len(SECTIONS)
+        if not self.crate.startswith(("ob0_language", "ob0_scan", "ob0_tree")):
+            return -1
+        rule = self.rule() or {"Parts": "Scopes", "EditLaws": "Runs"}.get(self.file.name, "")
+        found = [(rule.find(name), at) for at, name in enumerate(SECTIONS) if name in rule]
+        return min(found)[1] if found else -1
 
 
-def sorted_files(files, order):
-    """The files of one crate, each after those that it needs."""
-    found = []
-
-    def go(file):
-        if file in found or file not in files:
-            return
-        for block in [it for it in file.blocks if it in order]:
-            for other in block.needs or []:
-                if isinstance(other, Block) and other.file is not file and other in order:
-                    go(other.file)
-        found.append(file)
-
-    for file in sorted(files, key=lambda it: it.name):
-        go(file)
-    return found
+def part_of(item):
+    """Which part an item is in that the headline and its tie need, but for those of part 0."""
+    crate, file = (item.crate, None) if isinstance(item, Declared) else (item.file.crate, item.file.name)
+    if crate == "ob0_text" or (crate, file) == ("ob0_world_rules", "Edited"):
+        return 2
+    if crate == "ob0_world_rules" and file != "Language":
+        return 1
+    return 3 if crate.startswith(("ob0_world", "ob0_session", "ob0_rpc", "ob0_frame")) and file != "Language" else 4
 
 
-def write_part(out, parts):
-    """Writes definitions by files. Returns how many there are, and how many lines they have without comments."""
-    definitions, lines, crate = 0, 0, None
-    for home, file, items in parts:
-        if home != crate:
-            crate = home
-            out.append(f"### `{crate}`\n")
-        if file is None:
-            out.append("Types of the code:\n")
-            out.append("```rust")
-            for i, it in enumerate(items):
-                out.extend(([""] if i else []) + it.code)
-                definitions += 1
-                lines += sum(1 for line in it.code if line.strip() and not line.lstrip().startswith("//"))
-            out.append("```\n")
-            continue
-        out.append(f"**{file.name}.** {file.title}\n")
-        out.append("```agda")
-        heading = None
-        for i, it in enumerate(items):
-            out.extend([""] if i else [])
-            if it.heading != heading:
-                heading = it.heading
-                out.extend([f"-- ---- {heading}", ""])
-            out.extend(it.comment + it.code)
-            definitions += 1
-            lines += sum(1 for line in it.code if line.strip() and not line.lstrip().startswith("--"))
-        out.append("```\n")
-    return definitions, lines
-
-
-def layers():
-    """The crates as crates.txt has them, lowest first."""
-    needs = {}
-    for line in lines_of(os.path.join(TOP, "crates.txt")):
-        head, _, tail = line.partition("#")[0].partition(":")
-        if head.strip():
-            needs[head.split()[0]] = tail.split()
+def by_file(items, needs):
+    """Items, which come in an order in which what is needed comes first, as groups from the top down."""
+    files, types = {}, {}
+    for item in items:
+        if isinstance(item, Declared):
+            types.setdefault(item.crate, []).append(item)
+        else:
+            files.setdefault(item.file, []).append(item)
     order = []
 
-    def go(crate):
-        if crate in needs and crate not in order:
-            for other in needs[crate]:
-                go(other)
-            order.append(crate)
+    def go(file):
+        if file not in order:
+            order.append(None)
+            for other in {need.file: 0 for item in files[file] for need in needs(item) if isinstance(need, Block)}:
+                if other is not file and other in files and other not in started:
+                    started.add(other)
+                    go(other)
+            order.append(file)
 
-    for crate in needs:
-        go(crate)
-    return order
+    started = set()
+    for file in files:
+        if file not in started:
+            started.add(file)
+            go(file)
+    groups = [Group(file.crate, file, files[file][::-1]) for file in reversed(order) if file is not None]
+    return groups + [Group(crate, None, items) for crate, items in types.items()]
 
 
-def wrapped(item):
-    """The lines of an item of a list; what is between backquotes stays in one line."""
-    kept = re.sub(r"`[^`]*`", lambda it: it[0].replace(" ", "\N{NO-BREAK SPACE}"), f"- {item}")
-    lines = textwrap.wrap(kept, 120, subsequent_indent="  ", break_on_hyphens=False)
-    return [it.replace("\N{NO-BREAK SPACE}", " ") for it in lines]
+class Page:
+    def __init__(self):
+        self.sources = Sources()
+        named = lambda key: self.sources.files[key[0], key[1]].named[key[2]]
+        self.closed = {named(key): (key, says) for key, says in CLOSED.items()}
+        edits, self.first = [named(key) for key in EDITS], [named(key) for key in FIRST]
+        main = self.sources.closure(roots(self.sources, HEADLINE) + [named(key) for key in TIE], [*edits, *self.closed])
+        parts = [[] for _ in PARTS]
+        for item in main:
+            if item not in self.first:
+                parts[part_of(item)].append(item)
+        parts[5] = [item for item in self.sources.closure(edits, [*self.closed]) if item not in main]
+        steps = self.sources.closure(roots(self.sources, STEPS), [*edits, *self.closed])
+        parts[6] = [item for item in steps if item not in main + parts[5]]
+        self.groups = [by_file(items, self.sources.needs) for items in parts]
+        self.groups[4].sort(key=Group.section)
+        self.homes, self.names = {}, {}
+        self.give_names()
+
+    def give_names(self):
+        """Each item's heading, and the name of each definition on the page: no name stands twice."""
+        taken = set()
+        for item in self.first:
+            self.homes[item] = PARTS[0][0]
+            self.take_names(item, taken)
+        for part, groups in enumerate(self.groups):
+            for group in groups:
+                for item in group.items:
+                    self.homes[item] = group.heading(part == 4)
+                    if isinstance(item, Block):
+                        self.take_names(item, taken)
+        for item in self.closed:
+            self.homes[item] = "Named and not unfolded"
+            self.take_names(item, taken)
+        for item in self.homes:
+            if isinstance(item, Declared):
+                self.names[item, item.name] = f"code.{item.name}" if item.name in taken else item.name
+
+    def take_names(self, block, taken):
+        for name in block.names:
+            shown = name if name not in taken else f"{block.file.name}.{name}"
+            if shown in taken:
+                shown = f"{block.file.crate.removeprefix('ob0_')}.{name}"
+            taken.add(shown)
+            self.names[block, name] = shown
+
+    # ---- names
+
+    def shown(self, file, word):
+        """A word of a definition as the page has it."""
+        head, _, rest = word.partition(".")
+        if word in file.named:
+            return self.names.get((file.named[word], word), word)
+        if word in file.uses and file.uses[word][1]:
+            return self.imported(*file.uses[word], word)
+        if head in file.uses and rest and file.uses[head][1] is None:
+            module = file.uses[head][0]
+            if ".specs.declared." in module:
+                return self.imported(module, rest.removeprefix("TheVariants."), word) if rest[0].isupper() else word
+            if module.startswith("Rattle.ob0_"):
+                return self.imported(module, rest, word)
+            return f"{module.rpartition('.')[2]}.{rest}"
+        return word
+
+    def imported(self, module, name, word):
+        """A name of a module as the page has it."""
+        item = self.sources.resolve(module, name) if ".declared." in module else self.sources.resolve(module, name.split(".")[0])
+        if isinstance(item, Declared):
+            own = self.names.get((item, item.name), item.name)
+            return own if name == item.name else f"{item.name}.{name}"
+        first, _, rest = name.partition(".")
+        own = self.names.get((item, first))
+        return word if own is None or own == first and "." not in word else own + (f".{rest}" if rest else "")
+
+    def code_of(self, block):
+        """The lines of a definition with the names of the page."""
+        found = []
+        for line in block.code:
+            code, dashes, comment = line.partition("--")
+            parts = re.split(r'("[^"]*")', code)
+            code = "".join(part if part.startswith('"') else self.in_words(block.file, part) for part in parts)
+            found.append(code + dashes + comment)
+        return found
+
+    def in_words(self, file, code):
+        """Some code with the names of the page. An operator that has the name of another has a stroke."""
+        code = WORD.sub(lambda at: self.shown(file, at[0]), code)
+        for name in {f"◌{sign}◌" for sign in OPERATOR.findall(code)}:
+            item = self.sources.look_up(file, name)
+            if item is not None and self.names.get((item, name), name) != name:
+                code = code.replace(name[1:-1], f"{name[1:-1]}'")
+        return code
+
+    # ---- writing
+
+    def counts(self, items):
+        """How many definitions there are, and how many lines they have without comments."""
+        lines = [line.lstrip() for item in items for line in item.code]
+        return len(items), sum(bool(line) and not line.startswith(("--", "//")) for line in lines)
+
+    def group_lines(self, group, by_rule):
+        heading = group.heading(by_rule)
+        out = [f"### {heading}", ""]
+        if group.file is None:
+            code = [line for i, item in enumerate(group.items) for line in ([""] if i else []) + item.code]
+            return [*out, "```rust", *code, "```", ""]
+        out += [*wrapped(re.sub(r"\s*Rule: none.*$", "", group.file.title)), ""]
+        out += self.fenced(group.items)
+        return out + self.elsewhere(group.items, heading)
+
+    def fenced(self, items):
+        code = [line for i, item in enumerate(items) for line in ([""] if i else []) + item.comment + self.code_of(item)]
+        return ["```agda", *code, "```", ""]
+
+    def elsewhere(self, items, heading):
+        """Where the names are defined that these use, those of other groups."""
+        found = {need: 0 for item in items for need in self.sources.needs(item) if self.homes.get(need, heading) != heading}
+        links = []
+        for need in found:
+            name = need.name if isinstance(need, Declared) else need.names[0]
+            links.append(f"[`{self.names[need, name].strip('◌')}`](#{slug(self.homes[need])})")
+        return [*wrapped("Elsewhere: " + ", ".join(links) + "."), ""] if links else []
+
+    def part_lines(self, part):
+        title, believe = PARTS[part]
+        items = [item for group in self.groups[part] for item in group.items]
+        many, lines = self.counts(items)
+        out = [f"## {title}", "", *wrapped(f"{many} definitions, {lines:,} lines: {minutes(lines)}. Or believe {believe}."), ""]
+        if part == 6:
+            out += ["```rust", *between(contract(*name) for name in STEPS), "```", ""]
+        for group in self.groups[part]:
+            out += self.group_lines(group, part == 4)
+        return out + (self.closed_lines() if part == 3 else [])
+
+    def closed_lines(self):
+        rows = [f"| `{self.names[block, key[2]]}` | {says} | `{key[1]}` of `{key[0]}` |" for block, (key, says) in self.closed.items()]
+        return ["### Named and not unfolded", "", "| Name | What it says | Where it is defined |", "|---|---|---|", *rows, ""]
+
+    def table(self):
+        rows = ["| Part | Definitions | Lines without comments | Careful reading |", "|---|---|---|---|"]
+        for part, (title, _) in enumerate(PARTS):
+            items = self.first if part == 0 else [item for group in self.groups[part] for item in group.items]
+            many, lines = self.counts(items)
+            rows.append(f"| [{title}](#{slug(title)}) | {many} | {lines:,} | {minutes(lines)} |")
+        return rows
+
+    def first_lines(self):
+        out = ["# The statement", "", f"<!-- Made by `make statement` of the sources. -->", "", f"## {PARTS[0][0]}", ""]
+        out += [*quoted(SENTENCE), ""]
+        out += [line for item in PREMISES for line in wrapped(f"- {item}", "  ")]
+        out += ["", "```rust", *between(contract(*name) for name in HEADLINE), "```", ""]
+        return out + self.fenced(self.first) + self.elsewhere(self.first, PARTS[0][0])
+
+    def text(self):
+        out = self.first_lines() + ["## How to read it", ""]
+        out += wrapped(
+            "Whoever believes that these definitions say what they are meant to say knows what is proved; proofs and code needn't be "
+            "read. That the page leaves none out is this page's own script's work (`tools/statement.py`), and a test counts them in "
+            "another way."
+        )
+        out += ["", *self.table(), "", "## The notation", ""]
+        out += [line for item in READING for line in wrapped(f"- {item}", "  ")] + [""]
+        for part in range(1, len(PARTS)):
+            out += self.part_lines(part)
+        out += ["## Names of the standard library", ""]
+        by_module = {}
+        for module, name in self.sources.std:
+            by_module.setdefault(module, set()).add(name)
+        for module in sorted(by_module):
+            out += wrapped(f"- `{module}`: {', '.join(f'`{name}`' for name in sorted(by_module[module]))}", "  ")
+        return "\n".join(out).rstrip() + "\n"
 
 
-def page():
-    statement = Statement()
-    edits = [statement.files[crate, file].named[name] for crate, file, name in EDITS]
-    first = statement.closure(roots(statement), edits)
-    second = [it for it in statement.closure(edits) if it not in first]
-    crates = layers()
-    one, two = [], []
-    count_one = write_part(one, by_file(first, crates))
-    count_two = write_part(two, by_file(second, crates))
-    out = [
-        "# The statement",
-        "",
-        "Made by `make statement` from the sources: all definitions that the headline is made of, each once and before it is",
-        "used, with its comment. Whoever believes that these say what they are meant to say knows what is proved; proofs and",
-        "code needn't be read. The contracts at the end of the first part are those of the functions that carry the headline.",
-        "",
-        "| Part | Definitions | Lines without comments |",
-        "|---|---|---|",
-        f"| [What the headline says](#what-the-headline-says) | {count_one[0]} | {count_one[1]:,} |",
-        f"| [Which edits answer an ask](#which-edits-answer-an-ask) | {count_two[0]} | {count_two[1]:,} |",
-        "",
-        "The first part says that an applied edit keeps the run and that diagnostics are right. The second says which edits",
-        "answer an ask, and when there are none (`GivesEdits` and `Refuses`, with which it ends; the first part names them): it is",
-        "needed only to know that the server returns exactly these, and refuses nothing else.",
-        "",
-        "How to read them:",
-        "",
-        *[line for it in READING for line in wrapped(it)],
-        "",
-        "Names of the standard library are listed at the end.",
-        "",
-        "## What the headline says",
-        "",
-        *one,
-        "### The contracts",
-        "",
-        "```rust",
-    ]
-    for i, clause in enumerate(clauses()):
-        out.extend(([""] if i else []) + clause)
-    out.extend(["```", "", "## Which edits answer an ask", "", *two])
-    out.extend(["## Names of the standard library", ""])
-    by_module = {}
-    for module, name in statement.std:
-        by_module.setdefault(module, set()).add(name)
-    for module in sorted(by_module):
-        out.append(f"- `{module}`: {', '.join(f'`{it}`' for it in sorted(by_module[module]))}")
-    return "\n".join(out).rstrip() + "\n"
+def minutes(lines):
+    """About how long a careful reading of these lines takes."""
+    about = max(5, round(lines / LINES_A_MINUTE / 5) * 5)
+    return f"about {about} minutes" if about < 60 else f"about {round(about / 30) / 2:g} hours"
+
+
+def between(contracts):
+    """Contracts one after another, with an empty line between."""
+    found = []
+    for lines in contracts:
+        found += ([""] if found else []) + lines
+    return found
+
+
+def slug(heading):
+    """The anchor of a heading."""
+    return re.sub(r"[^\w\- ]", "", heading.lower()).replace(" ", "-")
+
+
+def wrapped(text, indent=""):
+    """The lines of a text; what is between backquotes stays in one line, and so does a link."""
+    kept = re.sub(r"\[?`[^`]*`(?:\]\([^)]*\))?", lambda at: at[0].replace(" ", "\N{NO-BREAK SPACE}"), text)
+    lines = textwrap.wrap(kept, 120, subsequent_indent=indent, break_on_hyphens=False, break_long_words=False)
+    return [line.replace("\N{NO-BREAK SPACE}", " ") for line in lines]
+
+
+def quoted(text):
+    return wrapped(text, "> ")
 
 
 def main(words):
-    made = page()
+    page = Page()
+    made = page.text()
     if "--check" in words:
         with open(PAGE, encoding="utf-8") as file:
             if file.read() != made:
@@ -500,8 +427,7 @@ def main(words):
         return
     with open(PAGE, "w", encoding="utf-8") as file:
         file.write(made)
-    print(next(it for it in made.splitlines() if "](#what" in it))
-    print(next(it for it in made.splitlines() if "](#which" in it))
+    print("\n".join(page.table()))
 
 
 if __name__ == "__main__":

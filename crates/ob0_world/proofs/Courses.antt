@@ -1,30 +1,95 @@
--- How a course goes on, and what follows of it for what has come of it.
-use Rattle.std.proofs.Common.{◌≡◌, ◌∙◌, ℕ, ◌+◌, ◌<◌, List, [], ◌∷◌, length, take, get_or, map, sym, ap, subst, inl}
+-- How a course goes on, and what follows of it for what has come of it and for the session.
+use Rattle.std.proofs.Common.{◌≡◌, ◌∙◌, ℕ, ◌+◌, ◌<◌, List, [], ◌∷◌, ◌++◌, length, take, get_or, map, refl, sym, ap, subst, inl}
 use Rattle.std.specs.Prelude.{◌⊎◌, All}
-use Rattle.std.proofs.lemmas.List.{map-append, take_more}
+use Rattle.std.proofs.lemmas.List.{map-append, take_more, append-nil, append_assoc}
 use Rattle.ob0_text.specs.declared.position_types.Unit.{Unit}
+use Rattle.ob0_session_server.specs.Answers as server
+use Rattle.ob0_session_server.specs.Answers.{ServerState, begins, Answers, Conversation}
+use Rattle.ob0_session_server.specs.SessionStates.{SessionState, serving}
+use Rattle.ob0_world.proofs.Conversing.{conversation_then, answered_once}
+use Rattle.ob0_world_editor.specs.Beginning.{client_for}
 use Rattle.ob0_world.specs.declared.events.Event as event
 use Rattle.ob0_world.specs.declared.faults.PlayFault.{PlayFault}
 use Rattle.ob0_world.specs.declared.played.Played as played
 use Rattle.ob0_world_rules.specs.Ends.{Ends, start}
-use Rattle.ob0_world_rules.specs.Events.{Seen}
-use Rattle.ob0_world_rules.specs.Happens.{Happens, Course}
-use Rattle.ob0_world_rules.specs.Headline.{WasMadeFor}
+use Rattle.ob0_world_rules.specs.Events.{Event, open_document, change_document, close_document, ask_about, serve, take_message, apply, discard, Seen}
+use Rattle.ob0_world_rules.specs.Happens.{Course}
+use Rattle.ob0_world_rules.specs.Headline.{Headline, WasMadeFor}
 use Rattle.ob0_world_rules.proofs.Interleavings.{in_every_interleaving}
-use Rattle.ob0_world_rules.proofs.MadeFor.{made_for, course_push}
+use Rattle.ob0_world_rules.proofs.MadeFor.{made_for}
 use Rattle.ob0_world_rules.proofs.OneCourse.{one_course}
-use Rattle.ob0_world.specs.Code.{event_of}
-use Rattle.ob0_world.specs.Worlds.{HasCome, Plays, PlaysBefore, SameHistory}
+use Rattle.ob0_world.specs.Code.{event_of, all_applied, all_made}
+use Rattle.ob0_world.specs.Worlds.{Wire, Both, Begins, TakesFirst, GetsFirst, WritesContent, MovesWire, BothStep, BothCourse, HasCome, HasPassed, Plays, PlaysBefore, SameHistory}
 
-pub course_more : (unit : Unit) (events : List event.Event) (i : ℕ) (e : event.Event) (between : Ends) (seen : Seen) (new : Ends) → i < length events → e ≡ get_or events i e → Course (start unit) (map event_of (take i events)) between
-    → Happens between (event_of e) seen new → Course (start unit) (map event_of (take (i + 1) events)) new
-course_more unit events i e between seen new within is course happens =
-    subst (λ es. Course (start unit) es new)
+-- ---- one event more
+
+both_push : (begin : Both) (events : List Event) (between : Both) (e : Event) (seen : Seen) (new : Both) → BothCourse begin events between → BothStep between e seen new → BothCourse begin (events ++ e ∷ []) new
+both_push begin [] between e seen new is step = (seen, new, subst (λ (x : Both). BothStep x e seen new) is step, refl)
+both_push begin (first ∷ events) between e seen new (shown, next, made, rest) step = (shown, next, made, both_push next events between e seen new rest step)
+
+pub course_more : (begin : Both) (events : List event.Event) (i : ℕ) (e : event.Event) (between : Both) (seen : Seen) (new : Both) → i < length events → e ≡ get_or events i e → BothCourse begin (map event_of (take i events)) between
+    → BothStep between (event_of e) seen new → BothCourse begin (map event_of (take (i + 1) events)) new
+course_more begin events i e between seen new within is course step =
+    subst (λ es. BothCourse begin es new)
     (sym (ap (map event_of) (take_more events i e within) ∙ map-append event_of (take i events) (get_or events i e ∷ [])))
-    (course_push (start unit) (map event_of (take i events)) between (event_of (get_or events i e)) seen new course (subst (λ x. Happens between (event_of x) seen new) is happens))
+    (both_push begin (map event_of (take i events)) between (event_of (get_or events i e)) seen new course (subst (λ x. BothStep between (event_of x) seen new) is step))
 
-pub plays : (unit : Unit) (events : List event.Event) (w : Ends) (p : played.Played) → Course (start unit) (map event_of events) w → HasCome w p → Plays unit events p
-plays unit events w p course come =
+model_course : (begin : Both) (events : List Event) (end : Both) → BothCourse begin events end → Course begin.ends events end.ends
+model_course begin [] end is = ap (λ (w : Both). w.ends) is
+model_course begin (e ∷ events) end (seen, between, step, rest) = (seen, between.ends, step.happens, model_course between events end rest)
+
+-- ---- the session's conversation
+
+-- what passed is a conversation of a session from its beginning on
+Conversed : Wire → Type 0
+Conversed w = (s : ServerState) × (w.session ≡ serving s) × Conversation server.start w.taken (w.got ++ w.to_editor) s
+
+same_state : (a b : ServerState) (old : SessionState) → old ≡ serving a → old ≡ serving b → a ≡ b
+same_state a b old h k = cc
+
+takes_conversed : (q : List (List ℕ)) (old new : Wire) → TakesFirst q old new → Conversed old → Conversed new
+unfolding Conversed
+takes_conversed [] old new is h = subst Conversed (sym is) h
+takes_conversed (content ∷ rest) old new t (s, at, so) =
+    let a = t.answered in
+    let answers : Answers s content t.sent a.after = subst (λ x. Answers x content t.sent a.after) (same_state a.before s old.session a.served at) a.answers in
+    let more = conversation_then server.start old.taken (old.got ++ old.to_editor) s (content ∷ []) t.sent a.after so (answered_once s content t.sent a.after answers) in
+    subst Conversed (sym t.is) (a.after, a.serves, subst (λ x. Conversation server.start (old.taken ++ content ∷ []) x a.after) (append_assoc old.got old.to_editor t.sent) more)
+
+gets_conversed : (q : List (List ℕ)) (old new : Wire) → old.to_editor ≡ q → GetsFirst q old new → Conversed old → Conversed new
+unfolding Conversed
+gets_conversed [] old new waits is h = subst Conversed (sym is) h
+gets_conversed (content ∷ rest) old new waits is (s, at, so) =
+    subst Conversed (sym is) (s, at, subst (λ x. Conversation server.start old.taken x s) (ap (λ x. old.got ++ x) waits ∙ sym (append_assoc old.got (content ∷ []) rest)) so)
+
+writes_conversed : (old new : Wire) → WritesContent old new → Conversed old → Conversed new
+unfolding Conversed
+writes_conversed old new (content, is) h = subst Conversed (sym is) h
+
+moved_conversed : (e : Event) (old new : Wire) → MovesWire e old new → Conversed old → Conversed new
+moved_conversed serve old new moves h = takes_conversed old.to_server old new moves h
+moved_conversed take_message old new moves h = gets_conversed old.to_editor old new refl moves h
+moved_conversed (open_document uri text) old new moves h = writes_conversed old new moves h
+moved_conversed (change_document uri how) old new moves h = writes_conversed old new moves h
+moved_conversed (close_document uri) old new moves h = writes_conversed old new moves h
+moved_conversed (ask_about uri ask) old new moves h = writes_conversed old new moves h
+moved_conversed (apply k) old new moves h = writes_conversed old new moves h
+moved_conversed (discard k) old new moves h = writes_conversed old new moves h
+
+begins_conversed : (unit : Unit) (w : Both) → Begins unit w → Conversed w.wire
+unfolding Conversed
+begins_conversed unit w b =
+    subst Conversed (sym b.wire)
+    (begins (client_for unit), refl, subst (λ x. Conversation server.start (b.content ∷ []) x (begins (client_for unit))) (sym (append-nil b.replies)) (answered_once server.start b.content b.replies (begins (client_for unit)) b.answers))
+
+course_conversed : (begin : Both) (events : List Event) (end : Both) → BothCourse begin events end → Conversed begin.wire → Conversed end.wire
+course_conversed begin [] end is h = subst (λ (w : Both). Conversed w.wire) (sym is) h
+course_conversed begin (e ∷ events) end (seen, between, step, rest) h = course_conversed between events end rest (moved_conversed e begin.wire between.wire step.moves h)
+
+-- ---- what has come of it
+
+headline : (unit : Unit) (events : List event.Event) (w : Ends) (p : played.Played) → Course (start unit) (map event_of events) w → HasCome w p → Headline unit (map event_of events) (all_applied p) (all_made p)
+headline unit events w p course come =
     record {
       end = w;
       course = course;
@@ -35,10 +100,38 @@ plays unit events w p course come =
       made_for = subst (All (WasMadeFor unit (map event_of events))) (sym come.1) (made_for unit (map event_of events) w course);
     }
 
+course_begun : (unit : Unit) (begin : Both) (events : List Event) (end : Both) → Begins unit begin → BothCourse begin events end → Course (start unit) events end.ends
+course_begun unit begin events end begun course = subst (λ w. Course w events end.ends) begun.ends (model_course begin events end course)
+
+conversation_of : (w : Wire) (p : played.Played) → HasPassed w p → Conversed w → (after : ServerState) × Conversation server.start (map (λ v. v.items) p.taken.items) (map (λ v. v.items) p.got.items ++ map (λ v. v.items) p.unread.items) after
+unfolding Conversed
+conversation_of w p passed (after, at, so) =
+    (after, subst (λ (x : Wire). Conversation server.start x.taken (x.got ++ x.to_editor) after) (λ i. record w { taken = sym passed.0 i; got = sym passed.1 i; to_editor = sym passed.2 i }) so)
+
+pub plays : (unit : Unit) (events : List event.Event) (begin end : Both) (p : played.Played) → Begins unit begin → BothCourse begin (map event_of events) end → HasCome end.ends p → HasPassed end.wire p → Plays unit events p
+plays unit events begin end p begun course come passed =
+    let talked = conversation_of end.wire p passed (course_conversed begin (map event_of events) end course (begins_conversed unit begin begun)) in
+    record {
+      headline = headline unit events end.ends p (course_begun unit begin (map event_of events) end begun course) come;
+      begin = begin;
+      begins = begun;
+      end = end;
+      course = course;
+      come = come;
+      passed = passed;
+      after = talked.0;
+      conversation = talked.1;
+    }
+
+-- memory ran out before the first event
+pub plays_nothing : (unit : Unit) (p : played.Played) → all_applied p ≡ [] → all_made p ≡ [] → Headline unit [] (all_applied p) (all_made p)
+plays_nothing unit p none nothing = headline unit [] (start unit) p refl (none, nothing)
+
 pub come_before : (old new : Ends) (p : played.Played) → SameHistory old new → HasCome new p → HasCome old p
 come_before old new p same come = (come.0 ∙ same.applied, come.1 ∙ same.made)
 
 -- memory ran out at the event with this index
-pub plays_before : (unit : Unit) (events : List event.Event) (i : ℕ) (w : Ends) (fault : PlayFault) → fault.steps ≡ i → i < length events → Course (start unit) (map event_of (take i events)) w → HasCome w fault.played → PlaysBefore unit events fault
-plays_before unit events i w fault counted within course come =
-    subst (λ n. ((n < length events) ⊎ (n ≡ 0)) × Plays unit (take n events) fault.played) (sym counted) (inl within, plays unit (take i events) w fault.played course come)
+pub plays_before : (unit : Unit) (events : List event.Event) (i : ℕ) (begin w : Both) (fault : PlayFault) → fault.steps ≡ i → i < length events → Begins unit begin → BothCourse begin (map event_of (take i events)) w → HasCome w.ends fault.played → PlaysBefore unit events fault
+plays_before unit events i begin w fault counted within begun course come =
+    subst (λ n. ((n < length events) ⊎ (n ≡ 0)) × Headline unit (map event_of (take n events)) (all_applied fault.played) (all_made fault.played)) (sym counted)
+    (inl within, headline unit (take i events) w.ends fault.played (course_begun unit begin (map event_of (take i events)) w begun course) come)

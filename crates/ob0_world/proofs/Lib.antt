@@ -6,3 +6,4 @@ mod Counting
 mod Courses
 mod Tied
 mod Stepping
+mod Conversing

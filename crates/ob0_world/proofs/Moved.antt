@@ -1,6 +1,6 @@
 -- What the editor's moves make of both ends.
 use Rattle.std.proofs.Common.{◌≡◌, ◌∙◌, ℕ, Bool, true, false, cond, List, [], ◌∷◌, ◌++◌, Option, Some, None, Result, Ok, Err, refl, sym, ap, subst}
-use Rattle.std.specs.Prelude.{⊤, All, Vec, map, IfOk, OnErr, is_some}
+use Rattle.std.specs.Prelude.{⊤, All, Vec, map, IfOk, OnErr, OnOk, is_some}
 use Rattle.std.specs.declared.alloc.Global.{Global}
 use Rattle.std.proofs.lemmas.List.{append-nil, map-append}
 use Rattle.std.proofs.lemmas.List.Elements.{All-head, All-push, All-tail}
@@ -22,7 +22,8 @@ use Rattle.ob0_world_rules.specs.Events.{Is, after_move, comes_of, applies, drop
 use Rattle.ob0_world.specs.declared.events.Seen as seen
 use Rattle.ob0_world.specs.declared.played.Made as made
 use Rattle.ob0_world.specs.Code.{seen_of}
-use Rattle.ob0_world.specs.Queues.{Contents, all_heard, all_understood, IsHeard, IsUnderstood, Sound, ends_from, IsSent}
+use Rattle.ob0_world.specs.Queues.{Contents, bytes, all_heard, all_understood, IsHeard, IsUnderstood, Sound, ends_from, wire_from, IsSent}
+use Rattle.ob0_world.specs.Worlds.{WritesContent}
 use Rattle.ob0_world.proofs.Waiting.{all_heard_still, all_understood_still, heard_still, understood_same, said_push}
 
 -- ---- the asks of an editor only grow
@@ -174,6 +175,20 @@ made_happens e new k (makes f b m) a c q q' r s ap_list ap_new md keeps (is_new,
 pub keep_asks : (e : Editor) (number : ℕ) (edits : List Replacement) → (keeps e number edits).requested ≡ e.requested
 keep_asks e number [] = refl
 keep_asks e number (edit ∷ edits) = refl
+
+-- ---- what waits
+
+module _ (s : SessionState) (tk q gt r : Contents) where
+  pub writes_none : WritesContent (wire_from s tk q gt r) (wire_from s tk q gt r)
+  writes_none = (None, λ i. record (wire_from s tk q gt r) { to_server = sym (append-nil (bytes q)) i })
+
+  pub writes_one : (q' : Contents) (c : Vec ℕ Global) → q' ≡ q ++ c ∷ [] → WritesContent (wire_from s tk q gt r) (wire_from s tk q' gt r)
+  writes_one q' c is = (Some c.items, λ i. record (wire_from s tk q gt r) { to_server = (ap bytes is ∙ map-append (λ v. v.items) q (c ∷ [])) i })
+
+  pub writes_sent : {X : Type 0} (q' : Contents) (content : Option (Vec ℕ Global)) (result : Result seen.Seen X) → IfOk result (λ shown. IsSent q content shown q') → OnOk result (WritesContent (wire_from s tk q gt r) (wire_from s tk q' gt r))
+  writes_sent q' content (Err x) sent = tt
+  writes_sent q' None (Ok shown) sent = subst (λ x. WritesContent (wire_from s tk q gt r) (wire_from s tk x gt r)) (sym sent.1) writes_none
+  writes_sent q' (Some c) (Ok shown) sent = writes_one q' c sent.1
 
 -- ---- sending
 

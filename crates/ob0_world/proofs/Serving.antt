@@ -20,8 +20,8 @@ use Rattle.ob0_world_rules.specs.Happens.{ServerTakes}
 use Rattle.ob0_world_rules.specs.Events as events
 use Rattle.ob0_world.specs.declared.played.Made as made
 use Rattle.ob0_world.specs.Code.{publication_of}
-use Rattle.ob0_world.specs.Queues.{Contents, bytes, all_heard, all_understood, IsHeard, IsUnderstood, Sound, IsRunning, IsRunningOrFailed, held_by, ends_from, both_from, made_first, made_for, made_sent}
-use Rattle.ob0_world.specs.Worlds.{IsAnswered, TakesFirst}
+use Rattle.ob0_world.specs.Queues.{Contents, bytes, all_heard, all_understood, IsHeard, IsUnderstood, Sound, IsRunning, IsRunningOrFailed, held_by, ends_from, wire_from, made_first, made_for, made_sent}
+use Rattle.ob0_world.specs.Worlds.{GetsFirst, IsAnswered, TakesFirst}
 use Rattle.ob0_world.proofs.Answering.{Served, served}
 use Rattle.ob0_world.proofs.Waiting.{said_append, said_first, all_appended}
 
@@ -120,8 +120,17 @@ answered_so failed content step new h = absurd h
 
 -- ---- the server is the session
 
-pub turn_taken : (e f : Editor) (q rest r r' : Contents) (s s' : SessionState) (ap_list ap_new : List applied.Applied) (md md' : List made.Made) (content : Vec ℕ Global) (sent : Contents) → q ≡ content ∷ rest → IsAnswered s content.items (bytes sent) s' → r' ≡ r ++ sent
-    → TakesFirst (bytes q) (both_from e q s r ap_list md) (both_from f rest s' r' ap_new md')
-turn_taken e f q rest r r' s s' ap_list ap_new md md' content sent first answered grown =
-    subst (λ x. TakesFirst (bytes x) (both_from e q s r ap_list md) (both_from f rest s' r' ap_new md')) (sym first)
-    (record { sent = bytes sent; answered = answered; to_server = refl; to_editor = ap bytes grown ∙ map-append (λ v. v.items) r sent })
+pub turn_taken : (q rest r r' tk tk' gt : Contents) (s s' : SessionState) (content : Vec ℕ Global) (sent : Contents) → q ≡ content ∷ rest → IsAnswered s content.items (bytes sent) s' → r' ≡ r ++ sent → tk' ≡ tk ++ content ∷ []
+    → TakesFirst (bytes q) (wire_from s tk q gt r) (wire_from s' tk' rest gt r')
+turn_taken q rest r r' tk tk' gt s s' content sent first answered grown taken =
+    subst (λ x. TakesFirst (bytes x) (wire_from s tk q gt r) (wire_from s' tk' rest gt r')) (sym first)
+    (record {
+      sent = bytes sent;
+      answered = answered;
+      is = λ i. record (wire_from s' tk' rest gt r') { taken = (ap bytes taken ∙ map-append (λ v. v.items) tk (content ∷ [])) i; to_editor = (ap bytes grown ∙ map-append (λ v. v.items) r sent) i };
+    })
+
+pub got_first : (s : SessionState) (tk q gt gt' r rest : Contents) (content : Vec ℕ Global) → r ≡ content ∷ rest → gt' ≡ gt ++ content ∷ [] → GetsFirst (bytes r) (wire_from s tk q gt r) (wire_from s tk q gt' rest)
+got_first s tk q gt gt' r rest content first got =
+    subst (λ x. GetsFirst (bytes x) (wire_from s tk q gt r) (wire_from s tk q gt' rest)) (sym first)
+    (λ i. record (wire_from s tk q gt' rest) { got = (ap bytes got ∙ map-append (λ v. v.items) gt (content ∷ [])) i })

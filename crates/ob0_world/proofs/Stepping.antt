@@ -8,14 +8,14 @@ use Rattle.ob0_world_rules.proofs.Interleavings.{in_every_interleaving}
 use Rattle.ob0_world_rules.proofs.MadeFor.{course_push}
 use Rattle.ob0_text.specs.declared.position_types.Unit.{Unit}
 use Rattle.ob0_world.specs.Queues.{IsReached}
-use Rattle.ob0_world.specs.Worlds.{World, MovesServer, IsTied, SameHistory, StepsFrom, WorldSteps, FailsFrom, WorldFails}
+use Rattle.ob0_world.specs.Worlds.{World, MovesWire, IsTied, SameHistory, StepsFrom, WorldSteps, FailsFrom, WorldFails}
 use Rattle.ob0_world.specs.declared.faults.WorldFault.{WorldFault}
 use Rattle.ob0_world.specs.declared.faults.WorldFault.TheVariants.{Memory, Ended}
 
-pub made_step : (w old : World) (event : Event) (seen : Seen) (new : World) → w ≡ old → w.ended ≡ false → Happens w.both.ends event seen new.both.ends → MovesServer event w.both new.both → IsTied new.both
+pub made_step : (w old : World) (event : Event) (seen : Seen) (new : World) → w ≡ old → w.ended ≡ false → Happens w.both.ends event seen new.both.ends → MovesWire event w.both.wire new.both.wire → IsTied new.both
     → new.steps ≡ w.steps + 1 → new.ended ≡ false → WorldSteps old event seen new
 made_step w old event seen new same on happens moves tied counted goes_on =
-    subst (λ (x : World). WorldSteps x event seen new) same (subst (λ b. StepsFrom b w event seen new) (sym on) (record { happens = happens; moves = moves; tied = tied; counted = counted; goes_on = goes_on }))
+    subst (λ (x : World). WorldSteps x event seen new) same (subst (λ b. StepsFrom b w event seen new) (sym on) (record { made = record { happens = happens; moves = moves; tied = tied }; counted = counted; goes_on = goes_on }))
 
 -- what is known of a step of a world that hasn't ended
 pub step_made : (old : World) (event : Event) (seen : Seen) (new : World) → old.ended ≡ false → WorldSteps old event seen new → StepsFrom false old event seen new

@@ -26,6 +26,6 @@ all_mean requested (c ∷ r) all =
     let h : IsUnderstood requested c = All-head (IsUnderstood requested) c r all in
     (λ i. h.1 i ∷ all_mean requested r (All-tail (IsUnderstood requested) c r all) i) ∙ ap (map Some) (sym (said_first (understood requested) c r h.0 h.1))
 
-pub tied : (e : Editor) (q : Contents) (s : SessionState) (r : Contents) (ap_list : List applied.Applied) (md : List made.Made) → Sound e.requested q r s → IsTied (both_from e q s r ap_list md)
-tied e q s r ap_list md sound =
+pub tied : (e : Editor) (q : Contents) (s : SessionState) (r : Contents) (ap_list : List applied.Applied) (md : List made.Made) (tk gt : Contents) → Sound e.requested q r s → IsTied (both_from e q s r ap_list md tk gt)
+tied e q s r ap_list md tk gt sound =
     record { says = all_say e.requested q sound.heard_all; means = all_mean e.requested r sound.understood_all; documents = λ state is. ap held_by is }

@@ -1,7 +1,8 @@
 -- What the values of the code mean.
 -- Rule: none; for contracts: what values of the code mean.
-use Rattle.std.specs.Prelude.{List, map, string_bytes}
+use Rattle.std.specs.Prelude.{ℕ, List, map, string_bytes, Vec}
 use Rattle.std.specs.Str.{chars}
+use Rattle.std.specs.declared.alloc.Global.{Global}
 use Rattle.ob0_text.specs.OpenDocuments.{reported_change}
 use Rattle.ob0_world_editor.specs.Code.{ask_of, applied_of}
 use Rattle.ob0_world.specs.declared.events.Event as event
@@ -43,6 +44,10 @@ publication_of m =
       text = chars (string_bytes m.text);
       empty = m.empty;
     }
+
+-- contents as bytes
+abbrev pub bytes : List (Vec ℕ Global) → List (List ℕ)
+bytes contents = map (λ v. v.items) contents
 
 -- the applied edits of the code
 abbrev pub all_applied : played.Played → List Applied

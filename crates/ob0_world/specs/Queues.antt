@@ -19,16 +19,13 @@ use Rattle.ob0_world_rules.specs.Events.{Event, nothing, sent}
 use Rattle.ob0_world_rules.specs.Happens.{Course}
 use Rattle.ob0_world.specs.declared.events.Seen as seen
 use Rattle.ob0_world.specs.declared.played.Made as made
+pub use Rattle.ob0_world.specs.Code.{bytes}
 use Rattle.ob0_world.specs.Code.{publication_of, seen_of}
-use Rattle.ob0_world.specs.Worlds.{Both}
+use Rattle.ob0_world.specs.Worlds.{Wire, Both}
 
 -- contents that wait in a queue
 abbrev pub Contents : Type 0
 Contents = List (Vec ℕ Global)
-
--- contents as bytes
-abbrev pub bytes : Contents → List (List ℕ)
-bytes contents = map (λ v. v.items) contents
 
 -- what these contents say to the server, and to the editor, where these asks were sent
 abbrev pub all_heard : List SentAsk → Contents → List ToServer
@@ -113,6 +110,17 @@ ends_from e to_server session to_editor applied made =
       made = map publication_of made;
     }
 
+-- the session, and the contents that the code keeps
+abbrev pub wire_from : SessionState → Contents → Contents → Contents → Contents → Wire
+wire_from session taken to_server got to_editor =
+    record {
+      session = session;
+      taken = bytes taken;
+      to_server = bytes to_server;
+      got = bytes got;
+      to_editor = bytes to_editor;
+    }
+
 -- client and server from what the code keeps
 abbrev pub both_from : Editor
     → Contents
@@ -120,13 +128,13 @@ abbrev pub both_from : Editor
     → Contents
     → List applied.Applied
     → List made.Made
+    → Contents
+    → Contents
     → Both
-both_from e to_server session to_editor applied made =
+both_from e to_server session to_editor applied made taken got =
     record {
       ends = ends_from e to_server session to_editor applied made;
-      session = session;
-      to_server = bytes to_server;
-      to_editor = bytes to_editor;
+      wire = wire_from session taken to_server got to_editor;
     }
 
 -- ---- what a world keeps

@@ -1,54 +1,58 @@
 -- Client and server as the code stores them, and what a list of events makes of them.
 -- Rule: none; for contracts of `World`: a list of events, step by step.
-use Rattle.std.specs.Prelude.{◌≡◌, ◌<◌, ◌+◌, ◌++◌, ◌⊎◌, ⊤, ℕ, List, [], ◌∷◌, map, take, length, Bool, true, false, Some}
+use Rattle.std.specs.Prelude.{◌≡◌, ◌<◌, ◌+◌, ◌++◌, ◌⊎◌, ⊤, ℕ, List, [], ◌∷◌, map, take, length, Bool, true, false, Option, Some}
+use Rattle.std.specs.Option.{option_to_list}
 use Rattle.ob0_text.specs.declared.position_types.Unit.{Unit}
-use Rattle.ob0_session_server.specs.Answers.{ServerState, begins, Answers}
+use Rattle.ob0_rpc.specs.Messages.{ReadsContent}
+use Rattle.ob0_session_server.specs.Answers as server
+use Rattle.ob0_session_server.specs.Answers.{ServerState, begins, Answers, Conversation}
 use Rattle.ob0_session_server.specs.SessionStates.{SessionState, serving}
-use Rattle.ob0_world_editor.specs.Beginning.{client_for}
+use Rattle.ob0_world_editor.specs.Beginning.{client_for, initialize_message}
 use Rattle.ob0_world_editor.specs.Heard.{SaysToServer}
 use Rattle.ob0_world_editor.specs.Understood.{understood}
 use Rattle.ob0_world_rules.specs.Ends.{SentAsk, ToServer, Ends, start}
 use Rattle.ob0_world_rules.specs.Events.{Event, open_document, change_document, close_document, ask_about, serve, take_message, apply, discard, Seen}
 use Rattle.ob0_world_rules.specs.Happens.{Happens}
 use Rattle.ob0_world_rules.specs.Headline.{Headline}
-use Rattle.ob0_world.specs.Code.{event_of, all_applied, all_made}
+use Rattle.ob0_world.specs.Code.{event_of, bytes, all_applied, all_made}
 use Rattle.ob0_world.specs.declared.events.Event as event
 use Rattle.ob0_world.specs.declared.faults.PlayFault.{PlayFault}
 use Rattle.ob0_world.specs.declared.faults.WorldFault.{WorldFault}
 use Rattle.ob0_world.specs.declared.faults.WorldFault.TheVariants.{Memory, Ended}
 use Rattle.ob0_world.specs.declared.played.Played as played
 
--- Client and server with the messages between them, the session that is the server,
--- and the contents of those messages.
-pub record Both : Type 0 where
-  pub ends : Ends
+-- ---- the session, and what passes between it and the editor
+
+-- The session that is the server, and the contents of all messages between it and the editor.
+pub record Wire : Type 0 where
   pub session : SessionState
+  -- what the editor has written: what the session has taken of it, and what waits for the session
+  pub taken : List (List ℕ)
   pub to_server : List (List ℕ)
+  -- what the session has sent: what the editor has got of it, and what waits for the editor
+  pub got : List (List ℕ)
   pub to_editor : List (List ℕ)
 
--- client and server with the session, the steps that were made, and whether it has ended
-pub record World : Type 0 where
-  pub both : Both
-  -- how many steps were made
-  pub steps : ℕ
-  -- whether an allocation failed
-  pub ended : Bool
+-- client and server as the model has them, and what passes between them
+pub record Both : Type 0 where
+  pub ends : Ends
+  pub wire : Wire
 
--- Nothing was done yet, except that the editor has initialized the session.
-abbrev pub new_both : Unit → Both
-new_both unit =
-    record {
-      ends = start unit;
-      session = serving (begins (client_for unit));
-      to_server = [];
-      to_editor = [];
-    }
-
--- a world in which nothing has happened
-abbrev pub new_world : Unit → World
-new_world unit = record { both = new_both unit; steps = 0; ended = false }
-
--- ---- the server is the session
+-- Nothing was done yet, except that the editor has initialized a new session, and got its answer.
+pub record Begins (unit : Unit) (w : Both) : Type 0 where
+  pub content : List ℕ
+  pub replies : List (List ℕ)
+  pub initializes : ReadsContent content (Some (initialize_message unit))
+  pub answers : Answers server.start content replies (begins (client_for unit))
+  pub ends : w.ends ≡ start unit
+  pub wire : w.wire
+      ≡ record {
+        session = serving (begins (client_for unit));
+        taken = content ∷ [];
+        to_server = [];
+        got = replies;
+        to_editor = [];
+      }
 
 -- the session replies to a content with these
 pub record IsAnswered (old : SessionState) (content : List ℕ) (sent : List (List ℕ))
@@ -60,28 +64,45 @@ pub record IsAnswered (old : SessionState) (content : List ℕ) (sent : List (Li
   pub answers : Answers before content sent after
 
 -- the session takes this content, and its replies wait for the editor
-pub record TakesContent (content : List ℕ) (rest : List (List ℕ)) (old new : Both) : Type 0 where
+pub record TakesContent (content : List ℕ) (rest : List (List ℕ)) (old new : Wire) : Type 0 where
   pub sent : List (List ℕ)
   pub answered : IsAnswered old.session content sent new.session
-  pub to_server : new.to_server ≡ rest
-  pub to_editor : new.to_editor ≡ old.to_editor ++ sent
+  pub is : new
+      ≡ record old {
+        session = new.session;
+        taken = old.taken ++ content ∷ [];
+        to_server = rest;
+        to_editor = old.to_editor ++ sent;
+      }
 
--- the session takes the first content that waits
-abbrev pub TakesFirst : List (List ℕ) → Both → Both → Type 0
-TakesFirst [] old new =
-    (new.session ≡ old.session) × (new.to_server ≡ []) × (new.to_editor ≡ old.to_editor)
+-- the session takes the first content that waits for it, if there is one
+abbrev pub TakesFirst : List (List ℕ) → Wire → Wire → Type 0
+TakesFirst [] old new = new ≡ old
 TakesFirst (content ∷ rest) old new = TakesContent content rest old new
 
--- only its own event moves it
-abbrev pub MovesServer : Event → Both → Both → Type 0
-MovesServer serve old new = TakesFirst old.to_server old new
-MovesServer (open_document uri text) old new = new.session ≡ old.session
-MovesServer (change_document uri how) old new = new.session ≡ old.session
-MovesServer (close_document uri) old new = new.session ≡ old.session
-MovesServer (ask_about uri ask) old new = new.session ≡ old.session
-MovesServer take_message old new = new.session ≡ old.session
-MovesServer (apply k) old new = new.session ≡ old.session
-MovesServer (discard k) old new = new.session ≡ old.session
+-- the editor gets the first content that waits for it, if there is one
+abbrev pub GetsFirst : List (List ℕ) → Wire → Wire → Type 0
+GetsFirst [] old new = new ≡ old
+GetsFirst (content ∷ rest) old new =
+    new ≡ record old { got = old.got ++ content ∷ []; to_editor = rest }
+
+-- what the editor writes, if anything, waits for the session, after what waits already
+abbrev pub WritesContent : Wire → Wire → Type 0
+WritesContent old new =
+    (content : Option (List ℕ))
+    × (new ≡ record old { to_server = old.to_server ++ option_to_list content })
+
+-- What an event moves: the session its own alone. Nothing that waits is lost, changed or moved
+-- to another place.
+abbrev pub MovesWire : Event → Wire → Wire → Type 0
+MovesWire serve old new = TakesFirst old.to_server old new
+MovesWire take_message old new = GetsFirst old.to_editor old new
+MovesWire (open_document uri text) old new = WritesContent old new
+MovesWire (change_document uri how) old new = WritesContent old new
+MovesWire (close_document uri) old new = WritesContent old new
+MovesWire (ask_about uri ask) old new = WritesContent old new
+MovesWire (apply k) old new = WritesContent old new
+MovesWire (discard k) old new = WritesContent old new
 
 -- each content says its message: as many contents as messages
 abbrev pub AllSay : List SentAsk → List ToServer → List (List ℕ) → Type 0
@@ -94,17 +115,81 @@ AllSay requested (m ∷ messages) [] = ⊥
 -- The messages are those that the contents say, in both directions, and the server's documents are
 -- those of the session.
 pub record IsTied (w : Both) : Type 0 where
-  pub says : AllSay w.ends.editor.requested w.ends.to_server w.to_server
-  pub means : map (understood w.ends.editor.requested) w.to_editor ≡ map Some w.ends.to_editor
-  pub documents : (s : ServerState) → w.session ≡ serving s → w.ends.held ≡ s.held
+  pub says : AllSay w.ends.editor.requested w.ends.to_server w.wire.to_server
+  pub means : map (understood w.ends.editor.requested) w.wire.to_editor
+      ≡ map Some w.ends.to_editor
+  pub documents : (s : ServerState) → w.wire.session ≡ serving s → w.ends.held ≡ s.held
 
--- ---- one step
+-- One event: what the model says of it happens, and the session and the contents do the same.
+pub record BothStep (old : Both) (event : Event) (seen : Seen) (new : Both) : Type 0 where
+  pub happens : Happens old.ends event seen new.ends
+  pub moves : MovesWire event old.wire new.wire
+  pub tied : IsTied new
+
+-- these events, one after another, lead from the one to the other
+abbrev pub BothCourse : Both → List Event → Both → Type 0
+BothCourse old [] new = new ≡ old
+BothCourse old (event ∷ events) new =
+    (seen : Seen)
+    × (between : Both)
+    × BothStep old event seen between
+    × BothCourse between events new
+
+-- ---- lists of events
+
+-- this is what has come of the events
+abbrev pub HasCome : Ends → played.Played → Type 0
+HasCome w p = (all_applied p ≡ w.applied) × (all_made p ≡ w.made)
+
+-- these are the contents that passed, and those that wait for the editor
+abbrev pub HasPassed : Wire → played.Played → Type 0
+HasPassed w p =
+    (bytes p.taken.items ≡ w.taken)
+    × (bytes p.got.items ≡ w.got)
+    × (bytes p.unread.items ≡ w.to_editor)
+
+-- The headline of a list of events, with the edits and publications that the code returns. The
+-- events were events of a session too, which from its beginning on took these contents and sent
+-- these.
+pub record Plays (unit : Unit) (events : List event.Event) (p : played.Played) : Type 0 where
+  pub headline : Headline unit (map event_of events) (all_applied p) (all_made p)
+  pub begin : Both
+  pub begins : Begins unit begin
+  pub end : Both
+  pub course : BothCourse begin (map event_of events) end
+  pub come : HasCome end.ends p
+  pub passed : HasPassed end.wire p
+  pub after : ServerState
+  pub conversation : Conversation server.start (bytes p.taken.items)
+      (bytes p.got.items ++ bytes p.unread.items) after
+
+-- An allocation failed: the fault says how many events were made before that, fewer than there are
+-- (or none), and the headline holds of these events and what came of them.
+abbrev pub PlaysBefore : Unit → List event.Event → PlayFault → Type 0
+PlaysBefore unit events fault =
+    ((fault.steps < length events) ⊎ (fault.steps ≡ 0))
+    × Headline unit (map event_of (take fault.steps events)) (all_applied fault.played)
+    (all_made fault.played)
+
+-- ---- a world, event by event
+
+-- client and server with the session, the steps that were made, and whether it has ended
+pub record World : Type 0 where
+  pub both : Both
+  -- how many steps were made
+  pub steps : ℕ
+  -- whether an allocation failed
+  pub ended : Bool
+
+-- a world in which nothing has happened
+pub record IsNew (unit : Unit) (w : World) : Type 0 where
+  pub begins : Begins unit w.both
+  pub none : w.steps ≡ 0
+  pub goes_on : w.ended ≡ false
 
 -- the step is made and counted
 pub record MakesStep (old : World) (event : Event) (seen : Seen) (new : World) : Type 0 where
-  pub happens : Happens old.both.ends event seen new.both.ends
-  pub moves : MovesServer event old.both new.both
-  pub tied : IsTied new.both
+  pub made : BothStep old.both event seen new.both
   pub counted : new.steps ≡ old.steps + 1
   pub goes_on : new.ended ≡ false
 
@@ -134,20 +219,3 @@ FailsFrom true old Ended new = new ≡ old
 -- out of memory ends a world, and an ended world stays as it is
 abbrev pub WorldFails : World → WorldFault → World → Type 0
 WorldFails old fault new = FailsFrom old.ended old fault new
-
--- ---- lists of events
-
--- this is what has come of the events
-abbrev pub HasCome : Ends → played.Played → Type 0
-HasCome w p = (all_applied p ≡ w.applied) × (all_made p ≡ w.made)
-
--- The headline of a list of events, with the edits and publications that the code returns.
-abbrev pub Plays : Unit → List event.Event → played.Played → Type 0
-Plays unit events p = Headline unit (map event_of events) (all_applied p) (all_made p)
-
--- An allocation failed: the fault says how many events were made before that, fewer than there are
--- (or none), and the headline holds of these events and what came of them.
-abbrev pub PlaysBefore : Unit → List event.Event → PlayFault → Type 0
-PlaysBefore unit events fault =
-    ((fault.steps < length events) ⊎ (fault.steps ≡ 0))
-    × Plays unit (take fault.steps events) fault.played

@@ -11,7 +11,7 @@ ghost use Rattle.ob0_world_rules.specs.Happens.{Happens};
 ghost use Rattle.ob0_world_rules.specs.Events.{open_document, change_document, close_document, ask_about, take_message};
 ghost use Rattle.ob0_world.specs.Code.{event_of, seen_of, publication_of};
 ghost use Rattle.ob0_world.specs.Queues.{bytes, IsSent, made_for, made_of_document, made_sent};
-ghost use Rattle.ob0_world.specs.Worlds.{new_both, HasCome, IsAnswered, IsTied, MovesServer, SameHistory, TakesFirst};
+ghost use Rattle.ob0_world.specs.Worlds.{Begins, GetsFirst, HasCome, HasPassed, IsAnswered, IsTied, MovesWire, SameHistory, TakesFirst, WritesContent};
 
 use crate::events::{Event, Seen};
 use crate::played::{Made, Played};
@@ -32,6 +32,10 @@ pub struct Ends<T: TextStore> {
     to_editor: VecDeque<Vec<u8>>,
     applied: Vec<Applied>,
     made: Vec<Made>,
+    /// What the session has taken.
+    taken: Vec<Vec<u8>>,
+    /// What the editor has got.
+    got: Vec<Vec<u8>>,
 }
 
 impl<T: TextStore> Model for Ends<T> {
@@ -46,7 +50,7 @@ impl<T: TextStore> Model for Ends<T> {
     ghost coded = { Prim.hlevel (codes, documents_code, open_documents_code) };
 
     ghost view = { λ w. both_from w.editor w.to_server.items w.session w.to_editor.items
-        w.applied.items w.made.items };
+        w.applied.items w.made.items w.taken.items w.got.items };
 
     ghost invariant = { λ w.
         Sound w.editor.requested w.to_server.items w.to_editor.items w.session };
@@ -55,11 +59,13 @@ impl<T: TextStore> Model for Ends<T> {
 impl<T: TextStore> Ends<T> {
     /// An editor without documents and a session that it has initialized; both count positions in this unit.
     pub fn new(alloc: Global, unit: Unit) -> Result<Ends<T>, AllocError>
-        ensures { IfOk result (λ w. w ≡ new_both unit) }
+        ensures { IfOk result (Begins unit) }
     {
         let mut session = Session::new(alloc);
         let content = initialize(alloc, unit)?;
-        let _capabilities = answer(&mut session, content.as_slice())?;
+        let got = answer(&mut session, content.as_slice())?;
+        let mut taken = Vec::new(alloc);
+        taken.push(content)?;
         Ok(Ends {
             alloc,
             editor: Editor::new(alloc, unit),
@@ -68,6 +74,8 @@ impl<T: TextStore> Ends<T> {
             to_editor: VecDeque::new(alloc),
             applied: Vec::new(alloc),
             made: Vec::new(alloc),
+            taken,
+            got,
         })
     }
 
@@ -81,11 +89,15 @@ impl<T: TextStore> Ends<T> {
 
     /// What has come of the events.
     pub fn into_played(self) -> Played
-        ensures { HasCome self.ends result }
+        ensures come { HasCome self.ends result }
+        ensures passed { HasPassed self.wire result }
     {
         Played {
             applied: self.applied,
             made: self.made,
+            taken: self.taken,
+            got: self.got,
+            unread: self.to_editor,
         }
     }
 
@@ -94,7 +106,7 @@ impl<T: TextStore> Ends<T> {
         requires { AreFew self.old.ends.editor }
         ensures ok { IfOk result
             (λ seen. Happens self.old.ends (event_of event.now) (seen_of seen) self.new.ends) }
-        ensures server { OnOk result (MovesServer (event_of event.now) self.old self.new) }
+        ensures wire { OnOk result (MovesWire (event_of event.now) self.old.wire self.new.wire) }
         ensures err { OnErr result (SameHistory self.old.ends self.new.ends) }
     {
         match event {
@@ -113,7 +125,7 @@ impl<T: TextStore> Ends<T> {
         requires { AreFew self.old.ends.editor }
         ensures ok { IfOk result (λ seen. Happens self.old.ends
             (open_document uri.now (chars text.now)) (seen_of seen) self.new.ends) }
-        ensures server { OnOk result (self.new.session ≡ self.old.session) }
+        ensures wire { OnOk result (WritesContent self.old.wire self.new.wire) }
         ensures err { OnErr result (SameHistory self.old.ends self.new.ends) }
     {
         let content = self.editor.open(uri, text)?;
@@ -125,7 +137,7 @@ impl<T: TextStore> Ends<T> {
         ensures ok { IfOk result (λ seen. Happens self.old.ends
             (change_document uri.now (map reported_change changes.now)) (seen_of seen)
             self.new.ends) }
-        ensures server { OnOk result (self.new.session ≡ self.old.session) }
+        ensures wire { OnOk result (WritesContent self.old.wire self.new.wire) }
         ensures err { OnErr result (SameHistory self.old.ends self.new.ends) }
     {
         let content = self.editor.change(uri, changes)?;
@@ -135,7 +147,7 @@ impl<T: TextStore> Ends<T> {
     fn close(&mut self, uri: &str) -> Result<Seen, AllocError>
         ensures ok { IfOk result
             (λ seen. Happens self.old.ends (close_document uri.now) (seen_of seen) self.new.ends) }
-        ensures server { OnOk result (self.new.session ≡ self.old.session) }
+        ensures wire { OnOk result (WritesContent self.old.wire self.new.wire) }
         ensures err { OnErr result (SameHistory self.old.ends self.new.ends) }
     {
         let content = self.editor.close(uri)?;
@@ -146,7 +158,7 @@ impl<T: TextStore> Ends<T> {
         requires { AreFew self.old.ends.editor }
         ensures ok { IfOk result (λ seen. Happens self.old.ends (ask_about uri.now (ask_of ask.now))
             (seen_of seen) self.new.ends) }
-        ensures server { OnOk result (self.new.session ≡ self.old.session) }
+        ensures wire { OnOk result (WritesContent self.old.wire self.new.wire) }
         ensures err { OnErr result (SameHistory self.old.ends self.new.ends) }
     {
         let content = self.editor.ask(uri, ask)?;
@@ -158,7 +170,8 @@ impl<T: TextStore> Ends<T> {
     fn serve(&mut self) -> Result<Seen, AllocError>
         ensures ok { IfOk result
             (λ seen. Happens self.old.ends events.serve (seen_of seen) self.new.ends) }
-        ensures server { OnOk result (TakesFirst self.old.to_server self.old self.new) }
+        ensures wire { OnOk result
+            (TakesFirst self.old.wire.to_server self.old.wire self.new.wire) }
         ensures err { OnErr result (SameHistory self.old.ends self.new.ends) }
     {
         let Some(content) = self.to_server.pop_front() else {
@@ -173,6 +186,7 @@ impl<T: TextStore> Ends<T> {
         )?;
         let count = sent.len();
         self.to_editor.append(&mut VecDeque::from_vec(sent))?;
+        self.taken.push(content)?;
         if let Some(made) = made {
             self.made.push(made)?;
         }
@@ -182,7 +196,8 @@ impl<T: TextStore> Ends<T> {
     fn take(&mut self) -> Result<Seen, AllocError>
         ensures ok { IfOk result
             (λ seen. Happens self.old.ends take_message (seen_of seen) self.new.ends) }
-        ensures server { OnOk result (self.new.session ≡ self.old.session) }
+        ensures wire { OnOk result
+            (GetsFirst self.old.wire.to_editor self.old.wire self.new.wire) }
         ensures err { OnErr result (SameHistory self.old.ends self.new.ends) }
     {
         let Some(content) = self.to_editor.pop_front() else {
@@ -191,6 +206,7 @@ impl<T: TextStore> Ends<T> {
         let Some(message) = self.editor.read(content.as_slice())? else {
             unreachable!()
         };
+        self.got.push(content)?;
         match message {
             Message::Published {
                 uri,
@@ -208,7 +224,7 @@ impl<T: TextStore> Ends<T> {
         requires { AreFew self.old.ends.editor }
         ensures ok { IfOk result
             (λ seen. Happens self.old.ends (events.apply k) (seen_of seen) self.new.ends) }
-        ensures server { OnOk result (self.new.session ≡ self.old.session) }
+        ensures wire { OnOk result (WritesContent self.old.wire self.new.wire) }
         ensures err { OnErr result (SameHistory self.old.ends self.new.ends) }
     {
         match self.editor.apply(k)? {
@@ -224,7 +240,7 @@ impl<T: TextStore> Ends<T> {
 
     fn discard(&mut self, k: u64) -> Seen
         ensures ok { Happens self.old.ends (events.discard k) (seen_of result) self.new.ends }
-        ensures server { self.new.session ≡ self.old.session }
+        ensures wire { WritesContent self.old.wire self.new.wire }
     {
         if self.editor.discard(k) {
             Seen::Dropped { k }

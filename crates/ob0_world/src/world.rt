@@ -1,11 +1,9 @@
 //! Client and server, and whole lists of events.
-ghost use Rattle.std.specs.Prelude.{◌≡◌, ◌<◌, ◌-◌, ◌^◌, length, IfOk, OnOk, IfErr};
-ghost use Rattle.ob0_text.specs.declared.position_types.Unit as units;
+ghost use Rattle.std.specs.Prelude.{◌≡◌, ◌<◌, ◌-◌, ◌^◌, [], length, IfOk, OnOk, IfErr};
 ghost use Rattle.ob0_text.specs.declared.position_types.Unit.TheVariants.{Utf16};
-ghost use Rattle.ob0_world_rules.specs.Ends.{start};
 ghost use Rattle.ob0_world_rules.specs.Headline.{Holds};
-ghost use Rattle.ob0_world.specs.Code.{event_of, seen_of};
-ghost use Rattle.ob0_world.specs.Worlds.{new_world, HasCome, Plays, PlaysBefore, WorldSteps, WorldFails};
+ghost use Rattle.ob0_world.specs.Code.{event_of, seen_of, all_applied, all_made};
+ghost use Rattle.ob0_world.specs.Worlds.{HasCome, HasPassed, IsNew, Plays, PlaysBefore, WorldSteps, WorldFails};
 ghost use Rattle.ob0_world.specs.declared.faults.WorldFault.TheVariants.{Memory};
 
 use crate::ends::Ends;
@@ -14,6 +12,7 @@ use crate::faults::{PlayFault, WorldFault};
 use crate::played::Played;
 use ob0_text::{TextStore, Unit};
 use std::alloc::{AllocError, Global};
+use std::collections::VecDeque;
 use std::marker::Model;
 
 /// An editor, the server and a queue in each direction.
@@ -46,7 +45,7 @@ impl<T: TextStore> World<T> {
     /// No document is open and no message waits. The editor has initialized the session, as a client that takes edits
     /// with the versions of their documents and code actions as literals. Both count positions in UTF-16 units.
     pub fn new(alloc: Global) -> Result<World<T>, WorldFault>
-        ensures start { IfOk result (λ w. w ≡ new_world Utf16) }
+        ensures start { IfOk result (IsNew Utf16) }
         ensures err { IfErr result (λ fault. fault ≡ Memory) }
     {
         World::new_in(alloc, Unit::Utf16)
@@ -54,7 +53,7 @@ impl<T: TextStore> World<T> {
 
     /// The same, with positions in this unit.
     pub fn new_in(alloc: Global, unit: Unit) -> Result<World<T>, WorldFault>
-        ensures start { IfOk result (λ w. w ≡ new_world unit) }
+        ensures start { IfOk result (IsNew unit) }
         ensures err { IfErr result (λ fault. fault ≡ Memory) }
     {
         match Ends::new(alloc, unit) {
@@ -99,9 +98,11 @@ impl<T: TextStore> World<T> {
         }
     }
 
-    /// The edits that were applied and the publications that were made, up to the last step that was made.
+    /// The edits that were applied and the publications that were made, up to the last step that was made; and the
+    /// contents that passed.
     pub fn into_played(self) -> Played
-        ensures { HasCome self.both.ends result }
+        ensures come { HasCome self.both.ends result }
+        ensures passed { HasPassed self.both.wire result }
     {
         self.ends.into_played()
     }
@@ -149,10 +150,14 @@ impl<T: TextStore> World<T> {
 }
 
 fn nothing_played(alloc: Global) -> Played
-    ensures { (unit : units.Unit) → HasCome (start unit) result }
+    ensures applied { all_applied result ≡ [] }
+    ensures made { all_made result ≡ [] }
 {
     Played {
         applied: Vec::new(alloc),
         made: Vec::new(alloc),
+        taken: Vec::new(alloc),
+        got: Vec::new(alloc),
+        unread: VecDeque::new(alloc),
     }
 }

@@ -4,9 +4,9 @@ use Rattle.ob0_world_editor.specs.Moves.{ComesOf}
 use Rattle.ob0_world_rules.specs.Ends.{Ends}
 use Rattle.ob0_world_rules.specs.Editing.{applies_answer, kept_answer}
 use Rattle.ob0_world_rules.specs.Events.{Is, comes_of, applies}
-use Rattle.ob0_world.specs.Queues.{ends_from}
-use Rattle.ob0_world.specs.Worlds.{Both}
-use Rattle.ob0_world.proofs.Moved.{same_sound, comes_asks, apply_keeps_asks, made_says, made_happens, maybe_pushed}
+use Rattle.ob0_world.specs.Queues.{ends_from, wire_from}
+use Rattle.ob0_world.specs.Worlds.{Both, WritesContent}
+use Rattle.ob0_world.proofs.Moved.{writes_one, same_sound, comes_asks, apply_keeps_asks, made_says, made_happens, maybe_pushed}
 use Rattle.ob0_world.proofs.ends.Ends.apply.Goals as goal
 
 pub invariant_of-self-in-NotHeld : goal.invariant_of-self-in-NotHeld
@@ -57,3 +57,9 @@ returns-in_ok-push-in-Made-clause-ok g c =
     (apply_keeps_asks c.self.inside.editor c.args.k (kept_answer c.args.k c.self.inside.editor.answers))
     (subst (λ x. ComesOf (applies_answer c.self.inside.editor c.args.k (kept_answer c.args.k c.self.inside.editor.answers)) c.self.inside.editor x c.apply.new.self) c.in-Made.is c.in_ok-apply.ensures.ok)
     c.in_ok-push_back-in-Made.ensures.items c.in_ok-push-in-Made.ensures.items)
+
+pub returns-in_ok-push-in-Made-clause-wire : goal.returns-in_ok-push-in-Made-clause-wire
+returns-in_ok-push-in-Made-clause-wire g c =
+    let i = c.self.inside in
+    subst (λ (w : Both). WritesContent w.wire (wire_from i.session i.taken.items c.push_back.new.self.items i.got.items i.to_editor.items)) c.self.view_is
+    (writes_one i.session i.taken.items i.to_server.items i.got.items i.to_editor.items c.push_back.new.self.items c.in-Made.content c.in_ok-push_back-in-Made.ensures.items)

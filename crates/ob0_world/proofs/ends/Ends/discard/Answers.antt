@@ -3,9 +3,9 @@ use Rattle.ob0_world_rules.specs.Ends.{Ends}
 use Rattle.ob0_world_rules.specs.Editing.{discards, kept_answer}
 use Rattle.ob0_world_rules.specs.Events.{Is, comes_of, drops, nothing}
 use Rattle.ob0_world.specs.Code.{seen_of}
-use Rattle.ob0_world.specs.Queues.{ends_from}
-use Rattle.ob0_world.specs.Worlds.{Both}
-use Rattle.ob0_world.proofs.Moved.{discard_happens}
+use Rattle.ob0_world.specs.Queues.{ends_from, wire_from}
+use Rattle.ob0_world.specs.Worlds.{Both, WritesContent}
+use Rattle.ob0_world.proofs.Moved.{discard_happens, writes_none}
 use Rattle.ob0_world.proofs.ends.Ends.discard.Goals as goal
 use Rattle.ob0_world.proofs.ends.Ends.discard.Goals.{then-discard, else-discard}
 
@@ -21,3 +21,9 @@ returns-clause-ok g c =
     let happens = discard_happens i.editor c.discard.new.self k i.to_server.items i.to_editor.items i.session i.applied.items i.made.items c.discard.result c.discard.ensures.held c.discard.ensures.after in
     subst (λ (w : Ends). Is (comes_of w k (discards w.editor k (kept_answer k w.editor.answers))) (seen_of c.if-discard.result) (ends_from c.discard.new.self i.to_server.items i.session i.to_editor.items i.applied.items i.made.items)) (ap (λ (w : Both). w.ends) c.self.view_is)
     (shown ∙ happens.0, happens.1)
+
+pub returns-clause-wire : goal.returns-clause-wire
+returns-clause-wire g c =
+    let i = c.self.inside in
+    subst (λ (w : Both). WritesContent w.wire (wire_from i.session i.taken.items i.to_server.items i.got.items i.to_editor.items)) c.self.view_is
+    (writes_none i.session i.taken.items i.to_server.items i.got.items i.to_editor.items)

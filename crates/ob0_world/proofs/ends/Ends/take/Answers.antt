@@ -10,6 +10,10 @@ pub invariant_of-self-in_err-message : goal.invariant_of-self-in_err-message
 invariant_of-self-in_err-message g c =
     taken_sound c.self.inside.editor.requested c.self.inside.to_server.items c.self.inside.to_editor.items c.pop_front.new.self.items c.self.inside.session c.in-Some.content c.in-Some.ensures.items c.self.invariant
 
+pub invariant_of-self-in_err-push : goal.invariant_of-self-in_err-push
+invariant_of-self-in_err-push g c =
+    taken_sound c.self.inside.editor.requested c.self.inside.to_server.items c.self.inside.to_editor.items c.pop_front.new.self.items c.self.inside.session c.in-Some.content c.in-Some.ensures.items c.self.invariant
+
 pub invariant_of-self-in-Published : goal.invariant_of-self-in-Published
 invariant_of-self-in-Published g c =
     taken_sound c.self.inside.editor.requested c.self.inside.to_server.items c.self.inside.to_editor.items c.pop_front.new.self.items c.self.inside.session c.in-Some.content c.in-Some.ensures.items c.self.invariant

@@ -1,12 +1,15 @@
-use Rattle.std.proofs.Common.{subst, sym}
+use Rattle.std.proofs.Common.{refl, subst, sym}
+use Rattle.ob0_world_rules.specs.Ends.{Ends}
 use Rattle.ob0_world.specs.Queues.{Within, IsReached}
-use Rattle.ob0_world.specs.Worlds.{Both}
 use Rattle.ob0_world.proofs.Counting.{within_start}
 use Rattle.ob0_world.proofs.Stepping.{reached_start}
 use Rattle.ob0_world.proofs.world.World.new_in.Goals as goal
 
 pub invariant_of-result : goal.invariant_of-result
 invariant_of-result g c = λ goes_on. (
-  subst (λ (w : Both). Within 0 w.ends.editor) (sym c.in-Ok.ensures) (within_start c.args.unit),
-  subst (λ (w : Both). IsReached w.ends) (sym c.in-Ok.ensures) (reached_start c.args.unit),
+  subst (λ (w : Ends). Within 0 w.editor) (sym c.in-Ok.ensures.ends) (within_start c.args.unit),
+  subst (λ (w : Ends). IsReached w) (sym c.in-Ok.ensures.ends) (reached_start c.args.unit),
 )
+
+pub returns-in-Ok-clause-start : goal.returns-in-Ok-clause-start
+returns-in-Ok-clause-start g c = record { begins = c.in-Ok.ensures; none = refl; goes_on = refl }

@@ -19,4 +19,4 @@ returns-in-Ok-clause-holds g c =
     reached_holds c.make.new.self.ends (reached_more c.self.inside.ends.ends (event_of c.args.event.now) (seen_of c.in-Ok.seen) c.make.new.self.ends (c.self.invariant c.if-self.false).1 c.in-Ok.ensures.ok)
 
 pub returns-in-Ok-clause-ok : goal.returns-in-Ok-clause-ok
-returns-in-Ok-clause-ok g c = made_step _ _ _ _ _ c.self.view_is c.if-self.false c.in-Ok.ensures.ok c.in-Ok.ensures.server c.is_tied.ensures refl c.if-self.false
+returns-in-Ok-clause-ok g c = made_step _ _ _ _ _ c.self.view_is c.if-self.false c.in-Ok.ensures.ok c.in-Ok.ensures.wire c.is_tied.ensures refl c.if-self.false

@@ -1,0 +1,282 @@
+"""The definitions of the crates and the types of the code: where each is, with its comment, and which others it names.
+
+A name is looked up by the `use` lines of its file. Definitions of the standard library are not followed."""
+import os
+import re
+
+import common
+from common import TOP
+
+CRATES = os.path.join(TOP, "crates")
+WORD = re.compile(r"[^\W\d][\w'-]*(?:\.[^\W\d][\w'-]*)*")
+OPERATOR = re.compile(r"[^\w\s(){}\[\];,.\"◌]+")
+
+
+# ---- sources
+
+
+def lines_of(path):
+    with open(path, encoding="utf-8") as file:
+        return file.read().splitlines()
+
+
+class Block:
+    """One definition, or some that name one another, with the comment over it."""
+
+    def __init__(self, file, comment, code):
+        self.file, self.comment, self.code = file, comment, code
+        self.names = list(names_in(code))
+        self.needs = None
+
+
+def names_in(code):
+    """The names that a block defines: of `data` its constructors too."""
+    first = code[0]
+    if not re.match(r"^(?:\w+ )*mutual\b", first):
+        inside, depth = code, ""
+    else:
+        inside, depth = code[1:], "  "
+    of_data = False
+    for line in inside:
+        found = re.match(rf"^{depth}(?:(?:abbrev|unfoldable|pub)\s+)*(?:(record|data)\s+)?(\S+)\s(?:.*\s)?:(?:\s|$)", line)
+        if found and found[2] != "--" and not found[2].startswith("unfolding"):
+            of_data = found[1] == "data"
+            yield found[2]
+        elif of_data:
+            constructors = re.match(rf"^{depth}  ((?:[^\s:(){{}}]+ )+):(?:\s|$)", line)
+            if constructors:
+                yield from constructors[1].split()
+
+
+class File:
+    """A file of definitions: its blocks, and what its `use` lines bring in, by name."""
+
+    def __init__(self, crate, name, path):
+        self.crate, self.name = crate, name
+        self.title, self.blocks, self.uses, self.passed_on = "", [], {}, {}
+        text = lines_of(path)
+        while text and text[0].startswith("--"):
+            self.title = (self.title + " " + text.pop(0).lstrip("- ")).strip()
+        for line in [it for it in text if re.match(r"^(pub )?use ", it)]:
+            self.take_use(line)
+        self.cut([it for it in text if not re.match(r"^(pub )?(use|mod) ", it)])
+        self.named = {name: block for block in self.blocks for name in block.names}
+
+    def take_use(self, line):
+        found = re.match(r"^(pub )?use ([\w.'-]+?)(?:\.\{(.*)\}| as (.*))?$", line)
+        passes_on, module, names, alias = found[1], found[2], found[3], found[4]
+        if names is None:
+            self.uses[alias or module.rpartition(".")[2]] = (module, None)
+            return
+        for one in re.split(r",\s*", names):
+            was, _, new = one.partition(" as ")
+            self.uses[new or was] = (module, was)
+            if passes_on:
+                self.passed_on[new or was] = (module, was)
+
+    def cut(self, text):
+        """Cuts the text into blocks. Comments stay with what is below, but for a line of dashes over a part."""
+        comment, code = [], []
+
+        def end():
+            nonlocal comment, code
+            if code:
+                block = Block(self, comment, code)
+                before = self.blocks[-1] if self.blocks else None
+                if before and (not block.names or block.names[0] in before.names):
+                    # (a comment stands between its equations)
+                    before.code += comment + code
+                else:
+                    self.blocks.append(block)
+                comment, code = [], []
+
+        for line in text:
+            if line.startswith("-- ----"):
+                end()
+                comment = []
+            elif line.startswith("--"):
+                end()
+                comment.append(line)
+            elif not line.strip():
+                if not is_open(code):
+                    end()
+                elif code:
+                    code.append(line)
+            elif line.startswith(" ") or not code or begins_as(code, line):
+                code.append(line)
+            else:
+                end()
+                code.append(line)
+        end()
+        for block in self.blocks:
+            while block.code and not block.code[-1].strip():
+                block.code.pop()
+
+
+def is_open(code):
+    """Whether what comes after an empty line may belong to the same block."""
+    return bool(code) and bool(re.match(r"^(?:\w+ )*mutual\b|^module ", code[0]))
+
+
+def begins_as(code, line):
+    """Whether a line is an equation of the definition above it."""
+    if code[-1].startswith("unfolding"):
+        return True
+    if line.startswith("unfolding"):
+        return True
+    return not re.match(r"^(abbrev|unfoldable|pub|module|mutual)\b", line)
+
+
+def all_files():
+    found = {}
+    for crate in common.listed():
+        folder = os.path.join(CRATES, crate, "specs")
+        for name in sorted(os.listdir(folder)) if os.path.isdir(folder) else []:
+            if name.endswith(".antt"):
+                found[crate, name[:-5]] = File(crate, name[:-5], os.path.join(folder, name))
+    return found
+
+
+# ---- the types of the code
+
+
+class Declared:
+    """A type of the code, as it is declared there."""
+
+    def __init__(self, crate, module, name):
+        self.crate, self.module, self.name = crate, module, name
+        text = lines_of(os.path.join(CRATES, crate, "src", *module) + ".rt")
+        at = next(i for i, it in enumerate(text) if re.match(rf"^(pub(\(crate\))? )?(struct|enum) {name}\b", it))
+        first = at
+        while first and text[first - 1].startswith(("///", "#[")):
+            first -= 1
+        last = at
+        while not (text[last].startswith("}") or text[last].endswith(";") and last == at or re.search(r"\{.*\}$", text[last]) and last == at):
+            last += 1
+        self.code = [it for it in text[first : last + 1] if not it.lstrip().startswith("#[")]
+
+    def named_types(self):
+        """The names of the types of its fields."""
+        text = "\n".join(re.sub(r"//.*$", "", it) for it in self.code[1:])
+        fields = re.findall(r":\s*([^,{}]+)|\(([^()]*)\)", text)
+        return re.findall(r"\b[A-Z]\w*", " ".join(a or b for a, b in fields))
+
+
+def module_with(crate, name):
+    """The module of a crate that declares a public type, if it has one of this name."""
+    folder = os.path.join(CRATES, crate, "src")
+    for at, _, files in os.walk(folder):
+        for file in sorted(it for it in files if it.endswith(".rt")):
+            path = os.path.join(at, file)
+            if any(re.match(rf"pub (struct|enum) {name}\b", line) for line in lines_of(path)):
+                return os.path.relpath(path, folder)[: -len(".rt")].split(os.sep)
+    return None
+
+
+# ---- looking up
+
+
+class Sources:
+    def __init__(self):
+        self.files = all_files()
+        self.std = set()
+        self.declared = {}
+
+    def resolve(self, module, name):
+        """What a name of a module is: a block, a declared type, or a name of the library."""
+        parts = module.split(".")
+        if parts[0] != "Rattle" or not parts[1].startswith("ob0_"):
+            if name:
+                self.std.add((module, name))
+            return None
+        crate, rest = parts[1], parts[3:]
+        if rest[:1] == ["declared"]:
+            words = [it for it in rest[1:] if it != "TheVariants"]
+            return self.type_of(crate, words[:-1], words[-1])
+        file = self.file_of(crate, rest)
+        if file is None or name is None:
+            return None
+        head = name.split(".")[0]
+        if head in file.named:
+            return file.named[head]
+        if head in file.passed_on:
+            return self.resolve(*file.passed_on[head])
+        common.stop(f"{module} has no {name}")
+
+    def file_of(self, crate, rest):
+        found = self.files.get((crate, rest[0])) if rest else None
+        if found is None and rest:
+            lib = self.files.get((crate, "Lib"))
+            passed = lib.uses.get(rest[0]) if lib else None
+            if passed:
+                parts = passed[0].split(".")
+                return self.file_of(parts[1], parts[3:])
+        return found
+
+    def type_of(self, crate, module, name):
+        key = crate, name
+        if key not in self.declared:
+            self.declared[key] = Declared(crate, module, name)
+        return self.declared[key]
+
+    def needs(self, block):
+        """What a block names, in order."""
+        if block.needs is None:
+            found = []
+            for word in words_of(block.code):
+                it = self.look_up(block.file, word)
+                if it is not None and it is not block and it not in found:
+                    found.append(it)
+            block.needs = found
+        return block.needs
+
+    def types_in(self, declared):
+        """The types of the same crate that are in the fields of one."""
+        modules = [(module_with(declared.crate, name), name) for name in declared.named_types() if name != declared.name]
+        return [self.type_of(declared.crate, module, name) for module, name in modules if module]
+
+    def look_up(self, file, word):
+        if word in file.named:
+            return file.named[word]
+        head, _, rest = word.partition(".")
+        if word in file.uses:
+            module, name = file.uses[word]
+            return self.resolve(module, name) if name or "declared" in module else None
+        if head in file.uses and rest:
+            module, name = file.uses[head]
+            if name is None:
+                return self.resolve_in(module, rest)
+        return None
+
+    def resolve_in(self, module, rest):
+        if ".declared." in module or not module.startswith("Rattle.ob0_"):
+            return self.resolve(module, rest)
+        return self.resolve(module, rest.split(".")[0])
+
+    def closure(self, roots, without=()):
+        """All that these need, what is needed before what needs it."""
+        done, order = set(), []
+
+        def go(it):
+            if id(it) in done or it in without:
+                return
+            done.add(id(it))
+            for other in self.needs(it) if isinstance(it, Block) else self.types_in(it):
+                go(other)
+            order.append(it)
+
+        for root in roots:
+            go(root)
+        return order
+
+
+def words_of(code):
+    """The names in some lines, without comments and texts; an operator stands for its name with a place on each side."""
+    for line in code:
+        line = re.sub(r'"[^"]*"', '""', re.sub(r"--.*$", "", line))
+        yield from WORD.findall(line)
+        for sign in OPERATOR.findall(line):
+            yield sign
+            yield f"◌{sign}◌"
+            if sign == "←":
+                yield "◌>>=◌"
