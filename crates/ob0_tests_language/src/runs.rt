@@ -119,6 +119,45 @@ const ROWS_OF_ARRAYS: &str = "MODULE M;\n\
     BEGIN i := 2; m[1][i] := 4; m[0] := m[1]; m[1][i] := 5; Write(m[0][i]); Write(m[1][2]); \
     Write(m[1][i + 1]) END M.";
 
+const LARGE_ARGUMENT: &str = "MODULE M;\n\
+    TYPE A = ARRAY 65536 OF INTEGER;\n\
+    VAR a: A;\n\
+    PROCEDURE P(b: A); BEGIN b[65535] := 5; Write(b[65535]); Write(b[0]) END P;\n\
+    BEGIN a[0] := 3; a[65535] := 4; P(a); Write(a[65535]) END M.";
+
+const THIRTY_FIELDS: &str = "MODULE M;\n\
+    VAR r: RECORD a, b, c, d, e, f, g, h, i, j, k, l, m, n, o, p, q, r, s, t, u, v, w, x, y, z, \
+    aa, bb, cc, dd: INTEGER END;\n\
+    BEGIN r.a := 1; r.cc := 29; r.dd := 30; Write(r.a + r.dd); Write(r.cc); Write(r.bb) END M.";
+
+const TWELVE_REFERENCES: &str = "MODULE M;\n\
+    VAR x: ARRAY 12 OF INTEGER;\n\
+    PROCEDURE P(VAR a, b, c, d, e, f, g, h, i, j, k, l: INTEGER);\n\
+    BEGIN a := 1; l := a + 11; f := l END P;\n\
+    BEGIN P(x[0], x[1], x[2], x[3], x[4], x[5], x[6], x[7], x[8], x[9], x[10], x[11]);\n\
+    Write(x[0]); Write(x[11]); Write(x[5]); Write(x[4]) END M.";
+
+const HUNDRED_DEEP: &str = "MODULE M;\n\
+    VAR k: INTEGER;\n\
+    PROCEDURE D(n: INTEGER); BEGIN k := k + 1; IF n > 1 THEN D(n - 1) END END D;\n\
+    BEGIN D(100); Write(k) END M.";
+
+const THOUSAND_DEEP: &str = "MODULE M;\n\
+    VAR k: INTEGER;\n\
+    PROCEDURE D(n: INTEGER); BEGIN k := k + 1; IF n > 1 THEN D(n - 1) END END D;\n\
+    BEGIN D(1000); Write(k) END M.";
+
+const FIELDS: &str = "MODULE M;\n\
+    TYPE P = RECORD x, y: INTEGER END; R = RECORD n: INTEGER; p: P; ps: ARRAY 3 OF P END;\n\
+    VAR r: R; rs: ARRAY 2 OF R; i, j: INTEGER;\n\
+    PROCEDURE Set(n: INTEGER; VAR r: R);\n\
+    PROCEDURE Inner; BEGIN r.p.y := r.n + 1; r.ps[2].y := r.p.y * 2 END Inner;\n\
+    BEGIN r.n := n; r.p.x := n; i := 1; r.ps[i].x := n + 4; Inner END Set;\n\
+    BEGIN i := 0; j := 2; Set(5, r); Write(r.n + r.p.x); Write(r.p.y); Write(r.ps[1].x); \
+    Write(r.ps[j].y); Set(7, rs[1]); Write(rs[i].ps[j].y); Write(rs[1].p.y); \
+    Write(rs[i].ps[1].x); rs[0].ps[i] := r.ps[2]; Write(rs[0].ps[1].y + rs[0].ps[1].x); \
+    Write(r.ps[3].x) END M.";
+
 /// A text, its input, how many calls may be open and how many turns a loop may make, and what is shown.
 type RunRow = (&'static str, &'static [i32], u32, u32, &'static str);
 
@@ -206,6 +245,14 @@ static ROWS: &[RunRow] = &[
     (ELEMENTS, &[], 0, 0, " -10; Index"),
     (TRUTHS, &[], 0, 0, " 1 2; Divisor"),
     (ROWS_OF_ARRAYS, &[], 0, 0, " 4 5; Index"),
+    (FIELDS, &[], 64, 0, " 10 6 9 12 16 8 11 12; Index"),
+    (LARGE_ARGUMENT, &[], 64, 0, " 5 3 4; Done"),
+    (THIRTY_FIELDS, &[], 0, 0, " 31 29 0; Done"),
+    (TWELVE_REFERENCES, &[], 1, 0, " 1 12 12 0; Done"),
+    (HUNDRED_DEEP, &[], 100, 0, " 100; Done"),
+    (HUNDRED_DEEP, &[], 99, 0, "; CallBound"),
+    (THOUSAND_DEEP, &[], 1000, 0, " 1000; Done"),
+    (THOUSAND_DEEP, &[], u32::MAX, 0, " 1000; Done"),
     (
         "MODULE M; VAR a: ARRAY 1 OF INTEGER; BEGIN a[0] := 1 DIV 0 END M.",
         &[],
