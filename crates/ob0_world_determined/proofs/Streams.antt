@@ -1,7 +1,9 @@
 -- What `serve` writes and returns is determined by the bytes that it reads.
-use Rattle.std.proofs.Common.{◌≡◌, ◌≢◌, ◌∙◌, ℕ, ◌⊎◌, List, [], ◌∷◌, ◌++◌, Result, Ok, Err, refl, sym, ap, subst, inl, inr, append_assoc, append-nil}
+use Rattle.std.proofs.Common.{◌≡◌, ◌≢◌, ◌≤◌, ◌∙◌, ℕ, ◌⊎◌, List, [], ◌∷◌, ◌++◌, length, Result, Ok, Err, refl, sym, ap, subst, inl, inr, append_assoc, append-nil}
+use Rattle.std.specs.Prelude.{All}
 use Rattle.std.specs.List.{flat_map}
-use Rattle.ob0_frame.specs.Frames.{frame}
+use Rattle.ob0_frame.specs.Frames.{Frames, frame}
+use Rattle.ob0_frame.specs.Head.{max_content}
 use Rattle.ob0_frame.specs.Framing.{Rest, Open, Broken, Feeds}
 use Rattle.ob0_session_server.specs.Answers.{ServerState, start, Answers, AnswersInState, Conversation}
 use Rattle.ob0_session.specs.Serving.{AllServed, EndsWith}
@@ -9,7 +11,7 @@ use Rattle.ob0_session_server.specs.Steps.{IsGoingOn}
 use Rattle.ob0_session_server.specs.declared.server.Phase.TheVariants.{Ended}
 use Rattle.ob0_session.specs.declared.serving.ServeFault.{ServeFault}
 use Rattle.ob0_session.specs.declared.serving.ServeFault.TheVariants.{BadHead, Truncated, Read, Write, Memory, TooManyReads}
-use Rattle.ob0_world_determined.specs.Determined.{IsOfBytes, IsWritten, MayServe, OneConversation, OneOutput, OneResult}
+use Rattle.ob0_world_determined.specs.Determined.{ConversationIsServed, IsOfBytes, IsWritten, MayServe, OneConversation, OneOutput, OneResult}
 use Rattle.ob0_world_determined.proofs.Conversations.{Contents}
 
 -- ---- a conversation that is cut in two
@@ -169,3 +171,21 @@ one_result one feeds taken put other result end of of_too h k =
     let e = led_to result taken put of h in
     let f = led_to end taken other of_too k in
     sym e.2 ∙ ap result_of (one_ending one feeds taken e.0 f.0 put other e.1 f.1).1 ∙ f.2
+
+-- ---- the frames of a conversation
+
+module _ (one : OneConversation) (feeds : OneFeed) (taken sent : Contents) (after : ServerState) (talk : Conversation start taken sent after) (fed : Feeds (Open []) (flat_map frame taken) taken (Open [])) where
+  frames_sent : (put : List ℕ) (e : Ending) → EndsIn e (flat_map frame taken) put → put ≡ flat_map frame sent
+  frames_sent put (at_exit status) h =
+      let s = h.served in
+      let parts : taken ≡ s.answered ++ h.waiting = (feeds (Open []) (Open []) h.rest (flat_map frame taken) taken (s.answered ++ h.waiting) fed s.feeds).0 in
+      s.frames ∙ ap (flat_map frame) (longer one feeds (flat_map frame taken) status s.answered h.waiting s.sent sent h.after after h.ended s.conversation (subst (λ cs. Conversation start cs sent after) parts talk)).0
+  frames_sent put (with_rest rest) h =
+      let s = h.served in
+      let same : taken ≡ s.answered = (feeds (Open []) (Open []) rest (flat_map frame taken) taken (s.answered ++ []) fed s.feeds).0 ∙ append-nil s.answered in
+      s.frames ∙ ap (flat_map frame) (one start s.answered s.sent sent h.after after s.conversation (subst (λ cs. Conversation start cs sent after) same talk)).0
+
+pub conversation_is_served : OneConversation → OneFeed → Feeds (Open []) [] [] (Open []) → ((contents : Contents) → All (λ content. length content ≤ max_content) contents → Frames (flat_map frame contents) contents []) → ConversationIsServed
+conversation_is_served one feeds nothing read taken sent after small talk put result written served =
+    let e = ending_of result (flat_map frame taken) put written served in
+    frames_sent one feeds taken sent after talk (read taken small, nothing.1) put e.0 e.1

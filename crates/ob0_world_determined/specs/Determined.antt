@@ -1,11 +1,14 @@
 -- What the server sends is determined by what it has read: the diagnostics of a text, the replies
 -- to a message, the bytes that are written.
 -- Rule: none; laws of the session.
-use Rattle.std.specs.Prelude.{◌≡◌, ◌++◌, ℕ, List, Bool, Result, Ok, Err, ⊤}
+use Rattle.std.specs.Prelude.{◌≡◌, ◌≤◌, ◌++◌, ℕ, List, length, All, Bool, Result, Ok, Err, ⊤}
+use Rattle.std.specs.List.{flat_map}
+use Rattle.ob0_frame.specs.Frames.{frame}
+use Rattle.ob0_frame.specs.Head.{max_content}
 use Rattle.ob0_scope_table.specs.Resolution.{Resolution, IsResolution, ordinal_in}
 use Rattle.ob0_tree.specs.Parsed.{Parsed, tree_of}
 use Rattle.ob0_analysis.specs.Diagnosed.{Complaint, Reports}
-use Rattle.ob0_session_server.specs.Answers.{ServerState, Reply, SaysReply, Answers, Conversation}
+use Rattle.ob0_session_server.specs.Answers.{ServerState, start, Reply, SaysReply, Answers, Conversation}
 use Rattle.ob0_session.specs.Serving.{Serves}
 use Rattle.ob0_session.specs.declared.serving.ServeFault.{ServeFault}
 use Rattle.ob0_session.specs.declared.serving.ServeFault.TheVariants.{BadHead, Truncated, Read, Write, Memory, TooManyReads}
@@ -97,3 +100,16 @@ abbrev pub OneResult : Type 0
 OneResult =
     (taken put other : List ℕ) (result end : Result ℕ ServeFault) → IsOfBytes result → IsOfBytes end
     → MayServe result taken put → MayServe end taken other → result ≡ end
+
+-- ---- a conversation, as bytes
+
+-- For the frames of what a session took in a conversation `serve` writes the frames of what it sent,
+-- unless an allocation or the writer fails.
+abbrev pub ConversationIsServed : Type 0
+ConversationIsServed =
+    (taken sent : List (List ℕ)) (after : ServerState)
+    → All (λ content. length content ≤ max_content) taken
+    → Conversation start taken sent after
+    → (put : List ℕ) (result : Result ℕ ServeFault) → IsWritten result
+    → MayServe result (flat_map frame taken) put
+    → put ≡ flat_map frame sent

@@ -1,8 +1,8 @@
 //! What holds of the definitions that the contracts cite.
-ghost use Rattle.ob0_world_determined.specs.Determined.{OneAnswer, OneBeginning, OneConversation, OneDiagnosis, OneOutput, OneReply, OneResult, OneTable};
+ghost use Rattle.ob0_world_determined.specs.Determined.{ConversationIsServed, OneAnswer, OneBeginning, OneConversation, OneDiagnosis, OneOutput, OneReply, OneResult, OneTable};
 
 use ob0_analysis::laws::one_refusal;
-use ob0_frame::laws::feeding_is_determined;
+use ob0_frame::laws::{feeding_is_determined, nothing_is_fed, written_is_read};
 use ob0_scan::laws::{one_report, one_scan};
 
 /// A module has one table of ordinals.
@@ -66,4 +66,15 @@ pub fn one_beginning()
 {
     one_conversation();
     feeding_is_determined();
+}
+
+/// Fed with the frames of what a session took in a conversation, `serve` writes the frames of what the session sent,
+/// unless an allocation or the writer fails.
+pub fn a_conversation_is_served()
+    ensures { ConversationIsServed }
+{
+    one_conversation();
+    feeding_is_determined();
+    nothing_is_fed();
+    written_is_read();
 }
