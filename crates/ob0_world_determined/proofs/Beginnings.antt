@@ -46,7 +46,7 @@ module _ (one : OneConversation) (feeds : OneFeed) (taken : List ℕ) where
   part_of (Err BadHead) put (r, w, (all, none)) = whole [] Broken all.after put all.served
   part_of (Err Truncated) put (r, w, ((left, all, some, at_end), none)) = whole [] (Open left) all.after put all.served
   part_of (Err Read) put (r, w, ((left, all), failed, writes, flushed)) = whole [] (Open left) all.after put all.served
-  part_of (Err TooManyReads) put (r, w, ((left, all, long), none)) = whole [] (Open left) all.after put all.served
+  part_of (Err TooManyReads) put (r, w, ((left, all, long, often), none)) = whole [] (Open left) all.after put all.served
   part_of (Err Write) put (r, w, ((unwritten, some), reads, failed)) = part_of_served some.waiting some.rest some.after put unwritten some.served
   part_of (Err Memory) put (r, w, (some, none)) = record {
     answered = some.answered;

@@ -137,7 +137,7 @@ ending_of (Ok status) taken put written (r, w, (inr (all, at_end, is), none)) = 
 ending_of (Err BadHead) taken put written (r, w, (all, none)) = (with_rest Broken, all)
 ending_of (Err Truncated) taken put written (r, w, ((left, all, some, at_end), none)) = (with_rest (Open left), all)
 ending_of (Err Read) taken put written (r, w, ((left, all), failed, writes, flushed)) = (with_rest (Open left), all)
-ending_of (Err TooManyReads) taken put written (r, w, ((left, all, long), none)) = (with_rest (Open left), all)
+ending_of (Err TooManyReads) taken put written (r, w, ((left, all, long, often), none)) = (with_rest (Open left), all)
 ending_of (Err Write) taken put written served = absurd written
 ending_of (Err Memory) taken put written served = absurd written
 

@@ -60,7 +60,7 @@ OneConversation =
 abbrev pub MayServe : Result ℕ ServeFault → List ℕ → List ℕ → Type 0
 MayServe result taken put =
     (reader_failed : Bool) × (writer_failed : Bool)
-    × Serves result taken put ⊤ reader_failed writer_failed ⊤
+    × Serves result taken put ⊤ ⊤ reader_failed writer_failed ⊤
 
 -- neither an allocation nor the writer failed
 abbrev pub IsWritten : Result ℕ ServeFault → Type 0
@@ -113,8 +113,8 @@ OneResult =
 
 -- ---- a conversation, as bytes
 
--- For the frames of what a session took in a conversation `serve` writes the frames of what it sent,
--- unless an allocation or the writer fails.
+-- For the frames of what a session took in a conversation `serve` writes the frames of what it
+-- sent, unless an allocation or the writer fails.
 abbrev pub ConversationIsServed : Type 0
 ConversationIsServed =
     (taken sent : List (List ℕ)) (after : ServerState)

@@ -42,9 +42,9 @@ pub fn one_conversation()
     one_answer();
 }
 
-/// What `serve` writes for the first bytes of an input begins what it writes for more of it, unless an allocation or the
-/// writer fails in the call for more. It is all of that for the same bytes, and after an `exit` or a bad head, unless
-/// either fails in the one call: so how an input is cut into pieces makes no difference.
+/// What `serve` writes for the first bytes of an input begins what it writes for more of it, unless an allocation or
+/// the writer fails in the call for more. It is all of that for the same bytes, and after an `exit` or a bad head,
+/// unless either fails in the one call: so how an input is cut into pieces makes no difference.
 pub fn one_output()
     ensures { OneOutput }
 {
