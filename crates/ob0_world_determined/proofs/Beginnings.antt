@@ -1,23 +1,26 @@
--- Whatever fails, what `serve` has written begins what is written for the same bytes where neither an allocation nor the writer fails.
+-- Whatever fails, what `serve` has written begins what is written for the same bytes and more of them where neither an
+-- allocation nor the writer fails.
 use Rattle.std.proofs.Common.{◌≡◌, ◌∙◌, ℕ, List, [], ◌++◌, Result, Ok, Err, sym, ap, subst, inl, inr, append_assoc, append-nil}
 use Rattle.std.specs.List.{flat_map}
 use Rattle.std.proofs.lemmas.Grind.{flat_map-append}
+use Rattle.std.proofs.lemmas.List.{append_cancel_left}
 use Rattle.ob0_frame.specs.Frames.{frame}
 use Rattle.ob0_frame.specs.Framing.{Rest, Open, Broken, Feeds}
 use Rattle.ob0_session_server.specs.Answers.{ServerState, start, Conversation}
 use Rattle.ob0_session.specs.Serving.{Served}
 use Rattle.ob0_session.specs.declared.serving.ServeFault.{ServeFault}
 use Rattle.ob0_session.specs.declared.serving.ServeFault.TheVariants.{BadHead, Truncated, Read, Write, Memory, TooManyReads}
-use Rattle.ob0_world_determined.specs.Determined.{MayServe, OneBeginning, OneConversation}
+use Rattle.ob0_world_determined.specs.Determined.{MayServe, OneConversation, OneOutput}
 use Rattle.ob0_world_determined.proofs.Conversations.{Contents}
-use Rattle.ob0_world_determined.proofs.Streams.{Cut, cut, begins_other, longer, Ending, at_exit, with_rest, EndsIn, ending_of, OneFeed}
+use Rattle.ob0_world_determined.proofs.Fronts.{fed_front, front_more}
+use Rattle.ob0_world_determined.proofs.Streams.{Cut, cut, begins_other, longer, Ending, at_exit, with_rest, EndsIn, ending_of, all_written, OneFeed}
 
 -- the first of the contents are answered, and the frames of the answers begin with what was written
 record Part (taken put : List ℕ) : Type 0 where
   pub answered : Contents
   pub sent : Contents
   pub after : ServerState
-  pub front : (contents : Contents) (rest : Rest) → Feeds (Open []) taken contents rest → (others : Contents) × (contents ≡ answered ++ others)
+  pub front : (more : List ℕ) (contents : Contents) (rest : Rest) → Feeds (Open []) (taken ++ more) contents rest → (others : Contents) × (contents ≡ answered ++ others)
   pub conversation : Conversation start answered sent after
   pub unwritten : List ℕ
   pub frames : flat_map frame sent ≡ put ++ unwritten
@@ -28,7 +31,7 @@ module _ (one : OneConversation) (feeds : OneFeed) (taken : List ℕ) where
     answered = h.answered;
     sent = h.sent;
     after = after;
-    front = λ contents other fed. (waiting, (feeds (Open []) other rest taken contents (h.answered ++ waiting) fed h.feeds).0);
+    front = λ more contents other fed. (let parts = fed_front (Open []) rest other taken more (h.answered ++ waiting) contents h.feeds fed in (waiting ++ parts.0, parts.1 ∙ append_assoc h.answered waiting parts.0));
     conversation = h.conversation;
     unwritten = unwritten;
     frames = sym h.frames;
@@ -43,13 +46,13 @@ module _ (one : OneConversation) (feeds : OneFeed) (taken : List ℕ) where
   part_of (Err BadHead) put (r, w, (all, none)) = whole [] Broken all.after put all.served
   part_of (Err Truncated) put (r, w, ((left, all, some, at_end), none)) = whole [] (Open left) all.after put all.served
   part_of (Err Read) put (r, w, ((left, all), failed, writes, flushed)) = whole [] (Open left) all.after put all.served
-  part_of (Err TooManyReads) put (r, w, ((left, all, long), none)) = whole [] (Open left) all.after put all.served
+  part_of (Err TooManyReads) put (r, w, ((left, all, long, often), none)) = whole [] (Open left) all.after put all.served
   part_of (Err Write) put (r, w, ((unwritten, some), reads, failed)) = part_of_served some.waiting some.rest some.after put unwritten some.served
   part_of (Err Memory) put (r, w, (some, none)) = record {
     answered = some.answered;
     sent = some.sent;
     after = some.after;
-    front = some.front;
+    front = λ more contents other fed. front_more taken more some.answered contents other some.front fed;
     conversation = some.conversation;
     unwritten = [];
     frames = sym some.frames ∙ sym (append-nil put);
@@ -62,27 +65,31 @@ module _ (one : OneConversation) (feeds : OneFeed) (taken : List ℕ) where
       let same : p.sent ≡ parts.first = (one start p.answered p.sent parts.first p.after parts.between p.conversation parts.begins).0 in
       (parts.later, parts.is ∙ ap (λ xs. xs ++ parts.later) (sym same))
 
-  further_of : (put all : List ℕ) (p : Part taken put) (e : Ending) → (ends : EndsIn e taken all) → (sent : Contents) × (later : Contents) × (all ≡ flat_map frame sent) × (sent ≡ p.sent ++ later)
-  further_of put all p (with_rest rest) k =
-      let others = p.front (k.served.answered ++ []) rest k.served.feeds in
+  further_of : (more_bytes put all : List ℕ) (p : Part taken put) (e : Ending) → (ends : EndsIn e (taken ++ more_bytes) all) → (sent : Contents) × (later : Contents) × (all ≡ flat_map frame sent) × (sent ≡ p.sent ++ later)
+  further_of more_bytes put all p (with_rest rest) k =
+      let others = p.front more_bytes (k.served.answered ++ []) rest k.served.feeds in
       let more = further put p k.served.answered others.0 k.served.sent k.after (sym (append-nil k.served.answered) ∙ others.1) k.served.conversation in
       (k.served.sent, more.0, k.served.frames, more.1)
-  further_of put all p (at_exit status) k =
-      let others = p.front (k.served.answered ++ k.waiting) k.rest k.served.feeds in
+  further_of more_bytes put all p (at_exit status) k =
+      let others = p.front more_bytes (k.served.answered ++ k.waiting) k.rest k.served.feeds in
       elim (begins_other k.served.answered k.waiting p.answered others.0 others.1) [
-        | inl (mid, is) ↦ (k.served.sent, [], k.served.frames, (longer one feeds taken status k.served.answered mid k.served.sent p.sent k.after p.after k.ended k.served.conversation (subst (λ cs. Conversation start cs p.sent p.after) is p.conversation)).0 ∙ sym (append-nil p.sent))
+        | inl (mid, is) ↦ (k.served.sent, [], k.served.frames, (longer one feeds (taken ++ more_bytes) status k.served.answered mid k.served.sent p.sent k.after p.after k.ended k.served.conversation (subst (λ cs. Conversation start cs p.sent p.after) is p.conversation)).0 ∙ sym (append-nil p.sent))
         | inr (mid, is) ↦ (let more = further put p k.served.answered mid k.served.sent k.after is k.served.conversation in (k.served.sent, more.0, k.served.frames, more.1))
       ]
 
-  begins : (put all : List ℕ) (p : Part taken put) (e : Ending) → EndsIn e taken all → (unwritten : List ℕ) × (all ≡ put ++ unwritten)
-  begins put all p e ends =
-      let more = further_of put all p e ends in
+  begins : (more_bytes put all : List ℕ) (p : Part taken put) (e : Ending) → EndsIn e (taken ++ more_bytes) all → (unwritten : List ℕ) × (all ≡ put ++ unwritten)
+  begins more_bytes put all p e ends =
+      let more = further_of more_bytes put all p e ends in
       let later : List ℕ = flat_map frame more.1 in (
         p.unwritten ++ later,
         more.2 ∙ (ap (flat_map frame) more.3 ∙ (flat_map-append frame p.sent more.1 ∙ (ap (λ xs. xs ++ later) p.frames ∙ append_assoc put p.unwritten later))),
       )
 
-pub one_beginning : OneConversation → OneFeed → OneBeginning
-one_beginning one feeds taken put all result end written h k =
-    let e = ending_of end taken all written k in
-    begins one feeds taken put all (part_of one feeds taken result put h) e.0 e.1
+pub one_output : OneConversation → OneFeed → OneOutput
+one_output one feeds taken more put all result end written h k =
+    let e = ending_of end (taken ++ more) all written k in
+    let b = begins one feeds taken more put all (part_of one feeds taken result put h) e.0 e.1 in (
+      b.0,
+      b.1,
+      λ written_too same. append_cancel_left put b.0 [] (sym b.1 ∙ sym (all_written one feeds taken more put all result end written_too written h k same) ∙ sym (append-nil put)),
+    )

@@ -4,5 +4,6 @@ mod Reports
 mod NamesShown
 mod Replies
 mod Conversations
+mod Fronts
 mod Streams
 mod Beginnings

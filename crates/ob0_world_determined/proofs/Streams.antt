@@ -1,16 +1,20 @@
--- What `serve` writes and returns is determined by the bytes that it reads.
-use Rattle.std.proofs.Common.{◌≡◌, ◌≢◌, ◌∙◌, ℕ, ◌⊎◌, List, [], ◌∷◌, ◌++◌, Result, Ok, Err, refl, sym, ap, subst, inl, inr, append_assoc, append-nil}
+-- What `serve` writes and returns is determined by its input, however that is cut.
+use Rattle.std.proofs.Common.{◌≡◌, ◌≢◌, ◌≤◌, ◌∙◌, ℕ, ◌⊎◌, List, [], ◌∷◌, ◌++◌, length, Result, Ok, Err, refl, sym, ap, subst, inl, inr, append_assoc, append-nil}
+use Rattle.std.specs.Prelude.{⊤, All}
 use Rattle.std.specs.List.{flat_map}
-use Rattle.ob0_frame.specs.Frames.{frame}
+use Rattle.ob0_frame.specs.Frames.{Frames, frame}
+use Rattle.ob0_frame.specs.Head.{max_content}
 use Rattle.ob0_frame.specs.Framing.{Rest, Open, Broken, Feeds}
+use Rattle.ob0_frame.proofs.InTurn.{fed_in_turn}
 use Rattle.ob0_session_server.specs.Answers.{ServerState, start, Answers, AnswersInState, Conversation}
 use Rattle.ob0_session.specs.Serving.{AllServed, EndsWith}
 use Rattle.ob0_session_server.specs.Steps.{IsGoingOn}
 use Rattle.ob0_session_server.specs.declared.server.Phase.TheVariants.{Ended}
 use Rattle.ob0_session.specs.declared.serving.ServeFault.{ServeFault}
 use Rattle.ob0_session.specs.declared.serving.ServeFault.TheVariants.{BadHead, Truncated, Read, Write, Memory, TooManyReads}
-use Rattle.ob0_world_determined.specs.Determined.{IsOfBytes, IsWritten, MayServe, OneConversation, OneOutput, OneResult}
+use Rattle.ob0_world_determined.specs.Determined.{ConversationIsServed, IsDecided, IsOfBytes, IsWritten, MayServe, OneConversation, OneResult}
 use Rattle.ob0_world_determined.proofs.Conversations.{Contents}
+use Rattle.ob0_world_determined.proofs.Fronts.{Framed, fed_front}
 
 -- ---- a conversation that is cut in two
 
@@ -133,15 +137,9 @@ ending_of (Ok status) taken put written (r, w, (inr (all, at_end, is), none)) = 
 ending_of (Err BadHead) taken put written (r, w, (all, none)) = (with_rest Broken, all)
 ending_of (Err Truncated) taken put written (r, w, ((left, all, some, at_end), none)) = (with_rest (Open left), all)
 ending_of (Err Read) taken put written (r, w, ((left, all), failed, writes, flushed)) = (with_rest (Open left), all)
-ending_of (Err TooManyReads) taken put written (r, w, ((left, all, long), none)) = (with_rest (Open left), all)
+ending_of (Err TooManyReads) taken put written (r, w, ((left, all, long, often), none)) = (with_rest (Open left), all)
 ending_of (Err Write) taken put written served = absurd written
 ending_of (Err Memory) taken put written served = absurd written
-
-pub one_output : OneConversation → OneFeed → OneOutput
-one_output one feeds taken put other result end written written_too h k =
-    let e = ending_of result taken put written h in
-    let f = ending_of end taken other written_too k in
-    (one_ending one feeds taken e.0 f.0 put other e.1 f.1).0
 
 -- the ending gives the result back
 abbrev result_of : Ending → Result ℕ ServeFault
@@ -164,8 +162,88 @@ led_to (Err TooManyReads) taken put of served = absurd of
 led_to (Err Write) taken put of served = absurd of
 led_to (Err Memory) taken put of served = absurd of
 
+-- ---- more of the input
+
+-- an ending that what comes after it can't change
+abbrev pub IsClosed : Ending → Type 0
+IsClosed (at_exit status) = ⊤
+IsClosed (with_rest Broken) = ⊤
+IsClosed (with_rest (Open left)) = ⊥
+
+pub framed_by : (e : Ending) (taken put : List ℕ) → EndsIn e taken put → Framed taken
+framed_by (at_exit status) taken put h = record { contents = h.served.answered ++ h.waiting; rest = h.rest; feeds = h.served.feeds }
+framed_by (with_rest rest) taken put h = record { contents = h.served.answered ++ []; rest = rest; feeds = h.served.feeds }
+
+further : (e : Ending) (taken more put : List ℕ) → IsClosed e → Framed (taken ++ more) → EndsIn e taken put → EndsIn e (taken ++ more) put
+further (at_exit status) taken more put closed f h =
+    let s = h.served in
+    let parts = fed_front (Open []) h.rest f.rest taken more (s.answered ++ h.waiting) f.contents s.feeds f.feeds in
+    let same : f.contents ≡ s.answered ++ (h.waiting ++ parts.0) = parts.1 ∙ append_assoc s.answered h.waiting parts.0 in
+    record {
+      after = h.after;
+      waiting = h.waiting ++ parts.0;
+      rest = f.rest;
+      served = record { answered = s.answered; sent = s.sent; feeds = subst (λ cs. Feeds (Open []) (taken ++ more) cs f.rest) same f.feeds; conversation = s.conversation; frames = s.frames };
+      ended = h.ended;
+    }
+further (with_rest Broken) taken more put closed f h =
+    let s = h.served in
+    let fed : Feeds (Open []) (taken ++ more) ((s.answered ++ []) ++ []) Broken = fed_in_turn (Open []) Broken Broken taken more (s.answered ++ []) [] s.feeds refl in
+    record {
+      after = h.after;
+      served = record { answered = s.answered; sent = s.sent; feeds = subst (λ cs. Feeds (Open []) (taken ++ more) cs Broken) (append-nil (s.answered ++ [])) fed; conversation = s.conversation; frames = s.frames };
+      going = h.going;
+    }
+further (with_rest (Open left)) taken more put closed f h = absurd closed
+
+-- what was decided by the bytes
+pub decided : (result : Result ℕ ServeFault) (taken put : List ℕ) → IsDecided result taken put → MayServe result taken put → (e : Ending) × EndsIn e taken put × IsClosed e × (result_of e ≡ result)
+decided (Ok status) taken put is served = (at_exit status, is, tt, refl)
+decided (Err BadHead) taken put is (r, w, (all, none)) = (with_rest Broken, all, tt, refl)
+decided (Err Truncated) taken put is served = absurd is
+decided (Err Read) taken put is served = absurd is
+decided (Err TooManyReads) taken put is served = absurd is
+decided (Err Write) taken put is served = absurd is
+decided (Err Memory) taken put is served = absurd is
+
+nothing_more : (taken more : List ℕ) → more ≡ [] → taken ++ more ≡ taken
+nothing_more taken more none = ap (λ xs. taken ++ xs) none ∙ append-nil taken
+
+-- where nothing more can be written, all was
+pub all_written : OneConversation → OneFeed → (taken more put all : List ℕ) (result end : Result ℕ ServeFault) → IsWritten result → IsWritten end → MayServe result taken put → MayServe end (taken ++ more) all → IsDecided result taken put ⊎ (more ≡ []) → put ≡ all
+all_written one feeds taken more put all result end written written_too h k (inl is) =
+    let e = decided result taken put is h in
+    let f = ending_of end (taken ++ more) all written_too k in
+    (one_ending one feeds (taken ++ more) e.0 f.0 put all (further e.0 taken more put e.2 (framed_by f.0 (taken ++ more) all f.1) e.1) f.1).0
+all_written one feeds taken more put all result end written written_too h k (inr none) =
+    let e = ending_of result taken put written h in
+    let f = ending_of end taken all written_too (subst (λ xs. MayServe end xs all) (nothing_more taken more none) k) in
+    (one_ending one feeds taken e.0 f.0 put all e.1 f.1).0
+
 pub one_result : OneConversation → OneFeed → OneResult
-one_result one feeds taken put other result end of of_too h k =
+one_result one feeds taken more put all result end of of_too h k (inl is) =
+    let e = decided result taken put is h in
+    let f = led_to end (taken ++ more) all of_too k in
+    sym e.3 ∙ ap result_of (one_ending one feeds (taken ++ more) e.0 f.0 put all (further e.0 taken more put e.2 (framed_by f.0 (taken ++ more) all f.1) e.1) f.1).1 ∙ f.2
+one_result one feeds taken more put all result end of of_too h k (inr none) =
     let e = led_to result taken put of h in
-    let f = led_to end taken other of_too k in
-    sym e.2 ∙ ap result_of (one_ending one feeds taken e.0 f.0 put other e.1 f.1).1 ∙ f.2
+    let f = led_to end taken all of_too (subst (λ xs. MayServe end xs all) (nothing_more taken more none) k) in
+    sym e.2 ∙ ap result_of (one_ending one feeds taken e.0 f.0 put all e.1 f.1).1 ∙ f.2
+
+-- ---- the frames of a conversation
+
+module _ (one : OneConversation) (feeds : OneFeed) (taken sent : Contents) (after : ServerState) (talk : Conversation start taken sent after) (fed : Feeds (Open []) (flat_map frame taken) taken (Open [])) where
+  frames_sent : (put : List ℕ) (e : Ending) → EndsIn e (flat_map frame taken) put → put ≡ flat_map frame sent
+  frames_sent put (at_exit status) h =
+      let s = h.served in
+      let parts : taken ≡ s.answered ++ h.waiting = (feeds (Open []) (Open []) h.rest (flat_map frame taken) taken (s.answered ++ h.waiting) fed s.feeds).0 in
+      s.frames ∙ ap (flat_map frame) (longer one feeds (flat_map frame taken) status s.answered h.waiting s.sent sent h.after after h.ended s.conversation (subst (λ cs. Conversation start cs sent after) parts talk)).0
+  frames_sent put (with_rest rest) h =
+      let s = h.served in
+      let same : taken ≡ s.answered = (feeds (Open []) (Open []) rest (flat_map frame taken) taken (s.answered ++ []) fed s.feeds).0 ∙ append-nil s.answered in
+      s.frames ∙ ap (flat_map frame) (one start s.answered s.sent sent h.after after s.conversation (subst (λ cs. Conversation start cs sent after) same talk)).0
+
+pub conversation_is_served : OneConversation → OneFeed → Feeds (Open []) [] [] (Open []) → ((contents : Contents) → All (λ content. length content ≤ max_content) contents → Frames (flat_map frame contents) contents []) → ConversationIsServed
+conversation_is_served one feeds nothing read taken sent after small talk put result written served =
+    let e = ending_of result (flat_map frame taken) put written served in
+    frames_sent one feeds taken sent after talk (read taken small, nothing.1) put e.0 e.1

@@ -1,12 +1,15 @@
 -- What the server sends is determined by what it has read: the diagnostics of a text, the replies
 -- to a message, the bytes that are written.
 -- Rule: none; laws of the session.
-use Rattle.std.specs.Prelude.{◌≡◌, ◌++◌, ℕ, List, Bool, Result, Ok, Err, ⊤}
+use Rattle.std.specs.Prelude.{◌≡◌, ◌≤◌, ◌++◌, ◌⊎◌, ℕ, List, [], length, All, Bool, Result, Ok, Err, ⊤}
+use Rattle.std.specs.List.{flat_map}
+use Rattle.ob0_frame.specs.Frames.{frame}
+use Rattle.ob0_frame.specs.Head.{max_content}
 use Rattle.ob0_scope_table.specs.Resolution.{Resolution, IsResolution, ordinal_in}
 use Rattle.ob0_tree.specs.Parsed.{Parsed, tree_of}
 use Rattle.ob0_analysis.specs.Diagnosed.{Complaint, Reports}
-use Rattle.ob0_session_server.specs.Answers.{ServerState, Reply, SaysReply, Answers, Conversation}
-use Rattle.ob0_session.specs.Serving.{Serves}
+use Rattle.ob0_session_server.specs.Answers.{ServerState, start, Reply, SaysReply, Answers, Conversation}
+use Rattle.ob0_session.specs.Serving.{EndsWith, Serves}
 use Rattle.ob0_session.specs.declared.serving.ServeFault.{ServeFault}
 use Rattle.ob0_session.specs.declared.serving.ServeFault.TheVariants.{BadHead, Truncated, Read, Write, Memory, TooManyReads}
 
@@ -57,7 +60,7 @@ OneConversation =
 abbrev pub MayServe : Result ℕ ServeFault → List ℕ → List ℕ → Type 0
 MayServe result taken put =
     (reader_failed : Bool) × (writer_failed : Bool)
-    × Serves result taken put ⊤ reader_failed writer_failed ⊤
+    × Serves result taken put ⊤ ⊤ reader_failed writer_failed ⊤
 
 -- neither an allocation nor the writer failed
 abbrev pub IsWritten : Result ℕ ServeFault → Type 0
@@ -79,21 +82,44 @@ IsOfBytes (Err TooManyReads) = ⊥
 IsOfBytes (Err Write) = ⊥
 IsOfBytes (Err Memory) = ⊥
 
--- for the same bytes read the same bytes are written, unless an allocation or the writer fails
+-- an `exit` came, or a bad head: what comes after it makes no difference
+abbrev pub IsDecided : Result ℕ ServeFault → List ℕ → List ℕ → Type 0
+IsDecided (Ok status) taken put = EndsWith status taken put
+IsDecided (Err BadHead) taken put = ⊤
+IsDecided (Err Truncated) taken put = ⊥
+IsDecided (Err Read) taken put = ⊥
+IsDecided (Err TooManyReads) taken put = ⊥
+IsDecided (Err Write) taken put = ⊥
+IsDecided (Err Memory) taken put = ⊥
+
+-- What is written for the first bytes of an input begins what is written for more of it, unless an
+-- allocation or the writer fails in the call for more. It is all of that for the same bytes, and
+-- after an `exit` or a bad head, unless either fails in the one call.
 abbrev pub OneOutput : Type 0
 OneOutput =
-    (taken put other : List ℕ) (result end : Result ℕ ServeFault) → IsWritten result → IsWritten end
-    → MayServe result taken put → MayServe end taken other → put ≡ other
-
--- and whatever fails, what is written is a beginning of that
-abbrev pub OneBeginning : Type 0
-OneBeginning =
-    (taken put all : List ℕ) (result end : Result ℕ ServeFault) → IsWritten end
-    → MayServe result taken put → MayServe end taken all
+    (taken more put all : List ℕ) (result end : Result ℕ ServeFault) → IsWritten end
+    → MayServe result taken put → MayServe end (taken ++ more) all
     → (unwritten : List ℕ) × (all ≡ put ++ unwritten)
+    × (IsWritten result → IsDecided result taken put ⊎ (more ≡ []) → unwritten ≡ [])
 
--- the result is the same, unless an allocation or a device fails or there are too many reads
+-- And the result is the same for the same bytes, and after an `exit` or a bad head, unless an
+-- allocation or a device fails or there are too many reads.
 abbrev pub OneResult : Type 0
 OneResult =
-    (taken put other : List ℕ) (result end : Result ℕ ServeFault) → IsOfBytes result → IsOfBytes end
-    → MayServe result taken put → MayServe end taken other → result ≡ end
+    (taken more put all : List ℕ) (result end : Result ℕ ServeFault)
+    → IsOfBytes result → IsOfBytes end
+    → MayServe result taken put → MayServe end (taken ++ more) all
+    → IsDecided result taken put ⊎ (more ≡ []) → result ≡ end
+
+-- ---- a conversation, as bytes
+
+-- For the frames of what a session took in a conversation `serve` writes the frames of what it
+-- sent, unless an allocation or the writer fails.
+abbrev pub ConversationIsServed : Type 0
+ConversationIsServed =
+    (taken sent : List (List ℕ)) (after : ServerState)
+    → All (λ content. length content ≤ max_content) taken
+    → Conversation start taken sent after
+    → (put : List ℕ) (result : Result ℕ ServeFault) → IsWritten result
+    → MayServe result (flat_map frame taken) put
+    → put ≡ flat_map frame sent

@@ -1,8 +1,8 @@
 //! What holds of the definitions that the contracts cite.
-ghost use Rattle.ob0_world_determined.specs.Determined.{OneAnswer, OneBeginning, OneConversation, OneDiagnosis, OneOutput, OneReply, OneResult, OneTable};
+ghost use Rattle.ob0_world_determined.specs.Determined.{ConversationIsServed, OneAnswer, OneConversation, OneDiagnosis, OneOutput, OneReply, OneResult, OneTable};
 
 use ob0_analysis::laws::one_refusal;
-use ob0_frame::laws::feeding_is_determined;
+use ob0_frame::laws::{feeding_is_determined, nothing_is_fed, written_is_read};
 use ob0_scan::laws::{one_report, one_scan};
 
 /// A module has one table of ordinals.
@@ -42,7 +42,9 @@ pub fn one_conversation()
     one_answer();
 }
 
-/// The bytes that `serve` writes are a function of the bytes that it reads, unless an allocation or the writer fails.
+/// What `serve` writes for the first bytes of an input begins what it writes for more of it, unless an allocation or
+/// the writer fails in the call for more. It is all of that for the same bytes, and after an `exit` or a bad head,
+/// unless either fails in the one call: so how an input is cut into pieces makes no difference.
 pub fn one_output()
     ensures { OneOutput }
 {
@@ -50,8 +52,8 @@ pub fn one_output()
     feeding_is_determined();
 }
 
-/// What `serve` returns is a function of the bytes that it reads, unless an allocation or a device fails, or it has
-/// read too many pieces.
+/// What `serve` returns is the same for the same bytes, and after an `exit` or a bad head for more of the input, unless
+/// an allocation or a device fails, or it has read too many pieces.
 pub fn one_result()
     ensures { OneResult }
 {
@@ -59,11 +61,13 @@ pub fn one_result()
     feeding_is_determined();
 }
 
-/// Whatever fails, the bytes that `serve` writes begin the ones that it writes for the same bytes where neither an
-/// allocation nor the writer fails.
-pub fn one_beginning()
-    ensures { OneBeginning }
+/// Fed with the frames of what a session took in a conversation, `serve` writes the frames of what the session sent,
+/// unless an allocation or the writer fails.
+pub fn a_conversation_is_served()
+    ensures { ConversationIsServed }
 {
     one_conversation();
     feeding_is_determined();
+    nothing_is_fed();
+    written_is_read();
 }
