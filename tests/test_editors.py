@@ -608,13 +608,27 @@ def is_late(editor, asked, when):
     same(editor.text(comes_last=True), wanted, f"the text after the {asked}, {when}")
 
 
-def late_answers(which, *names):
+def by_keys(does, which, text, *names):
+    """Does something with an editor, in a folder of its own, on a file with this text. Where the editor was lost (it took no key, or
+    its server said nothing in time), once more."""
     want(*names)
     harness.need_program()
-    with tempfile.TemporaryDirectory() as folder, which(folder, LATE) as editor:
+    try:
+        with tempfile.TemporaryDirectory() as folder, which(folder, text) as editor:
+            return does(editor)
+    except (keyed.Lost, OSError) as why:
+        print(f"{names[-1]} is tried again: {why}".splitlines()[0], flush=True)
+    with tempfile.TemporaryDirectory() as folder, which(folder, text) as editor:
+        return does(editor)
+
+
+def late_answers(which, *names):
+    def each(editor):
         for asked in editor.asks:
             for when in WHEN:
                 is_late(editor, asked, when)
+
+    by_keys(each, which, LATE, *names)
 
 
 KEYED = {
@@ -639,19 +653,19 @@ def lines_of(text):
 
 def every_change(which, count, seed, text, *names):
     """After each ten of many changes by chance the server has the editor's text."""
-    want(*names)
-    harness.need_program()
-    chance = random.Random(seed)
-    with tempfile.TemporaryDirectory() as folder, which(folder, text) as editor:
-        made = []
+
+    def compared(editor):
+        chance, made = random.Random(seed), []
         for _ in range(count // 10):
             for _ in range(10):
                 made.append(editor.change(chance))
                 editor.keys(made[-1])
             found = lines_of(editor.text())
-            editor.waits(lambda: lines_of(editor.wire.text()) == found, 20)
+            editor.waits(lambda: lines_of(editor.wire.text()) == found)
             same(lines_of(editor.wire.text()), found, f"the server's text after {len(made)} changes, at last {made[-10:]}")
-    return f"{count} changes"
+        return f"{count} changes"
+
+    return by_keys(compared, which, text, *names)
 
 
 for name, which in KEYED.items():
@@ -667,15 +681,16 @@ def changes_by_keys():
 
 def replaced_in_other_cases(which, *names):
     """The server has the editor's text after a name was replaced in a text that has it in the other case too."""
-    want(*names)
-    harness.need_program()
-    with tempfile.TemporaryDirectory() as folder, which(folder, CHANGED) as editor:
+
+    def replaced(editor):
         new = editor.letters[-1]
         editor.keys(f'\x1b:(progn (goto-char 1) (replace-string "n" "{new}"))\r')
         found = editor.text()
         same(lines_of(found), lines_of(re.sub("n", new, CHANGED)), "the replaced text")
-        editor.waits(lambda: lines_of(editor.wire.text()) == lines_of(found), 20)
+        editor.waits(lambda: lines_of(editor.wire.text()) == lines_of(found))
         same(lines_of(editor.wire.text()), lines_of(found), "the server's text")
+
+    by_keys(replaced, which, CHANGED, *names)
 
 
 for name in ("Emacs by eglot", "Emacs by lsp-mode"):
@@ -684,9 +699,7 @@ for name in ("Emacs by eglot", "Emacs by lsp-mode"):
 
 @test("Neovim: an action that is chosen after the text has changed does nothing")
 def neovim_chosen_late():
-    want("Neovim")
-    harness.need_program()
-    with tempfile.TemporaryDirectory() as folder, keyed.Neovim(folder, LATE) as editor:
+    def chosen(editor):
         editor.keys(":let g:chooses_later = 1\r")
         for change, wanted in ((editor.line_above, NEW_LINE + LATE), (editor.reopening(), LATE), ("", LATE.replace("Write(k)", "Write(7)"))):
             write(editor.file, LATE)
@@ -695,12 +708,11 @@ def neovim_chosen_late():
             editor.keys(change + f"{keyed.NORMAL}:lua Choose()\r")
             same(editor.text(comes_last=True), wanted, "the text after the choice")
 
+    by_keys(chosen, keyed.Neovim, LATE, "Neovim")
+
 
 @test("Neovim: two copies of the files start one server")
 def neovim_copied_twice():
-    want("Neovim")
-    harness.need_program()
-
     class Twice(keyed.Neovim):
         # (Neovim 0.8 and later have `vim.lsp.start`, which starts none for a second time)
         lines = keyed.Neovim.lines + """
@@ -717,7 +729,9 @@ end
             shutil.copytree(os.path.join(start, "ob0"), os.path.join(start, "another"))
             return super().settings()
 
-    with tempfile.TemporaryDirectory() as folder, Twice(folder, LATE) as editor:
+    def counted(editor):
         editor.keys(f"{keyed.NORMAL}:call setline(1, luaeval('started'))\r")
         started = int(editor.text().split("\n")[0])
         holds(started <= 1, f"{started} servers were started")
+
+    by_keys(counted, Twice, LATE, "Neovim")

@@ -6,8 +6,9 @@
 (require 'flymake)
 (require 'json)
 
-(setq eglot-sync-connect 60
-      eglot-connect-timeout 60
+(setq eglot-sync-connect 300
+      eglot-connect-timeout 300
+      jsonrpc-default-request-timeout 300
       eglot-autoshutdown nil
       eglot-confirm-server-initiated-edits nil
       eglot-send-changes-idle-time 0
@@ -28,7 +29,7 @@
 
 (defun ob0-await (what holds)
   "Waits for WHAT until HOLDS gives something."
-  (with-timeout (60 (error "Waited in vain for %s" what))
+  (with-timeout (300 (error "Waited in vain for %s" what))
     (while (not (funcall holds))
       (accept-process-output nil 0.01))))
 

@@ -9,7 +9,7 @@
 (setq make-backup-files nil
       create-lockfiles nil
       auto-save-default nil
-      lsp-response-timeout 60
+      lsp-response-timeout 300
       lsp-idle-delay 0.05
       lsp-debounce-full-sync-notifications-interval 0.05
       lsp-diagnostics-provider :none
@@ -30,7 +30,7 @@
 
 (defun ob0-await (what holds)
   "Waits for WHAT until HOLDS gives something."
-  (with-timeout (60 (error "Waited in vain for %s" what))
+  (with-timeout (300 (error "Waited in vain for %s" what))
     (while (not (funcall holds))
       (accept-process-output nil 0.01))))
 

@@ -14,7 +14,7 @@ end
 
 -- Waits until something holds.
 local function await(what, holds)
-  if not vim.wait(60000, holds, 5) then
+  if not vim.wait(300000, holds, 5) then
     error("waited in vain for " .. what)
   end
 end
@@ -225,9 +225,9 @@ end
 -- Lays the text out by the editor's own command, which waits for the answer.
 local function lay_out()
   if vim.lsp.buf.format then
-    vim.lsp.buf.format({ timeout_ms = 20000 })
+    vim.lsp.buf.format({ timeout_ms = 300000 })
   else
-    vim.lsp.buf.formatting_sync(nil, 20000)
+    vim.lsp.buf.formatting_sync(nil, 300000)
   end
 end
 

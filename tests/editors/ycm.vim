@@ -13,7 +13,7 @@ endfunction
 
 " Waits until something holds.
 function! s:Await(what, Holds) abort
-  for l:count in range(6000)
+  for l:count in range(30000)
     if a:Holds() | return | endif
     sleep 10m
   endfor

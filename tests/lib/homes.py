@@ -10,7 +10,7 @@ import harness
 from harness import TOP, Failed
 from snippets import snippets
 
-SECONDS = 240  # the longest that an editor may take
+SECONDS = 900  # the longest that an editor may take (also where the machine has much else to do)
 
 
 def at_home(room, editor):

@@ -14,9 +14,13 @@ from screen import Screen
 from snippets import snippets
 
 HOLDING = os.path.join(harness.TOP, "tests", "lib", "holding.py")
-SECONDS = 120  # the longest that something is waited for
+SECONDS = 300  # the longest that something is waited for (also where the machine has much else to do)
 # the requests whose answers are edits
 RENAME, ACTION, LAYOUT = "textDocument/rename", "textDocument/codeAction", "textDocument/formatting"
+
+
+class Lost(Failed):
+    """Something was waited for in vain: the editor has taken no more keys, or its server says nothing."""
 
 
 class Keyed:
@@ -89,7 +93,7 @@ class Keyed:
 
     def await_(self, what, holds):
         if not self.waits(holds):
-            raise Failed(f"waited in vain for {what}: {self.screen.drawn[-1500:]!r}")
+            raise Lost(f"waited in vain for {what}: {self.screen.drawn[-1500:]!r}")
 
     def keys(self, typed):
         self.screen.keys(typed.encode())
@@ -258,6 +262,7 @@ EMACS_SETTINGS = """
       lsp-warn-no-matched-clients nil lsp-modeline-code-actions-enable nil
       eval-expression-debug-on-error nil native-comp-deferred-compilation nil native-comp-enable-subr-trampolines nil
       native-comp-async-report-warnings-errors nil
+      eglot-connect-timeout 300 eglot-sync-connect 300 lsp-response-timeout 300
       eglot-send-changes-idle-time 0.05 lsp-debounce-full-sync-notifications-interval 0.05)
 (electric-indent-mode -1)
 (defun written (path)
@@ -274,6 +279,7 @@ EMACS_SETTINGS = """
   (forward-line line)
   (forward-char (min character (- (line-end-position) (point)))))
 (package-initialize)
+(with-eval-after-load 'jsonrpc (setq jsonrpc-default-request-timeout 300))
 """
 
 
