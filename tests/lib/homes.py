@@ -2,11 +2,14 @@
 import os
 import pty
 import select
+import shlex
 import signal
 import subprocess
+import sys
 import time
 
 import harness
+import holding
 from harness import TOP, Failed
 from snippets import snippets
 
@@ -24,6 +27,16 @@ def at_home(room, editor):
         if ran.returncode:
             raise Failed(f"a command of editors/{editor}/README.md ended with {ran.returncode}: {ran.stderr.decode()}\n{it}")
     return own
+
+
+def put_between(room):
+    """Has `ob0 serve` start what holds answers between the editor at home in this room and the server; gives the program's path."""
+    program, real = os.path.join(room, "bin", "ob0"), os.path.abspath(harness.BINARY)
+    server = shlex.join([sys.executable, holding.__file__, room, real])
+    os.unlink(program)
+    write(program, f'#!/bin/sh\n[ "$1" = serve ] && exec {server} "$@"\nexec {shlex.quote(real)} "$@"\n')
+    os.chmod(program, 0o755)
+    return program
 
 
 def write(path, text):
