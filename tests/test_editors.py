@@ -16,7 +16,7 @@ import tempfile
 import harness
 import holding
 import keyed
-from harness import Failed, TOP, edited, ends, extent, holds, on_file, same, test, want
+from harness import Failed, TOP, edited, ends, extent, holds, on_file, same, test, text_of, want
 from holding import edits_of, patched
 from homes import at_home, put_between, run_in_terminal, run_plainly, write
 from modules import CALLS, FAULTY, LEAST, NESTED, RECORDS, WRITES_A_GLOBAL
@@ -75,6 +75,15 @@ def in_vim(steps, text, **given):
     words = ["vim.nox", "-n", "-i", "NONE", "-S", os.path.join(EDITORS, "vim.vim")]
     set_up = lambda room: write(os.path.join(room, ".vimrc"), "\n".join(snippets("vim", "vim")))
     return play("vim", words, steps, text, given, set_up, in_terminal=True)
+
+
+@test("editors: each page says whether the proved property holds in its editor, in the words of the table")
+def held_here():
+    rows = re.findall(r"^\| \[[\w ]+\]\((\w+)/README\.md\)[^|]*\| \*\*([^|]+?)\*\*", text_of("editors", "README.md"), re.M)
+    holds(len(rows) > 9, f"the table of editors/README.md has {rows}")
+    for folder, verdict in rows:
+        said = re.search(r"^Does \[the proved property\]\([^)]*\) hold\?\n(.*)\n\n", text_of("editors", folder, "README.md"), re.M)
+        holds(said and f"**{verdict}**".lower() in said[1].lower(), f"editors/{folder}/README.md says {said and said[1]!r}, the table {verdict!r}")
 
 
 GOOD = "MODULE M; BEGIN WriteLn END M.\n"
