@@ -176,19 +176,28 @@ abbrev pub Ascending : {X : Type 0} → (X → ℕ) → List X → Type 0
 Ascending start [] = Unit {0}
 Ascending start (x ∷ xs) = All (λ y. start x < start y) xs × Ascending start xs
 
-ascending_head : {X : Type 0} (g : AtLexemes X) (s : ℕ) (l : Lexeme) (rest : List X) → 0 < length l.text → All (λ x. s + length l.text ≤ (g.span x).start) rest → Ascending (λ x. (g.span x).start) rest → Ascending (λ x. (g.span x).start) (g.head s l ++ rest)
-ascending_head {X} g s l rest some later h = ⊎_elim
-    (λ nothing. subst (λ t. Ascending (λ x. (g.span x).start) (t ++ rest)) (sym nothing) h)
-    (λ one. subst (λ t. Ascending (λ x. (g.span x).start) (t ++ rest)) (sym one.1)
-    (All-weaker (λ x. s + length l.text ≤ (g.span x).start) (λ y. (g.span one.0).start < (g.span y).start) (λ y w. let here : (g.span one.0).start ≡ s = ap (λ (v : Span). v.start) one.2 in omega (arith, w, here, some)) rest later, h))
+-- a place of a span that comes after those of all spans before it
+abbrev pub ComesAfter : (Span → ℕ) → Type 0
+ComesAfter key = (s n high : ℕ) (v : Span) → 0 < n → Lies (s + n) high v → key (span_from s n) < key v
+
+pub starts_after : ComesAfter (λ (v : Span). v.start)
+starts_after s n high v some w = omega (arith, some, w.starts)
+
+pub ends_after : ComesAfter (λ (v : Span). v.end)
+ends_after s n high v some w = omega (arith, some, w.starts, w.some)
+
+ascending_head : {X : Type 0} (g : AtLexemes X) (key : Span → ℕ) → ComesAfter key → (s high : ℕ) (l : Lexeme) (rest : List X) → 0 < length l.text → All (λ x. Lies (s + length l.text) high (g.span x)) rest → Ascending (λ x. key (g.span x)) rest → Ascending (λ x. key (g.span x)) (g.head s l ++ rest)
+ascending_head {X} g key after s high l rest some later h = ⊎_elim
+    (λ nothing. subst (λ t. Ascending (λ x. key (g.span x)) (t ++ rest)) (sym nothing) h)
+    (λ one. subst (λ t. Ascending (λ x. key (g.span x)) (t ++ rest)) (sym one.1)
+    (All-weaker (λ x. Lies (s + length l.text) high (g.span x)) (λ y. key (g.span one.0) < key (g.span y)) (λ y w. subst (λ (v : Span). key v < key (g.span y)) (sym one.2) (after s (length l.text) high (g.span y) some w)) rest later, h))
     (g.one s l)
 
-pub ascending : {X : Type 0} (g : AtLexemes X) (s : ℕ) (ls : List Lexeme) → Full ls → Ascending (λ x. (g.span x).start) (g.all s ls)
-ascending g s [] h = subst (Ascending (λ x. (g.span x).start)) (sym (g.none s)) tt
-ascending g s (l ∷ ls) h = subst (Ascending (λ x. (g.span x).start)) (sym (g.step s l ls))
-    (ascending_head g s l (g.all (s + length l.text) ls) h.0
-    (All-weaker (λ x. Lies (s + length l.text) (s + length l.text + length (joined ls)) (g.span x)) (λ x. s + length l.text ≤ (g.span x).start) (λ x w. w.starts) (g.all (s + length l.text) ls) (lies g (s + length l.text) ls h.1))
-    (ascending g (s + length l.text) ls h.1))
+pub ascending : {X : Type 0} (g : AtLexemes X) (key : Span → ℕ) → ComesAfter key → (s : ℕ) (ls : List Lexeme) → Full ls → Ascending (λ x. key (g.span x)) (g.all s ls)
+ascending g key after s [] h = subst (Ascending (λ x. key (g.span x))) (sym (g.none s)) tt
+ascending g key after s (l ∷ ls) h = subst (Ascending (λ x. key (g.span x))) (sym (g.step s l ls))
+    (ascending_head g key after s (s + length l.text + length (joined ls)) l (g.all (s + length l.text) ls) h.0 (lies g (s + length l.text) ls h.1)
+    (ascending g key after (s + length l.text) ls h.1))
 
 -- those that begin at a place or after it
 abbrev pub back_of : {X : Type 0} → (X → ℕ) → ℕ → List X → List X

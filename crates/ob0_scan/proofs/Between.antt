@@ -11,7 +11,7 @@ use Rattle.ob0_scan.specs.Rescanning.{token_begins, comment_begins, IsMovable, T
 use Rattle.ob0_scan.specs.Progress.{ScanProgress}
 use Rattle.ob0_scan.specs.UnderWay.{IsUnderWay}
 use Rattle.ob0_scan.proofs.Spans.{token_with, comment_with}
-use Rattle.ob0_scan.proofs.AtLexemes.{of_tokens, of_comments, full, Ascending, ascending, first_at, none_at, at_first, Border, begin_at_borders}
+use Rattle.ob0_scan.proofs.AtLexemes.{of_tokens, of_comments, full, Ascending, ascending, starts_after, first_at, none_at, at_first, Border, begin_at_borders}
 use Rattle.ob0_scan.proofs.Reusing.{end_border, none_following, finished, movable}
 
 either_false : (a b : Bool) → (a || b) ≡ false → (a ≡ false) × (b ≡ false)
@@ -58,8 +58,8 @@ module _ (old : Scanned) (o : IsScan old) where
       let parts = either_false (token_begins place (back_tokens place old.tokens)) (comment_begins place (back_comments place old.comments)) e in
       let some = full o.lexemes [] o.lexed.each in
       record {
-        tokens = none_at (λ (t : Token). t.span.start) place old.tokens (subst (Ascending (λ (t : Token). t.span.start)) (sym o.tokens) (ascending of_tokens 0 o.lexemes some)) (sym (token_first place (back_tokens place old.tokens)) ∙ parts.0);
-        comments = none_at (λ (c : Span). c.start) place old.comments (subst (Ascending (λ (c : Span). c.start)) (sym o.comments) (ascending of_comments 0 o.lexemes some)) (sym (comment_first place (back_comments place old.comments)) ∙ parts.1);
+        tokens = none_at (λ (t : Token). t.span.start) place old.tokens (subst (Ascending (λ (t : Token). t.span.start)) (sym o.tokens) (ascending of_tokens (λ (v : Span). v.start) starts_after 0 o.lexemes some)) (sym (token_first place (back_tokens place old.tokens)) ∙ parts.0);
+        comments = none_at (λ (c : Span). c.start) place old.comments (subst (Ascending (λ (c : Span). c.start)) (sym o.comments) (ascending of_comments (λ (v : Span). v.start) starts_after 0 o.lexemes some)) (sym (comment_first place (back_comments place old.comments)) ∙ parts.1);
       }
 
   token_border : (place : ℕ) → token_begins place (back_tokens place old.tokens) ≡ true → Border 0 o.lexemes place

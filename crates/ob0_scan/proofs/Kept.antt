@@ -14,7 +14,7 @@ use Rattle.ob0_scan.specs.Lexed.{Lexeme, joined}
 use Rattle.ob0_scan.specs.Scanned.{Scanned, IsScan}
 use Rattle.ob0_scan.specs.Reused.{move_span, moved_token, tokens_before_change, comments_before_change, back_tokens}
 use Rattle.ob0_scan.specs.Rescanning.{IsMovable, IsBetween, ReadsOn, with_between}
-use Rattle.ob0_scan.proofs.AtLexemes.{AtLexemes, of_tokens, of_comments, Full, Lies, full, lies, Ascending, ascending, back_later, front_all}
+use Rattle.ob0_scan.proofs.AtLexemes.{AtLexemes, of_tokens, of_comments, Full, Lies, full, lies, Ascending, ascending, starts_after, back_later, front_all}
 use Rattle.ob0_scan.proofs.Between.{Settled, reused}
 
 longer_count : (b d : Bool) (n m : ℕ) → (b ≡ true → d ≡ true) → n ≤ m → cond b (1 + n) 0 ≤ cond d (1 + m) 0
@@ -93,7 +93,7 @@ module _ (old : Scanned) (o : IsScan old) (new : List ℕ) (from removed added :
             (All-same (λ (x : Token). ltb x.span.end from ≡ true) (take b.front.tokens old.tokens) (tokens_before_change from old.tokens) (ts.front ∙ ef) (front_all (λ (x : Token). ltb x.span.end from) old.tokens));
         tokens_after = All-weaker (λ (x : Token). t.at + removed - added ≤ x.span.start) (λ (x : Token). from + removed ≤ x.span.start) (λ x later. omega (arith, later, w.met.following)) (drop b.following.tokens old.tokens)
             (All-same (λ (x : Token). t.at + removed - added ≤ x.span.start) (drop b.following.tokens old.tokens) (back_tokens (t.at + removed - added) old.tokens) (ts.back ∙ w.met.tokens_are)
-            (back_later (λ (x : Token). x.span.start) (t.at + removed - added) old.tokens (subst (Ascending (λ (x : Token). x.span.start)) (sym o.tokens) (ascending of_tokens 0 o.lexemes (full o.lexemes [] o.lexed.each)))));
+            (back_later (λ (x : Token). x.span.start) (t.at + removed - added) old.tokens (subst (Ascending (λ (x : Token). x.span.start)) (sym o.tokens) (ascending of_tokens (λ (v : Span). v.start) starts_after 0 o.lexemes (full o.lexemes [] o.lexed.each)))));
         tokens_move = All-same (λ (x : Token). IsMovable removed added x.span) (drop b.following.tokens old.tokens) rs ts.back w.tokens_move;
         comments_move = All-same (λ (x : Span). IsMovable removed added x) (drop b.following.comments old.comments) qs cs.back w.comments_move;
         scan = subst (λ (x : List Token). IsScan (record { text = new; tokens = x; comments = (with_between old new removed added b).comments })) (sym tokens)

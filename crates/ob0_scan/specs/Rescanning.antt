@@ -2,6 +2,7 @@
 -- Rule: none; for private contracts of the scanner.
 use Rattle.std.specs.Prelude.{◌≡◌, ℕ, ◌+◌, ◌-◌, ◌<◌, ◌≤◌, ◌^◌, ◌==◌, ◌||◌, ◌⊎◌, Bool, false, List, [], ◌∷◌, ◌++◌, Option, Some, None, IsTrue, length, map, take, drop, max}
 use Rattle.std.specs.List.{All, slice_get}
+use Rattle.std.specs.List.Sorted.{IsNonDecreasingBy}
 use Rattle.ob0_scan.specs.declared.lexeme.Span.{Span}
 use Rattle.ob0_scan.specs.declared.lexeme.Token.{Token}
 use Rattle.ob0_scan.specs.declared.lexeme.LexemeKind.{LexemeKind}
@@ -35,6 +36,13 @@ token_begins place (t ∷ tokens) = t.span.start == place
 abbrev pub comment_begins : ℕ → List Span → Bool
 comment_begins place [] = false
 comment_begins place (c ∷ comments) = c.start == place
+
+-- tokens and comments in the order in which they begin, which is that in which they end
+pub record AreInOrder (tokens : List Token) (comments : List Span) : Type 0 where
+  pub tokens_begin : IsNonDecreasingBy (λ (t : Token). t.span.start) tokens
+  pub tokens_end : IsNonDecreasingBy (λ (t : Token). t.span.end) tokens
+  pub comments_begin : IsNonDecreasingBy (λ (c : Span). c.start) comments
+  pub comments_end : IsNonDecreasingBy (λ (c : Span). c.end) comments
 
 -- a span after the change that lies in a text
 pub record IsMovable (removed added : ℕ) (span : Span) : Type 0 where

@@ -1,7 +1,8 @@
 //! Scans a text that was changed at one place, and takes over what an older scan found before the change and after it.
 
-ghost use Rattle.std.specs.Prelude.{◌≡◌, ℕ, List, [], false, ◌+◌, ◌-◌, ◌<◌, ◌≤◌, ◌^◌, ◌||◌, ◌++◌, true, IfOk, IfErr, OnOk, length, map, take, drop, nat_lt, option_copied};
+ghost use Rattle.std.specs.Prelude.{◌≡◌, ℕ, List, [], false, ◌+◌, ◌-◌, ◌<◌, ◌≤◌, ◌^◌, ◌||◌, ◌++◌, true, IfOk, IfErr, OnOk, length, map, take, drop, nat_lt, option_copied, string_bytes};
 ghost use Rattle.std.specs.List.{All, prefix_len};
+ghost use Rattle.std.specs.List.Sorted.{IsNonDecreasingBy};
 ghost use Rattle.ob0_scan.specs.declared.lexeme.Span.{Span};
 ghost use Rattle.ob0_scan.specs.declared.lexeme.Token.{Token};
 ghost use Rattle.ob0_scan.specs.declared.lexeme.TokenKind.TheVariants.{Identifier, Integer};
@@ -11,7 +12,7 @@ ghost use Rattle.ob0_scan.specs.Refused.{IsRightRefusal, IsRightRefusalOver};
 ghost use Rattle.ob0_scan.specs.UnderWay.{IsUnderWay};
 ghost use Rattle.ob0_scan.specs.Reused.{IsReplaced, Reuses, kinds, move_span, moved_token, tokens_before_change, comments_before_change, back_tokens, back_comments, valueless, name_of, names_in};
 ghost use Rattle.ob0_scan.specs.SameKinds.{HasSameTokens};
-ghost use Rattle.ob0_scan.specs.Rescanning.{token_end, comment_end, last_end, token_begins, comment_begins, IsMovable, ReadsOn, IsMet, IsBetween};
+ghost use Rattle.ob0_scan.specs.Rescanning.{token_end, comment_end, last_end, token_begins, comment_begins, AreInOrder, IsMovable, ReadsOn, IsMet, IsBetween};
 
 use crate::fault::{Fault, ScanRefusal};
 use crate::lexeme::{Span, Token, TokenKind};
@@ -38,6 +39,24 @@ impl ReplacedRange {
         place - self.added + self.removed
     }
 
+    /// Makes of the old text the new one. The bytes after the change are moved, and those before it stay; where the
+    /// change begins or ends inside a character, the new text is copied.
+    pub(crate) fn replace(self, old: &mut String, new: &str) -> Result<(), AllocError>
+        requires { IsReplaced (string_bytes old.old) new.now self.from self.removed self.added }
+        ensures { OnOk result (string_bytes old.new ≡ new.now) }
+    {
+        let (end, new_end) = (self.from + self.removed, self.from + self.added);
+        let is_between = old.is_char_boundary(self.from)
+            && old.is_char_boundary(end)
+            && new.is_char_boundary(self.from)
+            && new.is_char_boundary(new_end);
+        if is_between {
+            return old.replace_range(self.from..end, &new[self.from..new_end]);
+        }
+        old.clear();
+        old.push_str(new)
+    }
+
     /// Where a span of the old text that lies after the change is now.
     fn move_span(self, span: Span) -> Span
         requires { IsMovable self.removed self.added span }
@@ -58,8 +77,9 @@ pub(crate) struct Pieces<'t> {
 }
 
 impl<'t> Pieces<'t> {
-    /// Those before it that end before a byte.
+    /// Those before it that end before a byte, found by halving.
     fn ending_before(self, place: usize) -> Pieces<'t>
+        requires { AreInOrder self.tokens.now self.comments.now }
         ensures tokens { result.tokens.now ≡ tokens_before_change place self.entry.tokens.now }
         ensures comments { result.comments.now
             ≡ comments_before_change place self.entry.comments.now }
@@ -72,13 +92,27 @@ impl<'t> Pieces<'t> {
         }
     }
 
-    /// Those from the first on that doesn't begin before a byte.
+    /// Those from the first on that doesn't begin before a byte, found by halving.
     fn beginning_from(self, place: usize) -> Pieces<'t>
+        requires { AreInOrder self.tokens.now self.comments.now }
         ensures tokens { result.tokens.now ≡ back_tokens place self.entry.tokens.now }
         ensures comments { result.comments.now ≡ back_comments place self.entry.comments.now }
     {
         let tokens = tokens_beginning_before(self.tokens, place);
         let comments = comments_beginning_before(self.comments, place);
+        Pieces {
+            tokens: &self.tokens[tokens..],
+            comments: &self.comments[comments..],
+        }
+    }
+
+    /// The same, where few begin before it: they are passed one after the other.
+    fn onward_to(self, place: usize) -> Pieces<'t>
+        ensures tokens { result.tokens.now ≡ back_tokens place self.entry.tokens.now }
+        ensures comments { result.comments.now ≡ back_comments place self.entry.comments.now }
+    {
+        let tokens = first_tokens_before(self.tokens, place);
+        let comments = first_comments_before(self.comments, place);
         Pieces {
             tokens: &self.tokens[tokens..],
             comments: &self.comments[comments..],
@@ -140,30 +174,44 @@ fn comment_end(comment: Option<&Span>) -> usize
     }
 }
 
-/// How many tokens before it end before a byte.
+/// How many tokens end before a byte.
 fn tokens_ending_before(tokens: &[Token], place: usize) -> usize
+    requires { IsNonDecreasingBy (λ (t : Token). t.span.end) tokens.now }
     ensures bound { result ≤ length tokens.now }
     ensures count { result ≡ prefix_len (λ (t : Token). nat_lt t.span.end place) tokens.now }
 {
-    tokens
-        .iter()
-        .take_while(|token| (token.span.end as usize) < place)
-        .count()
+    tokens.partition_point(|token| (token.span.end as usize) < place)
 }
 
-/// How many comments before it end before a byte.
+/// How many comments end before a byte.
 fn comments_ending_before(comments: &[Span], place: usize) -> usize
+    requires { IsNonDecreasingBy (λ (c : Span). c.end) comments.now }
     ensures bound { result ≤ length comments.now }
     ensures count { result ≡ prefix_len (λ (c : Span). nat_lt c.end place) comments.now }
 {
-    comments
-        .iter()
-        .take_while(|comment| (comment.end as usize) < place)
-        .count()
+    comments.partition_point(|comment| (comment.end as usize) < place)
 }
 
-/// How many tokens before it begin before a byte.
+/// How many tokens begin before a byte.
 fn tokens_beginning_before(tokens: &[Token], place: usize) -> usize
+    requires { IsNonDecreasingBy (λ (t : Token). t.span.start) tokens.now }
+    ensures bound { result ≤ length tokens.now }
+    ensures count { result ≡ prefix_len (λ (t : Token). nat_lt t.span.start place) tokens.now }
+{
+    tokens.partition_point(|token| (token.span.start as usize) < place)
+}
+
+/// How many comments begin before a byte.
+fn comments_beginning_before(comments: &[Span], place: usize) -> usize
+    requires { IsNonDecreasingBy (λ (c : Span). c.start) comments.now }
+    ensures bound { result ≤ length comments.now }
+    ensures count { result ≡ prefix_len (λ (c : Span). nat_lt c.start place) comments.now }
+{
+    comments.partition_point(|comment| (comment.start as usize) < place)
+}
+
+/// How many tokens begin before a byte, before the first that doesn't.
+fn first_tokens_before(tokens: &[Token], place: usize) -> usize
     ensures bound { result ≤ length tokens.now }
     ensures count { result ≡ prefix_len (λ (t : Token). nat_lt t.span.start place) tokens.now }
 {
@@ -173,8 +221,8 @@ fn tokens_beginning_before(tokens: &[Token], place: usize) -> usize
         .count()
 }
 
-/// How many comments before it begin before a byte.
-fn comments_beginning_before(comments: &[Span], place: usize) -> usize
+/// How many comments begin before a byte, before the first that doesn't.
+fn first_comments_before(comments: &[Span], place: usize) -> usize
     ensures bound { result ≤ length comments.now }
     ensures count { result ≡ prefix_len (λ (c : Span). nat_lt c.start place) comments.now }
 {
@@ -484,11 +532,11 @@ fn scan_on<'o>(
     ensures end { OnOk result
         (0 < length scanner.new.faults.items → length scanner.new.text.now ≤ scanner.new.at) }
 {
-    let mut rest = old.pieces();
+    let mut rest = old.pieces().beginning_from(change.from + change.removed);
     while scanner.at < scanner.text.len() {
         if scanner.faults.is_empty() && scanner.at >= change.from + change.added {
             let place = change.old_place(scanner.at);
-            rest = rest.beginning_from(place);
+            rest = rest.onward_to(place);
             if rest.begin_at(place) {
                 return Ok(rest);
             }

@@ -9,8 +9,8 @@ use Rattle.ob0_scan.specs.SameKinds.{HasSameTokens}
 use Rattle.ob0_scan.specs.declared.tokens.SameTokens.{SameTokens}
 use Rattle.ob0_scan.proofs.rescanning.rescan_in_place.Goals as goal
 
-pub with-requires : goal.with-requires
-with-requires c = c.in-Ok.ensures.ok
+pub with-requires-clause-between : goal.with-requires-clause-between
+with-requires-clause-between c = c.in-Ok.ensures.ok
 
 pub returns-in_ok-tokens-in-Ok-clause-ok : goal.returns-in_ok-tokens-in-Ok-clause-ok
 returns-in_ok-tokens-in-Ok-clause-ok c =

@@ -10,14 +10,20 @@ use Rattle.ob0_scan.proofs.rescanning.scan_on.Goals as goal
 use Rattle.ob0_scan.proofs.rescanning.scan_on.Goals.{then-is_empty+then-scanner-change+else-begin_at, else-is_empty, else-is_empty-via-then-is_empty+else-scanner-change, else-is_empty-via-else-is_empty}
 
 pub loop-scanner-init : goal.loop-scanner-init
-loop-scanner-init c = record {
-  under_way = c.requires.under_way;
-  same_text = refl;
-  same_front = refl;
-  reads = λ _. reads_none c.args.old.now c.args.change.from c.args.change.removed c.args.change.added c.args.scanner.now;
-  tokens = λ place _. ap (back_tokens place) c.pieces-rest.ensures.tokens;
-  comments = λ place _. ap (back_comments place) c.pieces-rest.ensures.comments;
-}
+loop-scanner-init c =
+    let first : ℕ = c.args.change.from + c.args.change.removed in
+    record {
+      under_way = c.requires.under_way;
+      same_text = refl;
+      same_front = refl;
+      reads = λ _. reads_none c.args.old.now c.args.change.from c.args.change.removed c.args.change.added c.args.scanner.now;
+      tokens = λ place far _.
+          ap (back_tokens place) (c.beginning_from-rest.ensures.tokens ∙ ap (back_tokens first) c.pieces.ensures.tokens)
+          ∙ back_again (λ (t : Token). t.span.start) first place c.args.old.now.tokens far;
+      comments = λ place far _.
+          ap (back_comments place) (c.beginning_from-rest.ensures.comments ∙ ap (back_comments first) c.pieces.ensures.comments)
+          ∙ back_again (λ (t : Span). t.start) first place c.args.old.now.comments far;
+    }
 
 pub loop-scanner-preserved : goal.loop-scanner-preserved
 loop-scanner-preserved c =
@@ -37,28 +43,28 @@ loop-scanner-preserved c =
             | then-is_empty+then-scanner-change+else-begin_at w ↦ (
                 let place = w.old_place-place.result in
                 let same : place ≡ here.at + removed - added = omega (arith, w.old_place-place.ensures) in
-                let tokens : w.beginning_from-rest.result.tokens.now ≡ back_tokens place old.tokens = w.beginning_from-rest.ensures.tokens ∙ inv.tokens place (omega (arith, w.old_place-place.ensures)) in
-                let comments : w.beginning_from-rest.result.comments.now ≡ back_comments place old.comments = w.beginning_from-rest.ensures.comments ∙ inv.comments place (omega (arith, w.old_place-place.ensures)) in
-                subst (NoOldBegins old) same (none_begins old c.pieces-rest.ensures.scan place
+                let tokens : w.onward_to-rest.result.tokens.now ≡ back_tokens place old.tokens = w.onward_to-rest.ensures.tokens ∙ inv.tokens place (omega (arith, w.old_place-place.ensures, w.if-scanner-change.true)) (omega (arith, w.old_place-place.ensures)) in
+                let comments : w.onward_to-rest.result.comments.now ≡ back_comments place old.comments = w.onward_to-rest.ensures.comments ∙ inv.comments place (omega (arith, w.old_place-place.ensures, w.if-scanner-change.true)) (omega (arith, w.old_place-place.ensures)) in
+                subst (NoOldBegins old) same (none_begins old c.pieces.ensures.scan place
                 (ap₂ (λ ts cs. token_begins place ts || comment_begins place cs) (sym tokens) (sym comments) ∙ sym w.begin_at.ensures ∙ w.if-begin_at.false)))
             | else-is_empty w ↦ elim w.else-is_empty.branch [
               | else-is_empty-via-then-is_empty+else-scanner-change v ↦ absurd (omega (arith, far, v.if-scanner-change.false))
               | else-is_empty-via-else-is_empty v ↦ absurd (omega (arith, one.clear, false-eqb (vec_len here.faults) 0 (sym v.if-is_empty.false ∙ c.is_empty.ensures), here.faults.ok))
             ]
           ]);
-      tokens = λ place later. elim c.if-is_empty.branch [
+      tokens = λ place far later. elim c.if-is_empty.branch [
         | then-is_empty+then-scanner-change+else-begin_at w ↦
-            ap (λ (r : Pieces). back_tokens place r.tokens.now) w.rest-is ∙ ap (back_tokens place) w.beginning_from-rest.ensures.tokens
+            ap (λ (r : Pieces). back_tokens place r.tokens.now) w.rest-is ∙ ap (back_tokens place) w.onward_to-rest.ensures.tokens
             ∙ back_again (λ (t : Token). t.span.start) w.old_place-place.result place c.loop-scanner.rest.tokens.now (omega (arith, later, w.old_place-place.ensures, c.in_ok-step.ensures.further))
-            ∙ inv.tokens place (omega (arith, later, c.in_ok-step.ensures.further))
-        | else-is_empty w ↦ ap (λ (r : Pieces). back_tokens place r.tokens.now) w.rest-is ∙ inv.tokens place (omega (arith, later, c.in_ok-step.ensures.further))
+            ∙ inv.tokens place far (omega (arith, later, c.in_ok-step.ensures.further))
+        | else-is_empty w ↦ ap (λ (r : Pieces). back_tokens place r.tokens.now) w.rest-is ∙ inv.tokens place far (omega (arith, later, c.in_ok-step.ensures.further))
       ];
-      comments = λ place later. elim c.if-is_empty.branch [
+      comments = λ place far later. elim c.if-is_empty.branch [
         | then-is_empty+then-scanner-change+else-begin_at w ↦
-            ap (λ (r : Pieces). back_comments place r.comments.now) w.rest-is ∙ ap (back_comments place) w.beginning_from-rest.ensures.comments
+            ap (λ (r : Pieces). back_comments place r.comments.now) w.rest-is ∙ ap (back_comments place) w.onward_to-rest.ensures.comments
             ∙ back_again (λ (t : Span). t.start) w.old_place-place.result place c.loop-scanner.rest.comments.now (omega (arith, later, w.old_place-place.ensures, c.in_ok-step.ensures.further))
-            ∙ inv.comments place (omega (arith, later, c.in_ok-step.ensures.further))
-        | else-is_empty w ↦ ap (λ (r : Pieces). back_comments place r.comments.now) w.rest-is ∙ inv.comments place (omega (arith, later, c.in_ok-step.ensures.further))
+            ∙ inv.comments place far (omega (arith, later, c.in_ok-step.ensures.further))
+        | else-is_empty w ↦ ap (λ (r : Pieces). back_comments place r.comments.now) w.rest-is ∙ inv.comments place far (omega (arith, later, c.in_ok-step.ensures.further))
       ];
     }
 
@@ -68,4 +74,4 @@ returns-clause-met c =
     let here = c.loop-scanner.scanner in
     let inv = c.loop-scanner.invariant in
     let replaced = subst (λ (x : Bor (List ℕ)). IsReplaced old.text x.now c.args.change.from c.args.change.removed c.args.change.added) (sym inv.same_text) c.requires.replaced in
-    λ none. end_met old c.pieces-rest.ensures.scan here.text.now c.args.change.from c.args.change.removed c.args.change.added replaced here.at (omega (arith, c.loop-scanner-test.false, inv.under_way.place.0))
+    λ none. end_met old c.pieces.ensures.scan here.text.now c.args.change.from c.args.change.removed c.args.change.added replaced here.at (omega (arith, c.loop-scanner-test.false, inv.under_way.place.0))
