@@ -4,54 +4,53 @@
 Variables: OB0_FILE (the file to edit), OB0_REPORT (where the findings go, a line of JSON each), OB0_STEPS (the name of a list
 of steps below), OB0_GIVEN (a place in the file, as JSON), OB0_WIRE (where the messages of the server are kept). What is
 reported is what went over the wire, and what Kate saved."""
+from __future__ import annotations
+
 import json
 import os
 import subprocess
 import sys
 import time
+from collections.abc import Callable
+from typing import Any
+
+sys.path.append(os.path.join(os.path.dirname(os.path.dirname(os.path.abspath(__file__))), "lib"))
+
+from framing import Incoming, Message  # noqa: E402
 
 FILE, REPORT, WIRE = os.environ["OB0_FILE"], os.environ["OB0_REPORT"], os.environ["OB0_WIRE"]
 GIVEN = json.loads(os.environ["OB0_GIVEN"])
 
 
-def say(step, found):
+def say(step: str, found: object) -> None:
     with open(REPORT, "a", encoding="utf-8") as file:
         file.write(json.dumps({"step": step, "found": found}) + "\n")
 
 
-def messages(name):
+def messages(name: str) -> list[Message]:
     """The messages that went one way so far."""
     try:
         with open(os.path.join(WIRE, name), "rb") as file:
-            left = file.read()
+            return list(Incoming(file.read()).messages())
     except FileNotFoundError:
         return []
-    found = []
-    while left:
-        head, _, rest = left.partition(b"\r\n\r\n")
-        length = next((int(it.split(b":")[1]) for it in head.split(b"\r\n") if it.lower().startswith(b"content-length")), None)
-        if length is None or len(rest) < length:
-            break
-        found.append(json.loads(rest[:length]))
-        left = rest[length:]
-    return found
 
 
-def published():
+def published() -> list[Any]:
     return [it["params"]["diagnostics"] for it in messages("out") if it.get("method") == "textDocument/publishDiagnostics"]
 
 
-def answers(method):
+def answers(method: str) -> list[Any]:
     idents = [it["id"] for it in messages("in") if it.get("method") == method]
     return [it.get("result", it.get("error")) for it in messages("out") if it.get("id") in idents]
 
 
-def saved():
+def saved() -> str:
     with open(FILE, encoding="utf-8") as file:
         return file.read()
 
 
-def waited(what, value, seconds=30):
+def waited(what: str, value: Callable[[], Any], seconds: float = 30) -> Any:
     """Waits until something has a value that counts as true, and gives that."""
     end = time.monotonic() + seconds
     while time.monotonic() < end:
@@ -62,17 +61,17 @@ def waited(what, value, seconds=30):
     raise RuntimeError(f"waited in vain for {what}")
 
 
-def keys(*names):
+def keys(*names: str) -> None:
     subprocess.run(["xdotool", "key", "--delay", "60", *names], check=True)
     time.sleep(0.3)
 
 
-def typed(text):
+def typed(text: str) -> None:
     subprocess.run(["xdotool", "type", "--delay", "60", text], check=True)
     time.sleep(0.3)
 
 
-def command(name, comes):
+def command(name: str, comes: Callable[[], Any]) -> Any:
     """Chooses a command by its name, as often as it takes to be taken."""
     # (Kate 25 lists a switch whose name begins alike above one of them; chosen twice that is as it was)
     for below in 0, 0, 1, 1:
@@ -88,11 +87,11 @@ def command(name, comes):
     raise RuntimeError(f"{name} was never taken")
 
 
-def codes():
+def codes() -> list[str]:
     return [it["code"] for it in published()[-1]]
 
 
-def after(what, change):
+def after(what: str, change: Callable[[], object]) -> list[str]:
     """Makes a change and gives the codes of the diagnostics that come for it."""
     before = len(published())
     change()
@@ -101,7 +100,7 @@ def after(what, change):
     return codes()
 
 
-def saving():
+def saving() -> str:
     """Saves, and gives the text."""
     before = os.stat(FILE).st_mtime_ns
     keys("ctrl+s")
@@ -110,7 +109,7 @@ def saving():
     return saved()
 
 
-def names():
+def names() -> None:
     say("typed", after("typed", lambda: typed("$")))
     say("undone", after("undone", lambda: keys("ctrl+z")))
     say("shown", command("Symbol Info", lambda: answers("textDocument/hover"))[0]["contents"]["value"])
@@ -128,7 +127,7 @@ def names():
     say("text", saving())
 
 
-def inlining():
+def inlining() -> None:
     # (with the name selected: Kate requests them for a whole line else)
     keys("shift+Right", "alt+Return")
     found = waited("code actions", lambda: answers("textDocument/codeAction"))[-1]
@@ -138,7 +137,7 @@ def inlining():
     say("text", saving())
 
 
-def main():
+def main() -> None:
     line, column = GIVEN["place"]
     manager = subprocess.Popen(["openbox"], stdout=subprocess.DEVNULL, stderr=subprocess.DEVNULL)
     time.sleep(1)
