@@ -12,7 +12,8 @@ import edits
 import mutants
 import rooms
 from common import match_of
-from harness import TOP, holds, same, test, text_of
+from harness import TOP, holds, same, test, text_of, want
+from homes import run_plainly
 
 
 @test("sources: each mutant's old text is in its file exactly once, and the new one changes it")
@@ -68,6 +69,17 @@ def named_files() -> None:
     for page in pages:
         found = re.findall(r"\b(?:tests|tools|bench)/[\w./]*\w", text_of(page))
         same([it for it in found if not os.path.exists(os.path.join(TOP, it))], [], f"what {page} names and isn't there")
+
+
+@test("sources: every function of the scripts, tests and measurements has types, and they fit (mypy --strict)")
+def types_fit() -> None:
+    want("mypy")
+    # (two scripts are named run.py, so the measurements are checked apart)
+    for patterns in (["tools/*.py", "tests/**/*.py", "examples/exercises/*.py"], ["bench/*.py"]):
+        files = [it for pattern in patterns for it in glob.glob(os.path.join(TOP, pattern), recursive=True)]
+        words = ["mypy", "--config-file", os.path.join(TOP, "tools", "mypy.ini"), *files]
+        status, said = run_plainly(words, dict(os.environ), TOP)
+        same(status, 0, said[-3000:])
 
 
 # pages whose names in backticks are those of functions, definitions, types and files

@@ -76,6 +76,7 @@ TOOLS = {
     "zsh": (here("zsh"), "zsh"),
     "fish": (here("fish"), "fish"),
     "mandoc": (here("mandoc"), "mandoc"),
+    "mypy": (here("mypy"), "mypy"),
 }
 
 # what `make test` doesn't pass without; for lack of the others it leaves tests out
