@@ -9,7 +9,6 @@ import json
 import os
 import random
 import re
-import shlex
 import shutil
 import sys
 import tempfile
@@ -17,9 +16,9 @@ import tempfile
 import harness
 import holding
 import keyed
-from harness import Failed, TOP, edited, ends, extent, holds, on_file, same, test, want
+from harness import Failed, TOP, edited, ends, extent, holds, on_file, same, test, text_of, want
 from holding import edits_of, patched
-from homes import at_home, run_in_terminal, run_plainly, write
+from homes import at_home, put_between, run_in_terminal, run_plainly, write
 from modules import CALLS, FAULTY, LEAST, NESTED, RECORDS, WRITES_A_GLOBAL
 from snippets import snippets
 
@@ -76,6 +75,15 @@ def in_vim(steps, text, **given):
     words = ["vim.nox", "-n", "-i", "NONE", "-S", os.path.join(EDITORS, "vim.vim")]
     set_up = lambda room: write(os.path.join(room, ".vimrc"), "\n".join(snippets("vim", "vim")))
     return play("vim", words, steps, text, given, set_up, in_terminal=True)
+
+
+@test("editors: each page says whether the proved property holds in its editor, in the words of the table")
+def held_here():
+    rows = re.findall(r"^\| \[[\w ]+\]\((\w+)/README\.md\)[^|]*\| \*\*([^|]+?)\*\*", text_of("editors", "README.md"), re.M)
+    holds(len(rows) > 9, f"the table of editors/README.md has {rows}")
+    for folder, verdict in rows:
+        said = re.search(r"^Does \[the proved property\]\([^)]*\) hold\?\n(.*)\n\n", text_of("editors", folder, "README.md"), re.M)
+        holds(said and f"**{verdict}**".lower() in said[1].lower(), f"editors/{folder}/README.md says {said and said[1]!r}, the table {verdict!r}")
 
 
 GOOD = "MODULE M; BEGIN WriteLn END M.\n"
@@ -427,12 +435,7 @@ def in_vscode(*kind):
     """What VS Code's extension did under Node, and the record of what its client and the server said."""
     with tempfile.TemporaryDirectory() as room:
         own = at_home(room, "vscode")
-        program = os.path.join(room, "bin", "ob0")
-        os.unlink(program)
-        real = os.path.abspath(harness.BINARY)
-        server = shlex.join([sys.executable, holding.__file__, room, real])
-        write(program, f'#!/bin/sh\n[ "$1" = serve ] && exec {server} "$@"\nexec {shlex.quote(real)} "$@"\n')
-        os.chmod(program, 0o755)
+        put_between(room)
         own["NODE_PATH"] = os.pathsep.join(it for it in (real_client(), own.get("NODE_PATH"), "/usr/share/nodejs") if it)
         file = os.path.join(room, "work", "it's a.mod")
         write(file, "MODULE M;\nBEGIN x := 1 END M.\n")
@@ -522,11 +525,8 @@ def in_kate(steps, text, **given):
     want("Kate", "Xvfb", "xauth", "openbox", "xdotool", "D-Bus")
 
     def set_up(room):
-        """A server whose messages are kept, and Kate's plugin switched on and allowed to start it, as its user would do once."""
-        program = os.path.join(room, "bin", "ob0")
-        os.unlink(program)
-        write(program, f'#!/bin/sh\ntee "{room}/in" | "{os.path.abspath(harness.BINARY)}" "$@" | tee "{room}/out"\n')
-        os.chmod(program, 0o755)
+        """The server with what holds answers, and Kate's plugin switched on and allowed to start it, as its user would do once."""
+        program = put_between(room)
         write(os.path.join(room, ".config", "katerc"), f"[Kate Plugins]\nlspclientplugin=true\n\n[lspclient]\nAllowedServerCommandLines={program} serve\n")
         own["OB0_WIRE"] = room
 
@@ -558,6 +558,15 @@ def kate_inline():
     steps = [("opened", []), ("offered", ["Inline here", "Inline everywhere"]), ("acted", []), ("text", wanted)]
     same(in_kate("inlining", text, place=[2, 12]), steps)
     keeps_the_run(text, wanted, " 7")
+
+
+@test("Kate: a late answer is made at places that move along, as its page says, and one of a file that was closed isn't made")
+def kate_late():
+    renamed = NEW_LINE + re.sub(r"\bn\b", "tot", LATE)
+    laid_out = f"{2 * NEW_LINE}MODULE M;\nCONST\n  k = 7;\nVAR\n  tot: INTEGER;\nBEGIN\n  tot := 1;\n  Write(tot);\n  Write(k);\n"
+    laid_out += "  tot := tot + 1;\n  Write(tot)\nEND M.\n"
+    steps = [("opened", []), ("renamed", renamed), ("laid out", laid_out), ("opened again", 2 * NEW_LINE + laid_out)]
+    same(in_kate("late", LATE, place=LATE_AT[keyed.RENAME]), steps)
 
 
 # (each line of an `n` is followed by one of a `k` of the same form, so that an edit a line off is hard to see)

@@ -2,8 +2,8 @@
 """Drives Kate by its keys, on a screen that nobody sees: run by xvfb-run and dbus-run-session.
 
 Variables: OB0_FILE (the file to edit), OB0_REPORT (where the findings go, a line of JSON each), OB0_STEPS (the name of a list
-of steps below), OB0_GIVEN (a place in the file, as JSON), OB0_WIRE (where the messages of the server are kept). What is
-reported is what went over the wire, and what Kate saved."""
+of steps below), OB0_GIVEN (a place in the file, as JSON), OB0_WIRE (the folder of tests/lib/holding.py, which is between Kate and
+the server). What is reported is what went over the wire, and what Kate saved."""
 from __future__ import annotations
 
 import json
@@ -14,11 +14,12 @@ import time
 from collections.abc import Callable
 from typing import Any
 
-sys.path.append(os.path.join(os.path.dirname(os.path.dirname(os.path.abspath(__file__))), "lib"))
+sys.dont_write_bytecode = True
+sys.path.insert(0, os.path.join(os.path.dirname(os.path.abspath(__file__)), os.pardir, "lib"))
 
-from framing import Incoming, Message  # noqa: E402
+from holding import Wire  # noqa: E402
 
-FILE, REPORT, WIRE = os.environ["OB0_FILE"], os.environ["OB0_REPORT"], os.environ["OB0_WIRE"]
+FILE, REPORT, WIRE = os.environ["OB0_FILE"], os.environ["OB0_REPORT"], Wire(os.environ["OB0_WIRE"])
 GIVEN = json.loads(os.environ["OB0_GIVEN"])
 
 
@@ -27,22 +28,12 @@ def say(step: str, found: object) -> None:
         file.write(json.dumps({"step": step, "found": found}) + "\n")
 
 
-def messages(name: str) -> list[Message]:
-    """The messages that went one way so far."""
-    try:
-        with open(os.path.join(WIRE, name), "rb") as file:
-            return list(Incoming(file.read()).messages())
-    except FileNotFoundError:
-        return []
-
-
 def published() -> list[Any]:
-    return [it["params"]["diagnostics"] for it in messages("out") if it.get("method") == "textDocument/publishDiagnostics"]
+    return [it["diagnostics"] for it in WIRE.published()]
 
 
 def answers(method: str) -> list[Any]:
-    idents = [it["id"] for it in messages("in") if it.get("method") == method]
-    return [it.get("result", it.get("error")) for it in messages("out") if it.get("id") in idents]
+    return [it.get("result", it.get("error")) for it in WIRE.answers(method)]
 
 
 def saved() -> str:
@@ -137,6 +128,55 @@ def inlining() -> None:
     say("text", saving())
 
 
+LINE = "(* new *)"
+RENAME, LAYOUT = "textDocument/rename", "textDocument/formatting"
+
+
+def rename(name: str) -> None:
+    keys("F2")
+    time.sleep(1.5)
+    keys("ctrl+a")
+    typed(name)
+    keys("Return")
+    waited("the request of a rename", WIRE.is_held)
+    time.sleep(1)  # (until the text has the keys again)
+
+
+def line_above() -> None:
+    keys("ctrl+Home")
+    typed(LINE)
+    keys("Return")
+
+
+def late() -> None:
+    """An answer is held while a line is typed above, and while the file is closed, has another text and is opened again."""
+    for what, method, ask in (("renamed", RENAME, lambda: rename("tot")), ("laid out", LAYOUT, lambda: command("Format", WIRE.is_held))):
+        before = WIRE.text()
+        WIRE.hold(method)
+        ask()
+        line_above()
+        waited("the line above", lambda text=f"{LINE}\n{before}": WIRE.text() == text)
+        after(what, WIRE.release)
+        say(what, saving())
+    # (the variable is in line 6 now; Home goes to the first letter of a line)
+    keys("ctrl+Home", *["Down"] * 6, "Home")
+    WIRE.hold(RENAME)
+    rename("n")
+    keys("ctrl+w")
+    waited("the closed file", lambda: WIRE.text() is None)
+    other = f"{LINE}\n{saved()}"
+    with open(FILE, "w", encoding="utf-8") as file:
+        file.write(other)
+    subprocess.run(["kate", FILE], check=True, timeout=60, stdout=subprocess.DEVNULL, stderr=subprocess.DEVNULL)
+    waited("the file opened again", lambda: WIRE.text() == other)
+    WIRE.release()
+    waited("the answer", lambda: answers(RENAME)[1:])
+    time.sleep(1)
+    line_above()
+    waited("the line above", lambda: WIRE.text() not in (None, other))
+    say("opened again", saving())
+
+
 def main() -> None:
     line, column = GIVEN["place"]
     manager = subprocess.Popen(["openbox"], stdout=subprocess.DEVNULL, stderr=subprocess.DEVNULL)
@@ -147,7 +187,7 @@ def main() -> None:
         waited("the first diagnostics", published, 60)
         time.sleep(2)
         say("opened", codes())
-        {"names": names, "inlining": inlining}[os.environ["OB0_STEPS"]]()
+        {"names": names, "inlining": inlining, "late": late}[os.environ["OB0_STEPS"]]()
         keys("ctrl+q")
         kate.wait(20)
     finally:

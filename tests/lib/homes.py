@@ -2,10 +2,13 @@
 from __future__ import annotations
 
 import os
+import shlex
 import subprocess
+import sys
 from typing import Any
 
 import harness
+import holding
 from harness import TOP, Failed
 from screen import Screen
 from snippets import snippets
@@ -24,6 +27,16 @@ def at_home(room: str, editor: str) -> dict[str, str]:
         if ran.returncode:
             raise Failed(f"a command of editors/{editor}/README.md ended with {ran.returncode}: {ran.stderr.decode()}\n{line}")
     return own
+
+
+def put_between(room: str) -> str:
+    """Has `ob0 serve` start what holds answers between the editor at home in this room and the server; gives the program's path."""
+    program, real = os.path.join(room, "bin", "ob0"), os.path.abspath(harness.BINARY)
+    server = shlex.join([sys.executable, holding.__file__, room, real])
+    os.unlink(program)
+    write(program, f'#!/bin/sh\n[ "$1" = serve ] && exec {server} "$@"\nexec {shlex.quote(real)} "$@"\n')
+    os.chmod(program, 0o755)
+    return program
 
 
 def write(path: str, text: str) -> None:

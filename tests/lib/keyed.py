@@ -2,18 +2,14 @@
 editor and server. Keys don't wait for one another: an editor takes them in order, and that it has taken them is seen by a file
 which it writes."""
 import os
-import shlex
-import sys
 import time
 
-import harness
 from harness import Failed
 from holding import Wire
-from homes import at_home, write
+from homes import at_home, put_between, write
 from screen import Screen
 from snippets import snippets
 
-HOLDING = os.path.join(harness.TOP, "tests", "lib", "holding.py")
 SECONDS = 300  # the longest that something is waited for (also where the machine has much else to do)
 # the requests whose answers are edits
 RENAME, ACTION, LAYOUT = "textDocument/rename", "textDocument/codeAction", "textDocument/formatting"
@@ -36,10 +32,7 @@ class Keyed:
         self.file = os.path.join(folder, "work", "m.mod")
         write(self.file, text)
         own = {**at_home(folder, self.page), "LC_ALL": "C.UTF-8", "TERM": "xterm-256color"}
-        ob0, program = shlex.quote(os.path.abspath(harness.BINARY)), os.path.join(folder, "bin", "ob0")
-        os.unlink(program)
-        write(program, f'#!/bin/sh\n[ "$1" = serve ] && exec {sys.executable} {HOLDING} {folder} {ob0} "$@"\nexec {ob0} "$@"\n')
-        os.chmod(program, 0o755)
+        put_between(folder)
         for path, lines in self.settings().items():
             write(os.path.join(folder, path), lines)
         self.screen = Screen(self.words(), own, os.path.dirname(self.file), (40, 120))
