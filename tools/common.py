@@ -153,7 +153,8 @@ def is_current() -> bool:
 
 
 def keep(linked: str, gate: str | None = None) -> None:
-    """Copies a linked program to bin/ob0, with a stamp: the gate's last line too, where the gate built it."""
+    """Copies a linked program to bin/ob0, with a stamp: the toolchain's identity, sums over the sources and over the program, and
+    the gate's last line where the gate built it. By it nothing is proved again where nothing changed."""
     os.makedirs(os.path.dirname(BINARY), exist_ok=True)
     shutil.copyfile(linked, BINARY + ".new")
     os.chmod(BINARY + ".new", 0o755)

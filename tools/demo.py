@@ -2,7 +2,8 @@
 """Plays a conversation with the server, and prints what goes each way in readable form.
 
 It is played with bin/ob0 where that was proved and built from the sources as they are. Else the program is compiled by
-`rt try`, which proves nothing and takes one to three minutes, and gets all messages at once."""
+`rt try`, which proves nothing and takes one to three minutes; it gets all messages at once, since `rt try` reads its input to the
+end first."""
 from __future__ import annotations
 
 import json

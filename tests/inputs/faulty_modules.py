@@ -1,5 +1,6 @@
-"""Modules that the grammar allows, of few names and with no regard to scopes and types: each has many faults, or by
-chance none."""
+"""Modules that the grammar allows, of few names and with no regard to scopes and types: each has many faults, some thirty, or by
+chance none. They have all codes of scopes and types, most of which a changed corpus never reaches (lengths, sizes, constants, counts
+of arguments)."""
 from __future__ import annotations
 
 import random

@@ -1,4 +1,9 @@
-"""The program, and the tests of the crates, with allocations and devices that fail: failing.c is preloaded."""
+"""The program, and the tests of the crates, with allocations and devices that fail: failing.c is preloaded.
+
+It refuses the Nth call for memory, or it and all after it, fails the Nth read of single bytes, and takes a given number of bytes, one
+a call. It counts the calls, so a walk over all of them knows where it ends; a run takes 2 ms of its own. What `rt try` compiles has
+another allocator, which keeps what is freed: its memory figures mean nothing, and its allocations can't be made to fail (with
+`ASAN_OPTIONS=quarantine_size_mb=0` it frees most)."""
 from __future__ import annotations
 
 import concurrent.futures

@@ -230,7 +230,8 @@ def unread(pipe: IO[bytes]) -> int:
 
 
 def serve_in_pieces(pieces: Iterable[bytes]) -> Ended:
-    """A conversation whose bytes come in these pieces: each is written once the server has read the one before."""
+    """A conversation whose bytes come in these pieces: each is written once the server has read the one before, which is once its
+    pipe is empty."""
     how: dict[str, Any] = {"stdin": subprocess.PIPE, "stdout": subprocess.PIPE, "stderr": subprocess.PIPE, "bufsize": 0}
     with subprocess.Popen([BINARY, "serve"], **how) as process:
         given, out, err = pipes_of(process)

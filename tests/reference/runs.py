@@ -145,7 +145,7 @@ class Run:
 
 
 def put(holder: Any, key: Any, value: Any) -> None:
-    """Gives a place another value. Of an array or a record each part stays where it is, as other places lead to it."""
+    """Gives a place another value. Of an array or a record each part stays where it is, as VAR parameters lead to it still."""
     if isinstance(value, (list, dict)):
         for it in value if isinstance(value, dict) else range(len(value)):
             put(holder[key], it, value[it])
