@@ -8,8 +8,11 @@
   bench/corpus.py --uses N [--line]           one variable that is used N times
   bench/corpus.py --fields N [--line]         one field of a record that is used N times
   bench/corpus.py --constants N [--line]      one constant that is used N times"""
+from __future__ import annotations
+
 import random
 import sys
+from collections.abc import Callable
 
 KINDS = ("int", "bool", "array", "record")
 
@@ -17,28 +20,28 @@ KINDS = ("int", "bool", "array", "record")
 class Scope:
     """The names that are visible, by what they are."""
 
-    def __init__(self, outer=None):
-        self.names = {it: list(outer.names[it]) if outer else [] for it in (*KINDS, "const")}
-        self.procedures = list(outer.procedures) if outer else []
+    def __init__(self, outer: Scope | None = None) -> None:
+        self.names: dict[str, list[str]] = {it: list(outer.names[it]) if outer else [] for it in (*KINDS, "const")}
+        self.procedures: list[str] = list(outer.procedures) if outer else []
 
 
 class Maker:
     """Writes a module piece by piece."""
 
-    def __init__(self, seed):
+    def __init__(self, seed: int) -> None:
         self.chance = random.Random(seed)
         self.made = 0
 
-    def fresh(self, letter):
+    def fresh(self, letter: str) -> str:
         self.made += 1
         return f"{letter}{self.made}"
 
-    def pick(self, scope, kind):
+    def pick(self, scope: Scope, kind: str) -> str:
         # (mostly the newest names, as people write)
         names = scope.names[kind]
         return names[max(0, len(names) - 1 - int(self.chance.expovariate(0.15)))]
 
-    def integer(self, scope, depth=0):
+    def integer(self, scope: Scope, depth: int = 0) -> str:
         """An expression that is an INTEGER, as a factor."""
         way = self.chance.random()
         if depth > 2 or way < 0.25:
@@ -54,7 +57,7 @@ class Maker:
         operator = self.chance.choice(["+", "-", "*", "DIV", "MOD"])
         return f"({self.integer(scope, depth + 1)} {operator} {self.integer(scope, depth + 1)})"
 
-    def truth(self, scope, depth=0):
+    def truth(self, scope: Scope, depth: int = 0) -> str:
         """An expression that is a BOOLEAN, as a factor."""
         way = self.chance.random()
         if way < 0.2 and scope.names["bool"]:
@@ -68,7 +71,7 @@ class Maker:
         relation = self.chance.choice(["=", "#", "<", "<=", ">", ">="])
         return f"({self.integer(scope, depth + 1)} {relation} {self.integer(scope, depth + 1)})"
 
-    def target(self, scope):
+    def target(self, scope: Scope) -> str:
         """A place that holds an INTEGER."""
         kinds = [it for it in ("int", "array", "record") if scope.names[it]]
         kind = self.chance.choice(kinds)
@@ -77,7 +80,7 @@ class Maker:
             return f"{name}[{self.integer(scope, 2)} MOD 16]"
         return f"{name}.{self.chance.choice('xy')}" if kind == "record" else name
 
-    def statement(self, scope, depth, indent):
+    def statement(self, scope: Scope, depth: int, indent: int) -> list[str]:
         """The lines of a statement."""
         way = self.chance.random()
         room = "  " * indent
@@ -88,7 +91,7 @@ class Maker:
         if way < 0.72 and scope.procedures:
             name = self.chance.choice(scope.procedures[-20:])
             return [f"{room}{name}({self.integer(scope)}, {self.target(scope)})"]
-        inner = lambda: self.statements(scope, depth + 1, indent + 1, 1 + self.chance.randrange(3))
+        inner: Callable[[], list[str]] = lambda: self.statements(scope, depth + 1, indent + 1, 1 + self.chance.randrange(3))
         if way < 0.86:
             found = [f"{room}IF {self.truth(scope)} THEN", *inner()]
             if self.chance.random() < 0.4:
@@ -100,14 +103,14 @@ class Maker:
             return [f"{room}WHILE {self.truth(scope)} DO", *inner(), f"{room}END"]
         return [f"{room}REPEAT", *inner(), f"{room}UNTIL {self.truth(scope)}"]
 
-    def statements(self, scope, depth, indent, count):
+    def statements(self, scope: Scope, depth: int, indent: int, count: int) -> list[str]:
         found = []
         for at in range(count):
             lines = self.statement(scope, depth, indent)
             found += lines if at == count - 1 else [*lines[:-1], lines[-1] + ";"]
         return found
 
-    def variables(self, scope, indent, outermost=False):
+    def variables(self, scope: Scope, indent: int, outermost: bool = False) -> list[str]:
         """The lines of a VAR section, and its names in scope."""
         room = "  " * indent
         integers, truth = [self.fresh("v") for _ in range(3)], self.fresh("b")
@@ -121,7 +124,7 @@ class Maker:
             found += [f"{room}  {array}: Line;", f"{room}  {record}: Point;"]
         return found
 
-    def procedure(self, outer, depth):
+    def procedure(self, outer: Scope, depth: int) -> list[str]:
         """The lines of a procedure p(n: INTEGER; VAR m: INTEGER)."""
         scope, name, room = Scope(outer), self.fresh("p"), "  " * depth
         value, place, constant = self.fresh("n"), self.fresh("m"), self.fresh("c")
@@ -141,7 +144,7 @@ class Maker:
         return found
 
 
-def module(size, seed=0, on_line=False):
+def module(size: int, seed: int = 0, on_line: bool = False) -> str:
     """A module of this many bytes (at least 700)."""
     maker, scope = Maker(seed), Scope()
     head = ["MODULE Corpus;", "CONST", "  base = 7;", "TYPE", "  Line = ARRAY 16 OF INTEGER;"]
@@ -165,7 +168,7 @@ def module(size, seed=0, on_line=False):
     return text + " " * (size - len(text))
 
 
-def block(count):
+def block(count: int) -> str:
     """This many declarations in one block, each used once."""
     names = [f"v{at}" for at in range(count)]
     declared = "\n".join(f"  {it}: INTEGER;" for it in names)
@@ -173,7 +176,7 @@ def block(count):
     return f"MODULE Block;\nVAR\n{declared}\nBEGIN\n{used}\nEND Block.\n"
 
 
-def nest(count):
+def nest(count: int) -> str:
     """This many procedures inside one another."""
     lines = ["MODULE Nest;", "VAR v0: INTEGER;"]
     lines += [f"PROCEDURE p{at}(n{at}: INTEGER); VAR v{at}: INTEGER;" for at in range(1, count + 1)]
@@ -181,40 +184,40 @@ def nest(count):
     return "\n".join([*lines, "BEGIN p1(1) END Nest.", ""])
 
 
-def many(count, way):
+def many(count: int, way: str) -> str:
     """This many variables, in one declaration or each in its own; every second one is used."""
     names = [f"v{at}" for at in range(count)]
     declared = ",".join(names) + ":INTEGER;" if way == "one" else "".join(f"{it}:INTEGER;" for it in names)
     return f"MODULE M;VAR {declared}BEGIN {';'.join(f'{it}:=1' for it in names[::2])} END M."
 
 
-def lines_of(head, used, on_line):
+def lines_of(head: str, used: list[str], on_line: bool) -> str:
     """A module of some lines, or of one: a head, statements, the end."""
     return (" " if on_line else "\n").join([head, "BEGIN", *(it + ";" for it in used[:-1]), used[-1] + " END Uses."])
 
 
-def uses(count, on_line=False):
+def uses(count: int, on_line: bool = False) -> str:
     """One variable that is used so often."""
     return lines_of("MODULE Uses; VAR x: INTEGER;", [f"x:={at % 10}" for at in range(count)], on_line)
 
 
-def chain(count):
+def chain(count: int) -> str:
     """One variable that is used so often in one sum, in as few bytes as can be."""
     return "MODULE Uses; VAR x: INTEGER; BEGIN x:=" + "x+" * (count - 2) + "x END Uses.\n"
 
 
-def fields(count, on_line=False):
+def fields(count: int, on_line: bool = False) -> str:
     """One field of a record that is used so often."""
     return lines_of("MODULE Uses; VAR r:RECORD x:INTEGER END;", [f"r.x:={at % 10}" for at in range(count)], on_line)
 
 
-def constants(count, on_line=False):
+def constants(count: int, on_line: bool = False) -> str:
     """One constant that is used so often."""
     return lines_of("MODULE Uses; CONST c=7; VAR x: INTEGER;", ["x:=c"] * count, on_line)
 
 
-def main(words):
-    number = lambda name, other: int(words[words.index(name) + 1]) if name in words else other
+def main(words: list[str]) -> None:
+    number: Callable[[str, int], int] = lambda name, other: int(words[words.index(name) + 1]) if name in words else other
     on_line = "--line" in words
     if "--block" in words:
         text = block(number("--block", 0))

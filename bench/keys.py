@@ -1,45 +1,54 @@
 """What an editor does while one types, as pairs of conversations: the second does some things more often than the first, so what
 these cost is the difference of both, by how often."""
+from __future__ import annotations
+
 import random
 import re
+from collections.abc import Callable, Iterator
+from typing import List, Tuple
 
 import corpus
+from common import match_of
+from framing import Message
 from harness import did_change, did_open, extent, initialize, place, request
 
+Longer = Tuple[List[Message], List[Message], int]  # two conversations, and how many things the second is longer by
 URI = "file:///m"
-LITERALS = {"textDocument": {"codeAction": {"codeActionLiteralSupport": {}}}}
+LITERALS: Message = {"textDocument": {"codeAction": {"codeActionLiteralSupport": {}}}}
 MIB = 1 << 20
 SIZES = [10000, 100000, MIB - 1000]
 TYPED = "\n  IF 1 > (0 + 12) * 3 THEN Write(7); WriteLn END;"
 
 
-def place_of(text, at):
+def place_of(text: str, at: int) -> tuple[int, int]:
     return text.count("\n", 0, at), at - (text.rfind("\n", 0, at) + 1)
 
 
-def place_after(text, pattern):
+def place_after(text: str, pattern: str) -> tuple[int, int]:
     """The line and the column after the first match in the text's second half."""
-    return place_of(text, re.compile(pattern).search(text, len(text) // 2).end())
+    middle = len(text) // 2
+    return place_of(text, middle + match_of(pattern, text[middle:]).end())
 
 
-def replaced(line, column, end, new, version):
+def replaced(line: int, column: int, end: int, new: str, version: int) -> Message:
     return did_change([{"range": extent(f"{line}:{column}-{line}:{end}"), "text": new}], version=version)
 
 
-def in_and_out(text, pattern, letter):
+def in_and_out(text: str, pattern: str, letter: str) -> Longer:
     """Changes of one letter after a place: it is put in, and then taken out again."""
     line, column = place_after(text, pattern)
 
-    def changes(count):
+    def changes(count: int) -> list[Message]:
         return [replaced(line, column, column + at % 2, "" if at % 2 else letter, 2 + at) for at in range(count)]
 
     return [did_open(text), *changes(2)], [did_open(text), *changes(6)], 4
 
 
-def typed(text):
+def typed(text: str) -> Longer:
     """A statement typed letter by letter, after each letter three questions, and taken out again."""
     line, column = first = place_after(text, r":= [^;\n]*;")
-    talk, ident = [], 10
+    talk: list[Message] = []
+    ident = 10
     for letter in TYPED:
         talk.append(replaced(line, column, column, letter, 2 + len(talk)))
         line, column = (line + 1, 0) if letter == "\n" else (line, column + 1)
@@ -54,36 +63,36 @@ def typed(text):
     return [did_open(text)], [did_open(text), *talk], len(TYPED)
 
 
-def query(text, method, params):
+def query(text: str, method: str, params: Message) -> Longer:
     question = request(5, f"textDocument/{method}", {"textDocument": {"uri": URI}, **params})
     return [did_open(text)], [did_open(text), question], 1
 
 
-def shrinking(count, seed=0):
+def shrinking(count: int, seed: int = 0) -> list[Message]:
     """Eight documents that are opened and then changed so often, each time to a text of between 100 bytes and 1 MB."""
     chance = random.Random(seed)
     texts = [corpus.module(int(100 * 10000 ** (it / 15)), it) for it in range(16)]
-    uri = lambda it: f"file:///{it}"
+    uri: Callable[[int], str] = lambda it: f"file:///{it}"
     talk = [did_open(texts[0], uri(it)) for it in range(8)]
     return talk + [did_change(chance.choice(texts), uri(chance.randrange(8)), version) for version in range(2, 2 + count)]
 
 
-def rows():
-    """Names, and two conversations of which the second is this many things longer."""
+def rows() -> Iterator[tuple[str, Longer]]:
+    """Names, and two conversations."""
     for size in SIZES:
         text = corpus.module(size)
-        yield f"a module of {size:,} is opened", [], [did_open(text)], 1
-        yield "  a digit more in a number, or less", *in_and_out(text, r":= [^;\n]*[0-9]", "1")
-        yield "  a blank more or less", *in_and_out(text, r":= [^;\n]*[0-9]", " ")
-        yield "  a statement more or less", *in_and_out(text, r":= [^;\n]*;", ";")
-        yield "  a key typed, with three questions", *typed(text)
+        yield f"a module of {size:,} is opened", ([], [did_open(text)], 1)
+        yield "  a digit more in a number, or less", in_and_out(text, r":= [^;\n]*[0-9]", "1")
+        yield "  a blank more or less", in_and_out(text, r":= [^;\n]*[0-9]", " ")
+        yield "  a statement more or less", in_and_out(text, r":= [^;\n]*;", ";")
+        yield "  a key typed, with three questions", typed(text)
     uses = corpus.uses(100000, False)
-    yield "references, 100,000 places", *query(uses, "references", {"context": {"includeDeclaration": True}, "position": place(0, 18)})
-    yield "rename, 100,000 places", *query(uses, "rename", {"newName": "y", "position": place(0, 18)})
+    yield "references, 100,000 places", query(uses, "references", {"context": {"includeDeclaration": True}, "position": place(0, 18)})
+    yield "rename, 100,000 places", query(uses, "rename", {"newName": "y", "position": place(0, 18)})
     spread = uses.replace("x", "  x  ")
-    yield "formatting, 100,000 places", *query(spread, "formatting", {"options": {"tabSize": 2, "insertSpaces": True}})
+    yield "formatting, 100,000 places", query(spread, "formatting", {"options": {"tabSize": 2, "insertSpaces": True}})
 
 
-def conversation(messages):
+def conversation(messages: list[Message]) -> list[Message]:
     """A conversation that begins and ends as it has to."""
     return [initialize(**LITERALS), *messages, request(9999, "shutdown"), {"jsonrpc": "2.0", "method": "exit"}]

@@ -5,7 +5,10 @@
 
 The variable BESIDE may name another program with the same commands: runs, keys and the largest messages are then measured in it
 too."""
+from __future__ import annotations
+
 import ctypes
+import functools
 import os
 import re
 import shutil
@@ -15,37 +18,42 @@ import sys
 import tempfile
 import threading
 import time
+from collections.abc import Callable, Iterable
+from typing import Any, IO, List, Tuple
 
 HERE = os.path.dirname(os.path.abspath(__file__))
 sys.dont_write_bytecode = True
 sys.path[:0] = [HERE, os.path.join(os.path.dirname(HERE), "tests", "lib")]
 
 import corpus  # noqa: E402
+from common import match_of  # noqa: E402
+from framing import Incoming, Message  # noqa: E402
 from harness import BINARY, EXIT, SHUTDOWN, did_change, did_open, extent, frame, frames, initialize, place, request  # noqa: E402
 
 MIB = 1 << 20
-MEASURES = []
+Cost = Tuple[float, int]  # seconds on a processor, and the peak memory
+MEASURES: List[Tuple[str, Callable[[], None]]] = []
 
 
-def measure(name):
+def measure(name: str) -> Callable[[Callable[[], None]], Callable[[], None]]:
     """Makes a function a measurement under this name."""
 
-    def take(function):
+    def take(function: Callable[[], None]) -> Callable[[], None]:
         MEASURES.append((name, function))
         return function
 
     return take
 
 
-def said(what, value):
+def said(what: str, value: object) -> None:
     print(f"  {what:<58} {value}", flush=True)
 
 
-def megabytes(count):
+def megabytes(count: float) -> str:
     return f"{count / MIB:.1f} MiB"
 
 
-def peak_until_now(pid):
+def peak_until_now(pid: int) -> int:
     """The peak memory of a process, 0 where it has none any more."""
     try:
         with open(f"/proc/{pid}/status", encoding="ascii", errors="replace") as file:
@@ -55,7 +63,7 @@ def peak_until_now(pid):
     return int(found[1]) * 1024 if found else 0
 
 
-def watch(pid, peak):
+def watch(pid: int, peak: list[int]) -> None:
     """Keeps the peak memory of a process, which it looks at each millisecond (its parent's would be counted by wait4)."""
     while found := peak_until_now(pid):
         peak[0] = found
@@ -66,15 +74,15 @@ LIBRARY = ctypes.CDLL(None)
 TRACE_ME, TRACE_GO_ON, TRACE_OPTIONS, TRACE_EXIT, EXITS = 0, 7, 0x4200, 0x40, 6  # (the numbers of ptrace)
 
 
-def trace(what, pid=0, given=0):
+def trace(what: int, pid: int = 0, given: int = 0) -> None:
     LIBRARY.ptrace(what, pid, ctypes.c_void_p(0), ctypes.c_void_p(given))
 
 
-def peak_of(words, given, cwd):
+def peak_of(words: list[str], given: IO[bytes], cwd: str | None) -> int:
     """The peak memory of a run, stopped at its end and looked at there: for runs that are too short to be watched. 0 where
     this system lets nobody stop a process."""
     given.seek(0)
-    how = {"stdin": given, "stdout": subprocess.DEVNULL, "stderr": subprocess.DEVNULL, "cwd": cwd}
+    how: dict[str, Any] = {"stdin": given, "stdout": subprocess.DEVNULL, "stderr": subprocess.DEVNULL, "cwd": cwd}
     process = subprocess.Popen(words, preexec_fn=lambda: trace(TRACE_ME), **how)
     peak = 0
     while os.WIFSTOPPED(status := os.waitpid(process.pid, 0)[1]):
@@ -93,7 +101,7 @@ class Timed:
     """A run of a command on bytes as its standard input: seconds, those of them on a processor, peak memory in bytes,
     what it wrote."""
 
-    def __init__(self, words, given, cwd=None):
+    def __init__(self, words: list[str], given: bytes, cwd: str | None = None) -> None:
         peak = [0]
         with tempfile.TemporaryFile() as file, tempfile.TemporaryFile() as out:
             file.write(given)
@@ -104,32 +112,41 @@ class Timed:
             watcher.start()
             _, status, used = os.wait4(process.pid, 0)
             self.seconds = time.monotonic() - start
-            self.processor = used.ru_utime + used.ru_stime
+            self.processor: float = used.ru_utime + used.ru_stime
             process.returncode = self.status = os.WEXITSTATUS(status) if os.WIFEXITED(status) else -os.WTERMSIG(status)
             watcher.join()
             out.seek(0)
             self.out = out.read()
             self.memory = max(peak[0], peak_of(words, file, cwd) if self.processor < 0.1 else 0)
 
+    def on_processor(self) -> float:
+        return self.processor
 
-def best(count, run):
+
+def best(count: int, run: Callable[[], Timed]) -> Timed:
     """The quickest of some runs, by their time on a processor: others may run here too."""
-    return min((run() for _ in range(count)), key=lambda it: it.processor)
+    return min((run() for _ in range(count)), key=Timed.on_processor)
 
 
-def place_in_the_middle(text):
+def conversed(messages: list[Message], program: str = BINARY) -> Timed:
+    """The quickest of three conversations with these messages and an end."""
+    given = frames([*messages, SHUTDOWN, EXIT])
+    return best(3, lambda: Timed([program, "serve"], given))
+
+
+def place_in_the_middle(text: str) -> tuple[int, int]:
     """The line and the column of a place in the middle of a text where a blank changes nothing."""
     middle = text.index("(", len(text) // 2)
     return text.count("\n", 0, middle), middle - (text.rfind("\n", 0, middle) + 1)
 
 
-def letter_at(text, version):
+def letter_at(text: str, version: int) -> Message:
     """A change of one letter in the middle of a text."""
     line, column = place_in_the_middle(text)
     return did_change([{"range": extent(f"{line}:{column}-{line}:{column}"), "text": " "}], version=version)
 
 
-def letters_at(text, count):
+def letters_at(text: str, count: int) -> Message:
     """This many changes in one notification: in the middle of a text a blank is put in, then taken out, and so on."""
     line, column = place_in_the_middle(text)
     put = {"range": extent(f"{line}:{column}-{line}:{column}"), "text": " "}
@@ -138,7 +155,7 @@ def letters_at(text, count):
 
 
 @measure("serve: 1 MiB opened and changed 20 times")
-def served():
+def served() -> None:
     text = corpus.module(MIB - 100)
     talk = [initialize(), did_open(text), *(did_change(text + " " * at, version=at) for at in range(2, 22)), SHUTDOWN, EXIT]
     given = frames(talk)
@@ -155,7 +172,7 @@ def served():
         said("NOTE: the talk ended otherwise than expected", f"status {found.status}, {same_count} empty lists")
 
 
-def opened(text, times):
+def opened(text: str, times: int) -> Cost:
     """Time on a processor for one open of a text through `serve`, over this many of them, and the peak memory."""
     empty = frames([initialize(), SHUTDOWN, EXIT])
     given = frames([initialize(), *(did_open(text, version=at) for at in range(times)), SHUTDOWN, EXIT])
@@ -163,7 +180,7 @@ def opened(text, times):
     return max(found.processor - nothing.processor, 1e-4) / times, found.memory
 
 
-def ratios(what, rows):
+def ratios(what: str, rows: list[tuple[int, float, int]]) -> None:
     """Prints how time on a processor and peak memory grew between the last two of some rows of a text's length, seconds and
     memory (from 100 KB to 1 MiB, where these are the sizes), and both by the growth of the length."""
     (small, first, low), (large, last, high) = rows[-2:]
@@ -175,7 +192,7 @@ def ratios(what, rows):
         said(f"{what}: peak memory", "not seen: the shortest run ended before")
 
 
-def growth(what, sizes, make, each):
+def growth(what: str, sizes: list[int], make: Callable[[int], str], each: Callable[[str, int], Cost]) -> None:
     """Prints time on a processor, bytes a second and memory for growing sizes, and the ratios of the last to the one before it, by size."""
     rows = []
     for size in sizes:
@@ -188,31 +205,31 @@ def growth(what, sizes, make, each):
 
 
 @measure("serve: what an open costs, from 10 KB to 1 MiB")
-def growing():
+def growing() -> None:
     sizes = [10000, 100000, MIB]
-    each = lambda text, size: opened(text, max(3, 3 * MIB // size // 4))
+    each: Callable[[str, int], Cost] = lambda text, size: opened(text, max(3, 3 * MIB // size // 4))
     growth("module of", sizes, corpus.module, each)
     growth("module on one line of", sizes, lambda size: corpus.module(size, on_line=True), each)
 
 
-def changed(text, times):
+def changed(text: str, times: int) -> Cost:
     """Time on a processor for one change of a letter, over this many of them after an opening, and the peak memory."""
-    talk = lambda more: frames([initialize(), did_open(text), *more, SHUTDOWN, EXIT])
     changes = [letter_at(text, version) for version in range(2, 2 + times)]
-    found, opening = (best(3, lambda more=more: Timed([BINARY, "serve"], talk(more))) for more in (changes, []))
+    start = [initialize(), did_open(text)]
+    found, opening = conversed([*start, *changes]), conversed(start)
     return max(found.processor - opening.processor, 1e-4) / times, found.memory
 
 
 @measure("serve: what a change of one letter costs, from 10 KB to 1 MiB")
-def changing():
+def changing() -> None:
     growth("a change in a module of", [10000, 100000, MIB - 1000], corpus.module, lambda text, _: changed(text, 20))
 
 
 @measure("serve: 100 faults at the end of a module, from 10 KB to 1 MiB")
-def faulty():
+def faulty() -> None:
     """What an opening costs; each fault is a truth value that is assigned to an integer."""
 
-    def make(size):
+    def make(size: int) -> str:
         faults = ["x:=TRUE"] * 100
         head = len(corpus.lines_of("MODULE Uses; VAR x: INTEGER;", faults, False))
         return corpus.lines_of("MODULE Uses; VAR x: INTEGER;", ["x:=1"] * ((size - head) // 6) + faults, False)
@@ -223,51 +240,43 @@ def faulty():
 class Talk:
     """A server in conversation, one message at a time; what comes back is awaited and not read as JSON."""
 
-    def __init__(self, text, **capabilities):
+    def __init__(self, text: str, **capabilities: Any) -> None:
         self.process = subprocess.Popen([BINARY, "serve"], stdin=subprocess.PIPE, stdout=subprocess.PIPE, bufsize=0)
-        self.held = bytearray()
+        assert self.process.stdin and self.process.stdout
+        self.given, self.out, self.incoming = self.process.stdin, self.process.stdout, Incoming()
         self.after(initialize(**capabilities))
         self.after(did_open(text))
 
-    def __enter__(self):
+    def __enter__(self) -> Talk:
         return self
 
-    def __exit__(self, *why):
+    def __exit__(self, *why: object) -> None:
         with self.process:
             for message in (SHUTDOWN, EXIT):
                 self.send(frame(message))
-            self.process.stdin.close()
+            self.given.close()
             self.process.wait()
 
-    def send(self, given):
-        given = memoryview(given)
-        while given:
-            given = given[self.process.stdin.write(given) :]
+    def send(self, given: bytes) -> None:
+        left = memoryview(given)
+        while left:
+            left = left[self.given.write(left) :]
 
-    def used(self):
+    def used(self) -> float:
         """The milliseconds that the server was on a processor."""
         with open(f"/proc/{self.process.pid}/schedstat", encoding="ascii") as file:
             return int(file.read().split()[0]) / 1e6
 
-    def more(self):
-        came = os.read(self.process.stdout.fileno(), MIB)
-        if not came:
-            raise EOFError("the server ended in the middle of a conversation")
-        self.held += came
-
-    def take(self):
+    def take(self) -> bytes:
         """The content of the next message."""
-        while (head := self.held.find(b"\r\n\r\n")) < 0:
-            self.more()
-        start = head + 4
-        end = start + int(self.held[:head].partition(b": ")[2])
-        while len(self.held) < end:
-            self.more()
-        content = bytes(self.held[start:end])
-        del self.held[:end]
+        while (content := self.incoming.take()) is None:
+            came = os.read(self.out.fileno(), MIB)
+            if not came:
+                raise EOFError("the server ended in the middle of a conversation")
+            self.incoming.add(came)
         return content
 
-    def after(self, message):
+    def after(self, message: Message) -> tuple[float, bytes]:
         """The seconds from a message's first byte to the last one of what comes then, and that."""
         given = frame(message)
         start = time.monotonic()
@@ -276,14 +285,14 @@ class Talk:
         return time.monotonic() - start, content
 
 
-def spread(taken):
+def spread(taken: Iterable[float]) -> str:
     """The least, the middle and the most of some seconds, as milliseconds."""
     taken = sorted(taken)
     return ", ".join(f"{1000 * taken[at]:.1f}" for at in (0, len(taken) // 2, -1))
 
 
 @measure("serve: from a keystroke to the diagnostics, on 1 MiB")
-def keystroke():
+def keystroke() -> None:
     for name, on_line in (("on many lines", False), ("on one line", True)):
         text = corpus.module(MIB - 1000, on_line=on_line)
         with Talk(text) as talk:
@@ -292,7 +301,7 @@ def keystroke():
 
 
 @measure("serve: 10,000 changes in one note, on 100 KB")
-def changed_often():
+def changed_often() -> None:
     comment = "(* " + "то же самое, " * 3_000 + "*) "
     texts = {"on many lines": corpus.module(100_000), "on one line": corpus.module(100_000, on_line=True)}
     texts["on one line, most of it Cyrillic"] = comment + corpus.module(30_000, on_line=True)
@@ -302,7 +311,7 @@ def changed_often():
                 said(f"{name}, {count:,} changes: seconds to the diagnostics", f"{talk.after(letters_at(text, count))[0]:.3f}")
 
 
-def on_file(words, text, given=b"", times=3):
+def on_file(words: list[str], text: str, given: bytes = b"", times: int = 3) -> Timed:
     """A run of the program on a file with this text: the quickest of this many."""
     with tempfile.TemporaryDirectory() as room:
         with open(os.path.join(room, "m.mod"), "w", encoding="utf-8") as file:
@@ -311,10 +320,10 @@ def on_file(words, text, given=b"", times=3):
 
 
 @measure("parse: a module that ends too early, beside one with a bad character at its end")
-def parsed():
+def parsed() -> None:
     """What comes after the parser isn't begun where a module ends too early, and the parser isn't where the scanner reports a fault."""
 
-    def beside(sizes, **how):
+    def beside(sizes: list[int], **how: Any) -> None:
         rows = []
         for size in sizes:
             text = corpus.module(size, **how)
@@ -333,8 +342,8 @@ def parsed():
 
 
 @measure("check: corpora, a large block, deep procedures")
-def checked():
-    def each(text, _):
+def checked() -> None:
+    def each(text: str, _: int) -> Cost:
         found = on_file(["check"], text)
         if found.status:
             said("NOTE: the module isn't well-typed", found.out[:200].decode(errors="replace"))
@@ -346,8 +355,8 @@ def checked():
 
 
 @measure("check: 50,000 declarations in one block")
-def large_block():
-    def each(text, count):
+def large_block() -> None:
+    def each(text: str, count: int) -> Cost:
         found = on_file(["check"], text)
         if found.status:
             said("NOTE: the module isn't well-typed", f"{count}: {found.out[:200].decode(errors='replace')}")
@@ -357,13 +366,12 @@ def large_block():
     growth("declarations of a name each", [5000, 50000], lambda count: corpus.many(count, "each"), each)
 
 
-def cost_of_query(text, method, params, expected, count, **capabilities):
+def cost_of_query(text: str, method: str, params: Message, expected: bytes, count: int, **capabilities: Any) -> Cost:
     """What a request costs through `serve` beside the opening alone: time on a processor, and the peak memory. The answer
     must hold the expected bytes so often."""
     question = request(5, f"textDocument/{method}", {"textDocument": {"uri": "file:///m"}, **params})
-    talk = lambda more: frames([initialize(**capabilities), did_open(text), *more, SHUTDOWN, EXIT])
-    without = best(3, lambda: Timed([BINARY, "serve"], talk([])))
-    found = best(3, lambda: Timed([BINARY, "serve"], talk([question])))
+    start = [initialize(**capabilities), did_open(text)]
+    without, found = conversed(start), conversed([*start, question])
     if found.status or found.out.count(expected) != count:
         said("NOTE: another answer was expected", f"status {found.status}, {found.out.count(expected)} and not {count} of {expected.decode()}")
     return max(found.processor - without.processor, 1e-4), found.memory
@@ -375,7 +383,7 @@ COUNTS, OF_A_FIELD = [17000, 170000], [12500, 125000]
 
 
 @measure("large: the largest that is taken, beside half of it")
-def largest():
+def largest() -> None:
     """A ratio of 1 is a cost that grows with the size; the start of the program is taken away."""
     import largest_inputs
 
@@ -384,7 +392,7 @@ def largest():
         taken = []
         for count in (size // 2, size):
             given, wanted = largest_inputs.conversation(make, count)
-            found = best(3, lambda given=given: Timed([BINARY, "serve"], given))
+            found = best(3, functools.partial(Timed, [BINARY, "serve"], given))
             taken.append((max(found.processor - nothing, 1e-3), found.memory))
             if found.status or found.out != frames(wanted):
                 said("NOTE: another answer was expected", f"{name}: status {found.status}, {len(found.out):,} bytes")
@@ -392,19 +400,20 @@ def largest():
         said(f"{name}, {size:,}", f"{whole:7.3f} s, ratio {whole / half / 2:.2f}; {megabytes(high)}, of half of it {megabytes(low)}")
 
 
-ABLE = {"textDocument": {"codeAction": {"codeActionLiteralSupport": {}}}}
+ABLE: Message = {"textDocument": {"codeAction": {"codeActionLiteralSupport": {}}}}
 
 
-def place_of(text, at):
+def place_of(text: str, at: int) -> Message:
     return place(text.count("\n", 0, at), at - (text.rfind("\n", 0, at) + 1))
 
 
-def middle_name(text):
+def middle_name(text: str) -> int:
     """Where a number is assigned to a variable, after the middle of a text, in a statement of a line of its own."""
-    return re.compile(r"(?<=[\n ])v[0-9]+ := [^;\n]*;").search(text, len(text) // 2).start()
+    middle = len(text) // 2
+    return middle + match_of(r"(?<=[\n ])v[0-9]+ := [^;\n]*;", text[middle:]).start()
 
 
-def questions_at(text):
+def questions_at(text: str) -> dict[str, tuple[str, Message]]:
     """The questions of an editor at a name in the middle of a text, and a hover at the sign after it."""
     at = middle_name(text)
     known, here = {"textDocument": {"uri": "file:///m"}}, place_of(text, at)
@@ -421,7 +430,7 @@ def questions_at(text):
 
 
 @measure("questions: at one name in the middle, from 10 KB to 1 MiB")
-def questions_in_the_middle():
+def questions_in_the_middle() -> None:
     """Time on a processor of one question of many about an open document, and its instructions: by both, it should cost its
     answer and not the text."""
     many, few = 200, 20
@@ -445,7 +454,7 @@ def questions_in_the_middle():
             said(f"{name}, {len(text):,} bytes", f"{taken:.3f} ms  {steps}  {len(answer):,} bytes answered")
 
 
-def type_statement(talk, text):
+def type_statement(talk: Talk, text: str) -> list[tuple[float, float]]:
     """Types a statement into the middle of a text, key by key, each with the questions that editors ask then. Returns for each key
     milliseconds on a processor and by the clock."""
     at = text.index(";", middle_name(text)) + 1
@@ -464,7 +473,7 @@ def type_statement(talk, text):
 
 
 @measure("typing: a statement typed in the middle, each key with three questions, from 10 KB to 1 MiB")
-def typed():
+def typed() -> None:
     for size in (10_000, 100_000, MIB - 1000):
         text = corpus.module(size)
         with Talk(text, **ABLE) as talk:
@@ -476,7 +485,7 @@ def typed():
 
 
 @measure("typing: changes that leave a text ill-typed, beside changes that don't")
-def left_ill_typed():
+def left_ill_typed() -> None:
     """What makes a number a truth value is put in and taken out again, and so is what leaves it a number."""
     for size in (10_000, 100_000, MIB - 1000):
         text = corpus.module(size)
@@ -484,7 +493,7 @@ def left_ill_typed():
         sound, faulty = place_of(text, at), []
         for new in ("TRUE & ", "1 * "):
             put = {"range": {"end": sound, "start": sound}, "text": new}
-            out = {"range": {"end": place_of(text, at) | {"character": sound["character"] + len(new)}, "start": sound}, "text": ""}
+            out = {"range": {"end": {**sound, "character": sound["character"] + len(new)}, "start": sound}, "text": ""}
             with Talk(text) as talk:
                 before = talk.used()
                 for number in range(20):
@@ -496,7 +505,7 @@ def left_ill_typed():
 
 
 @measure("serve: 1,000 open documents of 10 KB")
-def many_documents():
+def many_documents() -> None:
     text = corpus.module(10_000)
     with Talk(text) as talk:
         for number in range(999):
@@ -505,7 +514,7 @@ def many_documents():
 
 
 @measure("serve: documents of 1 MB that become a comment that isn't closed")
-def commented_out():
+def commented_out() -> None:
     """What is kept of a text without lexemes is bounded by what it counts for: both lines are about the same."""
     text = corpus.module(MIB - 1000)
     with Talk(text) as talk:
@@ -519,7 +528,7 @@ def commented_out():
 
 
 @measure("serve: documents of 8 KB that each become one bad character")
-def bad_characters():
+def bad_characters() -> None:
     """What a text without lexemes keeps of the text before counts too: the lines are about the same."""
     text = corpus.module(8_000)
     with Talk(text) as talk:
@@ -532,21 +541,21 @@ def bad_characters():
 
 
 @measure("questions: references of one name, on 100 KB and 1 MB")
-def referred():
+def referred() -> None:
     ask = {"context": {"includeDeclaration": True}, "position": place(0, 18)}
-    each = lambda text, size: cost_of_query(text, "references", ask, b'"uri":"file:///m"}', size + 1)
+    each: Callable[[str, int], Cost] = lambda text, size: cost_of_query(text, "references", ask, b'"uri":"file:///m"}', size + 1)
     for name, on_line in USES:
-        growth(f"references {name},", COUNTS, lambda size, on_line=on_line: corpus.uses(size, on_line), each)
+        growth(f"references {name},", COUNTS, functools.partial(corpus.uses, on_line=on_line), each)
 
 
 @measure("rename: a name that is used all over 100 KB and 1 MB")
-def renamed():
-    each = lambda text, size: cost_of_query(text, "rename", {"newName": "y", "position": place(0, 18)}, b'"newText":"y"', size + 1)
+def renamed() -> None:
+    each: Callable[[str, int], Cost] = lambda text, size: cost_of_query(text, "rename", {"newName": "y", "position": place(0, 18)}, b'"newText":"y"', size + 1)
     for name, on_line in USES:
-        growth(f"rename {name},", COUNTS, lambda size, on_line=on_line: corpus.uses(size, on_line), each)
+        growth(f"rename {name},", COUNTS, functools.partial(corpus.uses, on_line=on_line), each)
 
 
-def halves(what, cost, first, second):
+def halves(what: str, cost: Callable[[int, int], Cost], first: int, second: int) -> None:
     """Prints what a pair of sizes costs, and its ratio from half of either: 1 is a cost that grows with that size alone, 0.5 one
     that doesn't grow with it. A product of both sizes would be 1 each way."""
     whole, memory = cost(first, second)
@@ -555,33 +564,36 @@ def halves(what, cost, first, second):
 
 
 @measure("rename: a long name for one that is used all over 1 MB, beside half of the uses and half of the name")
-def renamed_to_a_long_name():
-    def cost(uses, letters):
+def renamed_to_a_long_name() -> None:
+    def cost(uses: int, letters: int) -> Cost:
         ask = {"newName": "y" * letters, "position": place(0, 17)}
         return cost_of_query(corpus.chain(uses), "rename", ask, b"TooLong", 1)
 
     halves("uses and letters", cost, 500_000, 8_000_000)
 
 
-def cost_of_changes(changes, lines, line_of, program=BINARY):
+def cost_of_changes(changes: int, lines: int, line_of: Callable[[int], int], program: str = BINARY) -> Cost:
     """What one notification takes beside an open alone: change number `at` is in line `line_of(at)` of so many lines."""
     text = "MODULE M; VAR x: INTEGER; BEGIN\n" + "x:=x+1;\n" * lines + "END M.\n"
     replaced = [{"range": extent(f"{1 + line_of(at)}:0-{1 + line_of(at)}:1"), "text": "x"} for at in range(changes)]
-    talk = lambda more: frames([initialize(), did_open(text), *more, SHUTDOWN, EXIT])
-    found, opening = (best(3, lambda more=more: Timed([program, "serve"], talk(more))) for more in ([did_change(replaced, version=2)], []))
+    start = [initialize(), did_open(text)]
+    found, opening = conversed([*start, did_change(replaced, version=2)], program), conversed(start, program)
     return max(found.processor - opening.processor, 1e-4), found.memory
 
 
 @measure("serve: a change on each line in one note, beside half of the changes and half of the lines")
-def changed_on_each_line():
+def changed_on_each_line() -> None:
     # (from the first line on, and at the first again after the last)
     halves("changes and lines", lambda changes, lines: cost_of_changes(changes, lines, lambda at: at % lines), 128_000, 128_000)
 
 
 @measure("serve: changes of the first line and the last in turn in one note, beside half of the changes and half of the lines")
-def changed_at_both_ends():
+def changed_at_both_ends() -> None:
     """Each moves the starts of all lines between. Where BESIDE names another program, the time by its own."""
-    cost = lambda changes, lines, program=BINARY: cost_of_changes(changes, lines, lambda at: at % 2 * (lines - 1), program)
+
+    def cost(changes: int, lines: int, program: str = BINARY) -> Cost:
+        return cost_of_changes(changes, lines, lambda at: at % 2 * (lines - 1), program)
+
     halves("changes in turn and lines", cost, 16_000, 128_000)
     if os.environ.get("BESIDE"):
         seconds, _ = cost(16_000, 128_000, os.environ["BESIDE"])
@@ -589,10 +601,10 @@ def changed_at_both_ends():
 
 
 @measure("serve: one message of 16 MiB, beside one of 8")
-def largest_message():
+def largest_message() -> None:
     """Where BESIDE names another program, the time and the peak memory by its own."""
 
-    def each(one, size, program=BINARY):
+    def each(one: bytes, size: int, program: str = BINARY) -> Cost:
         content = b"[" + (one + b",") * ((size - 3) // (len(one) + 1)) + b"0]"
         given = b"Content-Length: %d\r\n\r\n" % len(content) + content
         found = best(3, lambda: Timed([program, "serve"], given))
@@ -608,10 +620,10 @@ def largest_message():
 
 
 @measure("rename: from the request to the end of its answer, on 1 MiB")
-def rename_answered():
+def rename_answered() -> None:
     """By the clock, with the document open: a name that is in a module here and there, and one that is all of the text."""
 
-    def whole(name, text, line, character, old, new):
+    def whole(name: str, text: str, line: int, character: int, old: str, new: str) -> None:
         question = request(5, "textDocument/rename", {"newName": new, "position": place(line, character), "textDocument": {"uri": "file:///m"}})
         count = len(re.findall(rf"\b{old}\b", text))
         with Talk(text) as talk:
@@ -628,44 +640,41 @@ def rename_answered():
 
 
 @measure("rename: a field that is used all over 100 KB and 1 MB")
-def field_renamed():
-    each = lambda text, size: cost_of_query(text, "rename", {"newName": "y", "position": place(0, 26)}, b'"newText":"y"', size + 1)
+def field_renamed() -> None:
+    each: Callable[[str, int], Cost] = lambda text, size: cost_of_query(text, "rename", {"newName": "y", "position": place(0, 26)}, b'"newText":"y"', size + 1)
     for name, on_line in USES:
-        growth(f"rename of a field {name},", OF_A_FIELD, lambda size, on_line=on_line: corpus.fields(size, on_line), each)
+        growth(f"rename of a field {name},", OF_A_FIELD, functools.partial(corpus.fields, on_line=on_line), each)
 
 
 @measure("inline: a constant that is used all over 100 KB and 1 MB")
-def inlined():
+def inlined() -> None:
     """At the declaration Inline everywhere is offered, at a use both actions are: the last one, at the text's end."""
-    literals = {"textDocument": {"codeAction": {"codeActionLiteralSupport": {}}}}
 
-    def at(text, where):
-        line = text.count("\n", 0, where)
-        it = place(line, where - (text.rfind("\n", 0, where) + 1))
-        return {"context": {}, "range": {"end": it, "start": it}}
+    def at(text: str, where: int) -> Message:
+        here = place_of(text, where)
+        return {"context": {}, "range": {"end": here, "start": here}}
 
-    everywhere = lambda text, size: cost_of_query(text, "codeAction", at(text, text.index("c=")), b'"newText":"7"', size, **literals)
-    both = lambda text, size: cost_of_query(text, "codeAction", at(text, text.rindex("c")), b'"newText":"7"', size + 1, **literals)
+    everywhere: Callable[[str, int], Cost] = lambda text, size: cost_of_query(text, "codeAction", at(text, text.index("c=")), b'"newText":"7"', size, **ABLE)
+    both: Callable[[str, int], Cost] = lambda text, size: cost_of_query(text, "codeAction", at(text, text.rindex("c")), b'"newText":"7"', size + 1, **ABLE)
     for name, on_line in USES:
-        make = lambda size, on_line=on_line: corpus.constants(size, on_line)
+        make = functools.partial(corpus.constants, on_line=on_line)
         growth(f"inline everywhere, {name},", COUNTS, make, everywhere)
         growth(f"inline here and everywhere, {name},", COUNTS, make, both)
 
 
 @measure("format: what a layout costs, from 100 KB to 1 MiB")
-def laid_out():
+def laid_out() -> None:
     options = {"insertSpaces": True, "tabSize": 2}
-    request = {"id": 5, "jsonrpc": "2.0", "method": "textDocument/formatting", "params": {"options": options, "textDocument": {"uri": "file:///m"}}}
+    question = request(5, "textDocument/formatting", {"options": options, "textDocument": {"uri": "file:///m"}})
 
-    def each(text, _):
-        talk = lambda more: frames([initialize(), did_open(text), *more, SHUTDOWN, EXIT])
-        without = best(3, lambda: Timed([BINARY, "serve"], talk([])))
-        found = best(3, lambda: Timed([BINARY, "serve"], talk([request])))
+    def each(text: str, _: int) -> Cost:
+        start = [initialize(), did_open(text)]
+        without, found = conversed(start), conversed([*start, question])
         if b'"newText"' not in found.out:
             said("NOTE: no edit was answered", found.out[-200:].decode(errors="replace"))
         return max(found.processor - without.processor, 1e-4), found.memory
 
-    def wide(size):
+    def wide(size: int) -> str:
         """A module on one line with this many blanks between its words that its layout isn't longer than it is."""
         return corpus.module(size * 39 // 100, on_line=True).replace(" ", " " * 5).ljust(size)
 
@@ -673,23 +682,23 @@ def laid_out():
     growth("layout of a module on one line of", [100000, MIB], wide, each)
 
 
-def lacks(command):
+def lacks(command: str) -> str | None:
     """What is said of a command that isn't here, or None."""
     return None if shutil.which(command) else f"{command} is missing (on Debian: apt-get install {command})"
 
 
-def instructions_of_conversation(program, given):
+def instructions_of_conversation(program: str, given: bytes) -> int:
     """How many instructions a conversation takes: the same on each run, where times vary."""
     with tempfile.TemporaryFile() as file:
         file.write(given)
         file.seek(0)
         words = ["valgrind", "--tool=callgrind", "--callgrind-out-file=/dev/null", program, "serve"]
         done = subprocess.run(words, stdin=file, stdout=subprocess.DEVNULL, stderr=subprocess.PIPE, check=False)
-    return int(re.search(rb"Collected : (\d+)", done.stderr)[1])
+    return int(match_of(r"Collected : (\d+)", done.stderr.decode())[1])
 
 
 @measure("keys: what an editor does while one types: instructions, and time on a processor")
-def keys_typed():
+def keys_typed() -> None:
     """Where BESIDE names another program, its instructions come after."""
     import keys
 
@@ -697,9 +706,9 @@ def keys_typed():
     counts = lacks("valgrind") is None
     if not counts:
         said("instructions", f"not counted: {lacks('valgrind')}")
-    for name, short, long, count in keys.rows():
+    for name, (short, long, count) in keys.rows():
         less, more = (frames(keys.conversation(it)) for it in (short, long))
-        one, other = (best(3, lambda given=given: Timed([BINARY, "serve"], given)).processor for given in (less, more))
+        one, other = (best(3, functools.partial(Timed, [BINARY, "serve"], given)).processor for given in (less, more))
         line = f"{max(other - one, 1e-5) / count * 1000:9.3f} ms"
         if counts:
             taken = [(instructions_of_conversation(it, more) - instructions_of_conversation(it, less)) / count for it in programs]
@@ -708,7 +717,7 @@ def keys_typed():
 
 
 @measure("keys: eight documents that grow and shrink between 100 bytes and 1 MB: peak memory")
-def grown_and_shrunk():
+def grown_and_shrunk() -> None:
     import keys
 
     for count in (20, 200, 400):
@@ -716,7 +725,7 @@ def grown_and_shrunk():
         said(f"{count} changes", f"{megabytes(found.memory)}  status {found.status}")
 
 
-def instructions(words, file):
+def instructions(words: list[str], file: str) -> str:
     """How many instructions a command on a file has, as valgrind counts them; what is said where it can't."""
     if missing := lacks("valgrind"):
         return f"skipped: {missing}"
@@ -727,7 +736,7 @@ def instructions(words, file):
 
 
 @measure("run: loops, arrays and calls, against Lua and Python")
-def ran():
+def ran() -> None:
     import programs
 
     beside = os.environ.get("BESIDE")
@@ -740,9 +749,8 @@ def ran():
             with open(file, "w", encoding="utf-8") as it:
                 it.write(text)
             said(f"{name}: ob0, counted", instructions([BINARY, "run"], file))
-        for words, other in ([beside, "run"], text), (["lua5.4"], lua), (["python3"], python):
-            if words[0] is None:
-                continue
+        others = [(["lua5.4"], lua), (["python3"], python)]
+        for words, other in [([beside, "run"], text), *others] if beside else others:
             command = os.path.basename(words[0])
             if missing.get(command):
                 said(f"{name}: {command}", f"skipped: {missing[command]}")
@@ -756,7 +764,7 @@ def ran():
             said(f"{name}: {command}", f"{its.processor:.3f} s  ob0 takes {found.processor / its.processor:.2f} times that; {agrees}")
 
 
-def output_of(text, wanted):
+def output_of(text: str, wanted: int) -> Timed:
     """A run that has to write this number."""
     found = on_file(["run"], text, times=1)
     if found.status or found.out != b" %d\n" % wanted:
@@ -765,7 +773,7 @@ def output_of(text, wanted):
 
 
 @measure("run: memory by the calls that are made, and by those that are open at a time")
-def flat():
+def flat() -> None:
     import programs
 
     counts = (1000, 1000000, 10000000)
@@ -780,11 +788,11 @@ def flat():
 
 
 @measure("run: memory by the numbers that are written")
-def numbers():
+def numbers() -> None:
     """Nothing is written before a run's end: so its output is stored."""
     import programs
 
-    def of(count):
+    def of(count: int) -> Timed:
         found = on_file(["run"], programs.numbers_out(count), times=3)
         if found.status or len(found.out) != 2 * count:
             said("NOTE: another output was expected", f"status {found.status}, {len(found.out):,} bytes")
@@ -798,7 +806,7 @@ def numbers():
     said("time and peak memory of the second, by the first", f"ratio {whole.processor / half.processor / 2:.2f}, {whole.memory / half.memory / 2:.2f}")
 
 
-def main(words):
+def main(words: list[str]) -> int:
     if not os.access(BINARY, os.X_OK):
         print("bin/ob0 is missing: make it with `make build`", file=sys.stderr)
         return 2

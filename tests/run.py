@@ -6,6 +6,8 @@
 
 A test that wants an editor or another program that isn't here is left out, by name; where words are given and there is no
 program yet, so is each test that runs it. The last line is 'N passed, M failed'."""
+from __future__ import annotations
+
 import glob
 import importlib
 import multiprocessing
@@ -13,6 +15,7 @@ import os
 import sys
 import time
 import traceback
+from collections.abc import Iterator
 
 sys.dont_write_bytecode = True
 HERE = os.path.dirname(os.path.abspath(__file__))
@@ -21,14 +24,14 @@ sys.path.insert(0, os.path.join(HERE, "lib"))
 import harness  # noqa: E402
 
 
-def load():
+def load() -> None:
     for file in sorted(glob.glob(os.path.join(HERE, "test_*.py"))):
         importlib.import_module(os.path.basename(file)[:-3])
     names = [name for name, _ in harness.TESTS]
     assert len({*names}) == len(names), "two tests have one name"
 
 
-def tried(at):
+def tried(at: int) -> tuple[bool | None, str, dict[str, list[str]]]:
     """Runs the test at this place of the table: whether it passes (None where it is left out), what is to be said of it, and
     the tools that it wanted and that aren't here."""
     name, function = harness.TESTS[at]
@@ -49,13 +52,13 @@ def tried(at):
     return True, f"ok       {name}{f' ({took:.1f} s)' if took >= 1 else ''}", {}
 
 
-def all_tried(places):
+def all_tried(places: list[int]) -> Iterator[tuple[bool | None, str, dict[str, list[str]]]]:
     """What `tried` gives for each place, as they end: as many tests side by side as there are processors."""
     with multiprocessing.get_context("fork").Pool(min(len(os.sched_getaffinity(0)), len(places) or 1)) as pool:
         yield from pool.imap_unordered(tried, places, chunksize=1)
 
 
-def main(words):
+def main(words: list[str]) -> int:
     load()
     given = [it for it in words if it != "--list"]
     chosen = [at for at, (name, _) in enumerate(harness.TESTS) if not given or any(it in name for it in given)]

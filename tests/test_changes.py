@@ -1,22 +1,26 @@
 """Changes with a range, in both units: what the server holds is what the editor has."""
-import random
+from __future__ import annotations
 
-from harness import Server, compact, diagnostic, did_change, did_open, extent, holds, initialize, published, same, serve, test
+import random
+from collections.abc import Callable
+from typing import Any
+
+from harness import Message, Server, compact, diagnostic, did_change, did_open, extent, holds, initialize, place, published, same, serve, test
 
 ENDS = ("\r\n", "\r", "\n")
 
 
-def units(text, utf8):
+def units(text: str, utf8: bool) -> int:
     return len(text.encode()) if utf8 else len(text.encode("utf-16-le")) // 2
 
 
 class Edited:
     """A text as an editor holds it. Places are counted in characters."""
 
-    def __init__(self, text, utf8=False):
+    def __init__(self, text: str, utf8: bool = False) -> None:
         self.text, self.utf8 = text, utf8
 
-    def starts(self):
+    def starts(self) -> list[int]:
         """Where the lines start."""
         found, at = [0], 0
         while at < len(self.text):
@@ -26,20 +30,20 @@ class Edited:
                 found.append(at)
         return found
 
-    def position(self, at):
+    def position(self, at: int) -> Message:
         """The position of a place that is not between CR and LF."""
         starts = self.starts()
         line = max(count for count, start in enumerate(starts) if start <= at)
         return {"line": line, "character": units(self.text[starts[line] : at], self.utf8)}
 
-    def change(self, start, end, new):
+    def change(self, start: int, end: int, new: str) -> Message:
         """Replaces, and gives the change."""
         found = {"range": {"start": self.position(start), "end": self.position(end)}, "text": new}
         self.text = self.text[:start] + new + self.text[end:]
         return found
 
 
-def faults(edited):
+def faults(edited: Edited) -> list[Message]:
     """What is reported of a text of white space, letters, comments that are closed, and bad characters `$`, `é` and `😀`."""
     found, depth, at, text = [], 0, 0, edited.text
     while at < len(text):
@@ -55,19 +59,19 @@ def faults(edited):
     return found[:100]
 
 
-def is_between(text, at):
+def is_between(text: str, at: int) -> bool:
     return text[at - 1 : at + 1] == "\r\n"
 
 
-def scanned(diagnostics):
+def scanned(diagnostics: list[Message]) -> list[Message]:
     """The faults of scanning among what is reported."""
     return [it for it in diagnostics if it["code"] == "BadChar"]
 
 
-def session(seed, utf8, steps):
+def session(seed: int, utf8: bool, steps: int) -> None:
     """A random editing session; after each step the diagnostics show where the server has each bad character."""
     chance = random.Random(seed)
-    offer = {"capabilities": {"general": {"positionEncodings": ["utf-8", "utf-16"] if utf8 else ["utf-16"]}}}
+    offer: Message = {"capabilities": {"general": {"positionEncodings": ["utf-8", "utf-16"] if utf8 else ["utf-16"]}}}
     edited = Edited("$ a\r\n$ (* 😀 *) b\r$\n", utf8)
     pieces = ["$", "a", "😀", "\r", "\n", "\r\n", " ", "é", "(* 😀\r\n *)", "b$b", ""]
     pieces[7] = "(*é*)"
@@ -94,16 +98,16 @@ def session(seed, utf8, steps):
 
 
 @test("changes: 1,000 random changes in UTF-16 units, with CR, CR LF and characters past U+FFFF")
-def utf16():
+def utf16() -> None:
     session(1, False, 1000)
 
 
 @test("changes: 1,000 random changes in UTF-8 units")
-def utf8_units():
+def utf8_units() -> None:
     session(2, True, 1000)
 
 
-def changed(text, *changes, encodings=None):
+def changed(text: str, *changes: tuple[str | None, str], encodings: list[Any] | str | None = None) -> list[Message]:
     """What is reported once a text with these changes, pairs of a range and a new text, is open."""
     capabilities = {"general": {"positionEncodings": encodings}} if encodings else {}
     with Server(capabilities=capabilities) as server:
@@ -112,16 +116,16 @@ def changed(text, *changes, encodings=None):
         return scanned(server.notify(did_change(given)))
 
 
-def at_end(text, *changes, encodings=None):
+def at_end(text: str, *changes: tuple[str | None, str], encodings: list[Any] | str | None = None) -> Message:
     """Where a bad character is that is put after all of the changed text."""
     end = ("18446744073709551615:0-18446744073709551615:0", "$")
     found = changed(text, *changes, end, encodings=encodings)
-    return [it["range"]["start"] for it in found][-1]
+    start: Message = found[-1]["range"]["start"]
+    return start
 
 
 @test("changes: lines and units")
-def lines():
-    place = lambda line, character: {"line": line, "character": character}
+def lines() -> None:
     same(at_end("(* 😀 *) x := 1;"), place(0, 16), "units of UTF-16")
     same(at_end("(* 😀 *) x := 1;", ("0:9-0:10", "yz")), place(0, 17), "a name replaced after a pair")
     same(at_end("(* 😀 *) x := 1;", ("0:9-0:10", "yz"), ("0:4-0:4", "!")), place(0, 18), "inside a pair: before it")
@@ -134,8 +138,8 @@ def lines():
 
 
 @test("changes: places in a text show by a bad character")
-def places():
-    bad = lambda where: [diagnostic("BadChar", "bad character", where)]
+def places() -> None:
+    bad: Callable[[str], list[Message]] = lambda where: [diagnostic("BadChar", "bad character", where)]
     same(changed("(* 😀 *) x", ("0:9-0:9", "$")), bad("0:9-0:10"), "after a pair")
     same(changed("(* 😀 *) x", ("0:4-0:4", "$")), [], "in the comment")
     same(changed("a\rb", ("1:0-1:0", "\n"), ("1:0-1:0", "$")), bad("1:0-1:1"), "after CR LF")
@@ -146,7 +150,7 @@ WITH_PAIR = "(* 😀 *) x := 1;"
 
 
 @test("changes: a place inside a character moves back before it, in both units")
-def inside():
+def inside() -> None:
     wanted = [diagnostic("BadChar", "bad character", "0:5-0:6")]
     for encodings, places in ((["utf-16"], [3, 4]), (["utf-8"], [3, 4, 5, 6])):
         for at in places:
@@ -156,8 +160,8 @@ def inside():
 
 
 @test("changes: a place after a line's end is that end, and one after the last line is the text's end")
-def past_the_end():
-    bad = lambda where: [diagnostic("BadChar", "bad character", where)]
+def past_the_end() -> None:
+    bad: Callable[[str], list[Message]] = lambda where: [diagnostic("BadChar", "bad character", where)]
     same(changed(WITH_PAIR, ("0:99-0:99", "$")), bad("0:16-0:17"), "0:99, of one line")
     same(changed(WITH_PAIR, ("7:0-7:0", "$")), bad("0:16-0:17"), "7:0, of one line")
     for ending in ENDS:
@@ -168,21 +172,23 @@ def past_the_end():
 
 
 @test("changes: places after a line's end and after the last line, in UTF-8 units")
-def behind_utf8():
+def behind_utf8() -> None:
     bad = [diagnostic("BadChar", "bad character", "0:18-0:19")]
     for where in ("0:99-0:99", "7:0-7:0"):
         same(changed(WITH_PAIR, (where, "$"), encodings=["utf-8"]), bad, where)
 
 
-def all_at_once(text, *changes):
+def all_at_once(text: str, *changes: tuple[str, str]) -> list[str]:
     """What is published of a text, and of what these changes in one notification make of it, which are all ranged."""
     given = [{"range": extent(where), "text": new} for where, new in changes]
     return serve([initialize(), did_open(text), did_change(given, version=2)]).contents()[1:]
 
 
 @test("changes: several in one notification are published once, with its version")
-def one_notification():
-    bad = lambda *places: [diagnostic("BadChar", "bad character", it) for it in places]
+def one_notification() -> None:
+    def bad(*places: str) -> list[Message]:
+        return [diagnostic("BadChar", "bad character", it) for it in places]
+
     module = [diagnostic("Syntax", "expected MODULE", "0:0-0:1")]
     given = [("1:0-1:0", "\n"), ("1:1-1:1", "\nc")]
     same(all_at_once("a\rb", *given, ("2:0-2:1", "d")), [published(module), published(module, version=2)], "letters")
@@ -193,7 +199,7 @@ def one_notification():
 
 
 @test("changes: ranges, each of the text that the one before made; one that can't be read; the whole text")
-def one_after_another():
+def one_after_another() -> None:
     module = "MODULE M; END M."
     given = [
         did_open(module),
@@ -206,8 +212,7 @@ def one_after_another():
 
 
 @test("changes: units of UTF-8")
-def utf8_lines():
-    place = lambda line, character: {"line": line, "character": character}
+def utf8_lines() -> None:
     both = ["utf-8", "utf-16"]
     text = "(* 😀 *) x := 1;"
     same(at_end(text, encodings=both), place(0, 18), "units of UTF-8")
@@ -217,7 +222,7 @@ def utf8_lines():
 
 
 @test("changes: utf-8 is announced where it is offered, and UTF-16 is taken else")
-def announced():
+def announced() -> None:
     for encodings, wanted in ((["utf-8"], True), ([7, "utf-8"], True), (["utf-16"], False), ([], False), ("utf-8", False)):
         with Server(capabilities={"general": {"positionEncodings": encodings}}) as server:
             found = server.first["result"]["capabilities"]
@@ -225,7 +230,7 @@ def announced():
 
 
 @test("changes: params that can't be read, and a document out of step")
-def broken():
+def broken() -> None:
     module = "MODULE M; END M."
     with Server() as server:
         same(server.notify(did_open(module)), [])
@@ -247,7 +252,7 @@ def broken():
 
 
 @test("changes: a text of many lines is edited near its end")
-def long_text():
+def long_text() -> None:
     lines = [f"(* line {at} *)" for at in range(20000)]
     with Server() as server:
         same(scanned(server.notify(did_open("\n".join(lines)))), [])

@@ -1,10 +1,14 @@
 """`ob0 check` and the diagnostics of scopes and types: one example for each code, sizes, files that can't be read."""
+from __future__ import annotations
+
 import os
 import subprocess
 import tempfile
+from collections.abc import Callable
+from typing import Any
 
 import harness
-from harness import Server, did_open, ends, marked, on_file, run, same, test
+from harness import Ended, Server, did_open, ends, marked, on_file, run, same, test
 
 LONG = """MODULE M;
 CONST k = 1 DIV 0; m = 1;
@@ -26,12 +30,12 @@ LONG_TOLD = """1:10: ConstFault: constant has a fault
 
 
 @test("check: a module with ten faults, byte by byte")
-def ten_faults():
+def ten_faults() -> None:
     ends(on_file("check", LONG), LONG_TOLD, 1)
 
 
 @test("check: two array types of one form are two types")
-def arrays():
+def arrays() -> None:
     ends(
         on_file("check", "MODULE M; VAR a: ARRAY 3 OF INTEGER; b: ARRAY 3 OF INTEGER; BEGIN a := b END M."),
         "0:71: TypeMismatch: wrong type\n",
@@ -41,7 +45,7 @@ def arrays():
     ends(on_file("check", "MODULE M; TYPE T = ARRAY 3 OF INTEGER; VAR a: T; b: T; BEGIN a := b END M."), "", 0)
 
 
-def chain(count):
+def chain(count: int) -> str:
     """Types, each an array of one of the type before."""
     names = ["INTEGER", *(f"A{at}" for at in range(1, count + 1))]
     types = "".join(f"\n{name} = ARRAY 1 OF {before};" for before, name in zip(names, names[1:]))
@@ -49,8 +53,8 @@ def chain(count):
 
 
 @test("check: sizes of types")
-def sizes():
-    of = lambda text: on_file("check", f"MODULE M; VAR a: {text}; END M.")
+def sizes() -> None:
+    of: Callable[[str], Ended] = lambda text: on_file("check", f"MODULE M; VAR a: {text}; END M.")
     ends(of("ARRAY 256 OF ARRAY 256 OF INTEGER"), "", 0)
     ends(of("ARRAY 256 OF ARRAY 257 OF INTEGER"), "0:17: TypeTooLarge: type too large\n", 1)
     ends(of("ARRAY 65536 OF INTEGER"), "", 0)
@@ -139,7 +143,7 @@ EXAMPLES = [
 
 
 @test("check: each code of scopes and types, with its ranges, through `serve`")
-def examples():
+def examples() -> None:
     with Server() as server:
         for text, *codes in EXAMPLES:
             plain, wanted = marked(text, *codes)
@@ -147,7 +151,7 @@ def examples():
 
 
 @test("check: each code of scopes and types, through `check`")
-def examples_checked():
+def examples_checked() -> None:
     for text, *codes in EXAMPLES:
         plain, wanted = marked(text, *codes)
         lines = [f"{it['range']['start']['line']}:{it['range']['start']['character']}: {it['code']}: {it['message']}\n" for it in wanted]
@@ -155,7 +159,7 @@ def examples_checked():
 
 
 @test("check: the first 100 faults")
-def hundred():
+def hundred() -> None:
     with Server() as server:
         text = "MODULE M; BEGIN" + " x;" * 1000 + " END M."
         found = server.notify(did_open(text))
@@ -163,7 +167,7 @@ def hundred():
 
 
 @test("check: parameters that are assigned, and bodies that see their own name")
-def well_typed():
+def well_typed() -> None:
     texts = [
         "MODULE M; VAR r: RECORD a: INTEGER END; s: RECORD a: BOOLEAN END; BEGIN r.a := 1; s.a := TRUE END M.",
         "MODULE M; PROCEDURE P(VAR a: INTEGER; b: INTEGER); BEGIN a := b; b := a; P(b, a) END P; END M.",
@@ -175,7 +179,7 @@ def well_typed():
 
 
 @test("check: a comment that isn't closed, and numbers that are too large")
-def scanning():
+def scanning() -> None:
     ends(on_file("check", "12ab $"), "0:0: NumberJoinsLetter: letter after number\n0:5: BadChar: bad character\n", 1)
     ends(on_file("check", "MODULE M;\n(* 😀 *) $"), "1:9: BadChar: bad character\n", 1)
     ends(on_file("check", "MODULE M;\n(* (* *) END M."), "1:0: OpenComment: comment not closed\n", 1)
@@ -188,7 +192,7 @@ def scanning():
 
 
 @test("check: scanning and syntax are reported first")
-def earlier():
+def earlier() -> None:
     ends(on_file("check", "MODULE M; BEGIN x := 1a END M."), "0:21: NumberJoinsLetter: letter after number\n", 1)
     ends(on_file("check", "MODULE M; BEGIN x = 1 END M."), "0:18: Syntax: expected END\n", 1)
     ends(on_file("check", ""), "0:0: Syntax: expected MODULE\n", 1)
@@ -197,7 +201,7 @@ def earlier():
 
 
 @test("check: files that can't be taken")
-def files():
+def files() -> None:
     good = "MODULE M; VAR x: INTEGER; END M."
     too_long = "0:0: TooLong: text too long\n"
     ends(run(["check", "/nowhere/m.mod"]), "", 4, "fault: File\n")
@@ -212,19 +216,19 @@ def files():
 
 
 @test("check: command lines that are refused")
-def lines():
+def lines() -> None:
     for words in (["check"], ["check", "a", "b"], ["check", "--x", "a"]):
         found = run(words)
         same((found.out, bool(found.err), found.status), (b"", True, 2), " ".join(words))
 
 
 @test("check: a device that is full is a fault of writing")
-def full():
+def full() -> None:
     with tempfile.TemporaryDirectory() as room:
         file = os.path.join(room, "m.mod")
         with open(file, "w", encoding="utf-8") as it:
             it.write(LONG)
         with open("/dev/full", "wb") as device:
-            how = {"stdin": subprocess.DEVNULL, "stdout": device, "stderr": subprocess.PIPE}
+            how: dict[str, Any] = {"stdin": subprocess.DEVNULL, "stdout": device, "stderr": subprocess.PIPE}
             ran = subprocess.run([harness.BINARY, "check", file], timeout=harness.SECONDS, check=False, **how)
     same((ran.stderr, ran.returncode), (b"fault: Write\n", 4))

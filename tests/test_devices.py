@@ -1,21 +1,24 @@
 """What the program does where memory runs out, or where a reader or writer fails, at each byte of the first conversation."""
+from __future__ import annotations
+
 import os
 import resource
 import signal
 import subprocess
 import tempfile
+from typing import Any
 
 import conversations
 import corpus
 import failing
 import harness
 from first_conversation import BORDERS, INPUT, OUT, OUTPUT
-from harness import EXIT, SHUTDOWN, did_change, did_open, frame, frames, holds, initialize, same, serve, test
+from harness import EXIT, Ended, SHUTDOWN, did_change, did_open, frame, frames, holds, initialize, same, serve, test
 
 TALK = [initialize(), did_open(corpus.module(200000)), did_change("$"), SHUTDOWN, EXIT]
 
 
-def limited(kilobytes):
+def limited(kilobytes: int) -> tuple[int, bytes, bytes]:
     """The talk by a server whose addresses are limited to this many kilobytes."""
     words = ["sh", "-c", f'ulimit -v {kilobytes}; exec "$@"', "sh", harness.BINARY, "serve"]
     ran = subprocess.run(words, input=frames(TALK), timeout=harness.SECONDS, capture_output=True, check=False)
@@ -23,7 +26,7 @@ def limited(kilobytes):
 
 
 @test("devices: where memory runs out, what was sent before is whole")
-def memory():
+def memory() -> None:
     whole = serve(TALK)
     contents = whole.contents()
     fronts = [frames(contents[:count]) for count in range(len(contents) + 1)]
@@ -43,7 +46,7 @@ def memory():
     holds(ends["refused"] and ends["done"], f"the limits showed only one end: {ends}")
 
 
-def ended(found, out, status, err, where):
+def ended(found: Ended, out: bytes, status: int, err: bytes, where: str) -> None:
     same((found.out, found.err, found.status), (out, err, status), where)
 
 
@@ -51,7 +54,7 @@ SERVE = [harness.BINARY, "serve"]
 
 
 @test("devices: a reader that fails at each byte of the first conversation")
-def failing_reader():
+def failing_reader() -> None:
     # (the exit is taken with its last byte: the call after it is never made)
     for found in failing.walk(SERVE, INPUT, None, "reads", range(1, len(INPUT) + 1)):
         fewest, most = (len([it for it in BORDERS[1:] if it < at]) for at in (found.numbers[0], found.numbers[-1]))
@@ -61,7 +64,7 @@ def failing_reader():
 
 
 @test("devices: a writer that takes one byte a call and fails, or takes none, after each byte of the first conversation")
-def failing_writer():
+def failing_writer() -> None:
     for ending in ("", ".."):
         for found in failing.walk(SERVE, INPUT, None, "writes", range(len(OUTPUT)), ending):
             number = found.numbers[-1]
@@ -70,9 +73,9 @@ def failing_writer():
 
 
 @test("devices: a writer that fails after each byte that a command prints")
-def failing_printer():
+def failing_printer() -> None:
     for name, status in (("check a text with two faults", 1), ("run a module", 0), ("rename a variable", 0)):
-        words, given, text = conversations.SHORT[name]
+        words, given, text, _ = conversations.SHORT[name]
         with failing.beside(text) as room:
             command = [harness.BINARY, *words]
             plain = failing.undisturbed(command, given, room)
@@ -83,34 +86,34 @@ def failing_printer():
 
 
 @test("devices: each read and each write fails, of a file, of the input or of an output")
-def failing_calls():
+def failing_calls() -> None:
     counts = [failing.broken(name, *it[:3]) for name, it in {**conversations.SHORT, **conversations.LONG}.items()]
     holds(all(counts), f"nothing was read or written: {counts}")
 
 
 @test("devices: each read and each write moves one byte")
-def short_calls():
+def short_calls() -> None:
     counts = [failing.shortened(name, *it[:3]) for name, it in {**conversations.SHORT, **conversations.LONG}.items()]
     holds(any(counts), "nothing of several bytes was read or written")
 
 
 @test("devices: pieces of 8,192 bytes are read")
-def pieces():
+def pieces() -> None:
     given = frame(b"[" + b" " * 99998 + b"]")
     # (a piece a call, the call that finds the end, and the two that write the answer: its head and its content)
     same(failing.undisturbed(SERVE, given).calls["calls"], -(-len(given) // 8192) + 3, "the reads and writes of a message of 100,000 bytes")
 
 
 @test("devices: an input that fails at each byte of what a run reads")
-def failing_input():
-    words, _, text = conversations.SHORT["run a module"]
+def failing_input() -> None:
+    words, _, text, _ = conversations.SHORT["run a module"]
     with failing.beside(text) as room:
         for found in failing.walk([harness.BINARY, *words], b"1 2", room, "reads", range(1, 5)):
             ended(found, b"", 4, b"fault: Input\n", f"call {found.numbers[0]} fails")
 
 
 @test("devices: a file that fails at each byte of the module in it")
-def failing_file():
+def failing_file() -> None:
     text = "MODULE M; END M."
     for words in (["check", "m.mod"], ["run", "m.mod"], ["rename", "m.mod", "0", "7", "x"]):
         with failing.beside(text) as room:
@@ -119,10 +122,10 @@ def failing_file():
 
 
 @test("devices: a folder instead of an input")
-def reader():
+def reader() -> None:
     folder = os.open("/", os.O_RDONLY)
     try:
-        how = {"stdin": folder, "capture_output": True, "timeout": harness.SECONDS, "check": False}
+        how: dict[str, Any] = {"stdin": folder, "capture_output": True, "timeout": harness.SECONDS, "check": False}
         ran = subprocess.run([harness.BINARY, "serve"], **how)
     finally:
         os.close(folder)
@@ -130,22 +133,22 @@ def reader():
 
 
 @test("devices: a writer that is full")
-def writer():
+def writer() -> None:
     with open("/dev/full", "wb") as device:
-        how = {"stdout": device, "stderr": subprocess.PIPE, "timeout": harness.SECONDS, "check": False}
+        how: dict[str, Any] = {"stdout": device, "stderr": subprocess.PIPE, "timeout": harness.SECONDS, "check": False}
         ran = subprocess.run([harness.BINARY, "serve"], input=frames(TALK), **how)
     same((ran.stderr, ran.returncode), (b"fault: Write\n", 4))
 
 
 @test("devices: a limit on the size of files, whose signal ends the program where nobody ignores it")
-def limit_of_files():
+def limit_of_files() -> None:
     for handler, wanted in ((signal.SIG_DFL, (b"", -signal.SIGXFSZ)), (signal.SIG_IGN, (b"fault: Write\n", 4))):
 
-        def limit(handler=handler):
+        def limit(handler: int | signal.Handlers = handler) -> None:
             resource.setrlimit(resource.RLIMIT_FSIZE, (0, 0))
             signal.signal(signal.SIGXFSZ, handler)
 
         with tempfile.TemporaryFile() as out:
-            how = {"stdout": out, "stderr": subprocess.PIPE, "timeout": harness.SECONDS, "check": False, "restore_signals": False}
+            how: dict[str, Any] = {"stdout": out, "stderr": subprocess.PIPE, "timeout": harness.SECONDS, "check": False, "restore_signals": False}
             ran = subprocess.run([harness.BINARY, "serve"], input=frames(TALK), preexec_fn=limit, **how)
         same((ran.stderr, ran.returncode), wanted)

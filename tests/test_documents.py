@@ -1,7 +1,10 @@
 """Documents and what is published of them: opens, changes, closes, versions, faults of scanning."""
-import json
+from __future__ import annotations
 
-from harness import answer, did_change, did_close, did_open, error, holds, initialize, notice, place, published, request, same, serve
+import json
+from typing import Any
+
+from harness import Content, Message, answer, did_change, did_close, did_open, error, holds, initialize, notice, place, published, request, same, serve
 from harness import Server, capabilities, diagnostic, extent, frames, test
 
 FIRST = answer(1, {"capabilities": capabilities()})
@@ -9,13 +12,13 @@ MODULE = "MODULE M; VAR x: INTEGER; END M."
 LIMIT = 1048576
 
 
-def of(text, **named):
+def of(text: str, **named: Any) -> list[Message]:
     """What is published where a text is opened."""
     with Server() as server:
         return server.notify(did_open(text, **named))
 
 
-def talk(*contents):
+def talk(*contents: Content) -> list[str]:
     """What is sent after the first answer."""
     found = serve([initialize(), *contents])
     same((found.err, found.status), (b"", 1), "the end")
@@ -24,7 +27,7 @@ def talk(*contents):
 
 
 @test("documents: `12ab $`, byte by byte")
-def two_faults():
+def two_faults() -> None:
     found = serve([initialize(), did_open("12ab $")])
     wanted = (
         b'Content-Length: 397\r\n\r\n{"jsonrpc":"2.0","method":"textDocument/publishDiagnostics","params":'
@@ -63,14 +66,14 @@ FAULTS = {
 
 
 @test("documents: faults of scanning, with their ranges in UTF-16 units")
-def faults():
+def faults() -> None:
     with Server() as server:
         for version, (text, wanted) in enumerate(FAULTS.items()):
             same(server.notify(did_open(text, version=version)), wanted, repr(text))
 
 
 @test("documents: texts that scan well")
-def good():
+def good() -> None:
     texts = [
         MODULE,
         "MODULE M; CONST c = 2147483647; d = 000000000002147483647; END M.",
@@ -84,14 +87,14 @@ def good():
 
 
 @test("documents: the first 100 faults are reported")
-def many_faults():
+def many_faults() -> None:
     same(len(of("$" * 100)), 100, "of 100 faults")
     found = of("$" * 1000 + "(*")
     same(found, [diagnostic("BadChar", "bad character", f"0:{at}-0:{at + 1}") for at in range(100)], "of 1,001 faults")
 
 
 @test("documents: a text of 1,048,576 bytes is taken, one byte more is too long")
-def lengths():
+def lengths() -> None:
     too_long = [diagnostic("TooLong", "text too long", "0:0-0:0")]
     with Server() as server:
         same(server.notify(did_open(MODULE.ljust(LIMIT))), [], "at the limit")
@@ -101,24 +104,24 @@ def lengths():
 
 
 @test("documents: a change of the whole text")
-def whole():
+def whole() -> None:
     found = talk(did_open("$"), did_change(MODULE, version=7), did_change("$", version=-8))
     bad = diagnostic("BadChar", "bad character", "0:0-0:1")
     same(found, [published([bad]), published([], version=7), published([bad], version=-8)])
 
 
 @test("documents: of two changes in one notification the last one counts")
-def two_changes():
+def two_changes() -> None:
     same(talk(did_open("$"), did_change([{"text": "$$"}, {"text": MODULE}]))[1:], [published([], version=2)])
 
 
 @test("documents: an empty list of changes sets the version")
-def no_change():
+def no_change() -> None:
     same(talk(did_open("$"), did_change([], version=5))[1:], [published([diagnostic("BadChar", "bad character", "0:0-0:1")], version=5)])
 
 
 @test("documents: params that can't be read put a document out of step, until a whole text comes")
-def out_of_step():
+def out_of_step() -> None:
     broken = notice("textDocument/didChange", {"textDocument": {"uri": "file:///m", "version": 2}})
     skipped = did_change([{"range": extent("0:0-0:1"), "text": ""}], version=3)
     found = talk(did_open("$"), broken, skipped, did_change([], version=4), did_change(MODULE, version=5))
@@ -126,7 +129,7 @@ def out_of_step():
 
 
 @test("documents: a change with half a surrogate pair isn't JSON, and changes nothing")
-def half_a_pair():
+def half_a_pair() -> None:
     halves = [json.dumps(did_change(text, version=2)) for text in ("\ud83d", "\ude00", "\ude00\ud83d", "$\ud83dx")]
     whole = json.dumps(did_change("$\ud83d\ude00", version=4))
     found = talk(did_open("$"), *halves, did_change([{"range": extent("0:0-0:1"), "text": "$$"}], version=3), whole)
@@ -135,22 +138,22 @@ def half_a_pair():
 
 
 @test("documents: an open that can't be read, of an open document, puts it out of step")
-def broken_open():
+def broken_open() -> None:
     broken = notice("textDocument/didOpen", {"textDocument": {"uri": "file:///m", "version": 2}})
     same(talk(did_open("$"), broken, did_change([], version=3), did_open(MODULE, version=4))[1:], [published([], version=4)])
 
 
 @test("documents: versions are whole numbers of 64 bits")
-def versions():
+def versions() -> None:
     with Server() as server:
         for version in (-9223372036854775808, 9223372036854775807, 0):
             same(server.notify(did_open(MODULE, version=version)), [], f"version {version}")
-    for version in (9223372036854775808, 1.5, "1", None, True):
-        same(talk(did_open(MODULE, version=version)), [], f"version {version!r}")
+    for other in (9223372036854775808, 1.5, "1", None, True):
+        same(talk(did_open(MODULE, version=other)), [], f"version {other!r}")
 
 
 @test("documents: notes that do nothing")
-def nothing():
+def nothing() -> None:
     notes = [
         did_change(MODULE),
         did_close(),
@@ -168,7 +171,7 @@ AT_START = {"position": place(0, 0), "textDocument": {"uri": "file:///m"}}
 
 
 @test("documents: one out of step sends nothing and refuses hover, until a whole text comes")
-def hover_out_of_step():
+def hover_out_of_step() -> None:
     broken = notice("textDocument/didChange", {"textDocument": {"uri": "file:///m", "version": 2}})
     hover = request(3, "textDocument/hover", AT_START)
     bad = published([diagnostic("BadChar", "bad character", "0:0-0:1")], version=3)
@@ -178,32 +181,32 @@ def hover_out_of_step():
 
 
 @test("documents: hover of one that was never opened")
-def hover_unopened():
+def hover_unopened() -> None:
     hover = request("h", "textDocument/hover", AT_START)
     same(talk(hover), [error("h", -32803, "unopened")])
     same(talk(did_open(MODULE, uri="file:///n"), hover)[1:], [error("h", -32803, "unopened")], "beside another one")
 
 
 @test("documents: a close of one out of step takes the diagnostics back")
-def closed_out_of_step():
+def closed_out_of_step() -> None:
     broken = notice("textDocument/didChange", {"textDocument": {"uri": "file:///m", "version": 2}})
     found = talk(did_open("$"), broken, did_close(), did_close(), did_change(MODULE, version=3))
     same(found[1:], [published([], version=None)])
 
 
 @test("documents: a close takes the diagnostics back, once, and without a version")
-def closed():
+def closed() -> None:
     found = talk(did_open("$"), did_close(), did_close(), did_change("$"), did_open(MODULE, version=3))
     same(found[1:], [published([], version=None), published([], version=3)])
 
 
 @test("documents: an open one is opened again")
-def opened_anew():
+def opened_anew() -> None:
     same(talk(did_open("$"), did_open(MODULE, version=1)), [published([diagnostic("BadChar", "bad character", "0:0-0:1")]), published([])])
 
 
 @test("documents: several beside one another, by their uri as a text")
-def several():
+def several() -> None:
     found = talk(
         did_open("$", uri="a"),
         did_open(MODULE, uri="A"),
@@ -225,12 +228,12 @@ def several():
 
 
 @test("documents: a null member of a change counts as absent")
-def null_range():
+def null_range() -> None:
     same(talk(did_open("$"), did_change([{"range": None, "text": MODULE}]))[1:], [published([], version=2)])
 
 
 @test("documents: a long conversation keeps each document")
-def long_talk():
+def long_talk() -> None:
     with Server() as server:
         for number in range(200):
             uri, text = f"file:///{number % 7}", "$" * (number % 5) + "(**)"
@@ -241,7 +244,7 @@ def long_talk():
 
 
 @test("documents: questions of a document that isn't open, or is out of step")
-def refused_questions():
+def refused_questions() -> None:
     where = {"position": {"character": 0, "line": 0}, "textDocument": {"uri": "file:///m"}}
     broken = notice("textDocument/didChange", {"textDocument": {"uri": "file:///m", "version": 2}})
     with Server() as server:

@@ -1,14 +1,19 @@
 """Rename, inlining and formatting, through `serve` and through the commands."""
-import json
+from __future__ import annotations
 
-from harness import Server, did_change, did_open, edited, ends, extent, frames, initialize, marked, on_file, place, request, run, same, serve, test
+import json
+from collections.abc import Callable, Sequence
+from typing import Any, List, Optional, Tuple, Union
+
+from harness import Message, Server, did_change, did_open, edited, ends, extent, frames, initialize, marked, on_file, place, request, run, same, serve, test
 from modules import CALLS, FIVE, LEAST, NESTED, RECORDS, SHADOWED, WRITES_A_GLOBAL
 
 URI = "file:///m"
 ACCENTED = "MODULE M; VAR x: INTEGER; (* é *) BEGIN x := x END M."
 
 # text, line, character, new name: the places that change, or the refusal
-RENAMES = [
+Row = Tuple[str, int, int, str, Union[List[str], str]]
+RENAMES: List[Row] = [
     (NESTED, 1, 4, "z", ["1:4-1:5", "4:14-4:15", "5:15-5:16"]),
     (NESTED, 5, 16, "z", ["1:4-1:5", "4:14-4:15", "5:15-5:16"]),
     (NESTED, 1, 4, "x", []),
@@ -34,7 +39,7 @@ RENAMES = [
     (ACCENTED, 0, 14, "yz", ["0:14-0:15", "0:40-0:41", "0:45-0:46"]),
     (ACCENTED, 0, 41, "x", []),
 ]
-FIELD_RENAMES = [
+FIELD_RENAMES: List[Row] = [
     (RECORDS, 3, 8, "c", ["1:16-1:17", "3:8-3:9", "3:33-3:34"]),
     (RECORDS, 3, 8, "r", ["1:16-1:17", "3:8-3:9", "3:33-3:34"]),
     (RECORDS, 3, 8, "b", "Duplicate 1:19-1:20"),
@@ -81,14 +86,14 @@ BEGIN r.r.⟦r⟧ := 7; r.s := r.r.⟦r⟧ + 1; P(r.r.⟦r⟧); Write(r.s) END M
 ]
 
 
-def unmarked(text):
+def unmarked(text: str) -> tuple[str, list[str]]:
     """A text without its marks, and the places that were marked."""
     plain, diagnostics = marked(text, *["Undeclared"] * text.count("⟦"))
-    spell = lambda it: f"{it['line']}:{it['character']}"
+    spell: Callable[[Message], str] = lambda it: f"{it['line']}:{it['character']}"
     return plain, [f"{spell(it['range']['start'])}-{spell(it['range']['end'])}" for it in diagnostics]
 
 
-def patched(text, edits):
+def patched(text: str, edits: list[Message]) -> str:
     """A text with the edits of an answer, which are in text order."""
     starts = [0]
     for at, it in enumerate(text):
@@ -100,11 +105,11 @@ def patched(text, edits):
     return text
 
 
-def where(line, character, **more):
+def where(line: int, character: int, **more: Any) -> Message:
     return {"position": place(line, character), "textDocument": {"uri": URI}, **more}
 
 
-def through_serve(rows):
+def through_serve(rows: Sequence[Row]) -> None:
     with Server() as server:
         for text, line, character, new, wanted in rows:
             server.notify(did_open(text, URI))
@@ -116,7 +121,7 @@ def through_serve(rows):
                 same(found.get("result"), {"changes": {URI: edits}}, f"{line}:{character} to {new}")
 
 
-def through_command(rows):
+def through_command(rows: Sequence[Row]) -> None:
     for text, line, character, new, wanted in rows:
         found = on_file("rename", text, str(line), str(character), new)
         if isinstance(wanted, str):
@@ -126,33 +131,33 @@ def through_command(rows):
 
 
 @test("rename: edits and refusals, through `serve`")
-def renames():
+def renames() -> None:
     through_serve(RENAMES)
 
 
 @test("rename: edits and refusals, through the command")
-def renamed():
+def renamed() -> None:
     through_command(RENAMES)
 
 
 @test("rename: a field of a record, through `serve`")
-def field_renamed():
+def field_renamed() -> None:
     through_serve(FIELD_RENAMES)
 
 
 @test("rename: a field of a record, through the command")
-def field_renamed_by_command():
+def field_renamed_by_command() -> None:
     through_command(FIELD_RENAMES)
 
 
 @test("rename: a field at each of its places, and the run is kept")
-def field_places():
+def field_places() -> None:
     for text, names in FIELDS_MARKED:
         plain, places = unmarked(text)
         out = on_file("run", plain).out
-        for it in places:
+        for span in places:
             for end in ("start", "end"):
-                at = extent(it)[end]
+                at = extent(span)[end]
                 through_serve([(plain, at["line"], at["character"], names[0], places)])
         at = extent(places[0])["start"]
         through_serve([(plain, at["line"], at["character"], new, places) for new in names])
@@ -162,7 +167,7 @@ def field_places():
 
 
 @test("rename: a field, byte by byte")
-def field_bytes():
+def field_bytes() -> None:
     queries = [request(3, "textDocument/rename", where(3, 8, newName="b")), request(4, "textDocument/rename", where(1, 19, newName="c"))]
     found = serve(frames([initialize(), did_open(RECORDS, URI), *queries])).contents()[2:]
     same(found[0], '{"error":{"code":-32803,"message":"Duplicate 1:19-1:20"},"id":3,"jsonrpc":"2.0"}')
@@ -174,28 +179,28 @@ def field_bytes():
 
 
 @test("rename: a field, with the version and in both units")
-def field_units():
+def field_units() -> None:
     text = "MODULE M; VAR r: RECORD a: INTEGER END; BEGIN (* 😀é *) r.a := 1; Write(r.a) END M."
     support = {"workspace": {"workspaceEdit": {"documentChanges": True}}}
     for encodings, places in ((["utf-16"], ["0:24-0:25", "0:58-0:59", "0:74-0:75"]), (["utf-8"], ["0:24-0:25", "0:61-0:62", "0:77-0:78"])):
         with Server(capabilities={**support, "general": {"positionEncodings": encodings}}) as server:
             server.notify(did_open(text, URI, 7))
             edits = [{"newText": "b", "range": extent(it)} for it in places]
-            for it in places:
-                at = extent(it)["start"]
+            for span in places:
+                at = extent(span)["start"]
                 found = server.query("textDocument/rename", where(at["line"], at["character"], newName="b"))["result"]
                 same(found, {"documentChanges": [{"edits": edits, "textDocument": {"uri": URI, "version": 7}}]})
 
 
 @test("rename: a field, up to the longest text")
-def field_longest():
+def field_longest() -> None:
     text = "MODULE M; VAR r: RECORD x: INTEGER END; END M.".ljust(1048576)
     ends(on_file("rename", text, "0", "24", "y"), text.replace("x", "y"), 0)
     ends(on_file("rename", text, "0", "24", "xy"), "", 1, "refused: TooLong\n")
 
 
 @test("rename: a refusal and an edit, byte by byte")
-def rename_bytes():
+def rename_bytes() -> None:
     queries = [request(3, "textDocument/rename", where(1, 4, newName="y")), request(4, "textDocument/rename", where(1, 4, newName="x"))]
     found = serve(frames([initialize(), did_open(NESTED, URI), *queries])).contents()[2:]
     same(found[0], '{"error":{"code":-32803,"message":"Captures 4:14-4:15"},"id":3,"jsonrpc":"2.0"}')
@@ -203,7 +208,7 @@ def rename_bytes():
 
 
 @test("rename: as a list of document changes, with the version")
-def document_changes():
+def document_changes() -> None:
     with Server(capabilities={"workspace": {"workspaceEdit": {"documentChanges": True}}}) as server:
         server.notify(did_open(NESTED, URI, 7))
         edits = [{"newText": "z", "range": extent(it)} for it in ("1:4-1:5", "4:14-4:15", "5:15-5:16")]
@@ -213,14 +218,14 @@ def document_changes():
 
 
 @test("rename: prepareProvider is announced where it is supported")
-def announced():
+def announced() -> None:
     for support, wanted in ((True, {"prepareProvider": True}), (False, True), (None, True), (1, True)):
         with Server(capabilities={"textDocument": {"rename": {"prepareSupport": support}}}) as server:
             same(server.first["result"]["capabilities"]["renameProvider"], wanted)
 
 
 @test("rename: of texts that aren't well-typed")
-def ill_typed():
+def ill_typed() -> None:
     with Server() as server:
         server.notify(did_open("MODULE M", URI))
         found = server.query("textDocument/rename", where(0, 7, newName="x"))
@@ -231,20 +236,20 @@ def ill_typed():
 
 
 @test("rename: up to the longest text")
-def longest():
+def longest() -> None:
     text = "MODULE M; VAR x: INTEGER; END M.".ljust(1048576)
     ends(on_file("rename", text, "0", "14", "y"), text.replace("x", "y"), 0)
     ends(on_file("rename", text, "0", "14", "xy"), "", 1, "refused: TooLong\n")
 
 
 @test("rename: up to the longest text, through `serve`")
-def longest_served():
+def longest_served() -> None:
     text, places = "MODULE M; VAR x: INTEGER; END M.".ljust(1048576), ["0:14-0:15"]
     through_serve([(text, 0, 14, "y", places), (text, 0, 14, "xy", "TooLong"), (text[:-1], 0, 14, "xy", places)])
 
 
 @test("rename: keeps the run")
-def same_run():
+def same_run() -> None:
     for text, _, _, new, wanted in [*RENAMES, *FIELD_RENAMES]:
         if not isinstance(wanted, str):
             before = on_file("run", text)
@@ -252,41 +257,49 @@ def same_run():
 
 
 @test("rename: a field under each new name prints the same")
-def field_runs():
+def field_runs() -> None:
     for new in ("c", "r"):
         ends(on_file("run", on_file("rename", RECORDS, "3", "8", new).out), " 3", 0)
 
 
 @test("rename: command lines, and places far off")
-def lines():
+def lines() -> None:
     for words in (["0"], ["0", "0"], ["-1", "0", "x"], ["0", "18446744073709551616", "x"], ["18446744073709551616", "0", "x"], ["0", "x", "y"], ["0", "0", "x", "y"]):
         same(on_file("rename", NESTED, *words).status, 2, " ".join(words))
     ends(on_file("rename", NESTED, "18446744073709551615", "18446744073709551615", "x"), "", 1, "refused: NoName\n")
     ends(run(["rename", "/nowhere", "0", "0", "x"]), "", 4, "fault: File\n")
 
 
-LITERALS = {"textDocument": {"codeAction": {"codeActionLiteralSupport": {}}}}
+LITERALS: Message = {"textDocument": {"codeAction": {"codeActionLiteralSupport": {}}}}
 
 
-def acting(line, character, context=None, end=None):
+def acting(line: int, character: int, context: object = None, end: Message | None = None) -> Message:
     """The params of a code action at a place, or at a range from there."""
     at = {"end": end or place(line, character), "start": place(line, character)}
     return {"context": {} if context is None else context, "range": at, "textDocument": {"uri": URI}}
 
 
-def actions(text, line, character, context=None, capabilities=None, end=None):
+def actions(
+    text: str,
+    line: int,
+    character: int,
+    context: object = None,
+    capabilities: Message | None = None,
+    end: Message | None = None,
+) -> dict[str, Any]:
     """The titles of what is offered, each with its edits."""
     with Server(capabilities=LITERALS if capabilities is None else capabilities) as server:
         server.notify(did_open(text, URI))
         found = server.query("textDocument/codeAction", acting(line, character, context, end))
         if "error" in found:
-            return found["error"]
+            refused: dict[str, Any] = found["error"]
+            return refused
         same([it["kind"] for it in found["result"]], ["refactor.inline"] * len(found["result"]), "the kinds")
         return {it["title"]: [(e["range"], e["newText"]) for e in it["edit"]["changes"][URI]] for it in found["result"]}
 
 
 @test("inline: a constant's edit, byte by byte")
-def inline_bytes():
+def inline_bytes() -> None:
     query = request(4, "textDocument/codeAction", acting(1, 6))
     found = serve(frames([initialize(**LITERALS), did_open(LEAST, URI), query])).contents()[2]
     same(
@@ -299,23 +312,25 @@ def inline_bytes():
 
 
 @test("inline: both actions at a use, byte by byte")
-def actions_bytes():
+def actions_bytes() -> None:
     query = request(5, "textDocument/codeAction", acting(3, 15))
     found = serve(frames([initialize(**LITERALS), did_open(LEAST, URI), query])).contents()[2]
     use = '{"newText":"(-2147483647 - 1)","range":{"end":{"character":16,"line":3},"start":{"character":15,"line":3}}}'
     gone = '{"newText":"","range":{"end":{"character":26,"line":1},"start":{"character":6,"line":1}}}'
-    action = lambda title, *edits: (
-        f'{{"edit":{{"changes":{{"file:///m":[{",".join(edits)}]}}}},"kind":"refactor.inline","title":"{title}"}}'
-    )
+
+    def action(title: str, *edits: str) -> str:
+        return f'{{"edit":{{"changes":{{"file:///m":[{",".join(edits)}]}}}},"kind":"refactor.inline","title":"{title}"}}'
+
     both = f'[{action("Inline here", use)},{action("Inline everywhere", gone, use)}]'
     same(found, f'{{"id":5,"jsonrpc":"2.0","result":{both}}}')
 
 
 @test("inline: at a use, at the declaration, under `only`")
-def inlined():
+def inlined() -> None:
     use, gone = (extent("3:15-3:16"), "(-2147483647 - 1)"), (extent("1:6-1:26"), "")
     both = {"Inline here": [use], "Inline everywhere": [gone, use]}
     same(actions(LEAST, 3, 15), both)
+    only: Any
     for only in (["refactor"], [""], ["refactor.inline"], ["x", "refactor"]):
         same(actions(LEAST, 3, 15, {"only": only}), both, f"only {only}")
     for only in (["refactor.extract"], []):
@@ -327,7 +342,7 @@ def inlined():
 
 
 @test("inline: negative values, truth values, and refusals")
-def inline_values():
+def inline_values() -> None:
     text = "MODULE M; CONST c = -5; t = 1 = 1; VAR a: INTEGER; BEGIN a := a - c; Write(c DIV 3); IF t THEN END END M."
     uses = [at for at in range(len(text)) if text.startswith("c;", at) or text.startswith("c DIV", at)]
     same(actions(text, 0, uses[0])["Inline here"], [(extent(f"0:{uses[0]}-0:{uses[0] + 1}"), "(-5)")])
@@ -343,24 +358,27 @@ def inline_values():
 
 
 @test("inline: both actions at a use as document changes, byte by byte")
-def inline_changes():
-    support = {**LITERALS, "workspace": {"workspaceEdit": {"documentChanges": True}}}
+def inline_changes() -> None:
+    support: Message = {**LITERALS, "workspace": {"workspaceEdit": {"documentChanges": True}}}
     query = request(4, "textDocument/codeAction", acting(3, 15))
     found = serve(frames([initialize(**support), did_open(LEAST, URI, 7), query])).contents()[2]
     use = '{"newText":"(-2147483647 - 1)","range":{"end":{"character":16,"line":3},"start":{"character":15,"line":3}}}'
     gone = '{"newText":"","range":{"end":{"character":26,"line":1},"start":{"character":6,"line":1}}}'
-    action = lambda edits, title: (
-        f'{{"edit":{{"documentChanges":[{{"edits":[{edits}],"textDocument":{{"uri":"file:///m","version":7}}}}]}},'
-        f'"kind":"refactor.inline","title":"{title}"}}'
-    )
+
+    def action(edits: str, title: str) -> str:
+        return (
+            f'{{"edit":{{"documentChanges":[{{"edits":[{edits}],"textDocument":{{"uri":"file:///m","version":7}}}}]}},'
+            f'"kind":"refactor.inline","title":"{title}"}}'
+        )
+
     same(found, f'{{"id":4,"jsonrpc":"2.0","result":[{action(use, "Inline here")},{action(gone + "," + use, "Inline everywhere")}]}}')
 
 
 @test("inline: positions in both units")
-def inline_units():
+def inline_units() -> None:
     text = "MODULE M; CONST (* é *) c = 5; BEGIN (* 😀 *) Write(c) END M."
     for encodings, gone, use in ((["utf-16"], "0:24-0:30", "0:52-0:53"), (["utf-8"], "0:25-0:31", "0:55-0:56")):
-        support = {**LITERALS, "general": {"positionEncodings": encodings}}
+        support: Message = {**LITERALS, "general": {"positionEncodings": encodings}}
         both = {"Inline here": [(extent(use), "5")], "Inline everywhere": [(extent(gone), ""), (extent(use), "5")]}
         for end in ("start", "end"):
             same(actions(text, 0, extent(use)[end]["character"], capabilities=support), both, f"{encodings}, at the {end} of the use")
@@ -368,7 +386,7 @@ def inline_units():
 
 
 @test("inline: a range works at its start, and a swapped one at the lesser position")
-def inline_ranges():
+def inline_ranges() -> None:
     both = actions(LEAST, 3, 15)
     same([*both], ["Inline here", "Inline everywhere"])
     same(actions(LEAST, 3, 15, end=place(3, 30)), both, "a range")
@@ -377,7 +395,7 @@ def inline_ranges():
 
 
 # a text whose marked places are the uses of one constant: what is written there, and the actions that aren't offered
-INLINED = [
+INLINED: List[Tuple[str, Optional[str], List[str]]] = [
     ("MODULE M; CONST c = -5; VAR a: INTEGER; BEGIN a := a - ⟦c⟧; Write(⟦c⟧ DIV 3); Write(a) END M.", "(-5)", []),
     ("MODULE M; CONST k = 2; c = k * 3; d = ⟦c⟧ - k; VAR a: ARRAY ⟦c⟧ OF INTEGER; BEGIN a[⟦c⟧ - 1] := d; Write(a[5]) END M.", "6", []),
     ("MODULE M; CONST t = 1 = 1; u = ~⟦t⟧; BEGIN IF ⟦t⟧ & ~u THEN Write(1) ELSE Write(0) END END M.", "TRUE", []),
@@ -394,32 +412,32 @@ INLINED = [
 
 
 @test("inline: here and everywhere, and both keep the run")
-def inline_runs():
+def inline_runs() -> None:
     for text, written, refused in INLINED:
         plain, uses = unmarked(text)
         out = on_file("run", plain).out
-        for it in uses:
-            at = extent(it)
+        for use in uses:
+            at = extent(use)
             with Server(capabilities=LITERALS) as server:
                 server.notify(did_open(plain, URI))
                 params = acting(at["end"]["line"], at["end"]["character"])
                 found = {it["title"]: it["edit"]["changes"][URI] for it in server.query("textDocument/codeAction", params)["result"]}
-            same([*found], [it for it in ("Inline here", "Inline everywhere") if it not in refused], f"what is offered at {it} of {plain}")
+            same([*found], [it for it in ("Inline here", "Inline everywhere") if it not in refused], f"what is offered at {use} of {plain}")
             for title, edits in found.items():
-                wanted = [it] if title == "Inline here" else uses
-                same([it["range"] for it in edits if it["newText"]], [extent(it) for it in wanted], f"{title} at {it} of {plain}")
+                wanted = [use] if title == "Inline here" else uses
+                same([it["range"] for it in edits if it["newText"]], [extent(it) for it in wanted], f"{title} at {use} of {plain}")
                 same({it["newText"] for it in edits}, {written} if title == "Inline here" else {written, ""}, plain)
                 ends(on_file("run", patched(plain, edits)), out, 0)
 
 
-def inlinings(text, line, character):
+def inlinings(text: str, line: int, character: int) -> dict[str, str]:
     """The texts that the actions at a place make."""
     found = actions(text, line, character)
     return {title: patched(text, [{"newText": new, "range": it} for it, new in edits]) for title, edits in found.items()}
 
 
 @test("inline: negative values print the same before, after `here` and after `everywhere`")
-def inline_negative():
+def inline_negative() -> None:
     rows = [
         (LEAST, 3, 15, "0 + c", "0 + (-2147483647 - 1)", "c = -2147483647 - 1;", " -2147483648"),
         (FIVE, 0, 36, "c DIV 3", "(-5) DIV 3", "c = -5;", " -2"),
@@ -433,13 +451,13 @@ def inline_negative():
 
 
 @test("inline: a constant that is never used is taken out")
-def inline_unused():
+def inline_unused() -> None:
     text = "MODULE M; CONST c = 5; d = 6; BEGIN Write(d) END M."
     same(actions(text, 0, 16), {"Inline everywhere": [(extent("0:16-0:22"), "")]})
 
 
 @test("inline: places where nothing is offered")
-def inline_nowhere():
+def inline_nowhere() -> None:
     text = "MODULE M; TYPE R = RECORD c: INTEGER END; VAR x: R; PROCEDURE P; BEGIN IF TRUE THEN x.c := 1 END END P; BEGIN P; Write(x.c) END M."
     for what in ("M", "R", "c", "INTEGER", "x", "P", "TRUE", "1", "Write", "IF", "; VAR"):
         same(actions(text, 0, text.index(what)), {}, f"at {what}")
@@ -448,19 +466,19 @@ def inline_nowhere():
 
 
 @test("inline: up to the longest text")
-def inline_longest():
+def inline_longest() -> None:
     text = "MODULE M; CONST c = 10; d = c + c; END M."
-    whole = lambda size: actions(text.ljust(size), 0, text.index("c +"))
+    whole: Callable[[int], dict[str, Any]] = lambda size: actions(text.ljust(size), 0, text.index("c +"))
     same([*whole(1048576 - 1)], ["Inline here", "Inline everywhere"])
     same([*whole(1048576)], ["Inline everywhere"], "where the text would be too long by one use")
 
 
 @test("inline: what is refused before anything is looked at")
-def inline_refused():
+def inline_refused() -> None:
     bad = {"code": -32602, "message": "bad params"}
     for support in (LITERALS, {}):
         with Server(capabilities=support) as server:
-            ask = lambda params: server.query("textDocument/codeAction", params).get("error")
+            ask: Callable[[object], Any] = lambda params: server.query("textDocument/codeAction", params).get("error")
             same(ask(acting(0, 0)), {"code": -32803, "message": "unopened"})
             server.notify(did_open(LEAST, URI))
             for lacking in ("context", "range", "textDocument"):
@@ -506,7 +524,7 @@ LAYOUTS = [
 ]
 
 
-def formatted(text, size, spaces):
+def formatted(text: str, size: int, spaces: bool) -> tuple[list[Message], str]:
     """The edits of a text, and the text with them."""
     with Server() as server:
         server.notify(did_open(text, URI))
@@ -516,7 +534,7 @@ def formatted(text, size, spaces):
 
 
 @test("format: worked texts, and once more changes nothing")
-def formats():
+def formats() -> None:
     for size, spaces, text, wanted in LAYOUTS:
         _, found = formatted(text, size, spaces)
         same(found, wanted, text)
@@ -524,7 +542,7 @@ def formats():
 
 
 @test("format: the edits of the gaps, byte by byte")
-def gaps():
+def gaps() -> None:
     options = {"insertSpaces": True, "tabSize": 2}
     query = request(2, "textDocument/formatting", {"options": options, "textDocument": {"uri": URI}})
     found = serve(frames([initialize(), did_open("MODULE M;BEGIN WriteLn END M.", URI), query])).contents()[2]
@@ -538,10 +556,10 @@ def gaps():
 
 
 @test("format: options")
-def options():
+def options() -> None:
     with Server() as server:
         server.notify(did_open("MODULE M; END M.", URI))
-        ask = lambda given: server.query("textDocument/formatting", {"options": given, "textDocument": {"uri": URI}})
+        ask: Callable[[object], Any] = lambda given: server.query("textDocument/formatting", {"options": given, "textDocument": {"uri": URI}})
         for given in ({}, {"tabSize": -1, "insertSpaces": True}, {"tabSize": 1.5, "insertSpaces": True}, {"tabSize": 2}, None):
             same(ask(given).get("error"), {"code": -32602, "message": "bad params"}, json.dumps(given))
         same("result" in ask({"tabSize": 18446744073709551615, "insertSpaces": True, "x": 1}), True)
@@ -549,19 +567,21 @@ def options():
         same(ask({"tabSize": 2, "insertSpaces": True}).get("error"), {"code": -32803, "message": "ill-typed"})
 
 
-def short_statements(longer):
+def short_statements(longer: int) -> str:
     """A module on one line whose layout by 16 spaces has 1,048,573 bytes, and one more for each of the longer statements."""
     return "MODULE M;BEGIN " + "Write(1);" * longer + "WriteLn;" * (41942 - longer) + "END M."
 
 
-def length_after(text, edits):
+def length_after(text: str, edits: list[Message]) -> int:
     """How many bytes a text on one line, of one byte each character, has with these edits."""
-    size = lambda it: it["range"]["end"]["character"] - it["range"]["start"]["character"]
-    return len(text) + sum(len(it["newText"]) - size(it) for it in edits)
+    ranges: list[tuple[str, int, int]] = [
+        (it["newText"], it["range"]["start"]["character"], it["range"]["end"]["character"]) for it in edits
+    ]
+    return len(text) + sum(len(new) - (end - start) for new, start, end in ranges)
 
 
 @test("format: up to the longest layout")
-def longest_layout():
+def longest_layout() -> None:
     params = {"options": {"insertSpaces": True, "tabSize": 16}, "textDocument": {"uri": URI}}
     with Server() as server:
         text = short_statements(3)

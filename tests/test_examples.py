@@ -2,18 +2,20 @@
 
 Each is checked without a fault, prints what its file .out has on the numbers of its file .in, ends as its file .err says where it
 has one, and is laid out as the server lays it out. (What they print was written down by other means than this program.)"""
+from __future__ import annotations
+
 import os
 
 from harness import TOP, Server, did_open, ends, examples, holds, run, same, test, text_of
 
 
-def bytes_of(*path):
+def bytes_of(*path: str) -> bytes:
     with open(os.path.join(TOP, *path), "rb") as file:
         return file.read()
 
 
 @test("examples: there are a dozen, each with its input and its output")
-def dozen():
+def dozen() -> None:
     holds(len(examples()) >= 12, f"there are {len(examples())}")
     faults = [f"{it[:-4]}.err" for it in examples() if os.path.basename(it).startswith("Fault")]
     wanted = sorted([f"{it[:-4]}{end}" for it in examples() for end in (".in", ".mod", ".out")] + faults)
@@ -21,17 +23,17 @@ def dozen():
 
 
 @test("examples: each is checked and run")
-def run_each():
-    for it in examples():
-        ends(run(["check", os.path.join(TOP, it)]), "", 0)
-        fault = bytes_of(f"{it[:-4]}.err") if os.path.basename(it).startswith("Fault") else ""
-        ends(run(["run", os.path.join(TOP, it)], bytes_of(f"{it[:-4]}.in")), bytes_of(f"{it[:-4]}.out"), 1 if fault else 0, fault)
+def run_each() -> None:
+    for path in examples():
+        ends(run(["check", os.path.join(TOP, path)]), "", 0)
+        fault = bytes_of(f"{path[:-4]}.err") if os.path.basename(path).startswith("Fault") else b""
+        ends(run(["run", os.path.join(TOP, path)], bytes_of(f"{path[:-4]}.in")), bytes_of(f"{path[:-4]}.out"), 1 if fault else 0, fault)
 
 
 @test("examples: a layout changes nothing in any of them")
-def laid_out():
+def laid_out() -> None:
     with Server() as server:
-        for it in examples():
-            same(server.notify(did_open(text_of(it), uri=f"file:///{it}")), [], it)
-            options = {"textDocument": {"uri": f"file:///{it}"}, "options": {"tabSize": 2, "insertSpaces": True}}
-            same(server.query("textDocument/formatting", options).get("result"), [], it)
+        for path in examples():
+            same(server.notify(did_open(text_of(path), uri=f"file:///{path}")), [], path)
+            options = {"textDocument": {"uri": f"file:///{path}"}, "options": {"tabSize": 2, "insertSpaces": True}}
+            same(server.query("textDocument/formatting", options).get("result"), [], path)

@@ -1,12 +1,16 @@
 """The exercises of examples/exercises: their page, their files and the script that marks, over right and wrong answers.
 
 The right answers are in tests/answers; each wrong one is a right one with one change."""
+from __future__ import annotations
+
 import itertools
 import os
 import re
 import tempfile
+from collections.abc import Callable, Iterable
 
 import harness
+from common import match_of
 from harness import TOP, Server, did_open, examples, holds, need_program, run, same, test, text_of
 from homes import run_plainly, write
 
@@ -15,7 +19,7 @@ PAGE = text_of(FOLDER, "README.md")
 NAMES = re.findall(r"^## \d+\. (\w+)$", PAGE, re.M)
 
 
-def cases(exercise):
+def cases(exercise: str) -> list[tuple[list[int], list[list[int]]]]:
     """The inputs of an exercise, and what is to be printed: lists of numbers, without empty lines at the end."""
     found = []
     for part in text_of(FOLDER, f"{exercise}.txt").rstrip("\n").split("\n\n"):
@@ -26,30 +30,30 @@ def cases(exercise):
     return found
 
 
-def answer(exercise):
+def answer(exercise: str) -> str:
     return text_of("tests", "answers", f"{exercise}.mod")
 
 
 # What each exercise wants, computed in another way than by the answers
 
 
-def until_zero(numbers):
+def until_zero(numbers: list[int]) -> list[int]:
     return list(itertools.takewhile(lambda it: it != 0, numbers))
 
 
-def votes(numbers):
+def votes(numbers: list[int]) -> list[list[int]]:
     counts = [until_zero(numbers).count(it) for it in range(1, 6)]
     return [counts, [counts.index(max(counts)) + 1]]
 
 
-def pascal(numbers):
+def pascal(numbers: list[int]) -> list[list[int]]:
     rows = [[1]]
     while len(rows) < numbers[0]:
         rows.append([a + b for a, b in zip([0, *rows[-1]], [*rows[-1], 0])])
     return rows[: numbers[0]]
 
 
-def nearest(numbers):
+def nearest(numbers: list[int]) -> list[list[int]]:
     points = list(zip(numbers[1::2], numbers[2::2]))
     same(len(points), numbers[0], "how many points")
     pairs = sorted(itertools.combinations(points, 2), key=lambda it: (it[0][0] - it[1][0]) ** 2 + (it[0][1] - it[1][1]) ** 2)
@@ -58,9 +62,9 @@ def nearest(numbers):
     return [list(it) for it in pairs[0]]
 
 
-def queens(numbers):
+def queens(numbers: list[int]) -> list[list[int]]:
     n = numbers[0]
-    safe = lambda it: len({a + b for a, b in enumerate(it)}) == len({a - b for a, b in enumerate(it)}) == n
+    safe: Callable[[Iterable[int]], bool] = lambda it: len({a + b for a, b in enumerate(it)}) == len({a - b for a, b in enumerate(it)}) == n
     return [[sum(map(safe, itertools.permutations(range(n))))]]
 
 
@@ -80,7 +84,7 @@ WANTED = {
 }
 
 
-def mark(*words):
+def mark(*words: str) -> tuple[int, str]:
     """Marks modules by the script, with the program that is tested: its status and what it says."""
     need_program()
     program = os.path.abspath(harness.BINARY)
@@ -88,7 +92,7 @@ def mark(*words):
     return run_plainly(["python3", "-B", script, "--program", program, *words], dict(os.environ), TOP)
 
 
-def marked(exercise, text, *words):
+def marked(exercise: str, text: str, *words: str) -> tuple[int, str]:
     """What is said of one module, and the status."""
     with tempfile.TemporaryDirectory() as room:
         file = os.path.join(room, f"{exercise}.mod")
@@ -98,18 +102,18 @@ def marked(exercise, text, *words):
 
 
 @test("exercises: there are twelve, each with an example on the page, a file of inputs and an answer")
-def twelve():
+def twelve() -> None:
     same(len(NAMES), 12, "how many")
     wanted = sorted(["README.md", "mark.py", *(f"{it}.txt" for it in NAMES)])
     same(sorted(it for it in os.listdir(os.path.join(TOP, FOLDER)) if it != "__pycache__"), wanted, "the files")
     same(sorted(os.listdir(os.path.join(TOP, "tests", "answers"))), sorted(f"{it}.mod" for it in NAMES), "the answers")
     for name, part in zip(NAMES, re.split(r"^## .*$", PAGE, flags=re.M)[1:]):
-        example = re.search(r"^```\n(.*?)```$", part, re.M | re.S)[1]
+        example = match_of(r"^```\n(.*?)```$", part, re.M | re.S)[1]
         same(example.strip(), text_of(FOLDER, f"{name}.txt").partition("\n\n")[0], f"the example of {name}")
 
 
 @test("exercises: what is to be printed is what the exercise asks for, by another computation")
-def computed():
+def computed() -> None:
     same(sorted(WANTED), sorted(NAMES), "the exercises")
     for name in NAMES:
         holds(len(cases(name)) >= 5, f"{name} has {len(cases(name))} cases")
@@ -118,7 +122,7 @@ def computed():
 
 
 @test("exercises: every answer is marked right, has no fault and is laid out as the server does it")
-def right():
+def right() -> None:
     status, said = mark(os.path.join(TOP, "tests", "answers"))
     same((status, said.count(" right\n"), said.splitlines()[-1]), (0, 13, "  12 of 12 right"), said)
     with Server() as server:
@@ -156,7 +160,7 @@ WRONG = [
 
 
 @test("exercises: each wrong answer is marked wrong, with a line that helps")
-def wrong():
+def wrong() -> None:
     same({it[0] for it in WRONG}, {*NAMES}, "the exercises")
     for exercise, old, new, wanted in WRONG:
         holds(old in answer(exercise), f"{exercise} has {old}")
@@ -169,7 +173,7 @@ LONG = "MODULE Clock; VAR i: INTEGER; BEGIN WHILE i < 100000 DO Write(2147483647
 
 
 @test("exercises: a module that doesn't end, prints without end, isn't there or isn't one of them is marked so")
-def bounded():
+def bounded() -> None:
     same(marked("Clock", LOOPS.format(""), "--seconds", "0.5"), (1, "Clock    wrong: for the input 3661: it had not ended after 0.5 seconds: does each loop end?"))
     same(marked("Clock", LONG), (1, "Clock    wrong: for the input 3661: it prints too much: does each loop end?"))
     status, said = marked("Clock", LOOPS.format("Write(i); "), "--seconds", "3")
@@ -191,7 +195,7 @@ def bounded():
 
 
 @test("exercises: the bounds and ends that the script speaks of are the program's")
-def spoken_of():
+def spoken_of() -> None:
     script = text_of(FOLDER, "mark.py")
     named = {*re.findall(r'^    "(\w+)": "', script, re.M)}
     listed = re.findall(r"^\| (\w+) \|", text_of("docs", "LANGUAGE.md").partition("| End | Because |")[2].partition("\n\n")[0], re.M)

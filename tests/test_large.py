@@ -1,11 +1,15 @@
 """The largest that is taken, in `serve` and, where it is a text, in `check`: the answers are right, and none of it is refused."""
+from __future__ import annotations
+
+from collections.abc import Callable
+
 import largest_inputs
 from harness import holds, lines_of, on_file, same, serve, test
 
 
-def make(name, size, messages):
+def make(name: str, size: int, messages: Callable[[int], largest_inputs.Talk]) -> None:
     @test(f"large: {name}, {size:,}")
-    def answered():
+    def answered() -> None:
         given, wanted = largest_inputs.conversation(messages, size)
         found = serve(given)
         same((found.err, found.status), (b"", 0), "the end")
@@ -17,7 +21,7 @@ for key, (full, of_size) in largest_inputs.CASES.items():
 
 
 @test("large: each text in `check`")
-def checked():
+def checked() -> None:
     for name, (size, text_of, wanted) in largest_inputs.TEXTS.items():
         text, diagnostics = text_of(size), wanted(size)
         holds(len(text) <= largest_inputs.MIB, f"{name}: {len(text)} bytes")

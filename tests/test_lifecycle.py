@@ -1,11 +1,14 @@
 """The order of checks and the table of errors: JSON, shape, lifecycle, method, params; the command line itself."""
+from __future__ import annotations
+
 import os
 import re
 import subprocess
 import tempfile
+from typing import Any, Dict, List, Tuple
 
 import harness
-from harness import EXIT, SHUTDOWN, answer, did_close, did_open, error, frame, initialize, notice, published, request
+from harness import Content, EXIT, SHUTDOWN, answer, did_close, did_open, error, frame, initialize, notice, published, request
 from harness import capabilities, holds, run, same, serve, test, text_of
 
 FIRST = answer(1, {"capabilities": capabilities()})
@@ -16,7 +19,7 @@ NO_MESSAGE = error(None, -32600, "not a message")
 MODULE = "MODULE M; END M."
 
 # name: what comes, what goes, the status
-TALKS = {
+TALKS: Dict[str, Tuple[List[Content], List[str], int]] = {
     "a request before initialize": ([HOVER], [error(5, -32002, "not initialized")], 1),
     "an unknown request before initialize": ([request(5, "x")], [error(5, -32002, "not initialized")], 1),
     "shutdown before initialize": ([SHUTDOWN], [error(2, -32002, "not initialized")], 1),
@@ -136,9 +139,9 @@ TALKS = {
 }
 
 
-def make(name, comes, goes, status):
+def make(name: str, comes: list[Content], goes: list[str], status: int) -> None:
     @test(f"lifecycle: {name}")
-    def talk():
+    def talk() -> None:
         found = serve(b"".join(frame(it) for it in comes))
         same(found.contents(), goes, "what was sent")
         same((found.err, found.status), (b"", status), "the end")
@@ -149,15 +152,17 @@ for key, given in TALKS.items():
 
 
 @test("program: command lines that are refused are status 2, on standard error")
-def refused_lines():
-    for words in ([], ["x"], ["serve", "x"], ["serve", "--x"], ["--x"], ["help", "x"], ["check", "--version"]):
+def refused_lines() -> None:
+    lines: list[list[str]] = [[], ["x"], ["serve", "x"], ["serve", "--x"], ["--x"], ["help", "x"], ["check", "--version"]]
+    for words in lines:
         found = run(words)
         same((found.out, bool(found.err), found.status), (b"", True, 2), f"ob0 {' '.join(words)}")
 
 
 @test("program: help is printed on standard output, status 0")
-def helped():
-    for words in ([], ["serve"], ["check"], ["run"], ["rename"]):
+def helped() -> None:
+    commands: list[list[str]] = [[], ["serve"], ["check"], ["run"], ["rename"]]
+    for words in commands:
         found = run(["help", *words])
         same((b"Usage:" in found.out, found.err, found.status), (True, b"", 0), f"ob0 help {' '.join(words)}")
         for flag in ("--help", "-h"):
@@ -175,7 +180,7 @@ HELP = {
 
 
 @test("program: help of each command says what it needs, what it prints and its statuses, in lines of a terminal's width")
-def explained():
+def explained() -> None:
     for command, (statuses, parts) in HELP.items():
         said = run([*command.split(), "--help"]).out.decode()
         same("".join(re.findall(r"^  (\d)  \S", said.partition("Exit status:")[2], re.M)), statuses, f"the statuses of {command}")
@@ -186,7 +191,7 @@ def explained():
 
 
 @test("program: `serve` takes the options that clients add, any number of times, and speaks as without them")
-def options_of_serve():
+def options_of_serve() -> None:
     given = frame(initialize()) + frame(SHUTDOWN) + frame(EXIT)
     wanted = run(["serve"], given).out
     for words in (["--stdio"], ["--clientProcessId=1"], ["--clientProcessId", "x"], ["--stdio", "--clientProcessId=4242", "--stdio", "--clientProcessId=7"]):
@@ -199,14 +204,14 @@ def options_of_serve():
 
 
 @test("program: `run` says on standard error how input ends, where that is a terminal and there is something to run")
-def prompted():
-    def at_terminal(text):
+def prompted() -> None:
+    def at_terminal(text: str) -> tuple[bytes, bytes, int]:
         with tempfile.TemporaryDirectory() as room:
             with open(os.path.join(room, "m.mod"), "w", encoding="utf-8") as file:
                 file.write(text)
             keys, terminal = os.openpty()
             os.write(keys, b"20 22\n\x04")
-            how = {"stdin": terminal, "capture_output": True, "timeout": harness.SECONDS, "cwd": room}
+            how: dict[str, Any] = {"stdin": terminal, "capture_output": True, "timeout": harness.SECONDS, "cwd": room}
             ran = subprocess.run([harness.BINARY, "run", "m.mod"], check=False, **how)
             os.close(keys)
             os.close(terminal)
@@ -220,7 +225,7 @@ def prompted():
 
 
 @test("program: the version is printed on standard output, status 0, and is that of CHANGELOG.md and of the manual page")
-def version():
+def version() -> None:
     # (where no version was released yet, it is the first one)
     released = re.search(r"^## (\d+\.\d+\.\d+)", text_of("CHANGELOG.md"), re.M)
     number = released.group(1) if released else "0.1.0"
@@ -232,25 +237,25 @@ def version():
 
 
 @test("program: a word that is not UTF-8 is a command line that is refused, the program's name too")
-def no_text():
+def no_text() -> None:
     for words in ([b"ob0", b"check", b"\xff"], [b"ob0", b"\xc3"], [b"ob0", b"help", b"a\xed\xa0\x80"], [b"\xff", b"--help"], [b"o\xfe", b"serve"]):
-        how = {"executable": harness.BINARY, "stdin": subprocess.DEVNULL, "capture_output": True, "timeout": harness.SECONDS}
+        how: dict[str, Any] = {"executable": harness.BINARY, "stdin": subprocess.DEVNULL, "capture_output": True, "timeout": harness.SECONDS}
         ran = subprocess.run(words, check=False, **how)
         same((ran.stdout, ran.stderr, ran.returncode), (b"", b"error: a word of the command line isn't UTF-8\n", 2), repr(words))
 
 
 @test("program: help or a version that can't be written is a fault of writing")
-def not_written():
+def not_written() -> None:
     for words in (["--help"], ["help"], ["help", "run"], ["rename", "-h"], ["--version"]):
         with open("/dev/full", "wb") as device:
-            how = {"stdin": subprocess.DEVNULL, "stdout": device, "stderr": subprocess.PIPE, "timeout": harness.SECONDS}
+            how: dict[str, Any] = {"stdin": subprocess.DEVNULL, "stdout": device, "stderr": subprocess.PIPE, "timeout": harness.SECONDS}
             ran = subprocess.run([harness.BINARY, *words], check=False, **how)
         same((ran.stderr, ran.returncode), (b"fault: Write\n", 4), f"ob0 {' '.join(words)}")
 
 
 @test("program: a refusal that can't be written keeps its status")
-def not_reported():
+def not_reported() -> None:
     with open("/dev/full", "wb") as device:
-        how = {"stdin": subprocess.DEVNULL, "stdout": subprocess.PIPE, "stderr": device, "timeout": harness.SECONDS}
+        how: dict[str, Any] = {"stdin": subprocess.DEVNULL, "stdout": subprocess.PIPE, "stderr": device, "timeout": harness.SECONDS}
         ran = subprocess.run([harness.BINARY, "check"], check=False, **how)
     same((ran.stdout, ran.returncode), (b"", 2))

@@ -1,12 +1,19 @@
 """docs/MESSAGES.md: each row is what the program says."""
+from __future__ import annotations
+
 import os
 import re
 import subprocess
 import tempfile
+from collections.abc import Iterator
+from typing import Any, IO
 
 import harness
+from common import match_of
 from harness import (
+    Content,
     EXIT,
+    Message,
     SHUTDOWN,
     Server,
     did_open,
@@ -31,57 +38,66 @@ DEEP = "x := " + "(" * 101 + "1" + ")" * 101
 LONGEST = 1048576
 
 
-def section(title):
+def code_in(cell: str) -> str:
+    """The code that a cell begins with."""
+    found = CODE.match(cell)
+    holds(found, f"no code in {cell}")
+    return found[1] if found else ""
+
+
+def section(title: str) -> str:
     """The part of the page under a heading, up to the next one of its level or above."""
-    level = re.search(rf"^(#+) {re.escape(title)}$", PAGE, re.M)
-    holds(level, f"the page has no section {title}")
+    level = match_of(rf"^(#+) {re.escape(title)}$", PAGE, re.M)
     rest = PAGE[level.end() :]
     return re.split(rf"^#{{1,{len(level[1])}}} ", rest, maxsplit=1, flags=re.M)[0]
 
 
-def rows(title):
+def rows(title: str) -> list[list[str]]:
     """The cells of the rows of a section's table, without its head."""
     lines = [it for it in section(title).splitlines() if it.startswith("|")][2:]
     return [[cell.strip().replace(r"\|", "|") for cell in re.split(r"(?<!\\)\|", it)[1:-1]] for it in lines]
 
 
-def module_of(title):
+def module_of(title: str) -> str:
     """The module of a section."""
-    return FENCED.search(section(title))[2]
+    found = FENCED.search(section(title))
+    holds(found, f"there is no module in {title}")
+    return found[2] if found else ""
 
 
 STATEMENTS, DECLARATIONS = module_of("Statements"), module_of("Declarations")
 
 
-def filled(module, snippet):
+def filled(module: str, snippet: str) -> str:
     return module.replace("...", snippet.replace(" ⏎ ", "\n  "))
 
 
-def reported(text):
+def reported(text: str) -> list[tuple[str, str, str]]:
     """What `check` reports of a text: codes, messages and what is at their places."""
     found = on_file("check", text)
     lines, said = text.split("\n"), []
-    for it in found.out.decode().splitlines():
-        line, column, rest = it.split(":", 2)
+    for said_line in found.out.decode().splitlines():
+        line, column, rest = said_line.split(":", 2)
         code, _, message = rest.strip().partition(": ")
         said.append((code, message, lines[int(line)][int(column) :]))
     return said
 
 
-def first(snippet, module):
+def first(snippet: str, module: str | None) -> tuple[str, str, str]:
     """What is reported first of a snippet in a module."""
     text = filled(module, snippet) if module else snippet
     return (reported(text) or [("", "nothing", "")])[0]
 
 
-def mistakes(title, module):
-    """Holds each row of a section to what is reported of it: what `check` reports first, or the fault of a run."""
+def mistakes(title: str, module: str | None) -> None:
+    """Holds each row of a section to what is reported of it: what `check` reports first, or the fault of a run of it in a module."""
     for written, what, _ in rows(title):
-        snippet, found = CODE.fullmatch(written)[1], CODE.findall(what)
+        snippet, found = code_in(written), CODE.findall(what)
         if what.startswith("nothing by `check`"):
             same(found[0::2], ["check", "run"], f"the commands in {what}")
-            ends(on_file("check", filled(module, snippet)), "", 0)
-            ends(on_file("run", filled(module, snippet)), "", 1, found[1] + "\n")
+            text = filled(module or "...", snippet)
+            ends(on_file("check", text), "", 0)
+            ends(on_file("run", text), "", 1, found[1] + "\n")
             continue
         message, at = found
         _, said, rest = first(snippet, module)
@@ -89,7 +105,7 @@ def mistakes(title, module):
 
 
 @test("messages: what beginners write in statements, declarations and whole texts is reported as the page says")
-def beginners():
+def beginners() -> None:
     mistakes("Statements", STATEMENTS)
     mistakes("Declarations", DECLARATIONS)
     mistakes("Whole texts", None)
@@ -100,36 +116,36 @@ def beginners():
 
 
 @test("messages: each diagnostic is on the page, with its message and an example")
-def diagnostics():
+def diagnostics() -> None:
     listed = rows("Diagnostics")
-    same(sorted(CODE.fullmatch(it[0])[1] for it in listed), sorted([*harness.MESSAGES, "Syntax"]), "the codes")
+    same(sorted(code_in(it[0]) for it in listed), sorted([*harness.MESSAGES, "Syntax"]), "the codes")
     others = {"TooLong": "x".ljust(LONGEST + 1), "TooDeep": filled(STATEMENTS, DEEP)}
     for code, message, _, example, at in listed:
-        name, said = CODE.fullmatch(code)[1], CODE.fullmatch(message)[1]
+        name, said = code_in(code), code_in(message)
         if name in others:
             same(first(others[name], None)[:2], (name, said), name)
             continue
-        snippet = CODE.fullmatch(example)[1]
+        snippet = code_in(example)
         module = DECLARATIONS if re.match("(CONST|TYPE|VAR|PROCEDURE)", snippet) else STATEMENTS
-        found, where = first(snippet, module), CODE.fullmatch(at)[1]
+        found, where = first(snippet, module), code_in(at)
         same((found[0], found[1], found[2][: len(where)]), (name, said, where), f"what is reported of {snippet}")
 
 
 @test("messages: each end of a run is on the page, with an example")
-def run_ends():
+def run_ends() -> None:
     names, (*listed, endless) = [], rows("Ends of a run")
     for end, _, _, body, numbers in listed:
-        name = CODE.fullmatch(end)[1]
+        name = code_in(end)
         names.append(name)
-        text = filled(STATEMENTS, CODE.fullmatch(body)[1]) if body.startswith("`") else "MODULE M; PROCEDURE P; BEGIN P END P; BEGIN P END M."
-        given = CODE.fullmatch(numbers)[1].encode() if numbers else b""
+        text = filled(STATEMENTS, code_in(body)) if body.startswith("`") else "MODULE M; PROCEDURE P; BEGIN P END P; BEGIN P END M."
+        given = code_in(numbers).encode() if numbers else b""
         ends(on_file("run", text, given=given), "", 0 if name == "Done" else 1, "" if name == "Done" else f"fault: {name}\n")
-    listed = re.findall(r"^\| (\w+) \|", text_of("docs", "LANGUAGE.md").partition("| End | Because |")[2].partition("\n\n")[0], re.M)
-    same(names, [it for it in listed if it != "End"], "the ends")
+    known = re.findall(r"^\| (\w+) \|", text_of("docs", "LANGUAGE.md").partition("| End | Because |")[2].partition("\n\n")[0], re.M)
+    same(names, [it for it in known if it != "End"], "the ends")
     said = run(["help", "run"]).out.decode()
     holds(all(it in said for it in names), f"`ob0 help run` has all of {names}")
     # (a run that doesn't end, and what the page says to do)
-    flags, text = re.search(r"`ob0 run (--turns \d) FILE`", endless[2])[1], filled(STATEMENTS, CODE.fullmatch(endless[3])[1])
+    flags, text = match_of(r"`ob0 run (--turns \d) FILE`", endless[2])[1], filled(STATEMENTS, code_in(endless[3]))
     ends(on_file("run", text, *flags.split()), " 0 1 2" * 5, 1, "fault: TurnBound\n")
     for name, page in (("ob0 help run", said), ("the manual page", text_of("share", "ob0.1").replace("\\-", "-"))):
         holds(flags in page, f"{name} has no {flags}")
@@ -138,7 +154,7 @@ def run_ends():
 TITLES = ["Inline here", "Inline everywhere"]
 
 
-def offered(text, at):
+def offered(text: str, at: Message) -> list[str]:
     """The code actions that are offered at a place."""
     with Server(capabilities={"textDocument": {"codeAction": {"codeActionLiteralSupport": {}}}}) as server:
         same(server.notify(did_open(text)), [], "the diagnostics")
@@ -146,7 +162,7 @@ def offered(text, at):
         return [it["title"] for it in server.query("textDocument/codeAction", params)["result"]]
 
 
-def refused_inlinings():
+def refused_inlinings() -> None:
     """What isn't offered for the reasons that an inlining alone can have."""
     deep = "MODULE M;\nCONST c = -1;\nBEGIN Write(" + "(" * 100 + "c" + ")" * 100 + ") END M.\n"
     same(offered(deep, place(2, 112)), [], "an inlining that nests too deep")
@@ -157,22 +173,22 @@ def refused_inlinings():
 
 
 @test("messages: each refusal is on the page, with an example")
-def refusals():
+def refusals() -> None:
     title = "Refusals of a rename or an inlining"
     module, listed = module_of(title), rows(title)
     defined = re.findall(r"^\| `(\w+)", text_of("docs", "PROTOCOL.md").partition("## Refusals of edits")[2].partition("\n## ")[0], re.M)
-    same([CODE.fullmatch(it[0])[1].split()[0] for it in listed], defined, "the refusals")
+    same([code_in(it[0]).split()[0] for it in listed], defined, "the refusals")
     for reason, _, example in listed:
         if example.startswith("`"):
-            words = CODE.fullmatch(example)[1].split()
+            words = code_in(example).split()
             same(words[:3], ["ob0", "rename", "m.mod"], "the command")
-            ends(on_file("rename", module, *words[3:]), "", 1, f"refused: {CODE.fullmatch(reason)[1]}\n")
+            ends(on_file("rename", module, *words[3:]), "", 1, f"refused: {code_in(reason)}\n")
     longest = module.replace("END M.", "END M." + " " * (LONGEST - len(module)))
     ends(on_file("rename", longest, "2", "4", "longer"), "", 1, "refused: TooLong\n")
     refused_inlinings()
 
 
-def faults_of_files():
+def faults_of_files() -> Iterator[tuple[str, harness.Ended]]:
     """The faults of the commands on files, each as it is had."""
     good = "MODULE M; VAR x: INTEGER; BEGIN Read(x); Write(x) END M.\n"
     yield "File", run(["check", "/nowhere/m.mod"])
@@ -188,16 +204,16 @@ def faults_of_files():
     yield "Truncated", serve(b"Content-Length: 10\r\n\r\n{")
 
 
-def run_into(device, words):
+def run_into(device: IO[bytes], words: list[str]) -> harness.Ended:
     """A run of the program whose standard output is this device."""
-    how = {"stdin": subprocess.DEVNULL, "stdout": device, "stderr": subprocess.PIPE}
+    how: dict[str, Any] = {"stdin": subprocess.DEVNULL, "stdout": device, "stderr": subprocess.PIPE}
     ran = subprocess.run([harness.BINARY, *words], timeout=harness.SECONDS, check=False, **how)
     return harness.Ended(b"", ran.stderr, ran.returncode)
 
 
 @test("messages: each fault of the program is on the page, with its status")
-def faults():
-    listed = {CODE.fullmatch(name)[1]: int(status) for name, status, _ in rows("Faults of the program")}
+def faults() -> None:
+    listed = {code_in(name): int(status) for name, status, _ in rows("Faults of the program")}
     # (a read that fails, one of 2^40 reads and a machine without memory are for the tests of devices)
     same(sorted(listed), sorted("File Utf8 Input Write Read BadHead Truncated TooManyReads Memory".split()), "the faults")
     for name, found in faults_of_files():
@@ -210,10 +226,10 @@ def faults():
 
 
 FAULTY = "MODULE M; BEGIN x := 1 END M."
-ASKED = {"textDocument": {"uri": "file:///m"}, "position": place(0, 7)}
+ASKED: Message = {"textDocument": {"uri": "file:///m"}, "position": place(0, 7)}
 
 
-def conversations():
+def conversations() -> Iterator[tuple[str, list[Content]]]:
     """A conversation for each error of the protocol, and the one that is to come in it."""
     hover = request(2, "textDocument/hover", ASKED)
     opened = [initialize(), did_open(FAULTY)]
@@ -231,8 +247,8 @@ def conversations():
 
 
 @test("messages: each error of the protocol is on the page, with its code")
-def protocol():
-    listed = {CODE.fullmatch(message)[1]: int(code) for message, code, _ in rows("Messages in an editor")}
+def protocol() -> None:
+    listed = {code_in(message): int(code) for message, code, _ in rows("Messages in an editor")}
     talks = dict(conversations())
     same(list(listed), list(talks), "the messages")
     for message, said in talks.items():
@@ -242,9 +258,9 @@ def protocol():
 
 
 @test("messages: the manual page has each code, end, refusal and fault")
-def manual():
+def manual() -> None:
     page = re.sub(r"\\f.", "", text_of("share", "ob0.1").replace("\\-", "-"))
     titles = ("Ends of a run", "Refusals of a rename or an inlining", "Faults of the program")
     listed = [it[0] for title in titles for it in rows(title) if it[0].startswith("`")]
-    for it in [*harness.MESSAGES, "Syntax", *(CODE.match(name)[1].split()[0] for name in listed)]:
+    for it in [*harness.MESSAGES, "Syntax", *(code_in(name).split()[0] for name in listed)]:
         holds(re.search(rf"\b{it}\b", page), f"the manual page has no {it}")

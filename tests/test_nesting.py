@@ -1,16 +1,19 @@
 """The deepest texts through the built program under a stack of 4 MiB: no mix of constructs runs it out."""
+from __future__ import annotations
+
 import json
 import os
 import random
+from collections.abc import Callable
 
 import nested_modules
-from harness import did_open, ends, frames, initialize, on_file, place, same, serve, test, SHUTDOWN, EXIT
+from harness import EXIT, Message, SHUTDOWN, did_open, ends, frames, initialize, on_file, place, same, serve, test
 
 MIXES = int(os.environ.get("OB0_MIXES", "400"))
 STACK = 4096  # kilobytes, half of what systems give
 
 
-def diagnosed(texts):
+def diagnosed(texts: list[str]) -> list[list[Message]]:
     """What is reported of each text by one server under this stack."""
     talk = frames([initialize(), *(did_open(it, version=at) for at, it in enumerate(texts)), SHUTDOWN, EXIT])
     found = serve(talk, stack=STACK)
@@ -20,54 +23,63 @@ def diagnosed(texts):
     return [it["params"]["diagnostics"] for it in sent[1:-1]]
 
 
-def of_syntax(diagnostics):
+def of_syntax(diagnostics: list[Message]) -> list[Message]:
     return [it for it in diagnostics if it["code"] in ("Syntax", "TooDeep")]
 
 
-def reported_too_deep(text, at):
+def reported_too_deep(text: str, at: int) -> Message:
     ends = next(end for end in range(at + 1, len(text)) if not (text[at].isalpha() and text[end].isalpha()))
     where = {"end": place(0, ends), "start": place(0, at)}
     return {"code": "TooDeep", "message": "nested too deep", "range": where, "severity": 1}
 
 
-def texts(depth):
+def texts(depth: int) -> dict[str, tuple[str, int]]:
     found = {f"{depth} of {it}": nested_modules.of_one(it, depth) for it in nested_modules.REPEATED}
     found.update({f"mix {seed} of {depth}": nested_modules.mixed(seed, depth) for seed in range(MIXES)})
     return found
 
 
 @test("nesting: 100 of each construct and mixes of 100, under a stack of 4 MiB")
-def hundred():
+def hundred() -> None:
     made = texts(100)
     for (name, (text, _)), found in zip(made.items(), diagnosed([text for text, _ in made.values()])):
         same(of_syntax(found), [], f"{name}: {text}")
 
 
 @test("nesting: mixes of 101 are too deep, at the innermost construct")
-def hundred_and_one():
+def hundred_and_one() -> None:
     made = texts(101)
     for (name, (text, at)), found in zip(made.items(), diagnosed([text for text, _ in made.values()])):
         same(found, [reported_too_deep(text, at)], f"{name}: {text}")
 
 
 @test("nesting: far past the limit, under a stack of 4 MiB")
-def far():
+def far() -> None:
     made = [nested_modules.of_one(it, 20000)[0] for it in nested_modules.REPEATED]
     for text, found in zip(made, diagnosed(made)):
         same([it["code"] for it in found], ["TooDeep"], text[:60])
 
 
-def chosen():
+def always(one: nested_modules.Entered) -> Callable[[], nested_modules.Entered]:
+    return lambda: one
+
+
+def any_of(chance: random.Random) -> Callable[[], nested_modules.Entered]:
+    return lambda: chance.choice(nested_modules.ENTERED)
+
+
+def chosen() -> dict[str, Callable[[], nested_modules.Entered]]:
     """Ways to choose among the statements that hold another: each alone, and mixes."""
-    found = {it[0]: lambda it=it: it for it in nested_modules.ENTERED}
+    found: dict[str, Callable[[], nested_modules.Entered]] = {}
+    for one in nested_modules.ENTERED:
+        found[one[0]] = always(one)
     for seed in range(MIXES // 40):
-        chance = random.Random(f"calls {seed}")
-        found[f"mix {seed}"] = lambda chance=chance: chance.choice(nested_modules.ENTERED)
+        found[f"mix {seed}"] = any_of(random.Random(f"calls {seed}"))
     return found
 
 
 @test("nesting: 64 open calls, each inside 100 nested constructs, run under a stack of 4 MiB")
-def calls():
+def calls() -> None:
     for name, choose in chosen().items():
         text, out = nested_modules.recursive(64, choose)
         ends(on_file("run", text, stack=STACK), out, 0)
@@ -77,15 +89,15 @@ def calls():
 
 
 @test("nesting: 64 open calls of procedures inside one another, run under a stack of 4 MiB")
-def inward():
+def inward() -> None:
     for choose in chosen().values():
         text, out = nested_modules.inward(64, choose)
         ends(on_file("run", text, stack=STACK), out, 0)
 
 
 @test("nesting: calls inside 100 nested constructs are taken, inside 101 they are not")
-def calls_within():
-    choose = lambda: nested_modules.ENTERED[0]
+def calls_within() -> None:
+    choose: Callable[[], nested_modules.Entered] = lambda: nested_modules.ENTERED[0]
     for text, _ in (nested_modules.recursive(64, choose), nested_modules.inward(64, choose)):
         ends(on_file("check", text), "", 0)
         deeper = text.replace("BEGIN ", "BEGIN IF TRUE THEN ", 1).replace(" END P;", " END END P;").replace(" END p64;", " END END p64;")

@@ -1,4 +1,6 @@
 """The package: what `make package` makes, installed, removed and unpacked, with editors and shells that find it in an empty home."""
+from __future__ import annotations
+
 import gzip
 import json
 import os
@@ -8,9 +10,11 @@ import subprocess
 import tarfile
 import tempfile
 import time
+from collections.abc import Callable
 
 import common
 import package
+from common import match_of
 from harness import TOP, examples, holds, leave_out, same, test, text_of, want, want_proved
 from homes import run_plainly, write
 from screen import Screen
@@ -18,13 +22,13 @@ from screen import Screen
 MODULE = "MODULE N;\nBEGIN x := 1 END N.\n"
 
 
-def made(*words):
+def made(*words: str) -> str:
     status, said = run_plainly(["make", "--silent", *words], dict(os.environ), TOP)
     same(status, 0, said)
     return said
 
 
-def placed(room):
+def placed(room: str) -> str:
     """Installs the tree of the package: the folder that is used as /usr."""
     want_proved()
     usr = os.path.join(room, "usr")
@@ -34,14 +38,14 @@ def placed(room):
     return usr
 
 
-def paths_in(room):
+def paths_in(room: str) -> list[str]:
     found = []
     for at, folders, files in os.walk(room):
         found += [os.path.relpath(os.path.join(at, it), room) for it in files + [it for it in folders if os.path.islink(os.path.join(at, it))]]
     return sorted(found)
 
 
-def own(room, usr):
+def own(room: str, usr: str) -> dict[str, str]:
     """The environment of a user with an empty home, for whom the tree is what a system has."""
     home = os.path.join(room, "home")
     os.makedirs(home, exist_ok=True)
@@ -51,13 +55,13 @@ def own(room, usr):
     return {**kept, "HOME": home, "PATH": path, "XDG_DATA_DIRS": data, "XDG_RUNTIME_DIR": home, "TERM": "xterm", "LC_ALL": "C.UTF-8"}
 
 
-def packages():
+def packages() -> list[str]:
     names = sorted(it for it in os.listdir(os.path.join(TOP, "bin")) if it.endswith((".deb", ".tar.gz")))
     return [os.path.join(TOP, "bin", it) for it in names]
 
 
 @test("package: two runs give the same bytes, both packages have the same files, and lintian finds no error")
-def packed():
+def packed() -> None:
     want_proved()
     made("package")
     archive, deb = packages()
@@ -84,7 +88,7 @@ def packed():
 
 
 @test("package: README's lines install the packages")
-def as_readme_says():
+def as_readme_says() -> None:
     want_proved()
     made("package")
     page = text_of("README.md").partition("**From a package.**")[2]
@@ -103,7 +107,7 @@ def as_readme_says():
 
 
 @test("package: the archive changes no folder's mode, and README's line and `make uninstall` take it away, but no folder that was there")
-def taken_away():
+def taken_away() -> None:
     want_proved()
     made("package")
     lines = [it[4:].replace("sudo ", "") for it in text_of("README.md").splitlines() if it.startswith(("    sudo tar ", "    cd /usr/local"))]
@@ -126,14 +130,14 @@ def taken_away():
             same(modes_in(room), before, f"what is there after `{remove}`")
 
 
-def modes_in(room):
+def modes_in(room: str) -> dict[str, int]:
     """The modes of what is in a folder."""
     found = [os.path.join(at, it) for at, folders, files in os.walk(room) for it in folders + files]
     return {os.path.relpath(it, room): os.lstat(it).st_mode for it in found}
 
 
 @test("package: a prefix that is empty or the folder of the sources is refused")
-def refused_prefixes():
+def refused_prefixes() -> None:
     want_proved()
     with tempfile.TemporaryDirectory() as room:
         link = os.path.join(room, "link")
@@ -145,7 +149,7 @@ def refused_prefixes():
     holds(os.path.exists(common.BINARY), "bin/ob0 is gone")
 
 
-def in_copy(*commits):
+def in_copy(*commits: tuple[int, str, str]) -> list[str]:
     """The version of the packages in a repository of its own, which has the scripts and these commits: a time and a tag for each."""
     versions = []
     with tempfile.TemporaryDirectory() as room:
@@ -166,7 +170,7 @@ def in_copy(*commits):
 
 
 @test("package: its version grows with the time of the commit, and is the program's where that has its tag")
-def versions():
+def versions() -> None:
     if not shutil.which("git"):
         leave_out("it wants git")
     day = 1795823088
@@ -185,7 +189,7 @@ INSTALLED = "Package: {}\nStatus: install ok installed\nVersion: {}\nArchitectur
 
 
 @test("package: dpkg installs it in a root of its own, where libc6 is new enough, and removing it leaves nothing")
-def by_dpkg():
+def by_dpkg() -> None:
     want_proved()
     if os.geteuid() or not shutil.which("dpkg"):
         leave_out("it wants dpkg, and to be root")
@@ -208,7 +212,7 @@ def by_dpkg():
 
 
 @test("package: it says what was proved, the packed program is the proved one, and the links of its pages hold")
-def provenance():
+def provenance() -> None:
     with tempfile.TemporaryDirectory() as room:
         usr = placed(room)
         said = text_of(usr, "share/doc/ob0/PROVED")
@@ -221,16 +225,16 @@ def provenance():
 
 
 @test("package: `make install` copies the tree without a toolchain, and `make uninstall` leaves nothing")
-def installed():
+def installed() -> None:
     want_proved()
     with tempfile.TemporaryDirectory() as room:
         usr = placed(room)
         # (a PATH without the toolchain, and a folder that was there before)
-        for it in ("python3", "make", "sh", "date", "git"):
-            found = shutil.which(it)
+        for command in ("python3", "make", "sh", "date", "git"):
+            found = shutil.which(command)
             if found:
-                write(os.path.join(room, "path", it), f'#!/bin/sh\nexec "{found}" "$@"\n')
-                os.chmod(os.path.join(room, "path", it), 0o755)
+                write(os.path.join(room, "path", command), f'#!/bin/sh\nexec "{found}" "$@"\n')
+                os.chmod(os.path.join(room, "path", command), 0o755)
         environment = {**os.environ, "PATH": os.path.join(room, "path")}
         root = os.path.join(room, "a root")
         os.makedirs(os.path.join(root, "opt", "x", "bin"))
@@ -246,23 +250,24 @@ def installed():
         # (a home that the shell left to be named)
         home = os.path.join(room, "home")
         os.mkdir(home)
-        for command, found in (("install", ["bin", "share"]), ("uninstall", [])):
+        folders: dict[str, list[str]] = {"install": ["bin", "share"], "uninstall": []}
+        for command, there in folders.items():
             status, said = run_plainly(["make", "--silent", "PREFIX=~/some/local", command], {**environment, "HOME": home}, TOP)
             same(status, 0, said)
             local = os.path.join(home, "some", "local")
-            same(sorted(os.listdir(local)) if os.path.isdir(local) else [], found, f"what is in that folder after `make {command}`")
+            same(sorted(os.listdir(local)) if os.path.isdir(local) else [], there, f"what is in that folder after `make {command}`")
         same(os.listdir(home), [], "what is in the home: the folders around the prefix")
 
 
 @test("package: a stamp beside another program doesn't make it the proved one")
-def stamped():
+def stamped() -> None:
     want_proved()
     with tempfile.TemporaryDirectory() as room:
         program, stamp = os.path.join(room, "ob0"), os.path.join(room, "ob0.stamp")
         shutil.copy(common.BINARY, program)
         shutil.copy(common.STAMP, stamp)
         script = "import sys; sys.path.insert(0, sys.argv[1]); import common; common.BINARY, common.STAMP = sys.argv[2:]; print(common.is_current())"
-        is_current = lambda: run_plainly(["python3", "-B", "-c", script, os.path.join(TOP, "tools"), program, stamp], dict(os.environ), room)[1].strip()
+        is_current: Callable[[], str] = lambda: run_plainly(["python3", "-B", "-c", script, os.path.join(TOP, "tools"), program, stamp], dict(os.environ), room)[1].strip()
         same(is_current(), "True", "the proved program")
         with open(program, "ab") as file:
             file.write(b"\0")
@@ -270,13 +275,13 @@ def stamped():
 
 
 @test("package: the program, its manual page and Tab in bash, zsh and fish, in an empty home")
-def in_shells():
+def in_shells() -> None:
     with tempfile.TemporaryDirectory() as room:
         usr = placed(room)
         environment, work = own(room, usr), os.path.join(room, "work")
         write(os.path.join(work, "New.mod"), MODULE)
         status, said = run_plainly(["ob0", "--version"], environment, work)
-        same((status, said), (0, f"ob0 {re.search('ob0 ([0-9.]+)', text_of('share', 'ob0.1'))[1]}\n"), "the version")
+        same((status, said), (0, f"ob0 {match_of('ob0 ([0-9.]+)', text_of('share', 'ob0.1'))[1]}\n"), "the version")
         status, said = run_plainly(["ob0-format", "--check", *(os.path.join(TOP, it) for it in examples())], environment, work)
         same((status, said), (0, ""), "ob0-format, which finds ob0 beside it")
         if shutil.which("man"):
@@ -306,7 +311,7 @@ def in_shells():
                 screen.shows(rb"ew\.mod", f"Tab after `ob0 run < N` in {shell}")
 
 
-def seen_by_vim(words, environment, work, name):
+def seen_by_vim(words: list[str], environment: dict[str, str], work: str, name: str) -> None:
     """Vim's or Neovim's file type of a new file once it is saved, and of each example."""
     report = os.path.join(work, "report")
     opened = [[f"edit {os.path.join(TOP, it)}", "call add(r, &filetype)"] for it in examples()]
@@ -327,7 +332,7 @@ def seen_by_vim(words, environment, work, name):
 
 
 @test("package: Neovim and its server, on a new file and each example, in an empty home")
-def in_neovim():
+def in_neovim() -> None:
     want("Neovim")
     with tempfile.TemporaryDirectory() as room:
         usr = placed(room)
@@ -339,7 +344,7 @@ def in_neovim():
 
 
 @test("package: Vim, on a new file and each example, in an empty home")
-def in_vim():
+def in_vim() -> None:
     want("Vim")
     with tempfile.TemporaryDirectory() as room:
         usr = placed(room)
@@ -351,7 +356,7 @@ def in_vim():
 
 
 @test("package: Emacs, on a new file and each example, in an empty home")
-def in_emacs():
+def in_emacs() -> None:
     want("Emacs")
     with tempfile.TemporaryDirectory() as room:
         usr = placed(room)
@@ -373,7 +378,7 @@ def in_emacs():
 
 
 @test("package: Kakoune, on a new file and each example, in an empty home")
-def in_kakoune():
+def in_kakoune() -> None:
     want("Kakoune")
     with tempfile.TemporaryDirectory() as room:
         usr = placed(room)
@@ -393,7 +398,7 @@ def in_kakoune():
 
 
 @test("package: nano, GtkSourceView and a desktop take their files")
-def others():
+def others() -> None:
     with tempfile.TemporaryDirectory() as room:
         usr = placed(room)
         environment, work = own(room, usr), os.path.join(room, "work")
@@ -409,8 +414,12 @@ def others():
             kinds = [run_plainly(["gio", "info", "-a", "standard::content-type", it], environment, work)[1].split()[-1] for it in ("New.mod", "go.mod")]
             same(kinds[0], "text/x-oberon0", "the type of a module")
             same(kinds[1], "text/plain", "the type of go.mod, which is Go's")
-        unpacked = lambda at: gzip.decompress(open(os.path.join(usr, at), "rb").read()).decode()
+
+        def unpacked(at: str) -> str:
+            with gzip.open(os.path.join(usr, at), "rt", encoding="utf-8") as file:
+                return file.read()
+
         for it in ("ob0.1", "ob0-format.1"):
             same(unpacked(f"share/man/man1/{it}.gz"), text_of("share", it), "a manual page")
-        words = lambda text: [it for it in text.split() if it not in "-*"]
+        words: Callable[[str], list[str]] = lambda text: [it for it in text.split() if it not in "-*"]
         same(words(unpacked("share/doc/ob0/changelog.gz").partition("medium\n")[2].partition("\n -- ")[0]), words(text_of("CHANGELOG.md").partition("yet\n")[2]), "the changes")

@@ -1,42 +1,46 @@
 """Hover, definition, references and prepareRename through `serve`."""
-from harness import Server, answer, compact, did_open, extent, frames, initialize, place, request, same, serve, test
+from __future__ import annotations
+
+from typing import Any
+
+from harness import Message, Server, answer, compact, did_open, extent, frames, initialize, place, request, same, serve, test
 from modules import CALLS
 
 URI = "file:///m"
 PLACES = ["1:10-1:11", "2:30-2:31", "2:47-2:48", "3:6-3:7"]
 
 
-def where(line, character, **more):
+def where(line: int, character: int, **more: Any) -> Message:
     return {"position": place(line, character), "textDocument": {"uri": URI}, **more}
 
 
 class Asked(Server):
     """A server that holds one text."""
 
-    def __init__(self, text, **capabilities):
+    def __init__(self, text: str, **capabilities: Any) -> None:
         super().__init__(capabilities=capabilities)
         self.notify(did_open(text, URI))
 
-    def result(self, what, line, character, **more):
+    def result(self, what: str, line: int, character: int, **more: Any) -> Any:
         found = self.query(f"textDocument/{what}", where(line, character, **more))
         return found["result"] if "result" in found else found["error"]
 
-    def hover(self, line, character):
+    def hover(self, line: int, character: int) -> Any:
         found = self.result("hover", line, character)
         return found and (found["contents"]["value"], found["range"])
 
-    def references(self, line, character, include):
+    def references(self, line: int, character: int, include: bool) -> list[Message]:
         found = self.result("references", line, character, context={"includeDeclaration": include})
         assert all(it["uri"] == URI for it in found)
         return [it["range"] for it in found]
 
-    def definition(self, line, character):
+    def definition(self, line: int, character: int) -> Any:
         found = self.result("definition", line, character)
         return found and found["range"]
 
 
 @test("questions: hover, byte by byte")
-def hover_bytes():
+def hover_bytes() -> None:
     found = serve(frames([initialize(), did_open(CALLS), request(3, "textDocument/hover", where(3, 7))])).contents()[2]
     wanted = (
         '{"id":3,"jsonrpc":"2.0","result":{"contents":{"kind":"plaintext","value":"PROCEDURE F(n: INTEGER)"},'
@@ -46,7 +50,7 @@ def hover_bytes():
 
 
 @test("questions: definition and references, byte by byte")
-def references_bytes():
+def references_bytes() -> None:
     queries = [
         request(3, "textDocument/definition", where(2, 47)),
         request(4, "textDocument/references", where(2, 47, context={"includeDeclaration": True})),
@@ -66,7 +70,7 @@ def references_bytes():
 
 
 @test("questions: predeclared names and places without a name")
-def no_names():
+def no_names() -> None:
     with Asked(CALLS) as server:
         write = [extent("2:20-2:25")]
         same(server.definition(2, 20), None)
@@ -79,7 +83,7 @@ def no_names():
 
 
 @test("questions: hover of predeclared names, and where no name is")
-def no_hover():
+def no_hover() -> None:
     with Asked(CALLS) as server:
         same(server.hover(2, 20), ("predeclared Write", extent("2:20-2:25")))
         for line, character in ((0, 7), (0, 8), (0, 0), (2, 0), (3, 9), (3, 16), (9, 9)):
@@ -89,7 +93,7 @@ def no_hover():
 
 
 @test("questions: a text that isn't well-typed")
-def ill_typed():
+def ill_typed() -> None:
     with Asked("MODULE M") as server:
         for what in ("definition", "prepareRename"):
             same(server.result(what, 0, 7), None, what)
@@ -97,7 +101,7 @@ def ill_typed():
 
 
 @test("questions: each place of a text that isn't well-typed")
-def ill_typed_places():
+def ill_typed_places() -> None:
     with Asked("MODULE M") as server:
         for character in range(9):
             for what in ("hover", "definition"):
@@ -108,13 +112,15 @@ def ill_typed_places():
 
 
 @test("questions: positions that can't be read, and positions far off")
-def positions():
+def positions() -> None:
     bad = {"code": -32602, "message": "bad params"}
     with Asked(CALLS) as server:
-        for line in (18446744073709551616, -1, 1.0, "1", None, []):
+        lines: list[Any] = [18446744073709551616, -1, 1.0, "1", None, []]
+        for line in lines:
             same(server.result("definition", line, 0), bad, f"line {line!r}")
         same(server.result("definition", 18446744073709551615, 18446744073709551615), None)
-        for params in (None, {}, [], {"position": place(0, 0)}, {"position": {}, "textDocument": {"uri": URI}}):
+        others: list[Any] = [None, {}, [], {"position": place(0, 0)}, {"position": {}, "textDocument": {"uri": URI}}]
+        for params in others:
             same(server.query("textDocument/definition", params).get("error"), bad, f"params {params!r}")
         same(server.query("textDocument/references", where(0, 0)).get("error"), bad, "no context")
         refused = {"code": -32803, "message": "unopened"}
@@ -133,7 +139,7 @@ BEGIN a[c] := d; Q(a[0], p[0][1], on, b); b := TRUE END M.
 """
 
 
-def shows(server, wanted):
+def shows(server: Asked, wanted: dict[str, str]) -> None:
     """Hover displays these texts at both ends of their ranges."""
     for span, text in wanted.items():
         at = extent(span)
@@ -142,7 +148,7 @@ def shows(server, wanted):
 
 
 @test("questions: what hover shows of each kind of name")
-def hovers():
+def hovers() -> None:
     wanted = {
         "1:6-1:7": "CONST c = 7",
         "1:13-1:14": "CONST d = -7",
@@ -169,7 +175,7 @@ def hovers():
 
 
 @test("questions: hover of a constant that is FALSE")
-def hover_false():
+def hover_false() -> None:
     text = "MODULE M; CONST c = FALSE; d = 1 > 2; BEGIN IF c OR d THEN WriteLn END END M."
     wanted = {"0:16-0:17": "CONST c = FALSE", "0:27-0:28": "CONST d = FALSE", "0:47-0:48": "CONST c = FALSE"}
     with Asked(text) as server:
@@ -177,7 +183,7 @@ def hover_false():
 
 
 @test("questions: names that are declared again, closing names")
-def scopes():
+def scopes() -> None:
     with Asked(NAMES) as server:
         same(server.definition(6, 19), extent("5:4-5:5"), "the inner c")
         same(server.definition(8, 8), extent("1:6-1:7"), "the outer c")
@@ -187,7 +193,7 @@ def scopes():
 
 
 @test("questions: fields, by their record")
-def fields():
+def fields() -> None:
     with Asked(NAMES) as server:
         same(server.hover(6, 26), ("FIELD x: INTEGER", extent("6:26-6:27")))
         same(server.definition(6, 26), extent("2:40-2:41"))
@@ -206,7 +212,7 @@ BEGIN r.a := 1; s.a := 2; a := r.a + s.a; Write(a) END M.
 
 
 @test("questions: hover where a field is declared")
-def declared_fields():
+def declared_fields() -> None:
     wanted = {
         "2:40-2:41": "FIELD x: INTEGER",
         "2:43-2:44": "FIELD y: INTEGER",
@@ -241,7 +247,7 @@ END M.
 
 
 @test("questions: which fields can be renamed")
-def renamable_fields():
+def renamable_fields() -> None:
     with Asked(NAMES) as server:
         same(server.result("prepareRename", 6, 31), extent("6:31-6:33"))
         same(server.result("prepareRename", 6, 33), extent("6:31-6:33"))
@@ -250,7 +256,7 @@ def renamable_fields():
 
 
 @test("questions: prepareRename at a field, byte by byte")
-def renamable_bytes():
+def renamable_bytes() -> None:
     text = "MODULE M; VAR r: RECORD a: INTEGER END; BEGIN (* 😀 *) r.a := 1 END M."
     queries = [request(3, "textDocument/prepareRename", where(0, 24)), request(4, "textDocument/prepareRename", where(0, 57))]
     found = serve(frames([initialize(), did_open(text), *queries])).contents()[2:]
@@ -261,7 +267,7 @@ def renamable_bytes():
 
 
 @test("questions: positions in UTF-8 units")
-def utf8():
+def utf8() -> None:
     text = "MODULE M; VAR x: INTEGER; BEGIN (* 😀é *) x := 1 END M."
     with Asked(text, general={"positionEncodings": ["utf-8"]}) as server:
         same(server.references(0, 14, True), [extent("0:14-0:15"), extent("0:45-0:46")])
@@ -270,7 +276,7 @@ def utf8():
 
 
 @test("questions: 5,000 references, on many lines and on one")
-def many():
+def many() -> None:
     for gap in ("\n", " ", "\r\n", " (* 😀 *) "):
         text = "MODULE M; VAR x: INTEGER; BEGIN" + f"{gap}x := 1;" * 5000 + " END M."
         with Asked(text) as server:

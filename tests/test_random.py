@@ -1,56 +1,64 @@
 """The program against the reference, on random texts and runs.
 
 OB0_RANDOM is how many of each are tried, OB0_SEED where they begin."""
+from __future__ import annotations
+
 import os
 import random
 import re
+from collections.abc import Callable, Iterator
+from typing import Any
 
 import corpus
 import faulty_modules
 import random_texts
 from against_reference import MAKERS, counted, run_of, same_diagnostics
-from harness import Server, did_open, extent, place, same, test
+from harness import Message, Server, did_open, extent, place, same, test
 from random_texts import LEXEME
 from reference import edits, layout, questions
 from reference.runs import Run
-from reference.text import Text
+from reference.edits import Edit, Refusal
+from reference.text import Span, Text
 
 URI = "file:///m"
 COUNT, SEED = int(os.environ.get("OB0_RANDOM", "300")), int(os.environ.get("OB0_SEED", "0"))
 
 
-def compare(kind, count):
+def compare(kind: str, count: int) -> None:
     with Server() as server:
         for seed in range(SEED, SEED + count):
             same_diagnostics(server, MAKERS[kind](seed), seed)
 
 
 @test("random: diagnostics of texts with a few lexemes changed")
-def lexemes():
+def lexemes() -> None:
     compare("lexemes changed", COUNT)
 
 
 @test("random: diagnostics of texts with a few names and operators changed")
-def names():
+def names() -> None:
     compare("names and operators changed", COUNT)
 
 
 @test("random: diagnostics of modules of few names with many faults")
-def few_names():
+def few_names() -> None:
     compare("few names", 2 * COUNT)
 
 
 @test("random: texts of few characters")
-def few_characters():
+def few_characters() -> None:
     compare("few characters", 3 * COUNT)
 
 
-def answers_at(server, found, at, where):
+def answers_at(server: Server, found: Text, at: int, where: str) -> None:
     """Compares the answers at a place of a text with those of the reference."""
     span, shown, declared, places = questions.at_place(found, at) or (None, None, None, [])
-    ranges = lambda it: extent("{}:{}-{}:{}".format(*found.position(it[0]), *found.position(it[1])))
-    params = {"position": place(*found.position(at)), "textDocument": {"uri": URI}}
-    result = lambda what, **more: server.query(f"textDocument/{what}", {**params, **more})["result"]
+    ranges: Callable[[Span], Message] = lambda it: extent("{}:{}-{}:{}".format(*found.position(it[0]), *found.position(it[1])))
+    params: Message = {"position": place(*found.position(at)), "textDocument": {"uri": URI}}
+
+    def result(method: str, **more: object) -> Any:
+        return server.query(f"textDocument/{method}", {**params, **more})["result"]
+
     for include in (True, False):
         got = result("references", context={"includeDeclaration": include})
         same([it["range"] for it in got], [ranges(it) for it in places if include or it != declared], f"{where}: references")
@@ -60,7 +68,7 @@ def answers_at(server, found, at, where):
 
 
 @test("random: hover, definition and references at each place")
-def questions_anywhere():
+def questions_anywhere() -> None:
     with Server() as server:
         for seed in range(SEED, SEED + max(1, COUNT // 30)):
             text = corpus.module(900, seed)
@@ -72,7 +80,7 @@ def questions_anywhere():
 
 
 @test("random: hover, definition and references where fields are declared")
-def declared_fields():
+def declared_fields() -> None:
     with Server() as server:
         for seed in range(SEED, SEED + COUNT // 3):
             text = faulty_modules.records(seed)
@@ -84,33 +92,34 @@ def declared_fields():
 
 
 @test("random: runs")
-def runs():
+def runs() -> None:
     print("    " + counted(run_of(random_texts.program, seed) for seed in range(SEED, SEED + COUNT)))
 
 
 @test("random: runs in which arrays and records are passed and copied")
-def aliased_runs():
+def aliased_runs() -> None:
     print("    " + counted(run_of(random_texts.aliased, seed) for seed in range(SEED, SEED + COUNT)))
 
 
-def spread(found, changes):
+def spread(found: Text, changes: list[Edit]) -> list[Message]:
     """Edits as the server writes them."""
     places = [(found.position(start), found.position(end), new) for start, end, new in changes]
     return [{"newText": new, "range": {"end": place(*end), "start": place(*start)}} for start, end, new in places]
 
 
-def refusal(found, told_):
-    name, where = told_
+def refusal(found: Text, refused: Refusal) -> str:
+    name, where = refused
     return name + (" {}:{}-{}:{}".format(*found.position(where[0]), *found.position(where[1])) if where else "")
 
 
-def keeps_runs(before, after, seed):
-    for given, calls, turns in (([], 2, 2), ([7, -1, 0], 3, 1)):
-        runs_ = [Run(it, given, calls, turns) for it in (before, after)]
-        same(*((it.output(), it.end) for it in runs_), f"seed {seed}, the run of\n{before}\nand of\n{after}")
+def keeps_runs(before: str, after: str, seed: int) -> None:
+    bounds: list[tuple[list[int], int, int]] = [([], 2, 2), ([7, -1, 0], 3, 1)]
+    for given, calls, turns in bounds:
+        first, second = ((run.output(), run.end) for run in (Run(it, given, calls, turns) for it in (before, after)))
+        same(first, second, f"seed {seed}, the run of\n{before}\nand of\n{after}")
 
 
-def modules(count):
+def modules(count: int) -> Iterator[tuple[int, random.Random, str, Text]]:
     for seed in range(SEED, SEED + max(1, count)):
         chance = random.Random(f"edit {seed}")
         text = random_texts.program(seed)[0] if chance.random() < 0.7 else corpus.module(900, seed, True)
@@ -118,7 +127,7 @@ def modules(count):
 
 
 @test("random: renames")
-def renames():
+def renames() -> None:
     with Server() as server:
         for seed, chance, text, found in modules(COUNT // 10):
             server.notify(did_open(text, URI))
@@ -136,7 +145,7 @@ def renames():
 
 
 @test("random: inlining")
-def inlining():
+def inlining() -> None:
     with Server(capabilities={"textDocument": {"codeAction": {"codeActionLiteralSupport": {}}}}) as server:
         for seed, chance, text, found in modules(COUNT // 10):
             server.notify(did_open(text, URI))
@@ -148,9 +157,9 @@ def inlining():
                 params = {"context": {}, "range": {"end": at, "start": at}, "textDocument": {"uri": URI}}
                 got = server.query("textDocument/codeAction", params)["result"]
                 wanted_ = [
-                    {"edit": {"changes": {URI: spread(found, it)}}, "kind": "refactor.inline", "title": title}
-                    for title, it in answers
-                    if isinstance(it, list)
+                    {"edit": {"changes": {URI: spread(found, changes)}}, "kind": "refactor.inline", "title": title}
+                    for title, changes in answers
+                    if isinstance(changes, list)
                 ]
                 same(got, wanted_, f"seed {seed}, {found.position(where)} of\n{text}\n")
                 for _, it in answers:
@@ -159,7 +168,7 @@ def inlining():
 
 
 @test("random: formatting")
-def formatting():
+def formatting() -> None:
     with Server() as server:
         for seed, chance, text, _ in modules(COUNT // 5):
             text = random_texts.squeezed(text, chance)

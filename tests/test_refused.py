@@ -2,15 +2,17 @@
 
 The framer and the worlds of an editor and a server are in the tests of the crates. `make faults` does the same in longer
 conversations and in the other tests of the crates."""
+from __future__ import annotations
+
 import conversations
 import failing
 import refused_tests
 from harness import holds, test
 
 
-def make(name, case):
+def make(name: str, case: conversations.Case) -> None:
     @test(f"refused memory: {name}")
-    def walk():
+    def walk() -> None:
         failing.refused(name, *case)
 
 
@@ -18,9 +20,9 @@ for key, given in conversations.SHORT.items():
     make(key, given)
 
 
-def make_of_crate(what, crate, *modules):
+def make_of_crate(what: str, crate: str, *modules: str) -> None:
     @test(f"refused memory: {what}")
-    def walk_tests():
+    def walk_tests() -> None:
         found = list(refused_tests.checks(crate, 20000))
         for module in modules:
             holds(any(f"::{module}::" in f"::{name}" for name, _ in found), f"no test of {module} is among {found}")

@@ -1,6 +1,10 @@
 """`ob0 run`: outputs, the seven ends, bounds, input, statuses."""
+from __future__ import annotations
+
 import os
 import tempfile
+from collections.abc import Callable
+from typing import Dict, Tuple
 
 from harness import edited, ends, on_file, run, same, test
 from modules import CALLS, COUNTS, DIVIDES, FIVE, LEAST, NESTED, RECORDS, SHADOWED, WRITES_A_GLOBAL
@@ -24,17 +28,19 @@ BEGIN Read(n); REPEAT Write(n); n := n - 1 UNTIL n <= 0 END M.
 """
 
 
-def ran(text, out, end="", given="", calls=None, turns=None):
+def ran(
+    text: str | bytes, out: str, end: str = "", given: str = "", calls: int | None = None, turns: int | None = None
+) -> None:
     """Holds a run to its output and its end (none: Done)."""
     bounds = [*(["--calls", str(calls)] if calls is not None else []), *(["--turns", str(turns)] if turns is not None else [])]
     ends(on_file("run", text, *bounds, given=given.encode()), out, 1 if end else 0, f"fault: {end}\n" if end else "")
 
 
-def body(statements, variables="x, y: INTEGER; b: BOOLEAN"):
+def body(statements: str, variables: str = "x, y: INTEGER; b: BOOLEAN") -> str:
     return f"MODULE M; VAR {variables}; BEGIN {statements} END M."
 
 
-def four_runs(text):
+def four_runs(text: str | bytes) -> None:
     """Holds COUNTS, or that text with other names, to its ends under four inputs and bounds."""
     ran(text, "", "InputEnd")
     ran(text, "\n\n\n", "TurnBound", "7", 0, 3)
@@ -43,7 +49,7 @@ def four_runs(text):
 
 
 @test("run: input, turns and calls under bounds")
-def bounds():
+def bounds() -> None:
     four_runs(COUNTS)
     ran(CALLS, " 2 1", "", "", 3)
     ran(CALLS, " 2 1", "CallBound", "", 2)
@@ -51,14 +57,14 @@ def bounds():
 
 
 @test("run: a module with a WHILE that `rename` gave another name has the same four runs")
-def renamed_runs():
+def renamed_runs() -> None:
     found = on_file("rename", COUNTS, "1", "4", "k")
     ends(found, edited(COUNTS, ["1:4-1:5", "2:25-2:26", "3:11-3:12", "3:21-3:22", "3:30-3:31", "3:35-3:36"], "k"), 0)
     four_runs(found.out)
 
 
 @test("run: fields of one name in two records, constants below 0, and TRUE declared again")
-def before_edits():
+def before_edits() -> None:
     ran(RECORDS, " 3")
     ran(LEAST, " -2147483648")
     ran(FIVE, " -2")
@@ -66,7 +72,7 @@ def before_edits():
 
 
 @test("run: names that hide others, procedures that stand later")
-def scopes():
+def scopes() -> None:
     ran(NESTED, " 1")
     ran(WRITES_A_GLOBAL, " 2 7")
     ran(ACTIVATIONS, " 0 2 4", "", "", 4)
@@ -74,13 +80,13 @@ def scopes():
 
 
 @test("run: aliases, and places that are fixed at the call")
-def aliases():
+def aliases() -> None:
     ran(ALIASES, " 0 10 0 1 20", "Index", "", 1)
     ran(ALIASES, "", "CallBound", "", 0)
 
 
 @test("run: arithmetic of 32 bits, DIV and MOD")
-def arithmetic():
+def arithmetic() -> None:
     ran(DIVIDES, " -2 -3 2", "Divisor")
     ran(body("Write(2147483647 + 1)"), "", "Overflow")
     ran(body("Write(-(-2147483647 - 1))"), "", "Overflow")
@@ -93,8 +99,8 @@ def arithmetic():
 
 
 @test("run: relations, & and OR that stop early")
-def truth():
-    shows = lambda it: f"IF {it} THEN Write(1) ELSE Write(0) END"
+def truth() -> None:
+    shows: Callable[[str], str] = lambda it: f"IF {it} THEN Write(1) ELSE Write(0) END"
     ran(body("; ".join(shows(it) for it in ("1 < 2", "1 <= 1", "2 > 2", "2 >= 2", "1 = 1", "1 # 1", "TRUE = FALSE", "TRUE # b"))), " 1 1 0 1 1 0 0 1")
     ran(body(shows("b & (1 DIV 0 = 1)") + ";" + shows("~b OR (1 DIV 0 = 1)")), " 0 1")
     ran(body(shows("~b & (1 DIV 0 = 1)")), "", "Divisor")
@@ -102,7 +108,7 @@ def truth():
 
 
 @test("run: statements")
-def statements():
+def statements() -> None:
     ran(body("IF b THEN Write(1) ELSIF x = 0 THEN Write(2) ELSE Write(3) END"), " 2")
     ran(body("IF b THEN Write(1) ELSIF b THEN Write(2) END; WriteLn; ;; Write(4)"), "\n 4")
     ran(body("WHILE x < 3 DO y := 0; WHILE y < 2 DO Write(x * 10 + y); y := y + 1 END; x := x + 1 END"), " 0 1 10 11 20 21")
@@ -113,7 +119,7 @@ def statements():
 
 
 @test("run: REPEAT")
-def repeated():
+def repeated() -> None:
     ran(REPEATED, " 0", "", "0", None, 0)
     ran(REPEATED, " 2", "TurnBound", "2", None, 0)
     ran(REPEATED, " 2", "TurnBound", "2", None, 1)
@@ -121,7 +127,7 @@ def repeated():
 
 
 @test("run: arrays and records")
-def arrays():
+def arrays() -> None:
     ran(body("a[0] := 1; b := a; b[0] := 2; Write(a[0]); Write(b[0]); Write(b[1])", "a, b: ARRAY 2 OF INTEGER"), " 1 2 0")
     ran(body("r.x[1].y := 5; Write(r.x[1].y); Write(r.x[0].y); IF ~r.b THEN WriteLn END", "r: RECORD x: ARRAY 2 OF RECORD y: INTEGER END; b: BOOLEAN END"), " 5 0\n")
     ran(body("a[2] := 1", "a: ARRAY 2 OF INTEGER"), "", "Index")
@@ -134,12 +140,12 @@ def arrays():
 
 
 @test("run: variables begin as 0 at each call")
-def begin_again():
+def begin_again() -> None:
     ran("MODULE M; PROCEDURE P; VAR x: INTEGER; b: BOOLEAN; BEGIN IF b THEN Write(9) END; x := x + 1; b := TRUE; Write(x) END P; BEGIN P; P END M.", " 1 1")
 
 
 @test("run: the input")
-def inputs():
+def inputs() -> None:
     text = body("Read(x); Read(y); Write(x + y)")
     ran(text, " 3", "", "1 2")
     ran(text, " -2147483648", "", "\t-2147483648\r\n 0 ")
@@ -154,7 +160,7 @@ def inputs():
 
 
 @test("run: a file that isn't well-typed is checked, and its input isn't read")
-def ill_typed():
+def ill_typed() -> None:
     ends(on_file("run", "MODULE M; BEGIN x := 1 END M.", given=b"x"), "0:16: Undeclared: not declared\n", 1)
     ends(on_file("run", "", given=b"x"), "0:0: Syntax: expected MODULE\n", 1)
     ends(on_file("run", b"\xff"), "", 4, "fault: Utf8\n")
@@ -162,7 +168,7 @@ def ill_typed():
 
 
 @test("run: command lines")
-def lines():
+def lines() -> None:
     for words in (["--calls", "65"], ["--turns", "100001"], ["--calls", "-1"], ["--turns=-1"], ["--calls", "x"], ["--calls"], ["y"]):
         found = on_file("run", DIVIDES, *words)
         same((found.out, bool(found.err), found.status), (b"", True, 2), " ".join(words))
@@ -172,7 +178,7 @@ def lines():
 
 
 @test("run: options before the file and after it")
-def options():
+def options() -> None:
     with tempfile.TemporaryDirectory() as room:
         with open(os.path.join(room, "m.mod"), "w", encoding="utf-8") as file:
             file.write(COUNTS)
@@ -181,21 +187,21 @@ def options():
 
 
 @test("run: a predeclared name that is declared again")
-def declared_anew():
+def declared_anew() -> None:
     text = "MODULE M; VAR x: INTEGER; PROCEDURE Write(VAR n: INTEGER); BEGIN n := 3 END Write; "
     ran(text + "PROCEDURE P; BEGIN Write(x) END P; BEGIN P; IF x = 3 THEN WriteLn END END M.", "\n")
     ran("MODULE M; CONST TRUE = 1 = 2; BEGIN IF TRUE THEN Write(1) ELSE Write(0) END END M.", " 0")
 
 
 @test("run: a long run, and much output")
-def long_run():
+def long_run() -> None:
     text = body("WHILE x < 1000 DO y := 0; WHILE y < 100 DO Write(y); y := y + 1 END; WriteLn; x := x + 1 END")
     line = "".join(f" {at}" for at in range(100)) + "\n"
     ran(text, line * 1000)
 
 
 @test("run: an array of 65,536 elements, up to its last and past it")
-def longest_array():
+def longest_array() -> None:
     text = body("Read(x); a[65535] := 7; Write(a[65535]); Write(a[0]); Write(a[x])", "x: INTEGER; a: ARRAY 65536 OF INTEGER")
     ran(text, " 7 0 7", "", "65535")
     ran(text, " 7 0", "Index", "65536")
@@ -203,14 +209,14 @@ def longest_array():
 
 
 @test("run: a procedure that would have 2^32 cells, and isn't called")
-def too_many_cells():
+def too_many_cells() -> None:
     names = ",".join(f"v{at:x}" for at in range(65536))
     ran(f"MODULE M; TYPE T = ARRAY 65536 OF INTEGER; PROCEDURE P; VAR {names}: T; BEGIN END P; BEGIN Write(1) END M.", " 1")
     ran(f"MODULE M; TYPE T = ARRAY 65536 OF INTEGER; PROCEDURE P(b: INTEGER); VAR {names}: T; BEGIN Write(b) END P; BEGIN Write(1); P(2) END M.", " 1", "CallBound", calls=0)
 
 
 # what is repeated, how often, and what is written then: as long as a text of 1 MiB can hold, or 100,000 times
-CHAINS = {
+CHAINS: Dict[str, Tuple[Callable[[int], str], int, str]] = {
     "operands of +": (lambda count: body("Write(" + "+".join(["1"] * count) + ")"), 100000, " 100000"),
     "operands of *": (lambda count: body("Write(" + "*".join(["1"] * count) + ")"), 100000, " 1"),
     "operands of &": (lambda count: body("IF " + "&".join(["TRUE"] * count) + " THEN Write(1) END"), 100000, " 1"),
@@ -228,7 +234,7 @@ CHAINS = {
 
 
 @test("run: chains of 100,000 operands, ELSIF parts, statements, calls and selectors, under a stack of 4 MiB")
-def chains():
+def chains() -> None:
     for name, (make, count, out) in CHAINS.items():
         text = make(count)
         same(len(text) <= 1048576, True, f"{name}: {len(text)} bytes fit")

@@ -1,15 +1,22 @@
 """For scripts: ob0-format, the scripts of docs/CI.md, and the lines of the manual page that list faults as compilers do."""
+from __future__ import annotations
+
+import functools
 import os
 import re
 import shutil
 import subprocess
 import tempfile
+from collections.abc import Callable, Iterable
+from typing import Any, TypeVar
 
+import common
 import harness
-from harness import TOP, examples, frame, holds, need_program, published, same, test, text_of
+from harness import Content, Message, TOP, examples, frames, holds, need_program, published, same, test, text_of
 from homes import write
 from snippets import fenced
 
+T = TypeVar("T")
 FORMAT = os.path.join(TOP, "share", "ob0-format")
 LAID_OUT = "MODULE M;\nVAR\n  x: INTEGER;\nBEGIN\n  x := 1\nEND M.\n"
 LOOSE = "MODULE  M;\nVAR x:INTEGER;\nBEGIN x:=1 END M.\n"
@@ -17,7 +24,7 @@ FAULTY = "MODULE M;\nBEGIN\n  x := 1;\n  y := 2\nEND M.\n"
 MODULES = {"good.mod": LAID_OUT, "loose.ob0": LOOSE, "two words.Mod": FAULTY}
 
 
-def in_folder(files, function):
+def in_folder(files: dict[str, str], function: Callable[[str, dict[str, str]], T]) -> T:
     """Runs a function in a folder with these files: it gets the folder and an environment where `ob0` and `ob0-format` are commands."""
     need_program()
     with tempfile.TemporaryDirectory() as room:
@@ -31,16 +38,16 @@ def in_folder(files, function):
         return function(work, {**kept, "HOME": room, "PATH": os.path.join(room, "bin") + os.pathsep + os.environ["PATH"]})
 
 
-def ran(words, work, environment, given=""):
+def ran(words: list[str], work: str, environment: dict[str, str], given: str = "") -> tuple[int, str, str]:
     """The status of a command, and what it wrote to standard output and to standard error."""
-    how = {"input": given.encode(), "capture_output": True, "cwd": work, "env": environment, "timeout": harness.SECONDS}
+    how: dict[str, Any] = {"input": given.encode(), "capture_output": True, "cwd": work, "env": environment, "timeout": harness.SECONDS}
     found = subprocess.run(words, check=False, **how)
     return found.returncode, found.stdout.decode(), found.stderr.decode()
 
 
 @test("scripts: ob0-format lays files out and names them, and changes neither those that are laid out nor those with faults")
-def lays_out():
-    def trial(work, own):
+def lays_out() -> None:
+    def trial(work: str, own: dict[str, str]) -> None:
         os.chmod(os.path.join(work, "loose.ob0"), 0o640)
         os.symlink("loose.ob0", os.path.join(work, "link.mod"))
         fault = "two words.Mod has faults, so it isn't laid out: `ob0 check` lists them\n"
@@ -59,10 +66,10 @@ def lays_out():
 
 
 @test("scripts: ob0-format counts in bytes, takes each line ending and reads /dev/stdin")
-def in_bytes():
+def in_bytes() -> None:
     text = "MODULE M;\r\n(* \u00e4\U0001f600 *)VAR x:INTEGER;\rBEGIN(*\u20ac*)x:=1 END M.\n"
 
-    def trial(work, own):
+    def trial(work: str, own: dict[str, str]) -> None:
         same(ran(["ob0-format", "m.mod"], work, own), (0, "m.mod\n", ""), "a text with other characters")
         new = text_of(work, "m.mod")
         same(re.sub(r"\s", "", new), re.sub(r"\s", "", text), "the text without white space")
@@ -73,16 +80,17 @@ def in_bytes():
 
 
 @test("scripts: ob0-format ends with 2 for its command line and with 4 for files, and goes on with the others")
-def format_statuses():
-    def trial(work, own):
+def format_statuses() -> None:
+    def trial(work: str, own: dict[str, str]) -> None:
         with open(os.path.join(work, "latin.mod"), "wb") as file:
             file.write(b"MODULE M; (* \xe4 *) END M.")
         found = ran(["ob0-format", "nowhere.mod", "latin.mod", ".", "loose.ob0"], work, own)
         same(found, (4, "loose.ob0\n", "nowhere.mod: No such file or directory\nlatin.mod isn't UTF-8\n.: Is a directory\n"))
-        for words in ([], ["--chekc", "good.mod"], ["--check"]):
+        lines: list[list[str]] = [[], ["--chekc", "good.mod"], ["--check"]]
+        for words in lines:
             same(ran(["ob0-format", *words], work, own)[:2], (2, ""), f"the status of {words}")
         same(ran(["ob0-format", "--help"], work, own)[::2], (0, ""), "help")
-        path = {**own, "PATH": os.path.dirname(shutil.which("python3"))}
+        path = {**own, "PATH": os.path.dirname(common.need("python3"))}
         said = "ob0-format: ob0 is neither beside this program nor on PATH\n"
         same(ran(["python3", FORMAT, "good.mod"], work, path), (4, "", said), "without ob0")
 
@@ -92,23 +100,23 @@ def format_statuses():
 FAULT = harness.diagnostic("Undeclared", "not declared", "4:2-4:3")
 
 
-def server_with(edits, more=(), faults=()):
+def server_with(edits: list[Message], more: Iterable[Message] = (), faults: Iterable[Message] = ()) -> str:
     """A server that answers the first request for a layout with these edits; of the text that they make it has these faults, and
     answers with more edits."""
-    answers = [{"id": 1, "result": {"capabilities": {"positionEncoding": "utf-8"}}}, published([]), {"id": 3, "result": edits}, published([])]
+    answers: list[Content] = [{"id": 1, "result": {"capabilities": {"positionEncoding": "utf-8"}}}, published([]), {"id": 3, "result": edits}, published([])]
     answers += [published([*faults]), {"id": 5, "result": [*more]}, published([]), {"id": 6, "result": None}]
-    return "#!/usr/bin/env python3\nimport sys\nsys.stdout.buffer.write(%r)\nsys.stdout.flush()\nsys.stdin.read()\n" % b"".join(map(frame, answers))
+    return "#!/usr/bin/env python3\nimport sys\nsys.stdout.buffer.write(%r)\nsys.stdout.flush()\nsys.stdin.read()\n" % frames(answers)
 
 
 @test("scripts: ob0-format writes no text whose tokens differ, whatever a server answers")
-def guarded():
-    change = lambda new: [{"range": harness.extent("4:7-4:8"), "newText": new}]
+def guarded() -> None:
+    change: Callable[[str], list[Message]] = lambda new: [{"range": harness.extent("4:7-4:8"), "newText": new}]
     spaced = LAID_OUT.replace("1\n", "1 \n")
     answers = [([change("2")], LAID_OUT), ([change("")], LAID_OUT), ([change("1 ")], spaced)]
     answers += [([change("1 "), change("1")], LAID_OUT), ([change("1 "), [], [FAULT]], LAID_OUT)]
     for given, wanted in answers:
 
-        def trial(work, own, given=given, wanted=wanted):
+        def trial(work: str, own: dict[str, str], given: Any = given, wanted: str = wanted) -> None:
             other = os.path.join(work, "..", "other")
             write(os.path.join(other, "ob0"), server_with(*given))
             os.chmod(os.path.join(other, "ob0"), 0o755)
@@ -119,11 +127,11 @@ def guarded():
 
 
 @test("scripts: a failed write leaves the old file, and nothing beside it")
-def failed_write():
+def failed_write() -> None:
     if os.geteuid() == 0 and not shutil.which("setpriv"):
         harness.leave_out("it wants setpriv, to be another user than root")
 
-    def trial(work, own):
+    def trial(work: str, own: dict[str, str]) -> None:
         os.chmod(os.path.dirname(work), 0o755)
         os.chmod(work, 0o555)
         another = ["setpriv", "--reuid=65534", "--clear-groups"] if os.geteuid() == 0 else []
@@ -141,8 +149,8 @@ MARKED = [f"::error file=two words.Mod,line={line},col=3::Undeclared: not declar
 
 
 @test("scripts: the page's ob0-check lists the faults of several files as compilers do, and as GitHub wants them, and keeps the status")
-def check_script():
-    def trial(work, own):
+def check_script() -> None:
+    def trial(work: str, own: dict[str, str]) -> None:
         same(ran(["sh", "ob0-check", "two words.Mod", "good.mod"], work, own), (1, "\n".join(LISTED) + "\n", ""), "as compilers do")
         found = ran(["sh", "ob0-check", *MODULES], work, {**own, "GITHUB_ACTIONS": "true"})
         same(found, (1, "\n".join(MARKED) + "\n", ""), "for GitHub")
@@ -153,26 +161,24 @@ def check_script():
 
 
 @test("scripts: the page's line compares what a module prints with what is known")
-def run_script():
+def run_script() -> None:
     files = {f"Gcd.{it}": text_of("examples", f"Gcd.{it}") for it in ("mod", "in", "out")}
     for changed, status in (("", 0), (" 1", 1)):
-        in_folder(files, lambda work, own, it=changed, status=status: (
-            write(os.path.join(work, "Gcd.out"), files["Gcd.out"] + it),
-            same(ran(["sh", "-c", RUN], work, own)[0], status, f"the status with {it!r} added"),
-        ))  # fmt: skip
+        found = in_folder({**files, "Gcd.out": files["Gcd.out"] + changed}, functools.partial(ran, ["sh", "-c", RUN]))
+        same(found[0], status, f"the status with {changed!r} added")
 
 
-def git(work, own, *words):
+def git(work: str, own: dict[str, str], *words: str) -> tuple[int, str, str]:
     names = ["-c", "user.name=x", "-c", "user.email=x@example.org", "-c", "init.defaultBranch=main"]
     return ran(["git", *names, *words], work, own)
 
 
 @test("scripts: the page's hook refuses a commit with faults or without a layout, by what is to be committed")
-def hook():
+def hook() -> None:
     if not shutil.which("git"):
         harness.leave_out("it wants git")
 
-    def trial(work, own):
+    def trial(work: str, own: dict[str, str]) -> None:
         same(git(work, own, "init", "-q")[0], 0, "git init")
         write(os.path.join(work, ".git", "hooks", "pre-commit"), HOOK)
         os.chmod(os.path.join(work, ".git", "hooks", "pre-commit"), 0o755)
@@ -192,31 +198,31 @@ def hook():
 
 
 @test("scripts: the page's job finds faults and what isn't laid out")
-def job():
+def job() -> None:
     if not shutil.which("git"):
         harness.leave_out("it wants git")
     install, *lines = JOB.splitlines()
     same(install.split()[:3], ["sudo", "apt-get", "install"], "the first line")
 
-    def trial(work, own, statuses, said):
+    def trial(statuses: list[bool], said: str, work: str, own: dict[str, str]) -> None:
         git(work, own, "init", "-q")
         git(work, own, "add", ".")
         found = [ran(["sh", "-c", it], work, own) for it in lines]
         same(([it[0] != 0 for it in found], "".join(it[1] for it in found)), (statuses, said), str(found))
 
-    in_folder({**MODULES, "ob0-check": CHECK}, lambda *at: trial(*at, [True, True], "\n".join([*LISTED, "loose.ob0"]) + "\n"))
-    in_folder({"good.mod": LAID_OUT, "ob0-check": CHECK}, lambda *at: trial(*at, [False, False], ""))
-    in_folder({"ob0-check": CHECK}, lambda *at: trial(*at, [False, False], ""))
+    in_folder({**MODULES, "ob0-check": CHECK}, functools.partial(trial, [True, True], "\n".join([*LISTED, "loose.ob0"]) + "\n"))
+    in_folder({"good.mod": LAID_OUT, "ob0-check": CHECK}, functools.partial(trial, [False, False], ""))
+    in_folder({"ob0-check": CHECK}, functools.partial(trial, [False, False], ""))
 
 
 @test("scripts: the lines of the manual page list faults as compilers do, and keep the status")
-def manual_lines():
+def manual_lines() -> None:
     page = text_of("share", "ob0.1").partition("List faults as compilers do")[2].partition(".nf\n")[2].partition(".fi\n")[0]
     lines = page.replace("\\(aq", "'").replace("\\e", "\\").replace("\\-", "-")
     for text, status, said in ((FAULTY, 1, "\n".join(LISTED) + "\n"), (LAID_OUT, 0, "")):
         for shell in (["sh", "-c"], ["sh", "-e", "-c"], ["bash", "-e", "-o", "pipefail", "-c"]):
             if shutil.which(shell[0]):
                 wanted = (status, said.replace("two words.Mod", "Sort.mod"), "")
-                same(in_folder({"Sort.mod": text}, lambda work, own, shell=shell: ran([*shell, lines], work, own)), wanted, " ".join(shell))
-    missing = in_folder({"other.mod": LAID_OUT}, lambda work, own: ran(["sh", "-c", lines], work, own))
+                same(in_folder({"Sort.mod": text}, functools.partial(ran, [*shell, lines])), wanted, " ".join(shell))
+    missing = in_folder({"other.mod": LAID_OUT}, functools.partial(ran, ["sh", "-c", lines]))
     same(missing, (4, "", "fault: File\n"), "a file that isn't there")

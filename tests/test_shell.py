@@ -1,16 +1,21 @@
 """In a shell: completions for bash, zsh and fish, the manual page, and the commands of README.md and the editors' pages."""
+from __future__ import annotations
+
+import functools
 import os
-import pty
 import re
-import select
 import shlex
 import tempfile
-import time
+from collections.abc import Callable
+from typing import TypeVar
 
+from common import match_of
 from harness import TOP, holds, run, same, test, text_of, want, want_proved
 from homes import at_home, run_plainly, write
+from screen import Screen
 from snippets import fenced
 
+T = TypeVar("T")
 SHARE = os.path.join(TOP, "share")
 COMMANDS = ["check", "rename", "run", "serve"]
 # what is typed after `ob0`, and what is offered, in a folder with these files
@@ -31,19 +36,19 @@ OFFERED = [
 ]
 
 
-def in_folder(function):
+def in_folder(function: Callable[[str], T]) -> T:
     with tempfile.TemporaryDirectory() as room:
         for it in FILES:
             write(os.path.join(room, it), "")
         return function(room)
 
 
-def environment(room):
+def environment(room: str) -> dict[str, str]:
     return {**os.environ, "HOME": room, "LC_ALL": "C.UTF-8", "TERM": "dumb"}
 
 
 @test("shell: the commands of the completions and of the manual page are the program's")
-def commands():
+def commands() -> None:
     found = run(["--help"])
     listed = re.findall(r"^  (\w+)  +\w", found.out.decode().partition("Commands:")[2].partition("Options:")[0], re.M)
     same(sorted(listed), sorted([*COMMANDS, "help"]), "the commands")
@@ -56,10 +61,10 @@ def commands():
 
 
 @test("shell: completion in bash")
-def in_bash():
+def in_bash() -> None:
     want("bash")
 
-    def offered(room, typed):
+    def offered(room: str, typed: str) -> list[str]:
         words = ["ob0", *typed.split(" ")]
         given = f"COMP_WORDS=({' '.join(shlex.quote(it) for it in words)}); COMP_CWORD={len(words) - 1}; _ob0"
         script = f'source {shlex.quote(os.path.join(SHARE, "ob0.bash"))}; {given}; printf "%s\\n" "${{COMPREPLY[@]}}"'
@@ -68,71 +73,59 @@ def in_bash():
         return sorted(said.split())
 
     for typed, wanted in OFFERED:
-        same(in_folder(lambda room, typed=typed: offered(room, typed)), sorted(wanted), f"after `ob0 {typed}`")
+        same(in_folder(functools.partial(offered, typed=typed)), sorted(wanted), f"after `ob0 {typed}`")
 
 
 @test("shell: completion in fish")
-def in_fish():
+def in_fish() -> None:
     want("fish")
 
-    def offered(room, typed):
+    def offered(room: str, typed: str) -> list[str]:
         script = f"source {os.path.join(SHARE, 'ob0.fish')}; complete -C {shlex.quote('ob0 ' + typed)}"
         status, said = run_plainly(["fish", "--no-config", "-c", script], environment(room), room)
         same(status, 0, said)
         return sorted(line.split("\t")[0] for line in said.splitlines() if line.strip())
 
     for typed, wanted in OFFERED:
-        found = in_folder(lambda room, typed=typed: offered(room, typed))
+        found = in_folder(functools.partial(offered, typed=typed))
         same([it for it in found if it in [*wanted, *COMMANDS, "help", *FILES]], sorted(wanted), f"after `ob0 {typed}`")
     # (words that fish expands, and what comes after the file)
-    for typed, wanted in (("check ~/a", ["~/a.ob0"]), ("check $HOME/a", ["$HOME/a.ob0"]), ("check 'b", ["b.mod"]), ("rename a.ob0 ", [])):
-        same(in_folder(lambda room, typed=typed: offered(room, typed)), wanted, f"after `ob0 {typed}`")
+    others: dict[str, list[str]] = {"check ~/a": ["~/a.ob0"], "check $HOME/a": ["$HOME/a.ob0"], "check 'b": ["b.mod"], "rename a.ob0 ": []}
+    for typed, wanted in others.items():
+        same(in_folder(functools.partial(offered, typed=typed)), wanted, f"after `ob0 {typed}`")
 
 
 @test("shell: completion in zsh")
-def in_zsh():
+def in_zsh() -> None:
     want("zsh")
 
     setup = f"fpath=({shlex.quote(SHARE)} $fpath); autoload -U compinit; compinit -u -D; zstyle ':completion:*' list-colors ''; "
     setup += "zstyle ':completion:*' list-prompt ''; setopt no_auto_menu no_list_beep auto_list; PS1=; LISTMAX=0; echo rea''dy\n"
 
-    def all_offered(room):
+    def all_offered(room: str) -> list[str]:
         """What zsh displays when Tab is typed after each line, in a terminal."""
-        process, terminal = pty.fork()
-        if process == 0:
-            os.chdir(room)
-            os.execvpe("zsh", ["zsh", "-f", "-i"], environment(room))
+        with Screen(["zsh", "-f", "-i"], environment(room), room) as screen:
 
-        def said(until, longest):
-            """What is displayed until this word was printed and zsh reads keys again (it switches bracketed paste on then)."""
-            found, end = b"", time.monotonic() + longest
-            while b"[?2004h" not in found.partition(until)[2] and time.monotonic() < end:
-                if select.select([terminal], [], [], 0.2)[0]:
-                    found += os.read(terminal, 1 << 16)
-            return found.decode(errors="replace")
+            def said(keys: str, until: str) -> str:
+                """What is displayed until this word was printed and zsh reads keys again (it switches bracketed paste on then)."""
+                screen.keys(keys.encode())
+                screen.shows(until.encode() + rb"(?s:.*)\[\?2004h", f"{until} from zsh")
+                return screen.drawn.decode(errors="replace")
 
-        os.write(terminal, setup.encode())
-        said(b"ready", 20)
-        shown = []
-        for at, (typed, _) in enumerate(OFFERED):
+            said(setup, "ready")
             # (Tab twice: to the longest common beginning, and then the list; then the line is dropped)
-            os.write(terminal, f"ob0 {typed}\t\t\x15echo do''ne{at}\n".encode())
-            shown.append(said(f"done{at}".encode(), 20))
-        os.write(terminal, b"exit\n")
-        os.close(terminal)
-        os.waitpid(process, 0)
-        return shown
+            return [said(f"ob0 {typed}\t\t\x15echo do''ne{at}\n", f"done{at}") for at, (typed, _) in enumerate(OFFERED)]
 
     for (typed, wanted), shown in zip(OFFERED, in_folder(all_offered)):
-        for it in [*COMMANDS, *FILES, "--calls", "--turns", "--stdio", "--clientProcessId", "--help", "--version"]:
-            if it in wanted:
-                holds(it in shown, f"{it} is not offered after `ob0 {typed}`: {shown!r}")
-            elif it not in typed and (it in FILES or typed in ("", "r")):
-                holds(it not in shown, f"{it} is offered after `ob0 {typed}`: {shown!r}")
+        for word in [*COMMANDS, *FILES, "--calls", "--turns", "--stdio", "--clientProcessId", "--help", "--version"]:
+            if word in wanted:
+                holds(word in shown, f"{word} is not offered after `ob0 {typed}`: {shown!r}")
+            elif word not in typed and (word in FILES or typed in ("", "r")):
+                holds(word not in shown, f"{word} is offered after `ob0 {typed}`: {shown!r}")
 
 
 @test("shell: the manual pages are well formed")
-def manual():
+def manual() -> None:
     want("mandoc")
     for it in ("ob0.1", "ob0-format.1"):
         status, said = run_plainly(["mandoc", "-Tlint", "-W", "warning", os.path.join(SHARE, it)], dict(os.environ), TOP)
@@ -143,7 +136,7 @@ PAGES = ["README.md", "examples/README.md"]
 
 
 @test("shell: the transcripts of README are what the program prints")
-def transcripts():
+def transcripts() -> None:
     blocks = [text for it in PAGES for name, text in fenced(it) if name == "console"]
     holds(blocks, "there is none")
     with tempfile.TemporaryDirectory() as room:
@@ -156,11 +149,11 @@ def transcripts():
 
 
 @test("shell: the lines of README's first module make it, find nothing wrong and run it")
-def first_module():
+def first_module() -> None:
     page = text_of("README.md").partition("\n## A first module\n\n")[2]
     lines = [it[4:] for it in page.partition("\n\n")[0].splitlines()]
     same(len(lines), 3, "the lines")
-    printed = re.search(r"The last line prints `([^`]*)`", page)[1]
+    printed = match_of(r"The last line prints `([^`]*)`", page)[1]
     with tempfile.TemporaryDirectory() as room:
         own, work = at_home(room, "kate"), os.path.join(room, "work")
         os.mkdir(work)
@@ -168,7 +161,7 @@ def first_module():
 
 
 @test("shell: the links between pages lead somewhere")
-def links():
+def links() -> None:
     pages = [it for at, _, files in os.walk(TOP) for it in (os.path.relpath(os.path.join(at, name), TOP) for name in files)]
     pages = [it for it in pages if it.endswith(".md") and not it.startswith(("bin", ".git"))]
     for page in pages:
@@ -178,7 +171,7 @@ def links():
 
 
 @test("shell: `make demo` plays its conversation with the proved program")
-def demo():
+def demo() -> None:
     want_proved()
     status, said = run_plainly(["make", "--silent", "demo"], dict(os.environ), TOP)
     same(status, 0, said[-500:])

@@ -1,24 +1,27 @@
 """The snippets of editors/: VS Code's form has them, and Vim's, Neovim's and Emacs's are the same ones."""
+from __future__ import annotations
+
 import json
 import os
 import re
 import tempfile
+from typing import Tuple
 
 from harness import TOP, Server, did_open, holds, same, test, text_of, want
 from homes import at_home, run_plainly
 
+Snippet = Tuple[str, str, str]  # a key, a description and a body
 NAMES = ["module", "procedure", "if", "ifelse", "while", "repeat", "count", "array", "record"]
 
 
-def of_vscode():
-    """Triples of a key, a description and a body."""
+def of_vscode() -> list[Snippet]:
     contributed = json.loads(text_of("editors", "vscode", "package.json"))["contributes"]["snippets"]
     same([it["language"] for it in contributed], ["oberon0"], "the language of the snippets")
     found = json.loads(text_of("editors", "vscode", contributed[0]["path"]))
     return [(it["prefix"], title, "\n".join(it["body"])) for title, it in found.items()]
 
 
-def of_vim():
+def of_vim() -> list[Snippet]:
     parts = re.split(r"^snippet ", text_of("editors", "vim", "snippets", "ob0.snippets"), flags=re.M)[1:]
     found = []
     for part in parts:
@@ -29,7 +32,7 @@ def of_vim():
     return found
 
 
-def of_emacs():
+def of_emacs() -> list[Snippet]:
     folder = os.path.join("editors", "emacs", "snippets", "ob0-mode")
     same(sorted(os.listdir(os.path.join(TOP, folder))), sorted(NAMES), "the files")
     found = []
@@ -40,14 +43,18 @@ def of_emacs():
     return found
 
 
-def filled(body):
+def filled(body: str) -> str:
     """A snippet with the values that it proposes, and a statement where the cursor ends."""
-    values = dict(re.findall(r"\$\{(\d):([^}]*)\}", body))
-    text = re.sub(r"\$\{(\d):[^}]*\}|\$([1-9])", lambda it: values[it[1] or it[2]], body)
+    values: dict[str, str] = dict(re.findall(r"\$\{(\d):([^}]*)\}", body))
+
+    def proposed(place: re.Match[str]) -> str:
+        return values[place[1] or place[2]]
+
+    text = re.sub(r"\$\{(\d):[^}]*\}|\$([1-9])", proposed, body)
     return text.replace("$0", "WriteLn")
 
 
-def module_of(key, text):
+def module_of(key: str, text: str) -> str:
     """A module, laid out, with a snippet in it."""
     if key == "module":
         return text + "\n"
@@ -58,14 +65,14 @@ def module_of(key, text):
 
 
 @test("snippets: those of Vim, Neovim and Emacs are VS Code's")
-def alike():
+def alike() -> None:
     same([it[0] for it in of_vscode()], NAMES, "the keys")
     same(of_vim(), of_vscode(), "Vim's and Neovim's")
     same(of_emacs(), of_vscode(), "Emacs's")
 
 
 @test("snippets: each one's text has no fault in a module, and is laid out as the server does it")
-def correct():
+def correct() -> None:
     with Server() as server:
         for key, _, body in of_vscode():
             text = module_of(key, filled(body))
@@ -76,7 +83,7 @@ def correct():
 
 
 @test("snippets: Emacs expands each by yasnippet")
-def in_emacs():
+def in_emacs() -> None:
     want("Emacs", "yasnippet")
     with tempfile.TemporaryDirectory() as room:
         own = at_home(room, "emacs")

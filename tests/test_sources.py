@@ -1,6 +1,8 @@
 """The sources of the repository: mutants fit the files that they change, and no file of tests imports another.
 
 A mutant is a file of edits that the prover has to refuse."""
+from __future__ import annotations
+
 import glob
 import os
 import re
@@ -9,30 +11,31 @@ import common
 import edits
 import mutants
 import rooms
-from harness import TOP, holds, same, test, text_of
+from common import match_of
+from harness import TOP, holds, same, test, text_of, want
+from homes import run_plainly
 
 
 @test("sources: each mutant's old text is in its file exactly once, and the new one changes it")
-def mutants_fit():
+def mutants_fit() -> None:
     found = [it for crate in common.listed() for it in edits.edits_of(crate)]
     holds(found, "no mutants were found")
     same([f"{it.crate}/{it.name}: {it.why}" for it in found if it.why], [], "mutants that don't fit their sources")
 
 
 @test("sources: each mutant of the gate says what it does and which clause of which function refuses it; README says how many there are")
-def mutants_explained():
+def mutants_explained() -> None:
     found = [it for crate in common.listed() for it in edits.edits_of(crate)]
     of_gate = [it for it in found if it.is_of_gate]
     same([it.path for it in of_gate if not mutants.claim_of(text_of(it.file))], [], "those without such a line")
-    counts = re.search(r"every proof, (\d+) wrong versions.*?tries all (\d+) mutants", text_of("README.md"), re.S)
+    counts = match_of(r"every proof, (\d+) wrong versions.*?tries all (\d+) mutants", text_of("README.md"), re.S)
     same([int(it) for it in counts.groups()], [len(of_gate), len(found)], "the mutants of the gate, and all of them")
 
 
 @test("sources: the picture of the rooms, and what each crate rests on, are as crates.txt has them")
-def rooms_drawn():
+def rooms_drawn() -> None:
     page = text_of(os.path.relpath(rooms.PAGE, TOP))
-    found = rooms.PICTURE.search(page)
-    holds(found, "no picture was found")
+    found = match_of(rooms.PICTURE.pattern, page, rooms.PICTURE.flags)
     same(found[0], found[1] + rooms.draw() + found[2], "the picture (tools/rooms.py draws it)")
     nearest = rooms.nearest(common.libraries())
     rows = re.findall(r"^\| `(ob0\w*)` \| (.*?) \|", page, re.M)
@@ -45,7 +48,7 @@ def rooms_drawn():
 
 
 @test("sources: no mutant adds a loop, and none is in a folder that `rt ci` reads")
-def mutants_without_loops():
+def mutants_without_loops() -> None:
     found = [it for crate in common.listed() for it in edits.edits_of(crate)]
     # (the prover asks for the invariant of a new loop, or takes that of another one for it: such a mutant is refused whatever it does)
     same([it.path for it in found if it.adds_loop], [], "mutants that add a loop")
@@ -53,19 +56,30 @@ def mutants_without_loops():
 
 
 @test("sources: no file of tests imports another")
-def tests_apart():
+def tests_apart() -> None:
     for path in glob.glob(os.path.join(TOP, "tests", "**", "*.py"), recursive=True):
         found = re.findall(r"^\s*(?:import|from) (test_\w+)", text_of(path), re.M)
         same(found, [], f"what {os.path.relpath(path, TOP)} imports of the tests")
 
 
 @test("sources: each script and test that a page names is there")
-def named_files():
+def named_files() -> None:
     pages = [it for it in ("README.md", "CONTRIBUTING.md", "Makefile") if os.path.exists(os.path.join(TOP, it))]
     pages += [os.path.relpath(it, TOP) for it in glob.glob(os.path.join(TOP, "docs", "**", "*.md"), recursive=True)]
     for page in pages:
         found = re.findall(r"\b(?:tests|tools|bench)/[\w./]*\w", text_of(page))
         same([it for it in found if not os.path.exists(os.path.join(TOP, it))], [], f"what {page} names and isn't there")
+
+
+@test("sources: every function of the scripts, tests and measurements has types, and they fit (mypy --strict)")
+def types_fit() -> None:
+    want("mypy")
+    # (two scripts are named run.py, so the measurements are checked apart)
+    for patterns in (["tools/*.py", "tests/**/*.py", "examples/exercises/*.py"], ["bench/*.py"]):
+        files = [it for pattern in patterns for it in glob.glob(os.path.join(TOP, pattern), recursive=True)]
+        words = ["mypy", "--config-file", os.path.join(TOP, "tools", "mypy.ini"), *files]
+        status, said = run_plainly(words, dict(os.environ), TOP)
+        same(status, 0, said[-3000:])
 
 
 # pages whose names in backticks are those of functions, definitions, types and files
@@ -75,14 +89,14 @@ OTHERS = {"FILE", "NAME", "WORDS", "XWritten", "X_made", "Lts", "Proof", "tidy",
 
 
 @test("sources: the names that the pages on promises, architecture, words and proofs, and the notes cite are in the sources")
-def cited_names():
+def cited_names() -> None:
     files = [it for part in ("src", "specs", "proofs") for it in glob.glob(os.path.join(TOP, "crates", "*", part, "**", "*"), recursive=True)]
     files += glob.glob(os.path.join(TOP, "t*", "**", "*.py"), recursive=True)
     words = {word for it in files if os.path.isfile(it) for word in re.findall(r"\w+", text_of(it))}
     words |= {word for it in files for word in re.findall(r"\w+", os.path.relpath(it, TOP))} | {*common.listed()} | OTHERS
     words |= {word for names in common.listed().values() for word in names}
     # (of mutants the names count, and not what is in them)
-    words |= {os.path.basename(it.file).removesuffix(".edit") for crate in common.listed() for it in edits.edits_of(crate)}
+    words |= {os.path.splitext(os.path.basename(it.file))[0] for crate in common.listed() for it in edits.edits_of(crate)}
     pages = [os.path.relpath(it, TOP) for page in CITING for it in sorted(glob.glob(os.path.join(TOP, page)))]
     holds(len(pages) > len(CITING), "no notes were found")
     for page in pages:

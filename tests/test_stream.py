@@ -1,37 +1,40 @@
 """Bytes in, bytes out: the first conversation in every cutting, streams that end early, heads that are refused."""
+from __future__ import annotations
+
 import json
 import os
 import random
 import subprocess
+from typing import Any
 
 import harness
 from first_conversation import BORDERS, FIRST, HEADS_IN, HEADS_OUT, IN, INPUT, OUT, OUTPUT
-from harness import frame, frames, holds, initialize, run, same, serve, serve_in_pieces, test, unframed
+from harness import Ended, frame, frames, holds, initialize, run, same, serve, serve_in_pieces, test, unframed
 from harness import SHUTDOWN, EXIT, request
 
 COUNT, SEED = int(os.environ.get("OB0_RANDOM", "300")), int(os.environ.get("OB0_SEED", "0"))
 
 
-def ended(found, out, status, err=b""):
+def ended(found: Ended, out: bytes, status: int, err: bytes = b"") -> None:
     same(found.out, out, "what was written")
     same(found.err, err, "standard error")
     same(found.status, status, "the status")
 
 
 @test("stream: the first conversation, all at once")
-def at_once():
+def at_once() -> None:
     same([len(it) for it in IN], HEADS_IN, "the lengths that come in")
     same([len(it) for it in OUT], HEADS_OUT, "the lengths that go out")
     ended(run(["serve"], INPUT), OUTPUT, 0)
 
 
 @test("stream: the first conversation, one byte at a time")
-def by_bytes():
+def by_bytes() -> None:
     ended(serve_in_pieces([INPUT[at : at + 1] for at in range(len(INPUT))]), OUTPUT, 0)
 
 
 @test("stream: the first conversation, cut between the two line ends of each head")
-def between_line_ends():
+def between_line_ends() -> None:
     cuts = [border + len(b"Content-Length: %d\r\n" % length) for border, length in zip(BORDERS, HEADS_IN)]
     pieces = [INPUT[start:end] for start, end in zip([0, *cuts], [*cuts, len(INPUT)])]
     holds(all(it.endswith(b"\r\n") and it.startswith(b"\r\n") for it in pieces[1:-1]), "the cuts are elsewhere")
@@ -39,13 +42,13 @@ def between_line_ends():
 
 
 @test("stream: the first conversation, cut in two at each byte")
-def in_two():
+def in_two() -> None:
     for cut in range(1, len(INPUT)):
         ended(serve_in_pieces([INPUT[:cut], INPUT[cut:]]), OUTPUT, 0)
 
 
 @test("stream: the first conversation, ended after each byte")
-def ended_early():
+def ended_early() -> None:
     for end in range(len(INPUT) + 1):
         whole = BORDERS.index(end) if end in BORDERS else None
         count = len([it for it in BORDERS[1:] if it <= end])
@@ -59,22 +62,22 @@ def ended_early():
 
 
 @test("stream: a content that ends early")
-def truncated():
+def truncated() -> None:
     ended(serve(b"Content-Length: 10\r\n\r\n123456789"), b"", 3, b"fault: Truncated\n")
 
 
 @test("stream: a bad head after the first message")
-def bad_head():
+def bad_head() -> None:
     ended(serve(INPUT[: BORDERS[1]] + b"Content-Length: x\r\n\r\n"), frame(FIRST), 3, b"fault: BadHead\n")
 
 
 @test("stream: nothing is read after a bad head")
-def behind_bad_head():
+def behind_bad_head() -> None:
     ended(serve(b"Content-Length: x\r\n\r\n" + INPUT), b"", 3, b"fault: BadHead\n")
 
 
 @test("stream: an exit before a bad head in one piece wins")
-def exit_before_bad_head():
+def exit_before_bad_head() -> None:
     ended(serve(INPUT + b"Content-Length: x\r\n\r\n"), OUTPUT, 0)
 
 
@@ -98,7 +101,7 @@ REFUSED = {
 
 
 @test("stream: heads that are refused")
-def refused_heads():
+def refused_heads() -> None:
     same(REFUSED["a head of 4,097 bytes"].index(b"[]"), 4097, "the length of that head")
     for name, given in REFUSED.items():
         found = serve(given)
@@ -118,7 +121,7 @@ TAKEN = {
 
 
 @test("stream: heads that are taken")
-def taken_heads():
+def taken_heads() -> None:
     same(TAKEN["a head of 4,096 bytes"].index(b"[]"), 4096, "the length of that head")
     for name, given in TAKEN.items():
         found = serve(given)
@@ -136,7 +139,7 @@ LAST_HEADS = {
 
 
 @test("stream: other heads of the last message of the first conversation")
-def other_heads():
+def other_heads() -> None:
     same(len(LAST_HEADS["4,096 bytes"]), 4096, "the length of that head")
     for name, head in LAST_HEADS.items():
         found = run(["serve"], INPUT[: BORDERS[3]] + head + IN[3])
@@ -144,33 +147,33 @@ def other_heads():
 
 
 @test("stream: 4,095 bytes with no empty line, and the end")
-def almost_a_bad_head():
+def almost_a_bad_head() -> None:
     ended(serve(b"a" * 4095), b"", 3, b"fault: Truncated\n")
 
 
 @test("stream: a content of 16,777,216 bytes")
-def largest_content():
+def largest_content() -> None:
     content = b"[" + b" " * (16777216 - 2) + b"]"
     ended(serve(b"Content-Length: 16777216\r\n\r\n" + content), NO_MESSAGE, 1)
 
 
 @test("stream: a length with nothing after it takes no memory")
-def promised_content():
+def promised_content() -> None:
     found = run(["serve"], b"Content-Length: 16777216\r\n\r\n[]")
     ended(found, b"", 3, b"fault: Truncated\n")
 
 
 @test("stream: an end of input between messages is status 1, after shutdown too")
-def end_after_shutdown():
+def end_after_shutdown() -> None:
     found = serve([initialize(), SHUTDOWN])
     same((len(unframed(found.out)), found.err, found.status), (2, b"", 1))
 
 
 @test("stream: a reader that has gone is a fault of writing")
-def gone_reader():
+def gone_reader() -> None:
     reader, writer = os.pipe()
     os.close(reader)
-    how = {"stdin": subprocess.PIPE, "stdout": writer, "stderr": subprocess.PIPE}
+    how: dict[str, Any] = {"stdin": subprocess.PIPE, "stdout": writer, "stderr": subprocess.PIPE}
     with subprocess.Popen([harness.BINARY, "serve"], **how) as process:
         os.close(writer)
         _, err = process.communicate(frames([initialize(), request(2, "shutdown"), EXIT]), timeout=harness.SECONDS)
@@ -182,7 +185,7 @@ BROKEN = [b"\xff", b"\x80", b"\xc3", b"\xc0\x80", b"\xc1\xbf", b"\xe2\x82", b"\x
 
 
 @test("stream: contents with bytes that are no UTF-8 are no JSON, wherever these stand")
-def broken_utf8():
+def broken_utf8() -> None:
     refused = '{"error":{"code":-32700,"message":"not JSON"},"id":null,"jsonrpc":"2.0"}'
     places = [IN[1].index(it) + len(it) for it in (b"{", b'"te', b"MODULE M; ", b'"file:')]
     for at in places:
@@ -191,7 +194,7 @@ def broken_utf8():
         same((found.contents(), found.err, found.status), ([FIRST.decode(), *[refused] * len(BROKEN)], b"", 1), f"at byte {at}")
 
 
-def mutated(seed):
+def mutated(seed: int) -> bytes:
     """The first conversation with some of its bytes changed, taken out, doubled or put in."""
     chance, given = random.Random(seed), bytearray(INPUT)
     for _ in range(chance.choice([1, 1, 2, 5, 20])):
@@ -203,11 +206,11 @@ def mutated(seed):
 
 
 @test("stream: bytes that are changed at random end a conversation with one of its statuses, and all that is sent is whole")
-def garbage():
+def garbage() -> None:
     for seed in range(SEED, SEED + COUNT):
         found = serve(mutated(seed))
         where = f"seed {seed}, {mutated(seed)!r}"
-        ends = {0: [b""], 1: [b""], 3: [b"fault: BadHead\n", b"fault: Truncated\n"]}
+        ends: dict[int | None, list[bytes]] = {0: [b""], 1: [b""], 3: [b"fault: BadHead\n", b"fault: Truncated\n"]}
         holds(found.err in ends.get(found.status, []), f"{where}: status {found.status}, {found.err!r}")
         for it in found.contents():
             holds(json.loads(it)["jsonrpc"] == "2.0", f"{where}: {it}")

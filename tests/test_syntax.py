@@ -1,4 +1,6 @@
 """Diagnostics of the parser: the first token that can't be there, and what was expected instead."""
+from __future__ import annotations
+
 from harness import Server, diagnostic, did_open, ends, frames, initialize, on_file, same, serve, test
 
 # text: where, what is expected
@@ -36,14 +38,14 @@ EXPECTED = {
 
 
 @test("syntax: the first token that can't stand, and what was expected")
-def expected():
+def expected() -> None:
     with Server() as server:
         for text, (where, what) in EXPECTED.items():
             same(server.notify(did_open(text)), [diagnostic("Syntax", f"expected {what}", where)], repr(text))
 
 
 @test("syntax: the empty text, byte by byte")
-def empty():
+def empty() -> None:
     wanted = (
         b'{"jsonrpc":"2.0","method":"textDocument/publishDiagnostics","params":{"diagnostics":[{"code":"Syntax",'
         b'"message":"expected MODULE","range":{"end":{"character":0,"line":0},"start":{"character":0,"line":0}},'
@@ -54,7 +56,7 @@ def empty():
 
 
 @test("syntax: faults of scanning are reported alone")
-def scanning_first():
+def scanning_first() -> None:
     with Server() as server:
         same(server.notify(did_open("MODULE 12ab")), [diagnostic("NumberJoinsLetter", "letter after number", "0:7-0:11")])
 
@@ -69,7 +71,7 @@ DEEP = {
 
 
 @test("syntax: 100 of a construct inside one another are taken, the 101st is too deep")
-def deep():
+def deep() -> None:
     with Server() as server:
         for name, (before, opened, middle, closed, after, where) in DEEP.items():
             for depth, wanted in ((100, []), (101, [diagnostic("TooDeep", "nested too deep", where)])):
@@ -78,7 +80,7 @@ def deep():
 
 
 @test("syntax: chains of 100,000 aren't nested")
-def chains():
+def chains() -> None:
     count = 100000
     texts = {
         "operands": "MODULE M; VAR x: INTEGER; BEGIN x := 1" + "+1" * count + " END M.",
@@ -100,5 +102,5 @@ def chains():
 
 
 @test("syntax: `check` reports where the text ends early")
-def checked():
+def checked() -> None:
     ends(on_file("check", ""), "0:0: Syntax: expected MODULE\n", 1)

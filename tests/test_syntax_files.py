@@ -1,14 +1,18 @@
 """The files of editors/ that colour, detect and indent.
 
 Each has the words of the scanner and of the language, and each is read by the tool that uses it, where that is here."""
+from __future__ import annotations
+
 import functools
 import json
 import os
 import re
 import tempfile
 import xml.etree.ElementTree
+from collections.abc import Callable
 
 import snippets
+from common import match_of
 from harness import TOP, examples, holds, need_program, same, test, text_of, want
 from homes import at_home, run_in_terminal, run_plainly, write
 from screen import Screen
@@ -17,52 +21,52 @@ PREDECLARED = {"INTEGER", "BOOLEAN", "TRUE", "FALSE", "Read", "Write", "WriteLn"
 
 
 @functools.lru_cache(None)
-def reserved():
+def reserved() -> list[str]:
     """The reserved words, as the scanner has them."""
     found = re.findall(r'Reserved::[A-Z][a-z]+ => "([A-Z]+)"', text_of("crates", "ob0_scan", "src", "lexeme.rt"))
     return sorted(found)
 
 
 @test("syntax files: the language's page has the scanner's reserved words")
-def page():
-    block = re.search(r"The reserved words:\n\n```\n(.*?)```", text_of("docs", "LANGUAGE.md"), re.S)[1]
+def page() -> None:
+    block = match_of(r"The reserved words:\n\n```\n(.*?)```", text_of("docs", "LANGUAGE.md"), re.S)[1]
     same(sorted(block.split()), reserved())
     same(len(reserved()), 21, "how many reserved words")
 
 
-def vim_words():
+def vim_words() -> list[str]:
     return [word for line in re.findall(r"^syn keyword (?!ob0Todo)\w+ (.*)$", text_of("editors", "vim", "syntax", "ob0.vim"), re.M) for word in line.split()]
 
 
-def emacs_words():
+def emacs_words() -> list[str]:
     text = text_of("editors", "emacs", "ob0-mode.el")
-    lists = re.findall(r"regexp-opt '\(([^)]*)\) 'words\)", text) + [re.search(r"defconst ob0-keywords\s*'\(([^)]*)\)", text)[1]]
+    lists = re.findall(r"regexp-opt '\(([^)]*)\) 'words\)", text) + [match_of(r"defconst ob0-keywords\s*'\(([^)]*)\)", text)[1]]
     return [word for it in lists for word in re.findall(r'"(\w+)"', it)]
 
 
-def kate_words():
+def kate_words() -> list[str]:
     tree = xml.etree.ElementTree.fromstring(text_of("editors", "kate", "oberon0.xml"))
     lists = {it.get("name") for it in tree.iter("list")}
     same({it.get("String") for it in tree.iter("keyword")}, lists, "the lists that are used")
-    return [it.text for it in tree.iter("item")]
+    return [it.text or "" for it in tree.iter("item")]
 
 
-def textmate_words():
+def textmate_words() -> list[str]:
     grammar = json.loads(text_of("editors", "vscode", "syntaxes", "oberon0.tmLanguage.json"))
     found = [re.fullmatch(r"\\b\(\?:([A-Za-z|]+)\)\\b", it.get("match", "")) for it in grammar["patterns"]]
     return [word for it in found if it for word in it[1].split("|")]
 
 
-def kakoune_words():
+def kakoune_words() -> list[str]:
     return [word for it in re.findall(r"regex \\b\(([A-Za-z|]+)\)\\b", text_of("editors", "kakoune", "ob0.kak")) for word in it.split("|")]
 
 
-def gtksourceview_words():
+def gtksourceview_words() -> list[str]:
     tree = xml.etree.ElementTree.fromstring(text_of("editors", "gtksourceview", "oberon0.lang"))
-    return [it.text for it in tree.iter("keyword")]
+    return [it.text or "" for it in tree.iter("keyword")]
 
 
-def nano_words():
+def nano_words() -> list[str]:
     found = re.findall(r'"\\<\(([A-Za-z|]+)\)\\>"', text_of("editors", "nano", "oberon0.nanorc"))
     return [word for it in found for word in it.split("|")]
 
@@ -76,10 +80,16 @@ OF_EDITORS = {
     "GtkSourceView": gtksourceview_words,
     "nano": nano_words,
 }
-for name, words in OF_EDITORS.items():
-    test(f"syntax files: the words of {name}'s are the language's, each once")(
-        lambda words=words: same(sorted(words()), sorted([*reserved(), *PREDECLARED]))
-    )
+
+
+def make(name: str, words: Callable[[], list[str]]) -> None:
+    @test(f"syntax files: the words of {name}'s are the language's, each once")
+    def are_the_languages() -> None:
+        same(sorted(words()), sorted([*reserved(), *PREDECLARED]))
+
+
+for key, words_of in OF_EDITORS.items():
+    make(key, words_of)
 
 
 SAMPLE = """MODULE M; (* a (* nested *) still (*) open *) *)
@@ -88,7 +98,7 @@ VAR Begin: INTEGER; BEGIN Begin := 12 DIV 3; Write(4x) END M.
 
 
 @test("syntax files: Kate's, by KDE's highlighter")
-def kate():
+def kate() -> None:
     want("kate-syntax-highlighter")
     with tempfile.TemporaryDirectory() as room:
         own = at_home(room, "kate")
@@ -126,7 +136,7 @@ END M.
 
 
 @test("syntax files: what Kate folds, by KDE's highlighter")
-def kate_folds():
+def kate_folds() -> None:
     want("kate-syntax-highlighter")
     with tempfile.TemporaryDirectory() as room:
         own, file = at_home(room, "kate"), os.path.join(room, "folded.mod")
@@ -134,12 +144,14 @@ def kate_folds():
         status, said = run_plainly(["kate-syntax-highlighter", "--output-format", "ansi", "--syntax-trace", "region", file], own, room)
         same(status, 0, said)
     # (above each line of the text are the regions that begin `(2--` or end `--2)` in it)
-    folds, opened, line = [], {}, 0
-    for it in re.sub(r"\x1b\[[0-9;]*[mK]", "", said).split("\n"):
-        if line < FOLDED.count("\n") and it == FOLDED.split("\n")[line]:
+    folds: list[tuple[int, int]] = []
+    opened: dict[str, list[int]] = {}
+    line = 0
+    for shown in re.sub(r"\x1b\[[0-9;]*[mK]", "", said).split("\n"):
+        if line < FOLDED.count("\n") and shown == FOLDED.split("\n")[line]:
             line += 1
             continue
-        for begun, ended in re.findall(r"\((\d+)|(\d+)\)", it):
+        for begun, ended in re.findall(r"\((\d+)|(\d+)\)", shown):
             if begun:
                 opened.setdefault(begun, []).append(line)
             else:
@@ -148,14 +160,14 @@ def kate_folds():
 
 
 @test("syntax files: the lines of Qt Creator's page copy Kate's")
-def qtcreator():
+def qtcreator() -> None:
     with tempfile.TemporaryDirectory() as room:
         at_home(room, "qtcreator")
         same(text_of(room, ".local/share/org.kde.syntax-highlighting/syntax/oberon0.xml"), text_of("editors", "kate", "oberon0.xml"), "the file")
 
 
 @test("syntax files: GtkSourceView's, by the library")
-def gtksourceview():
+def gtksourceview() -> None:
     want("GtkSourceView", "PyGObject", "MIME types")
     with tempfile.TemporaryDirectory() as room:
         own = at_home(room, "gtksourceview")
@@ -169,13 +181,13 @@ def gtksourceview():
     styles = found["styles"]
     for it in ("nested", "still", "open"):
         holds("comment" in styles[it], f"{it}: {styles[it]}")
-    colour = lambda word: [it for it in styles[word] if it.startswith("rgb")]
+    colour: Callable[[str], list[str]] = lambda word: [it for it in styles[word] if it.startswith("rgb")]
     same([len(colour(it)) for it in ("BEGIN", "INTEGER", "12", "Write", "Begin", "4x")], [1, 1, 1, 1, 0, 0], f"colours: {styles}")
     same(colour("BEGIN"), colour("DIV"), "the colour of reserved words")
 
 
 @test("syntax files: nano's colours")
-def nano():
+def nano() -> None:
     want("nano")
     with tempfile.TemporaryDirectory() as room:
         own = at_home(room, "nano")
@@ -192,7 +204,7 @@ def nano():
 
 
 @test("syntax files: TextMate's, by the regular expressions of its kind")
-def textmate():
+def textmate() -> None:
     want("Ruby")
     with tempfile.TemporaryDirectory() as room:
         file = os.path.join(room, "sample.mod")
@@ -271,7 +283,7 @@ END R.
 """
 
 
-def by_vim(editor, words, name):
+def by_vim(editor: str, words: list[str], name: str) -> None:
     """Vim's files, in Vim or Neovim: file types, colours, :make, indentation."""
     need_program()
     with tempfile.TemporaryDirectory() as room:
@@ -307,19 +319,19 @@ def by_vim(editor, words, name):
 
 
 @test("syntax files: Vim's file types, colours, :make and indentation, in Vim")
-def in_vim():
+def in_vim() -> None:
     want("Vim")
     by_vim("vim", ["vim.nox", "-n", "-i", "NONE", "-u", "RC"], "Vim")
 
 
 @test("syntax files: Vim's file types, colours, :make and indentation, in Neovim")
-def in_neovim():
+def in_neovim() -> None:
     want("Neovim")
     by_vim("neovim", ["nvim", "-n", "-i", "NONE", "-u", "RC"], "Neovim")
 
 
 @test("syntax files: Emacs's mode: file types, colours, indentation, index, check and run")
-def in_emacs():
+def in_emacs() -> None:
     want("Emacs")
     need_program()
     with tempfile.TemporaryDirectory() as room:
@@ -336,7 +348,7 @@ def in_emacs():
 
 
 @test("syntax files: Kakoune's file type, and faults that come and go by its lint")
-def in_kakoune():
+def in_kakoune() -> None:
     want("Kakoune")
     need_program()
     with tempfile.TemporaryDirectory() as room:
@@ -362,7 +374,7 @@ def in_kakoune():
 
 
 @test("syntax files: Kakoune's indentation, typed line by line, is the server's layout")
-def kakoune_indents():
+def kakoune_indents() -> None:
     want("Kakoune")
     with tempfile.TemporaryDirectory() as room:
         own = at_home(room, "kakoune")
@@ -378,7 +390,7 @@ def kakoune_indents():
 
 
 @test("syntax files: settings of Kate, Helix, kak-lsp and VS Code name the server and what is there")
-def settings():
+def settings() -> None:
     server = json.loads(text_of("editors", "kate", "settings.json"))["servers"]["oberon0"]
     same(server["command"], ["ob0", "serve"], "Kate's command")
     holds(re.search(server["highlightingModeRegex"], "Oberon-0"), "Kate's mode")

@@ -1,4 +1,6 @@
 """The grammar of editors/tree-sitter: compiled by cc, and read by Neovim, which has tree-sitter's library."""
+from __future__ import annotations
+
 import functools
 import json
 import os
@@ -6,8 +8,10 @@ import re
 import shutil
 import subprocess
 import tempfile
+from typing import Any
 
 import random_texts
+from common import match_of
 from harness import TOP, Server, did_open, examples, holds, leave_out, need_program, same, test, text_of, want
 from homes import at_home, run_plainly, write
 from snippets import fenced
@@ -40,7 +44,7 @@ OTHER_FAULTS = {"NumberTooLarge", "TooDeep", "TooLong"}
 LEXICAL = {"BadChar", "NumberJoinsLetter"}
 
 
-def compiled(room):
+def compiled(room: str) -> str:
     """The parser as a library in a folder of the test's own."""
     want("cc", "Neovim")
     library = os.path.join(room, "oberon0.so")
@@ -52,7 +56,7 @@ def compiled(room):
 
 
 @functools.lru_cache(None)
-def read_by_neovim(texts):
+def read_by_neovim(texts: tuple[str, ...]) -> Any:
     """Which of the texts (a tuple) have an error, and what the queries find in the sample."""
     with tempfile.TemporaryDirectory() as room:
         write(os.path.join(room, "given"), json.dumps({"texts": texts, "text": SAMPLE}))
@@ -64,7 +68,7 @@ def read_by_neovim(texts):
         return json.loads(text_of(own["OB0_REPORT"]))
 
 
-def correct_texts():
+def correct_texts() -> list[str]:
     """The modules of the examples, of the answers to the exercises, and of the tutorial, but for the one without a tree."""
     answers = os.path.join("tests", "answers")
     found = [text_of(it) for it in [*examples(), *(os.path.join(answers, it) for it in sorted(os.listdir(os.path.join(TOP, answers))))]]
@@ -72,17 +76,17 @@ def correct_texts():
 
 
 @test("tree-sitter: the modules of examples, answers and the tutorial have a tree without an error")
-def trees():
+def trees() -> None:
     texts = tuple(correct_texts())
     same([text[:40] for text, faulty in zip(texts, read_by_neovim(texts)["faulty"]) if faulty], [], "those with an error")
 
 
-def codes(server, text):
+def codes(server: Server, text: str) -> set[str]:
     return {it["code"] for it in server.notify(did_open(text))}
 
 
 @test("tree-sitter: of random texts those have an error that have a fault of scanning or syntax")
-def agrees():
+def agrees() -> None:
     need_program()
     texts = [random_texts.changed_module(seed, swap) for seed in range(100) for swap in (False, True)]
     wanted = []
@@ -98,7 +102,7 @@ def agrees():
 
 
 @test("tree-sitter: colours and folds of a sample, and the query of indents is read")
-def queries():
+def queries() -> None:
     found = read_by_neovim((SAMPLE,))
     same(found["faulty"], [False], "the sample")
     lines = SAMPLE.split("\n")
@@ -112,8 +116,8 @@ def queries():
 
 
 @test("tree-sitter: the reserved words of its grammar are the language's")
-def words():
-    block = re.search(r"The reserved words:\n\n```\n(.*?)```", text_of("docs", "LANGUAGE.md"), re.S)[1]
+def words() -> None:
+    block = match_of(r"The reserved words:\n\n```\n(.*?)```", text_of("docs", "LANGUAGE.md"), re.S)[1]
     found = {*re.findall(r'"([A-Z]+)"', text_of(FOLDER, "grammar.js"))}
     same(sorted(found), sorted(block.split()), "the words")
     in_query = re.findall(r'"([A-Z]+)"', text_of(FOLDER, "queries", "highlights.scm"))
@@ -121,7 +125,7 @@ def words():
 
 
 @test("tree-sitter: the lines of its page and of Helix's compile it and copy its queries")
-def installed():
+def installed() -> None:
     want("cc")
     for page, library, queries_at in (
         ("tree-sitter", ".local/share/nvim/site/parser/oberon0.so", ".local/share/nvim/site/queries/oberon0"),
@@ -134,7 +138,7 @@ def installed():
 
 
 @test("tree-sitter: parser.c is what the command `tree-sitter` makes of grammar.js")
-def generated():
+def generated() -> None:
     if not shutil.which("tree-sitter"):
         leave_out("tree-sitter (tree-sitter-cli of Debian 13) missing")
     version = subprocess.run(["tree-sitter", "--version"], stdout=subprocess.PIPE, check=True).stdout.decode().split()[1]

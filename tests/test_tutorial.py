@@ -1,10 +1,14 @@
 """docs/TUTORIAL.md: its modules, what is typed and printed there, and its tables."""
+from __future__ import annotations
+
 import os
 import re
 import subprocess
 import tempfile
+from typing import Any
 
 import harness
+from common import match_of
 from harness import TOP, Server, did_open, ends, holds, need_program, on_file, same, test, text_of
 from homes import write
 from snippets import fenced
@@ -15,18 +19,19 @@ FAULTY = ["Broken", "Mended", "Types"]
 VALUES = {"TRUE": "1", "FALSE": "0"}
 
 
-def modules():
+def modules() -> dict[str, str]:
     """The modules of the page, by their names."""
     found = [text for language, text in fenced(PAGE) if language == "oberon"]
-    return {re.match(r"MODULE (\w+);", it)[1]: it for it in found}
+    return {match_of(r"MODULE (\w+);", it)[1]: it for it in found}
 
 
-def typed(block):
+def typed(block: str) -> list[tuple[str, str]]:
     """Pairs of a command and what it prints, in a block of the page."""
-    return [tuple(it.split("\n", 1)) for it in re.split(r"^\$ ", block, flags=re.M)[1:]]
+    parts = (it.partition("\n") for it in re.split(r"^\$ ", block, flags=re.M)[1:])
+    return [(command, printed) for command, _, printed in parts]
 
 
-def rows(head):
+def rows(head: str) -> list[list[list[str]]]:
     """The code in the cells of the rows of each table that begins with this head."""
     tables = text_of(PAGE).split(f"{head}\n")[1:]
     holds(tables, f"there is no table {head}")
@@ -35,7 +40,7 @@ def rows(head):
 
 
 @test("tutorial: every command on the page prints what it has there")
-def commands():
+def commands() -> None:
     need_program()
     blocks = [text for language, text in fenced(PAGE) if language == "console"]
     same({language for language, _ in fenced(PAGE)}, {"oberon", "console"}, "the kinds of blocks")
@@ -45,7 +50,7 @@ def commands():
         own = {**os.environ, "PATH": os.path.join(room, "bin") + os.pathsep + os.environ["PATH"]}
         for name, text in modules().items():
             write(os.path.join(room, f"{name}.mod"), text)
-        how = {"cwd": room, "env": own, "stdin": subprocess.DEVNULL, "stdout": subprocess.PIPE, "stderr": subprocess.STDOUT}
+        how: dict[str, Any] = {"cwd": room, "env": own, "stdin": subprocess.DEVNULL, "stdout": subprocess.PIPE, "stderr": subprocess.STDOUT}
         for words, wanted in (it for block in blocks for it in typed(block)):
             ran = subprocess.run(["sh", "-c", words], timeout=harness.SECONDS, check=False, **how)
             same(ran.stdout.decode(), wanted, f"what `{words}` prints")
@@ -54,7 +59,7 @@ def commands():
 
 
 @test("tutorial: its modules have no fault and are laid out as the server does it, but for those that show a fault")
-def laid_out():
+def laid_out() -> None:
     with Server() as server:
         for name, text in modules().items():
             uri = f"file:///{name}"
@@ -65,7 +70,7 @@ def laid_out():
 
 
 @test("tutorial: each expression has the value that the page gives it")
-def expressions():
+def expressions() -> None:
     found = rows("| Expression | Value | |")
     holds(len(found) >= 12, f"there are {len(found)}")
     for (expression,), (value,), *_ in found:
@@ -74,17 +79,17 @@ def expressions():
 
 
 @test("tutorial: the ends of a run are the language's")
-def run_ends():
+def run_ends() -> None:
     named = [it[0][0] for it in rows("| The run ends with | because |")]
     listed = re.findall(r"^\| (\w+) \|", text_of("docs", "LANGUAGE.md").partition("| End | Because |")[2].partition("\n\n")[0], re.M)
     same(named, [it for it in listed if it != "Done"], "the ends")
 
 
 @test("tutorial: what it translates from other languages is in the language")
-def translated():
+def translated() -> None:
     found = [it[1] for it in rows("| C, Java, Python, Pascal | Oberon-0 |")]
     holds(len(found) >= 12, f"there are {len(found)}")
-    names = re.search(r"declares `([^`]*)`,\s+`([^`]*)`, `([^`]*)`, `([^`]*)` and procedures\s+`([^`]*)` and\s+`([^`]*)`", text_of(PAGE))
+    names = match_of(r"declares `([^`]*)`,\s+`([^`]*)`, `([^`]*)`, `([^`]*)` and procedures\s+`([^`]*)` and\s+`([^`]*)`", text_of(PAGE))
     *variables, largest, go = (" ".join(it.split()) for it in names.groups())
     head = f"MODULE M; VAR {'; '.join(variables)}; PROCEDURE {largest}; END Max; PROCEDURE {go}; END Go; BEGIN "
     for (statement,) in found:
@@ -92,7 +97,7 @@ def translated():
 
 
 @test("tutorial: README and the page of examples lead to it")
-def led_to():
+def led_to() -> None:
     holds("(docs/TUTORIAL.md)" in text_of("README.md"), "README has no link to it")
     holds("(../docs/TUTORIAL.md)" in text_of("examples", "README.md"), "examples/README.md has no link to it")
     for target in re.findall(r"\]\(([^)#:]+)(?:#[^)]*)?\)", text_of(PAGE)):

@@ -10,6 +10,8 @@ the gate.
 
 Two runs of rt in one tree wait for each other where they depend on the same crate. So each crate is proved in a tree of
 its own, a room: copies of its sources and of those below, with their proved libraries as hard links."""
+from __future__ import annotations
+
 import os
 import re
 import shutil
@@ -17,7 +19,7 @@ import signal
 import subprocess
 import sys
 import time
-from typing import NamedTuple
+from typing import Any, NamedTuple
 
 import common
 import edits
@@ -27,11 +29,11 @@ STEP = 15  # seconds between two lines about a crate that takes long
 ROOMS = os.path.join(TOP, "bin", "rooms")
 
 
-def processors():
+def processors() -> int:
     return len(os.sched_getaffinity(0)) if hasattr(os, "sched_getaffinity") else (os.cpu_count() or 1)
 
 
-def lanes():
+def lanes() -> int:
     """How many crates are proved side by side: one a processor, and one for each 4 GB of free memory."""
     free = 4
     try:
@@ -43,7 +45,7 @@ def lanes():
     return max(1, min(processors(), free))
 
 
-def link(old, new):
+def link(old: str, new: str) -> None:
     """A hard link, or a copy where there can be none."""
     try:
         os.link(old, new)
@@ -51,26 +53,26 @@ def link(old, new):
         shutil.copy2(old, new)
 
 
-def chain(name, named):
+def chain(name: str, named: dict[str, list[str]]) -> int:
     """How many crates are one above the other over this one, at most."""
     return max((1 + chain(it, named) for it in named if name in named[it]), default=0)
 
 
-def furnish(room, name, named):
+def furnish(room: str, name: str, named: dict[str, list[str]]) -> None:
     """Makes a room for a crate: its sources and those of the crates below, with their proved libraries."""
     shutil.rmtree(room, ignore_errors=True)
     os.makedirs(os.path.join(room, "crates"))
     shutil.copy2(os.path.join(TOP, "HANDLES"), room)
     common.write_list(os.path.join(room, "crates.txt"), common.below(name, named))
-    for it in common.below(name, named):
-        crate, copied = os.path.join(TOP, "crates", it), os.path.join(room, "crates", it)
+    for below in common.below(name, named):
+        crate, copied = os.path.join(TOP, "crates", below), os.path.join(room, "crates", below)
         shutil.copytree(crate, copied, ignore=shutil.ignore_patterns("out", *edits.PLACES))
-        if it != name:
+        if below != name:
             library = os.path.join("out", "rlib")
             shutil.copytree(os.path.join(crate, library), os.path.join(copied, library), copy_function=link)
 
 
-def command(name: str, named: dict, is_check: bool) -> list:
+def command(name: str, named: dict[str, list[str]], is_check: bool) -> list[str]:
     """What proves a crate: where others rest on it, its library is made too, and of the program an executable where that is
     wanted."""
     if name == "ob0" and not is_check:
@@ -86,7 +88,7 @@ class Modules(NamedTuple):
     loaded: int
     checked: int
 
-    def __str__(self):
+    def __str__(self) -> str:
         return f"{self.loaded} modules loaded, {self.checked} proved again" if any(self) else "up to date"
 
 
@@ -99,7 +101,7 @@ def modules_of(name: str, said: str) -> Modules:
 class Work:
     """One crate that is being proved, in a room of its own."""
 
-    def __init__(self, name, named, jobs, is_check):
+    def __init__(self, name: str, named: dict[str, list[str]], jobs: int, is_check: bool) -> None:
         self.name, self.room = name, os.path.join(ROOMS, name)
         self.out, self.moved = os.path.join(TOP, "crates", name, "out"), os.path.join(self.room, "crates", name, "out")
         self.furnish(named)
@@ -107,19 +109,19 @@ class Work:
         words = command(name, named, is_check)
         words += ["--jobs", str(jobs)] if "--" not in words else []
         with open(self.log, "wb") as out:
-            how = {"cwd": os.path.join(self.room, "crates", name), "stdin": subprocess.DEVNULL, "stdout": out}
+            how: dict[str, Any] = {"cwd": os.path.join(self.room, "crates", name), "stdin": subprocess.DEVNULL, "stdout": out}
             # (a group of its own, by which it is ended. In a session of its own `nice` would have no effect: the system shares
             # the processors out by session first)
             self.process = subprocess.Popen(words, preexec_fn=os.setpgrp, stderr=subprocess.STDOUT, **how)
 
-    def furnish(self, named):
+    def furnish(self, named: dict[str, list[str]]) -> None:
         """Makes the room, and moves what was kept of the crate's own proofs there."""
         furnish(self.room, self.name, named)
         if os.path.isdir(self.out):
             os.rename(self.out, self.moved)
         os.makedirs(self.moved, exist_ok=True)
 
-    def leave(self):
+    def leave(self) -> None:
         """Brings what was proved back to the crate's folder."""
         if os.path.isdir(self.moved):
             shutil.rmtree(self.out, ignore_errors=True)
@@ -127,7 +129,7 @@ class Work:
             self.log = os.path.join(self.out, "build.log")
         shutil.rmtree(self.room, ignore_errors=True)
 
-    def end(self):
+    def end(self) -> None:
         """Ends this check and what it started."""
         try:
             os.killpg(self.process.pid, signal.SIGTERM)
@@ -136,7 +138,7 @@ class Work:
             pass
         self.leave()
 
-    def said(self):
+    def said(self) -> str:
         with open(self.log, encoding="utf-8", errors="replace") as file:
             return file.read()
 
@@ -144,18 +146,18 @@ class Work:
         """How many of the crate's modules were loaded, and how many proved again: none where its library is up to date."""
         return modules_of(self.name, self.said())
 
-    def at(self):
+    def at(self) -> str:
         """How far the check is, by its own word."""
         found = re.findall(r"^so far: (\d+ of \d+ functions) checked", self.said(), re.M)
         return f", {found[-1]} checked" if found else ""
 
 
-def end_all(running):
+def end_all(running: dict[str, Work]) -> None:
     for work in running.values():
         work.end()
 
 
-def main(words):
+def main(words: list[str]) -> int:
     """Proves, and builds the program where that is wanted; returns the exit status."""
     is_check = "--check" in words
     # (a program that is up to date needs no toolchain)
@@ -163,7 +165,7 @@ def main(words):
         print("bin/ob0 is up to date", flush=True)
         return 0
     common.need("rt")
-    running = {}
+    running: dict[str, Work] = {}
     try:
         return prove_all(running, is_check)
     except KeyboardInterrupt:
@@ -175,13 +177,14 @@ def main(words):
         shutil.rmtree(ROOMS, ignore_errors=True)
 
 
-def prove_all(running, is_check):
+def prove_all(running: dict[str, Work], is_check: bool) -> int:
     timer, named = common.Timer(), common.libraries()
     tops = named if is_check else ["ob0"]
     left = list(dict.fromkeys(it for top in tops for it in common.below(top, named)))
-    total, done = len(left), {}
+    total = len(left)
+    done: dict[str, Modules] = {}
 
-    def say(text):
+    def say(text: str) -> None:
         print(f"[{timer}] {text}", flush=True)
 
     say(f"proving {total} crates: {' '.join(left)}")

@@ -1,10 +1,15 @@
 """What the scripts share: where things are, what is missing and how to get it, and how long it took."""
+from __future__ import annotations
+
 import hashlib
 import os
+import re
 import shutil
 import subprocess
 import sys
 import time
+from collections.abc import Iterable
+from typing import Any, NoReturn
 
 TOP = os.path.dirname(os.path.dirname(os.path.abspath(__file__)))
 BINARY = os.path.join(TOP, "bin", "ob0")
@@ -18,12 +23,12 @@ HOW_TO_GET = {
 }
 
 
-def stop(why, status=2):
+def stop(why: str, status: int = 2) -> NoReturn:
     print(f"{os.path.basename(sys.argv[0])}: {why}", file=sys.stderr)
     sys.exit(status)
 
 
-def need(command):
+def need(command: str) -> str:
     """The path of a command, or the end of the script, which says what is missing."""
     found = shutil.which(command)
     if not found:
@@ -31,20 +36,20 @@ def need(command):
     return found
 
 
-def clock(seconds):
+def clock(seconds: float) -> str:
     """Minutes and seconds."""
     return f"{int(seconds) // 60}:{int(seconds) % 60:02d}"
 
 
 class Timer:
-    def __init__(self):
+    def __init__(self) -> None:
         self.start = time.monotonic()
 
-    def __str__(self):
+    def __str__(self) -> str:
         return clock(time.monotonic() - self.start)
 
 
-def listed():
+def listed() -> dict[str, list[str]]:
     """Each crate of crates.txt with all that its line names."""
     lines = {}
     with open(os.path.join(TOP, "crates.txt"), encoding="utf-8") as file:
@@ -57,31 +62,39 @@ def listed():
     return lines
 
 
-def libraries():
+def match_of(pattern: str, text: str, flags: int = 0) -> re.Match[str]:
+    """The first match of a pattern in a text that has one."""
+    found = re.search(pattern, text, flags)
+    if not found:
+        raise LookupError(f"nothing matches {pattern!r} in {text[:300]!r}")
+    return found
+
+
+def libraries() -> dict[str, list[str]]:
     """Each crate of crates.txt with the crates of this repository that its line names."""
     lines = listed()
     return {name: [it for it in given if it in lines] for name, given in lines.items()}
 
 
-def write_list(path, names):
+def write_list(path: str, names: Iterable[str]) -> None:
     """Writes a crates.txt of these crates alone."""
     lines = listed()
     with open(path, "w", encoding="utf-8") as file:
         file.writelines(f"{name}: {' '.join(lines[name])}\n" for name in names)
 
 
-def below(name, named=None, found=None):
+def below(name: str, named: dict[str, list[str]] | None = None, found: list[str] | None = None) -> list[str]:
     """The crates that a crate rests on and the crate itself, lowest first."""
     named = libraries() if named is None else named
     found = [] if found is None else found
-    for it in named.get(name, []):
-        below(it, named, found)
+    for lower in named.get(name, []):
+        below(lower, named, found)
     if name not in found:
         found.append(name)
     return found
 
 
-def sources(names):
+def sources(names: Iterable[str]) -> list[str]:
     """The files that decide what the program is."""
     files = [os.path.join(TOP, "crates.txt"), os.path.join(TOP, "HANDLES")]
     for name in names:
@@ -92,30 +105,31 @@ def sources(names):
     return files
 
 
-def sum_of(files):
+def sum_of(files: Iterable[str]) -> str:
     """A sum over files: their paths and their bytes."""
     total = hashlib.sha256()
     for file in files:
         total.update(os.path.relpath(file, TOP).encode() + b"\0")
-        with open(file, "rb") as it:
-            total.update(it.read() + b"\0")
+        with open(file, "rb") as opened:
+            total.update(opened.read() + b"\0")
     return total.hexdigest()
 
 
-def file_sum(path):
+def file_sum(path: str) -> str:
     with open(path, "rb") as file:
         return hashlib.sha256(file.read()).hexdigest()
 
 
-def kit():
+def kit() -> str | None:
     """The toolchain's line, or None where it isn't here."""
     if not shutil.which("rt"):
         return None
-    how = {"stdout": subprocess.PIPE, "stderr": subprocess.DEVNULL, "stdin": subprocess.DEVNULL}
-    return subprocess.run(["rt", "version"], check=False, **how).stdout.decode(errors="replace").strip()
+    how: dict[str, Any] = {"stdout": subprocess.PIPE, "stderr": subprocess.DEVNULL, "stdin": subprocess.DEVNULL}
+    ran: subprocess.CompletedProcess[bytes] = subprocess.run(["rt", "version"], check=False, **how)
+    return ran.stdout.decode(errors="replace").strip()
 
 
-def stamp():
+def stamp() -> dict[str, str]:
     """What bin/ob0.stamp says of bin/ob0: the toolchain that proved it, the sums of its sources and of the program, and the
     gate's last line where the gate built it."""
     try:
@@ -125,7 +139,7 @@ def stamp():
         return {}
 
 
-def is_current():
+def is_current() -> bool:
     """Whether bin/ob0 is the program that was proved and built from the present sources, by the toolchain that is here (by any,
     where none is here)."""
     if not os.access(BINARY, os.X_OK):
@@ -138,8 +152,9 @@ def is_current():
     )
 
 
-def keep(linked, gate=None):
-    """Copies a linked program to bin/ob0, with a stamp: the gate's last line too, where the gate built it."""
+def keep(linked: str, gate: str | None = None) -> None:
+    """Copies a linked program to bin/ob0, with a stamp: the toolchain's identity, sums over the sources and over the program, and
+    the gate's last line where the gate built it. By it nothing is proved again where nothing changed."""
     os.makedirs(os.path.dirname(BINARY), exist_ok=True)
     shutil.copyfile(linked, BINARY + ".new")
     os.chmod(BINARY + ".new", 0o755)

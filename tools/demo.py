@@ -2,20 +2,25 @@
 """Plays a conversation with the server, and prints what goes each way in readable form.
 
 It is played with bin/ob0 where that was proved and built from the sources as they are. Else the program is compiled by
-`rt try`, which proves nothing and takes one to three minutes, and gets all messages at once."""
+`rt try`, which proves nothing and takes one to three minutes; it gets all messages at once, since `rt try` reads its input to the
+end first."""
+from __future__ import annotations
+
 import json
 import os
 import subprocess
 import sys
 import tempfile
 import time
+from collections.abc import Iterator
+from typing import Any
 
 import common
 
 sys.path.insert(0, os.path.join(common.TOP, "tests", "lib"))
 
 import harness  # noqa: E402
-from harness import EXIT, SHUTDOWN, did_change, did_close, did_open, notice, place, request  # noqa: E402
+from harness import EXIT, SHUTDOWN, Message, did_change, did_close, did_open, notice, place, request  # noqa: E402
 
 URI = "file:///squares.mod"
 GOOD = """MODULE Squares;
@@ -33,10 +38,10 @@ CHANGES = [
 STEP = 15  # seconds between two lines while the program is compiled
 
 
-def steps():
+def steps() -> Iterator[tuple[str, Message]]:
     """The conversation: what is said before a message, and the message."""
     document = {"uri": URI}
-    where = {"position": place(4, 16), "textDocument": document}
+    where: Message = {"position": place(4, 16), "textDocument": document}
     yield "the client begins", request(1, "initialize", {"capabilities": {}})
     yield "", notice("initialized", {})
     yield "a module without a fault is opened: an empty list of diagnostics", did_open(GOOD, URI)
@@ -56,44 +61,44 @@ def steps():
     yield "", EXIT
 
 
-def is_answered(message):
+def is_answered(message: Message) -> bool:
     return "id" in message or message["method"].startswith("textDocument/did")
 
 
 class Live:
     """bin/ob0, in conversation."""
 
-    def __init__(self):
+    def __init__(self) -> None:
         self.server = harness.Server(silent=True)
 
-    def answer(self, message):
+    def answer(self, message: Message) -> Message | None:
         self.server.send(message)
         return self.server.take() if is_answered(message) else None
 
-    def status(self):
+    def status(self) -> int:
         return self.server.process.wait(harness.SECONDS)
 
 
 class Recorded:
     """The program as `rt try` compiles and runs it, on all messages at once."""
 
-    def __init__(self):
+    def __init__(self) -> None:
         found = tried([it for _, it in steps()])
         self.answers, self.ended = iter(map(json.loads, harness.unframed(found[0]))), found[1]
 
-    def answer(self, message):
+    def answer(self, message: Message) -> Message | None:
         return next(self.answers) if is_answered(message) else None
 
-    def status(self):
+    def status(self) -> int:
         return self.ended
 
 
-def tried(messages):
+def tried(messages: list[Message]) -> tuple[bytes, int]:
     """What the unproved program writes on these messages, and its status."""
     with tempfile.TemporaryFile() as given, tempfile.TemporaryFile() as out, tempfile.TemporaryFile() as err:
         given.write(harness.frames(messages))
         given.seek(0)
-        how = {"cwd": os.path.join(common.TOP, "crates", "ob0"), "stdin": given, "stdout": out, "stderr": err}
+        how: dict[str, Any] = {"cwd": os.path.join(common.TOP, "crates", "ob0"), "stdin": given, "stdout": out, "stderr": err}
         timer, shown = common.Timer(), time.monotonic()
         with subprocess.Popen(["rt", "try", "--", "serve"], **how) as process:
             try:
@@ -114,7 +119,7 @@ def tried(messages):
         return out.read(), process.returncode
 
 
-def lines_of(value):
+def lines_of(value: Any) -> list[str]:
     """JSON in readable lines: what fits is on one line, texts of several lines are printed as lines."""
     flat = json.dumps(value, ensure_ascii=False)
     if isinstance(value, str) and "\n" in value:
@@ -129,20 +134,20 @@ def lines_of(value):
     return ["{", *found, "}"] if isinstance(value, dict) else ["[", *found, "]"]
 
 
-def show(arrow, what, message, parts):
+def show(arrow: str, what: str, message: Message, parts: list[str]) -> None:
     """A message: its head, and the part of it that has something to say."""
     print(f"\n{arrow} {what}")
     print(f"    Content-Length: {len(json.dumps(message, separators=(',', ':'), ensure_ascii=False).encode())}")
-    value = next((message[it] for it in parts if it in message), ())
+    value: Any = next((message[it] for it in parts if it in message), ())
     for line in lines_of(value) if value != () else ():
         print(f"    {line}")
 
 
-def say(text):
+def say(text: str) -> None:
     print(f"\n== {text}", flush=True)
 
 
-def play(server):
+def play(server: Live | Recorded) -> int:
     """Plays the conversation, and returns the status that the server ended with."""
     for what, message in steps():
         if what:
@@ -158,7 +163,7 @@ def play(server):
     return status
 
 
-def main():
+def main() -> int:
     if common.is_current():
         print("The program is bin/ob0, which is proved.", flush=True)
         return play(Live())

@@ -7,36 +7,40 @@ Debian has them, the programs that read syntax files, completions and the manual
   tools/editors.py --list   says what is here and what is missing
 
 A package that this system doesn't have is named and passed over: the tests that want it are left out, by name."""
+from __future__ import annotations
+
 import functools
 import glob
 import os
 import shutil
 import subprocess
 import sys
+from collections.abc import Callable
+from typing import Any
 
 import common
 
 
-def here(command):
+def here(command: str) -> Callable[[], bool]:
     return lambda: shutil.which(command) is not None
 
 
-def in_emacs(library):
+def in_emacs(library: str) -> Callable[[], bool]:
     words = ["emacs", "--batch", "--eval", f"(progn (require 'package) (package-initialize) (require '{library}))"]
-    how = {"stdin": subprocess.DEVNULL, "stdout": subprocess.DEVNULL, "stderr": subprocess.DEVNULL}
+    how: dict[str, Any] = {"stdin": subprocess.DEVNULL, "stdout": subprocess.DEVNULL, "stderr": subprocess.DEVNULL}
     return lambda: bool(shutil.which("emacs")) and not subprocess.run(words, check=False, **how).returncode
 
 
-def with_gobject():
+def with_gobject() -> bool:
     words = ["/usr/bin/python3", "-c", "import gi"]
     return os.path.exists(words[0]) and not subprocess.run(words, stderr=subprocess.DEVNULL, check=False).returncode
 
 
-def with_gtksourceview():
+def with_gtksourceview() -> bool:
     return bool(glob.glob("/usr/lib/*/girepository-1.0/GtkSource-4.typelib"))
 
 
-def folder(pattern):
+def folder(pattern: str) -> Callable[[], bool]:
     return lambda: bool(glob.glob(pattern))
 
 
@@ -72,6 +76,7 @@ TOOLS = {
     "zsh": (here("zsh"), "zsh"),
     "fish": (here("fish"), "fish"),
     "mandoc": (here("mandoc"), "mandoc"),
+    "mypy": (here("mypy"), "mypy"),
 }
 
 # what `make test` doesn't pass without; for lack of the others it leaves tests out
@@ -79,15 +84,15 @@ REQUIRED = ["cc"]
 
 
 @functools.lru_cache(None)
-def is_here(name):
+def is_here(name: str) -> bool:
     return TOOLS[name][0]()
 
 
-def install(packages):
+def install(packages: list[str]) -> str | None:
     """Installs Debian's packages, and returns why that failed, or None."""
     words = [] if os.geteuid() == 0 else ["sudo", "-n"]
     environment = {**os.environ, "DEBIAN_FRONTEND": "noninteractive"}
-    how = {"stdin": subprocess.DEVNULL, "stdout": subprocess.PIPE, "stderr": subprocess.STDOUT, "env": environment}
+    how: dict[str, Any] = {"stdin": subprocess.DEVNULL, "stdout": subprocess.PIPE, "stderr": subprocess.STDOUT, "env": environment}
     try:
         words += ["apt-get", *packages]
         ran = subprocess.run(words, timeout=1800, check=False, **how)
@@ -96,7 +101,7 @@ def install(packages):
     return ran.stdout.decode(errors="replace")[-400:].strip() if ran.returncode else None
 
 
-def main(words):
+def main(words: list[str]) -> int:
     missing = [it for it in TOOLS if not is_here(it)]
     if "--list" in words:
         for name, (_, package) in TOOLS.items():

@@ -10,9 +10,13 @@ It runs bin/ob0 (or the program that the variable OB0 names) and the programs of
 crates/NAME/out. OB0_LONG is how many messages each long conversation has (100,000), OB0_CHANGES how many random changes are
 tried (20,000), OB0_RUNS how many random modules are run (20,000), OB0_WALK about how many allocations of one test fail
 (10,000): of more, each second, third and so on. The last line is 'N passed, M failed'."""
+from __future__ import annotations
+
+import functools
 import os
 import sys
 import time
+from collections.abc import Callable, Iterator
 
 import common
 from common import TOP
@@ -39,12 +43,12 @@ KEYED_CHANGES = 200  # in each editor and kind of file
 SEED = int(os.environ.get("OB0_SEED", "0"))
 
 
-def walked(key):
+def walked(key: str) -> str:
     counts = failing.refused(key, *{**conversations.SHORT, **conversations.LONG}[key])
     return f"{sum(counts.values()):,} runs: {counts['refused']:,} ended with status 5, {counts['undisturbed']:,} as without refusal"
 
 
-def checks_of(crate):
+def checks_of(crate: str) -> list[tuple[str, Callable[[], str]]]:
     try:
         return list(refused_tests.checks(crate, WALK))
     except harness.Skipped as why:
@@ -52,10 +56,10 @@ def checks_of(crate):
         return []
 
 
-def all_of_it():
+def all_of_it() -> Iterator[tuple[str, Callable[[], str]]]:
     """Names, and what is done under each: it gives a line with figures."""
     for key in (*conversations.SHORT, *conversations.LONG):
-        yield f"refused memory: {key}", lambda key=key: walked(key)
+        yield f"refused memory: {key}", functools.partial(walked, key)
     for crate in refused_tests.CRATES:
         for name, does in checks_of(crate):
             yield f"refused memory: {crate}, {name}", does
@@ -64,11 +68,11 @@ def all_of_it():
     yield f"a long conversation about several documents: {LONG:,} messages", lambda: several_documents.converse(LONG, SEED)
     yield f"random texts: {TEXTS:,}", lambda: against_reference.many_texts(TEXTS, SEED, failing.PROCESSORS)
     for editor, text, name in test_editors.changes_by_keys():
-        yield name, lambda editor=editor, text=text: test_editors.every_change(editor[0], KEYED_CHANGES, SEED, text, *editor[1:])
+        yield name, functools.partial(test_editors.every_change, editor[0], KEYED_CHANGES, SEED, text, *editor[1:])
     yield f"random runs: {RUNS:,} modules", lambda: against_reference.many_runs(RUNS, SEED, failing.PROCESSORS)
 
 
-def main(words):
+def main(words: list[str]) -> int:
     passed, failed = 0, 0
     for name, does in all_of_it():
         if words and not any(it in name for it in words):

@@ -7,6 +7,8 @@
 
 The tree is that of a folder such as /usr: each editor's files are where that editor looks for them. The same sources, the same
 program and the same maintainer (DEBFULLNAME, DEBEMAIL) give the same bytes. Nothing but Python is needed."""
+from __future__ import annotations
+
 import datetime
 import glob
 import gzip
@@ -18,6 +20,8 @@ import subprocess
 import sys
 import tarfile
 import textwrap
+from collections.abc import Iterable
+from typing import Any, Dict, Tuple, Union
 
 import common
 from common import TOP
@@ -66,27 +70,32 @@ class Link(str):
     """The target of a symbolic link."""
 
 
-def moment():
+# each path with its content (or its link) and its mode
+Tree = Dict[str, Tuple[Union[bytes, Link], int]]
+
+
+def moment() -> int:
     """The time that every packed file has: SOURCE_DATE_EPOCH, or that of the commit."""
     given = os.environ.get("SOURCE_DATE_EPOCH") or git("log", "-1", "--format=%ct")
     return int(given) if given.isdigit() else 0
 
 
-def git(*words):
-    how = {"cwd": TOP, "stdout": subprocess.PIPE, "stderr": subprocess.DEVNULL, "stdin": subprocess.DEVNULL}
+def git(*words: str) -> str:
+    how: dict[str, Any] = {"cwd": TOP, "stdout": subprocess.PIPE, "stderr": subprocess.DEVNULL, "stdin": subprocess.DEVNULL}
     try:
         # (also by sudo, in a folder of somebody else)
-        return subprocess.run(["git", "-c", f"safe.directory={TOP}", *words], check=False, **how).stdout.decode().strip()
+        ran: subprocess.CompletedProcess[bytes] = subprocess.run(["git", "-c", f"safe.directory={TOP}", *words], check=False, **how)
+        return ran.stdout.decode().strip()
     except OSError:
         return ""
 
 
-def read(*path):
+def read(*path: str) -> bytes:
     with open(os.path.join(TOP, *path), "rb") as file:
         return file.read()
 
 
-def version():
+def version() -> str:
     ran = subprocess.run([common.BINARY, "--version"], stdout=subprocess.PIPE, stdin=subprocess.DEVNULL, check=True)
     return ran.stdout.decode().split()[1]
 
@@ -112,11 +121,11 @@ def maintainer() -> str:
     return f"{os.environ.get('DEBFULLNAME') or DEFAULT_NAME} <{os.environ.get('DEBEMAIL') or DEFAULT_ADDRESS}>"
 
 
-def squeezed(content):
+def squeezed(content: bytes) -> bytes:
     return gzip.compress(content, 9, mtime=0)
 
 
-def files_of(source):
+def files_of(source: str) -> list[tuple[str, str]]:
     """The files of a folder of the repository, or a file: pairs of what is below it and its path. The pages of editors stay out of
     the folders that editors read."""
     if os.path.isfile(os.path.join(TOP, source)):
@@ -129,7 +138,7 @@ def files_of(source):
     return [(os.path.relpath(it, source), it) for it in found if keeps_pages or not it.endswith(".md")]
 
 
-def proved():
+def proved() -> bytes:
     """What is known of the proofs of the program that is packed."""
     found = common.stamp()
     changed = ", with changes that are not committed" if has_changes() else ""
@@ -146,7 +155,7 @@ def proved():
     return f"What was proved of the program in this package, and with what. The kit is the Rattle toolchain.\n\n{lines}".encode()
 
 
-def changelog(number):
+def changelog(number: str) -> bytes:
     """Debian's form of CHANGELOG.md."""
     page = read("CHANGELOG.md").decode().partition("\n- ")[2]
     lines = [" ".join(it.split()) for it in page.split("\n- ")]
@@ -157,29 +166,29 @@ def changelog(number):
     return f"ob0 ({number}) unstable; urgency=medium\n\n{listed}\n -- {maintainer()}  {date}".encode()
 
 
-def copyright_page():
+def copyright_page() -> bytes:
     return b"Format: https://www.debian.org/doc/packaging-manuals/copyright-format/1.0/\nUpstream-Name: ob0\n\n" + (
         b"Files: *\nCopyright: " + licence_holder() + b"\nLicense: Expat\n" + indented(licence_text())
         + f"\nFiles: usr/{DOC}/editors/tree-sitter/src/tree_sitter/parser.h\nCopyright: 2018-2024 Max Brunsfeld\nLicense: Expat\n".encode()
     )
 
 
-def licence_holder():
+def licence_holder() -> bytes:
     line = next(it for it in read("LICENSE").decode().splitlines() if it.startswith("Copyright"))
     return line.replace("Copyright (c) ", "").encode()
 
 
-def licence_text():
+def licence_text() -> str:
     return read("LICENSE").decode().partition("\n\n")[2].partition("\n\n")[2]
 
 
-def indented(text):
+def indented(text: str) -> bytes:
     return "".join(f" {it or '.'}\n" for it in text.rstrip("\n").split("\n")).encode()
 
 
-def tree():
+def tree() -> Tree:
     """The paths below the prefix, each with its content (or its link) and its mode."""
-    found = {
+    found: Tree = {
         "bin/ob0": (read("bin", "ob0"), 0o755),
         "bin/ob0-format": (read("share", "ob0-format"), 0o755),
         "share/man/man1/ob0.1.gz": (squeezed(read("share", "ob0.1")), 0o644),
@@ -198,29 +207,31 @@ def tree():
     return dict(sorted(found.items()))
 
 
-def folders_of(paths):
+def folders_of(paths: Iterable[str]) -> list[str]:
     """The folders that hold these paths, each before what is in it."""
     found = set()
-    for it in paths:
-        while it := os.path.dirname(it):
-            found.add(it)
+    for path in paths:
+        while path := os.path.dirname(path):
+            found.add(path)
     return sorted(found)
 
 
-def entry(name, mode, time, kind=tarfile.REGTYPE, size=0, link=""):
+def entry(
+    name: str, mode: int, time: int, kind: bytes = tarfile.REGTYPE, size: int = 0, link: str = ""
+) -> tarfile.TarInfo:
     found = tarfile.TarInfo(name)
     found.mode, found.mtime, found.type, found.size, found.linkname = mode, time, kind, size, link
     found.uname = found.gname = "root"
     return found
 
 
-def archive(found, top, with_folders):
+def archive(found: Tree, top: str, with_folders: bool) -> bytes:
     """A tar archive of a tree, below a folder. Entries of folders would change the modes of those that are there, where it is unpacked;
     dpkg wants them, and changes none."""
     time, out = moment(), io.BytesIO()
     with tarfile.open(fileobj=out, mode="w", format=tarfile.GNU_FORMAT) as tar:
-        for it in ["", *(f"{it}/" for it in folders_of(found))] if with_folders else []:
-            tar.addfile(entry(f"{top}/{it}", 0o755, time, tarfile.DIRTYPE))
+        for folder in ["", *(f"{it}/" for it in folders_of(found))] if with_folders else []:
+            tar.addfile(entry(f"{top}/{folder}", 0o755, time, tarfile.DIRTYPE))
         for path, (content, mode) in found.items():
             name = f"{top}/{path}"
             if isinstance(content, Link):
@@ -230,18 +241,18 @@ def archive(found, top, with_folders):
     return out.getvalue()
 
 
-def list_of(files, folders):
+def list_of(files: Iterable[str], folders: Iterable[str]) -> str:
     """The lines of the list: what is removed, in this order. A folder is removed where nothing else is in it."""
     return "".join(f"{it}\n" for it in [*files, *(f"{it}/" for it in sorted(folders, reverse=True))])
 
 
-def with_list(found):
+def with_list(found: Tree) -> Tree:
     """The tree with a list for its removal, which names the folders that ob0 may have been the first to need."""
     folders = {*folders_of([*found, LIST])} - SHARED
     return {**found, LIST: (list_of([*found, LIST], folders).encode(), 0o644)}
 
 
-def control(found):
+def control(found: Tree) -> bytes:
     size = sum(1 if isinstance(it, Link) else -(-len(it) // 1024) for it, _ in found.values())
     return f"""Package: ob0
 Version: {build_version()}
@@ -264,28 +275,28 @@ Description: language server, checker and interpreter for Oberon-0
 """.encode()
 
 
-def part(name, content):
+def part(name: str, content: bytes) -> bytes:
     """A member of an ar archive."""
     head = f"{name:<16}{moment():<12}{0:<6}{0:<6}{'100644':<8}{len(content):<10}`\n"
     return head.encode() + content + b"\n" * (len(content) % 2)
 
 
-def debian_package(found):
+def debian_package(found: Tree) -> bytes:
     below_usr = {f"usr/{name}": it for name, it in found.items()}
     sums = "".join(f"{hashlib.md5(it).hexdigest()}  {name}\n" for name, (it, _) in below_usr.items() if not isinstance(it, Link))
-    about = {"control": (control(found), 0o644), "md5sums": (sums.encode(), 0o644)}
+    about: Tree = {"control": (control(found), 0o644), "md5sums": (sums.encode(), 0o644)}
     packed = {name: lzma.compress(archive(it, ".", True)) for name, it in (("control", about), ("data", below_usr))}
     parts = [("debian-binary", b"2.0\n"), *((f"{name}.tar.xz", it) for name, it in packed.items())]
     return b"!<arch>\n" + b"".join(part(*it) for it in parts)
 
 
-def need_program():
+def need_program() -> None:
     """Stops where bin/ob0 is not the proved program of these sources."""
     if not common.is_current():
         common.stop("bin/ob0 is not the proved program of these sources: `make build` makes it")
 
 
-def write_packages(found, folder: str) -> None:
+def write_packages(found: Tree, folder: str) -> None:
     """Writes both packages of a tree to a folder, with their sums, and takes away those of earlier builds."""
     number = build_version()
     made = {
@@ -303,13 +314,13 @@ def write_packages(found, folder: str) -> None:
     print(sums, end="")
 
 
-def package():
+def package() -> None:
     write_packages(tree(), os.path.dirname(common.BINARY))
     if not os.environ.get("DEBEMAIL"):
         print(f"the maintainer's address is {DEFAULT_ADDRESS}, which is nobody's: DEBFULLNAME and DEBEMAIL name yours")
 
 
-def listed(room):
+def listed(room: str) -> tuple[list[str], list[str]]:
     """What an earlier installation made: its files and its folders."""
     try:
         with open(os.path.join(room, LIST), encoding="utf-8") as file:
@@ -319,20 +330,20 @@ def listed(room):
     return [it for it in lines if not it.endswith("/")], [it.rstrip("/") for it in lines if it.endswith("/")]
 
 
-def make_folders(path: str) -> list:
+def make_folders(path: str) -> list[str]:
     """Makes a folder and those around it, and returns the ones that were not there."""
     made = []
     while not os.path.isdir(path):
         made.append(path)
         path = os.path.dirname(path)
-    for it in reversed(made):
-        os.mkdir(it)
+    for folder in reversed(made):
+        os.mkdir(folder)
     return made
 
 
-def install(room):
+def install(room: str) -> None:
     found = tree()
-    before, folders = listed(room)
+    before, known = listed(room)
     made = [path for it in folders_of([*found, LIST]) for path in make_folders(os.path.join(room, it))]
     for path in (it for it in before if it not in found):
         remove(os.path.join(room, path))
@@ -346,25 +357,25 @@ def install(room):
             file.write(content)
         os.chmod(target, mode)
     # (the folders around the prefix that were made are `.`, `..` and so on, from there)
-    folders = {*folders, *(os.path.relpath(it, room) for it in made)}
+    folders = {*known, *(os.path.relpath(it, room) for it in made)}
     with open(os.path.join(room, LIST), "w", encoding="utf-8") as file:
         file.write(list_of([*found, LIST], folders))
     print(f"installed {os.path.join(room, 'bin/ob0')}, its manual pages, completions, editor files, pages and examples")
 
 
-def remove(path):
+def remove(path: str) -> None:
     try:
         os.unlink(path)
     except FileNotFoundError:
         pass
 
 
-def uninstall(room):
+def uninstall(room: str) -> None:
     files, folders = listed(room)
     if not files:
         common.stop(f"nothing of ob0 is installed in {room}: there is no {LIST}", 1)
-    for it in files:
-        remove(os.path.join(room, it))
+    for file in files:
+        remove(os.path.join(room, file))
     for path in sorted((os.path.normpath(os.path.join(room, it)) for it in folders), key=len, reverse=True):
         try:
             os.rmdir(path)
@@ -385,17 +396,21 @@ def room_of(prefix: str, root: str) -> str:
     return room
 
 
-def main(words):
+def main(words: list[str]) -> None:
     command, *places = words
-    room = None if command == "package" else room_of(*(*places, "", "")[:2])
     try:
+        if command == "package":
+            need_program()
+            return package()
+        prefix, root, *_ = (*places, "", "")
+        room = room_of(prefix, root)
         if command == "uninstall":
             return uninstall(room)
         need_program()
-        return package() if command == "package" else install(room)
+        return install(room)
     except PermissionError as why:
-        return common.stop(f"{why.filename} can't be written or removed: use sudo, or a folder of your own (PREFIX=~/.local)", 1)
+        common.stop(f"{why.filename} can't be written or removed: use sudo, or a folder of your own (PREFIX=~/.local)", 1)
 
 
 if __name__ == "__main__":
-    sys.exit(main(sys.argv[1:]))
+    main(sys.argv[1:])

@@ -4,6 +4,8 @@ mutants there are.
 
 It fails where no mutant turns a public function with a result, or one that writes through an argument, unless
 tools/surface_reasons.txt says why: lines 'crate::path::name: reason'. With --check neither page is written."""
+from __future__ import annotations
+
 import os
 import re
 import sys
@@ -25,7 +27,7 @@ README = os.path.join(TOP, "README.md")
 COUNTS = re.compile(r"(every proof, )\d+( wrong versions.*?tries all )\d+( mutants)", re.S)
 
 
-def reasons():
+def reasons() -> dict[str, str]:
     """Why some functions have no mutant, by their paths."""
     found = {}
     with open(REASONS, encoding="utf-8") as file:
@@ -39,7 +41,7 @@ def reasons():
 class Row:
     """A public function with the mutants that turn it."""
 
-    def __init__(self, function: reading.Function, turning: "list[edits.Edit]"):
+    def __init__(self, function: reading.Function, turning: "list[edits.Edit]") -> None:
         self.function, self.turning = function, turning
         self.path = f"{function.crate}::{function.path}"
 
@@ -48,7 +50,7 @@ class Row:
         return self.function.gives and not self.turning and self.path not in known
 
     def line(self, known: "dict[str, str]") -> str:
-        turning = ", ".join(edit.name.removesuffix(".edit") for edit in self.turning)
+        turning = ", ".join(os.path.splitext(edit.name)[0] for edit in self.turning)
         if not turning:
             turning = "law" if not self.function.gives else f"none: {known[self.path]}" if self.path in known else "none"
         return f"| `{self.function.path}` | {turning} |"
@@ -61,7 +63,7 @@ def rows_of(crate: str) -> "list[Row]":
     return [Row(it, [edit for edit in all_edits if edit.turned and it in edit.turned]) for it in source.public_functions()]
 
 
-def keep(text, only_looks):
+def keep(text: str, only_looks: bool) -> None:
     """Writes the page, or says that it isn't of these sources."""
     if not only_looks:
         with open(PAGE, "w", encoding="utf-8") as file:
@@ -72,7 +74,7 @@ def keep(text, only_looks):
             print("docs/SURFACE.md isn't of these sources: make surface writes it")
 
 
-def keep_counts():
+def keep_counts() -> None:
     """Writes into README how many mutants the gate tries, and how many there are (a test compares them)."""
     found = [it for crate in common.listed() for it in edits.edits_of(crate)]
     of_gate = sum(it.is_of_gate for it in found)
@@ -82,7 +84,7 @@ def keep_counts():
         file.write(COUNTS.sub(rf"\g<1>{of_gate}\g<2>{len(found)}\g<3>", text))
 
 
-def main(words):
+def main(words: list[str]) -> int:
     named = common.libraries()
     order = list(dict.fromkeys(it for top in named for it in common.below(top, named)))
     known, page, rows = reasons(), [HEAD], []

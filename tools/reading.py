@@ -2,18 +2,24 @@
 
 The words of a source come from the toolchain (`rattle fmt --tokens`), so that contracts and comments are distinguished from
 code."""
+from __future__ import annotations
+
 import json
 import os
 import re
 import subprocess
+from collections.abc import Iterable
+from typing import Any, Tuple
 
 import common
+
+Module = Tuple[str, ...]  # the path of a module in its crate
 
 
 class Function:
     """A function of a crate: where it is, what it belongs to, and its words."""
 
-    def __init__(self, scope, name, words, is_pub):
+    def __init__(self, scope: Scope, name: str, words: list[Word], is_pub: bool) -> None:
         self.crate, self.module, self.owner, self.trait = scope.crate, scope.module, scope.owner, scope.trait
         self.impl_words, self.is_test = scope.impl_words, scope.is_test
         self.name, self.is_pub, self.words = name, is_pub, [it.text for it in words]
@@ -23,18 +29,18 @@ class Function:
         self.proof = "::".join([*self.module, f"+{cycle[1]}"]) if cycle else self.path
 
     @property
-    def path(self):
+    def path(self) -> str:
         """As a reader names it: module::Owner::name."""
         return "::".join([*self.module, *([self.owner] if self.owner else []), self.name])
 
     @property
-    def gives(self):
+    def gives(self) -> bool:
         """Whether it has a result, or writes through an argument."""
         text = " ".join(self.head)
         result = re.search(r"- > (?!\( \)$)", text)
         return bool(result or re.search(r"& (?:'\w+ )?mut ", text))
 
-    def is_named(self, symbol):
+    def is_named(self, symbol: str) -> bool:
         """Whether the checker means this function, or a closure in it, by the name of a line of its output."""
         at = "::".join([self.crate, *self.module, ""])
         if not symbol.startswith(at):
@@ -51,44 +57,54 @@ class Function:
 
 
 class Word:
-    def __init__(self, line, text):
+    def __init__(self, line: int, text: str) -> None:
         self.line, self.text, self.is_test = line, text, False
 
 
 class Scope:
     """Where the reader is in a crate."""
 
-    def __init__(self, crate, file, module, owner="", trait="", impl_words=(), is_test=False):
+    def __init__(
+        self,
+        crate: str,
+        file: str,
+        module: Module,
+        owner: str = "",
+        trait: str = "",
+        impl_words: tuple[str, ...] = (),
+        is_test: bool = False,
+    ) -> None:
         self.crate, self.file, self.module, self.owner, self.trait = crate, file, module, owner, trait
         self.impl_words, self.is_test = impl_words, is_test
 
-    def inside(self, **changed):
+    def inside(self, **changed: Any) -> Scope:
         given = {**self.__dict__, **changed}
         return Scope(**given)
 
 
-def heading(words):
+def heading(words: list[str]) -> list[str]:
     """The words of a function up to its body."""
     depth = 0
-    for at, it in enumerate(words):
-        depth += (it in "([") - (it in ")]")
-        if it in "{;" and not depth and "fn" in words[:at]:
+    for at, word in enumerate(words):
+        depth += (word in "([") - (word in ")]")
+        if word in "{;" and not depth and "fn" in words[:at]:
             return words[:at]
     return words
 
 
-def rattle():
+def rattle() -> str:
     return os.path.join(os.path.dirname(os.path.realpath(common.need("rt"))), "rattle")
 
 
-def words_of(files):
+def words_of(files: list[str]) -> dict[str, list[Word]]:
     """The words of code of each file, by its path."""
     if not files:
         return {}
     ran = subprocess.run([rattle(), "fmt", "--tokens", *files], stdin=subprocess.DEVNULL, stdout=subprocess.PIPE)
     if ran.returncode:
         common.stop(f"{files[0]} or a file beside it can't be read")
-    found, words = {}, None
+    found: dict[str, list[Word]] = {}
+    words: list[Word] = []
     for line in ran.stdout.decode("utf-8").split("\n"):
         if line.startswith("file "):
             words = found[files[int(line[5:])]] = []
@@ -100,7 +116,7 @@ def words_of(files):
     return found
 
 
-def sources(crate):
+def sources(crate: str) -> list[str]:
     """The files of a crate's code."""
     found = []
     for at, folders, names in os.walk(os.path.join(common.TOP, "crates", crate, "src")):
@@ -109,7 +125,7 @@ def sources(crate):
     return found
 
 
-def after(words, at):
+def after(words: list[Word], at: int) -> int:
     """The place after a word, or after the brackets that it opens."""
     depth = 0
     while at < len(words):
@@ -120,7 +136,7 @@ def after(words, at):
     return at
 
 
-def past_marks(words, at):
+def past_marks(words: list[Word], at: int) -> tuple[str, bool, int]:
     """The attributes before an item, whether it is public, and the place of its first word."""
     attributes = ""
     while at < len(words) and words[at].text == "#":
@@ -136,7 +152,7 @@ def past_marks(words, at):
     return attributes, is_pub, at
 
 
-def item_end(words, at):
+def item_end(words: list[Word], at: int) -> int:
     """Where the item that begins with a word like `fn` ends."""
     while at < len(words):
         word = words[at].text
@@ -149,20 +165,25 @@ def item_end(words, at):
 class Source:
     """A crate's functions and constants, its public paths and what its modules bring out."""
 
-    def __init__(self, crate):
-        self.crate, self.functions, self.constants, self.types = crate, [], {}, {}
-        self.public_modules, self.brought_out, self.imports = {()}, [], []
+    def __init__(self, crate: str) -> None:
+        self.crate = crate
+        self.functions: list[Function] = []
+        self.constants: dict[str, tuple[str, int, int]] = {}  # the file, the first line and the last
+        self.types: dict[str, tuple[Module, bool]] = {}  # the module, and whether it is public
+        self.public_modules: set[Module] = {()}
+        self.brought_out: list[tuple[Module, list[str]]] = []
+        self.imports: list[tuple[list[str], bool]] = []
         self.words = words_of(sources(crate))
         self.folder = os.path.join(common.TOP, "crates", crate)
         for top in ("lib.rt", "main.rt"):
             self.read(os.path.join(self.folder, "src", top), Scope(crate, f"src/{top}", ()))
 
-    def read(self, path, scope):
+    def read(self, path: str, scope: Scope) -> None:
         words = self.words.get(path)
         if words is not None:
             self.items(words, scope.inside(file=os.path.relpath(path, self.folder)))
 
-    def items(self, words, scope):
+    def items(self, words: list[Word], scope: Scope) -> None:
         at = 0
         while at < len(words):
             first = at
@@ -171,12 +192,12 @@ class Source:
                 return
             end = item_end(words, at)
             is_test = scope.is_test or "[ test ]" in attributes or "cfg ( test )" in attributes
-            for it in words[first:end]:
-                it.is_test = is_test
+            for word in words[first:end]:
+                word.is_test = is_test
             self.item(words[first:end], at - first, scope.inside(is_test=is_test), is_pub)
             at = end
 
-    def item(self, words, at, scope, is_pub):
+    def item(self, words: list[Word], at: int, scope: Scope, is_pub: bool) -> None:
         """Takes one item, whose first word (after its attributes and marks) is at a place."""
         word = words[at].text
         name = words[at + 1].text if at + 1 < len(words) else ""
@@ -204,7 +225,7 @@ class Source:
             self.imports.append((texts, scope.is_test))
             self.brought_out += [(scope.module, texts)] * is_pub
 
-    def block(self, words, at, scope):
+    def block(self, words: list[Word], at: int, scope: Scope) -> None:
         """The functions of an impl or of a trait."""
         opens = next(i for i in range(at, len(words)) if words[i].text == "{")
         head = [it.text for it in words[at + 1 : opens]]
@@ -221,45 +242,45 @@ class Source:
             inner = scope.inside(owner=owner, trait="" if cut is None else head[0], impl_words=() if cut is None else said)
         self.items(words[opens + 1 : -1], inner)
 
-    def is_public(self, module, name):
+    def is_public(self, module: Module, name: str) -> bool:
         """Whether other crates can name an item of a module."""
         if module in self.public_modules:
             return True
         return any(brings(words, at, module, name) for at, words in self.brought_out if at in self.public_modules)
 
-    def public_functions(self):
+    def public_functions(self) -> list[Function]:
         """Each function that other crates can call, tests left out."""
         found = []
-        for it in self.functions:
-            if it.is_test or not it.is_pub or not it.has_body:
+        for function in self.functions:
+            if function.is_test or not function.is_pub or not function.has_body:
                 continue
-            if not it.owner:
-                is_seen = self.is_public(it.module, it.name)
+            if not function.owner:
+                is_seen = self.is_public(function.module, function.name)
             else:
                 # (a method of a trait of another library is called by that library's name for it)
-                is_own = not it.trait or it.trait in self.types
-                at, is_pub = self.types.get(it.owner, (it.module, False))
-                is_seen = is_own and is_pub and self.is_public(at, it.owner)
-            found += [it] * is_seen
+                is_own = not function.trait or function.trait in self.types
+                at, is_pub = self.types.get(function.owner, (function.module, False))
+                is_seen = is_own and is_pub and self.is_public(at, function.owner)
+            found += [function] * is_seen
         return found
 
-    def proved_with(self, functions):
+    def proved_with(self, functions: Iterable[Function]) -> list[Function]:
         """The functions that have one proof with some: functions that call each other have one."""
         proofs = {it.proof for it in functions}
         return [it for it in self.functions if it.proof in proofs]
 
 
-def close_angle(words):
+def close_angle(words: list[str]) -> int:
     """The place after the angle brackets that the first word opens."""
     depth = 0
-    for at, it in enumerate(words):
-        depth += (it == "<") - (it == ">" and words[at - 1] != "-")
+    for at, word in enumerate(words):
+        depth += (word == "<") - (word == ">" and words[at - 1] != "-")
         if not depth:
             return at + 1
     return len(words)
 
 
-def brings(words, at, module, name):
+def brings(words: list[str], at: Module, module: Module, name: str) -> bool:
     """Whether a `pub use` of a module, by its words, brings out an item of another."""
     words = [it for it in words if it != ":"]
     words = words[words[:1] in (["crate"], ["self"]) :]

@@ -5,6 +5,8 @@
 
 A room is a heading of crates.txt, `# NAME: TEXT`, with the crates below it. It rests on the rooms whose crates its own
 crates name; the picture has the nearest: not those that one of the others rests on too."""
+from __future__ import annotations
+
 import os
 import re
 import sys

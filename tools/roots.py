@@ -6,17 +6,23 @@
 
 It wants to be root, debootstrap and the network. After each removal the copy has to be as it was: no path more or fewer, no other mode
 or owner. The last line is 'N roots passed'."""
+from __future__ import annotations
+
 import os
 import re
 import shutil
 import stat
 import subprocess
 import sys
+from collections.abc import Callable
+from typing import Any, Dict, Optional, Tuple
 
 import common
 import package
-from common import TOP
+from common import TOP, match_of
 
+# each path with its mode, its owner, its group and, of a file, its size
+State = Dict[str, Tuple[str, int, int, Optional[int]]]
 SUITES = ["bookworm", "trixie"]
 MIRROR = "http://deb.debian.org/debian"
 # what a system keeps for itself, and what is no part of a system
@@ -26,11 +32,11 @@ PAGE = f"{package.DOC}/README.md"
 MENDED = b"\nA mended build.\n"
 
 
-def ran(words: list, **named: str) -> str:
+def ran(words: list[str], **named: str) -> str:
     """Runs a command, and returns what it printed; a status other than 0 ends the script."""
     environment = {**os.environ, "DEBIAN_FRONTEND": "noninteractive", "LC_ALL": "C", **named}
-    how = {"stdin": subprocess.DEVNULL, "stdout": subprocess.PIPE, "stderr": subprocess.STDOUT, "env": environment, "cwd": TOP}
-    found = subprocess.run(words, check=False, **how)
+    how: dict[str, Any] = {"stdin": subprocess.DEVNULL, "stdout": subprocess.PIPE, "stderr": subprocess.STDOUT, "env": environment, "cwd": TOP}
+    found: subprocess.CompletedProcess[bytes] = subprocess.run(words, check=False, **how)
     if found.returncode:
         common.stop(f"{' '.join(words)} ended with {found.returncode}:\n{found.stdout.decode(errors='replace')[-3000:]}", 1)
     return found.stdout.decode(errors="replace")
@@ -41,9 +47,9 @@ def inside(root: str, line: str) -> str:
     return ran(["chroot", root, "sh", "-e", "-c", line])
 
 
-def state(root: str) -> dict:
+def state(root: str) -> State:
     """Each path of a root with its mode, its owner and, of a file, its size."""
-    found = {}
+    found: State = {}
     for at, folders, files in os.walk(root):
         if at == root:
             folders[:] = [it for it in folders if it not in LEFT_OUT]
@@ -55,7 +61,7 @@ def state(root: str) -> dict:
     return found
 
 
-def same_state(root: str, before: dict, what: str) -> None:
+def same_state(root: str, before: State, what: str) -> None:
     after = state(root)
     changed = [f"{it}: {before.get(it)}, and then {after.get(it)}" for it in sorted({*before, *after}) if before.get(it) != after.get(it)]
     if changed:
@@ -63,13 +69,13 @@ def same_state(root: str, before: dict, what: str) -> None:
     print(f"  {what}: nothing left, no mode changed", flush=True)
 
 
-def make_builds(folder: str) -> dict:
+def make_builds(folder: str) -> dict[str, list[str]]:
     """Packs two builds, the second a day younger and with another page: for each its Debian package and its archive."""
     builds, now = {}, package.moment()
     for name, page, age in (("first", b"", DAY), ("mended", MENDED, 0)):
         os.environ["SOURCE_DATE_EPOCH"] = str(now - age)
         found = package.tree()
-        found[PAGE] = (found[PAGE][0] + page, 0o644)
+        found[PAGE] = (package.read("README.md") + page, 0o644)
         room = os.path.join(folder, name)
         os.makedirs(room, exist_ok=True)
         package.write_packages(found, room)
@@ -78,7 +84,7 @@ def make_builds(folder: str) -> dict:
     return builds
 
 
-def try_debian(root: str, builds: dict) -> None:
+def try_debian(root: str, builds: dict[str, list[str]]) -> None:
     """The Debian package, a mended one over it, and its removal."""
     before, versions = state(root), []
     for deb, _ in builds.values():
@@ -96,12 +102,12 @@ def try_debian(root: str, builds: dict) -> None:
     same_state(root, before, "apt-get remove")
 
 
-def readme_lines() -> tuple:
+def readme_lines() -> tuple[str, str]:
     """README's lines that unpack the archive and take it away."""
     with open(os.path.join(TOP, "README.md"), encoding="utf-8") as file:
         page = file.read()
-    found = [re.search(rf"^    (.*{word}.*)$", page, re.M)[1].partition("  #")[0] for word in ("sudo tar", "xargs")]
-    return tuple(it.replace("sudo ", "") for it in found)
+    unpack, take_away = (match_of(rf"^    (.*{word}.*)$", page, re.M)[1].partition("  #")[0] for word in ("sudo tar", "xargs"))
+    return unpack.replace("sudo ", ""), take_away.replace("sudo ", "")
 
 
 def try_archive(root: str, archive: str) -> None:
@@ -111,7 +117,11 @@ def try_archive(root: str, archive: str) -> None:
     before = state(root)
     shutil.copy(archive, os.path.join(root, "tmp"))
     uninstall = [sys.executable, "-B", "tools/package.py", "uninstall", "/usr/local", root]
-    for what, remove in (("README's line", lambda: inside(root, f"{{ {take_away}; }} || true")), ("make uninstall", lambda: ran(uninstall))):
+    ways: dict[str, Callable[[], str]] = {
+        "README's line": lambda: inside(root, f"{{ {take_away}; }} || true"),
+        "make uninstall": lambda: ran(uninstall),
+    }
+    for what, remove in ways.items():
         inside(root, f"cd /tmp; {unpack}; ob0 check /usr/local/{package.DOC}/examples/Gcd.mod")
         after = state(root)
         changed = [it for it in before if before[it] != after[it]]
@@ -124,12 +134,12 @@ def try_archive(root: str, archive: str) -> None:
 def try_container(root: str) -> None:
     """The RUN line of the Containerfile in docs/CI.md."""
     with open(os.path.join(TOP, "docs", "CI.md"), encoding="utf-8") as file:
-        line = re.search(r"^RUN (.*)$", file.read(), re.M)[1]
+        line = match_of(r"^RUN (.*)$", file.read(), re.M)[1]
     inside(root, line)
     print(f"  the Containerfile's line: {inside(root, 'ob0 --version').strip()}", flush=True)
 
 
-def main(words: list) -> int:
+def main(words: list[str]) -> int:
     folder, *suites = words
     common.need("debootstrap")
     package.need_program()

@@ -13,6 +13,8 @@ the program ready for an interpreter too, each time, which then runs nothing tha
 many `rt try` as every second processor carries, each with a compile of its own; and all but a few of the modules that are to be
 checked are opened in one conversation, whose diagnostics are those that `check` prints, and all but a few of the renamings are
 requested there: the edits of the answer make the text that `rename` prints, and a refusal is the one that it names."""
+from __future__ import annotations
+
 import json
 import os
 import re
@@ -20,6 +22,8 @@ import subprocess
 import sys
 import tempfile
 import time
+from collections.abc import Callable, Sequence
+from typing import Any, NamedTuple, Optional, Tuple
 
 import common
 
@@ -28,6 +32,7 @@ for folder in ("tests", os.path.join("tests", "lib")):
     sys.path.insert(0, os.path.join(common.TOP, folder))
 
 import harness  # noqa: E402
+from framing import Message  # noqa: E402
 
 WORDS = ("check:", "run:", "rename", "messages:", "examples")
 # bytes of a file (or an input): what is longer takes the program that `rt try` makes long, and is left to bin/ob0
@@ -44,33 +49,57 @@ class Unknown(Exception):
     """A test that wants what can't be had here."""
 
 
+class Case(NamedTuple):
+    """What a test runs: the words, with FILE in place of a file's name; what is in that file; and standard input."""
+
+    words: Tuple[str, ...]
+    text: Optional[bytes]
+    given: bytes
+
+    def is_writable(self) -> bool:
+        """Whether `rt try` takes these words: one a line, and none empty."""
+        return all(it and "\n" not in it for it in self.words)
+
+    def is_request(self) -> bool:
+        """Whether this is a renaming of a small text at a place."""
+        words = self.words
+        is_renaming = len(words) == 5 and words[:2] == ("rename", "FILE") and words[2].isdigit() and words[3].isdigit()
+        return is_renaming and self.text is not None and is_text(self.text) and b"\r" not in self.text and not self.given
+
+
 class Cases:
     """What the tests run, and what came of it."""
 
-    def __init__(self):
-        self.wanted, self.found, self.opened, self.requested, self.noting = {}, {}, [], [], True
+    def __init__(self) -> None:
+        self.wanted: dict[Case, None] = {}
+        self.found: dict[Case, harness.Ended] = {}
+        self.opened: list[Case] = []  # the modules that are opened in one conversation
+        self.requested: list[Case] = []  # the renamings that are requested there
+        self.noting = True
 
-    def run(self, words, given=b"", stack=None, cwd=None):
+    def run(
+        self, words: Sequence[str], given: bytes = b"", stack: int | None = None, cwd: str | None = None
+    ) -> harness.Ended:
         """In place of `harness.run`: the words, the input and the files that they name."""
-        plain, texts, wants_help = list(words), [], {"-h", "--help"} & {*words}
+        plain, text, wants_help = list(words), None, {"-h", "--help"} & {*words}
         if words[:1] and words[0] in COMMANDS and not wants_help:
             at = next((at for at, it in enumerate(words) if at and os.path.isfile(os.path.join(cwd or ".", it))), None)
             if at is None or os.path.getsize(os.path.join(cwd or ".", words[at])) > LARGEST[words[0]]:
                 raise Unknown("a file that isn't there, or a long one")
             with open(os.path.join(cwd or ".", words[at]), "rb") as file:
-                texts.append(file.read())
+                text = file.read()
             plain[at] = "FILE"
-        key = (tuple(plain), *texts, bytes(given))
-        if stack or len(given) > LARGEST["run"] or (words[:1] == ["serve"] and not wants_help) or not (can_be_case(key) or can_be_requested(key)):
+        case, speaks = Case(tuple(plain), text, bytes(given)), plain[:1] == ["serve"] and not wants_help
+        if stack or len(given) > LARGEST["run"] or speaks or not (case.is_writable() or case.is_request()):
             raise Unknown("a conversation, a long input or other words")
         if self.noting:
-            self.wanted[key] = None
+            self.wanted[case] = None
             return harness.Ended(b"", b"", 0)
-        if key not in self.found:
+        if case not in self.found:
             raise Unknown("what an earlier run printed")
-        return self.found[key]
+        return self.found[case]
 
-    def note(self, name, function):
+    def note(self, name: str, function: Callable[[], None]) -> tuple[str, Exception | None]:
         """Notes what a test runs. Where it wants what can't be had, nothing of it is run, and the reason is given with its name."""
         before = dict(self.wanted)
         why = play(function)
@@ -79,80 +108,85 @@ class Cases:
         self.wanted = before
         return name, why
 
-    def unless_noting(self, check):
+    def unless_noting(self, check: Callable[..., None]) -> Callable[..., None]:
         """A check of the harness, which holds nothing while the cases are noted."""
         return lambda *words, **named: None if self.noting else check(*words, **named)
 
-    def put_together(self):
+    def put_together(self) -> None:
         """Takes the modules that are to be checked and the renamings, but for a few, out of the cases and into one conversation, a
         case by itself."""
-        checks = [it for it in self.wanted if it[0] == CHECK and is_text(it[1]) and not it[2]]
-        renamings = [it for it in self.wanted if can_be_requested(it)]
-        by_command = [it for it in renamings if can_be_case(it)][:RENAMED]
+        checks = [it for it in self.wanted if it.words == CHECK and it.text is not None and is_text(it.text) and not it.given]
+        renamings = [it for it in self.wanted if it.is_request()]
+        by_command = [it for it in renamings if it.is_writable()][:RENAMED]
         self.opened = checks[CHECKED:]
         self.requested = [it for it in renamings if it not in by_command]
-        for it in self.opened + self.requested:
-            del self.wanted[it]
-        contents = [harness.did_open(text.decode(), uri=f"file:///{at}") for at, (_, text, _) in enumerate(self.opened + self.requested)]
-        for at, ((_, _, line, column, new), _, _) in enumerate(self.requested, len(self.opened)):
-            where = {"position": harness.place(int(line), int(column)), "textDocument": {"uri": f"file:///{at}"}}
+        together = self.opened + self.requested
+        for case in together:
+            del self.wanted[case]
+        contents = [harness.did_open((case.text or b"").decode(), uri=f"file:///{at}") for at, case in enumerate(together)]
+        for at, case in enumerate(self.requested, len(self.opened)):
+            _, _, line, column, new = case.words
+            where: Message = {"position": harness.place(int(line), int(column)), "textDocument": {"uri": f"file:///{at}"}}
             contents.append(harness.request(f"rename {at}", "textDocument/rename", {**where, "newName": new}))
         if contents:
             begin = harness.initialize("begin")
-            self.wanted[("serve",), harness.frames([begin, *contents, harness.SHUTDOWN, harness.EXIT])] = None
+            conversation = harness.frames([begin, *contents, harness.SHUTDOWN, harness.EXIT])
+            self.wanted[Case(("serve",), None, conversation)] = None
 
-    def take_conversation(self, said):
+    def take_conversation(self, said: bytes) -> None:
         """What `check` prints of each module that was opened, by its diagnostics, and `rename` by the answer to the request."""
         contents, printed = [json.loads(it) for it in harness.unframed(said)], {}
-        for it in (it["params"] for it in contents if "params" in it):
-            at = int(it["uri"].rpartition("/")[2])
-            starts = [(found["range"]["start"], found) for found in it["diagnostics"]]
+        for params in (it["params"] for it in contents if "params" in it):
+            at = int(params["uri"].rpartition("/")[2])
+            starts = [(found["range"]["start"], found) for found in params["diagnostics"]]
             lines = [f"{start['line']}:{start['character']}: {found['code']}: {found['message']}\n" for start, found in starts]
             printed[at] = harness.Ended("".join(lines).encode(), b"", 1 if lines else 0)
         self.found.update((it, printed[at]) for at, it in enumerate(self.opened))
         answers = {it["id"]: it for it in contents if "id" in it}
-        for at, it in enumerate(self.requested, len(self.opened)):
-            self.found[it] = printed[at] if printed[at].status else renamed(it[1].decode(), answers[f"rename {at}"])
+        for at, case in enumerate(self.requested, len(self.opened)):
+            self.found[case] = printed[at] if printed[at].status else renamed((case.text or b"").decode(), answers[f"rename {at}"])
 
-    def write(self, room, lanes):
+    def write(self, room: str, lanes: int) -> tuple[dict[str, Case], list[list[str]]]:
         """Writes the cases as files for `rt try`, dealt out to this many folders, and returns their names and for each folder the
         flags that give it the modules that are run. It copies each of these for each case: so a module is there once, and where a
         case reads no input it is the module itself."""
-        names, modules, flags = {}, {}, [{} for _ in range(lanes)]
-        for at, (words, *texts) in enumerate(self.wanted):
-            name, content, module = f"case{at:04}", texts[-1], "{}"
-            if len(texts) > 1 and words[0] == "run":
-                module = modules.setdefault(texts[0], f"module{len(modules):03}.mod")
+        names: dict[str, Case] = {}
+        modules: dict[bytes, str] = {}
+        flags: list[dict[str, str]] = [{} for _ in range(lanes)]
+        for at, case in enumerate(self.wanted):
+            name, content, module = f"case{at:04}", case.given, "{}"
+            if case.text is not None and case.words[0] == "run":
+                module = modules.setdefault(case.text, f"module{len(modules):03}.mod")
                 flags[at % lanes][module] = os.path.join(room, "modules", module)
-            elif len(texts) > 1:
-                content = texts[0]
-            line = [module if it == "FILE" else it for it in words]
+            elif case.text is not None:
+                content = case.text
+            line = [module if it == "FILE" else it for it in case.words]
             for ending, text in (("", content), (".args", "\n".join(line).encode())):
                 with open(os.path.join(room, f"cases{at % lanes}", name + ending), "wb") as file:
                     file.write(text)
-            names[name] = (words, *texts)
+            names[name] = case
         for text, name in modules.items():
             with open(os.path.join(room, "modules", name), "wb") as file:
                 file.write(text)
         return names, [[word for pair in it.items() for word in ("--data", "=".join(pair))] for it in flags]
 
-    def take(self, out, err, names):
+    def take(self, out: bytes, err: bytes, names: dict[str, Case]) -> None:
         """Takes what `rt try` printed: the output of each case after a line with its name, and lines on each."""
         cut = re.split(rb"^== (case\d{4})\n", out, flags=re.M)
         printed = dict(zip((it.decode() for it in cut[1::2]), cut[2::2]))
         before = 0
-        for it in re.finditer(rb"^case=(case\d{4}) run=(\w+)(?: status=(\d+))?[^\n]*\n", err, re.M):
-            name, how, status = it[1].decode(), it[2], it[3]
-            said, before = err[before : it.start()], it.end()
-            if how == b"ended" and names[name][0] == ("serve",):
+        for line in re.finditer(rb"^case=(case\d{4}) run=(\w+)(?: status=(\d+))?[^\n]*\n", err, re.M):
+            name, how, status = line[1].decode(), line[2], line[3]
+            said, before = err[before : line.start()], line.end()
+            if how == b"ended" and names[name].words == ("serve",):
                 self.take_conversation(printed[name].rstrip(b"\n"))
             elif how == b"ended":
                 self.found[names[name]] = harness.Ended(printed.get(name, b""), said, int(status))
             else:
-                self.found[names[name]] = harness.Ended(b"", it[0] + said, None)
+                self.found[names[name]] = harness.Ended(b"", line[0] + said, None)
 
 
-def is_text(content):
+def is_text(content: bytes) -> bool:
     """Whether an editor can open this."""
     try:
         content.decode()
@@ -161,19 +195,7 @@ def is_text(content):
     return len(content) < 10_000
 
 
-def can_be_case(key):
-    """Whether `rt try` takes these words: one a line, and none empty."""
-    return all(it and "\n" not in it for it in key[0])
-
-
-def can_be_requested(key):
-    """Whether this is a renaming of a small text at a place."""
-    words = key[0]
-    is_renaming = len(words) == 5 and words[:2] == ("rename", "FILE") and words[2].isdigit() and words[3].isdigit()
-    return is_renaming and is_text(key[1]) and b"\r" not in key[1] and not key[2]
-
-
-def renamed(text, answer):
+def renamed(text: str, answer: dict[str, Any]) -> harness.Ended:
     """What `rename` prints, by the answer to the request: the refusal, or the text with the edits, each on one line."""
     if "error" in answer:
         return harness.Ended(b"", f"refused: {answer['error']['message']}\n".encode(), 1)
@@ -185,19 +207,19 @@ def renamed(text, answer):
     return harness.Ended("\n".join(it.decode("utf-16-le") for it in lines).encode(), b"", 0)
 
 
-def lanes_for(count):
+def lanes_for(count: int) -> int:
     """How many `rt try` are run side by side: each is two processes while it compiles."""
     memory = os.sysconf("SC_PAGE_SIZE") * os.sysconf("SC_PHYS_PAGES")
     return max(1, min(len(os.sched_getaffinity(0)) // 2, memory // MEMORY, count // 8))
 
 
-def compiled(cases):
+def compiled(cases: Cases) -> None:
     """Runs all that is wanted, and notes what came."""
     cases.put_together()
     lanes, timer = lanes_for(len(cases.wanted)), common.Timer()
     with tempfile.TemporaryDirectory() as room:
-        for it in ("modules", *(f"cases{lane}" for lane in range(lanes))):
-            os.mkdir(os.path.join(room, it))
+        for name in ("modules", *(f"cases{lane}" for lane in range(lanes))):
+            os.mkdir(os.path.join(room, name))
         names, flags = cases.write(room, lanes)
         started = [Try(flags[lane], os.path.join(room, f"cases{lane}")) for lane in range(lanes)]
         shown = time.monotonic()
@@ -206,12 +228,12 @@ def compiled(cases):
             if time.monotonic() - shown > STEP:
                 shown = time.monotonic()
                 print(f"[{timer}] compiling, and {sum(it.ended() for it in started)} of {len(names)} cases run", flush=True)
-        for it in started:
-            cases.take(*it.said(), names)
+        for one in started:
+            cases.take(*one.said(), names)
         if not cases.found:
             common.stop(f"rt try ran no case:\n{started[0].said()[1].decode(errors='replace')[-2000:]}", 1)
-        for it in {*cases.wanted, *cases.opened, *cases.requested} - {*cases.found}:
-            cases.found[it] = harness.Ended(b"", b"rt try ended before, or the conversation did", None)
+        for case in {*cases.wanted, *cases.opened, *cases.requested} - {*cases.found}:
+            cases.found[case] = harness.Ended(b"", b"rt try ended before, or the conversation did", None)
         said = f"{len(cases.opened)} modules checked and {len(cases.requested)} renamings requested in one conversation"
         print(f"[{timer}] compiled, and {len(names)} cases run; {said}", flush=True)
 
@@ -219,24 +241,25 @@ def compiled(cases):
 class Try:
     """One `rt try` on a folder of cases."""
 
-    def __init__(self, flags, folder):
+    def __init__(self, flags: list[str], folder: str) -> None:
         self.out, self.err = tempfile.TemporaryFile(), tempfile.TemporaryFile()
-        how = {"cwd": os.path.join(common.TOP, "crates", "ob0"), "stdin": subprocess.DEVNULL, "stdout": self.out, "stderr": self.err}
+        how: dict[str, Any] = {"cwd": os.path.join(common.TOP, "crates", "ob0"), "stdin": subprocess.DEVNULL, "stdout": self.out, "stderr": self.err}
         self.process = subprocess.Popen(["rt", "try", *flags, "--cases", folder], **how)
 
-    def is_running(self):
+    def is_running(self) -> bool:
         return self.process.poll() is None
 
-    def said(self):
+    def said(self) -> tuple[bytes, bytes]:
         """What it has printed on both outputs."""
-        return [os.pread(it.fileno(), os.fstat(it.fileno()).st_size, 0) for it in (self.out, self.err)]
+        out, err = (os.pread(it.fileno(), os.fstat(it.fileno()).st_size, 0) for it in (self.out, self.err))
+        return out, err
 
-    def ended(self):
+    def ended(self) -> int:
         """How many cases have ended."""
         return len(re.findall(rb"^case=", self.said()[1], re.M))
 
 
-def play(function):
+def play(function: Callable[[], None]) -> Exception | None:
     """Plays a test: None where it passed, else why it didn't."""
     try:
         function()
@@ -247,14 +270,10 @@ def play(function):
     return None
 
 
-def main(words):
+def main(words: list[str]) -> int:
     common.need("rt")
     cases = Cases()
-    # (the tests take these names from the harness when they are loaded)
-    harness.run = cases.run
-    harness.same, harness.holds = cases.unless_noting(harness.same), cases.unless_noting(harness.holds)
-    harness.ends = without_last_line_feed
-    harness.Server = harness.serve = harness.serve_in_pieces = Conversation
+    replace_in_harness(cases)
     import run as tests  # pylint: disable=import-outside-toplevel
 
     tests.load()
@@ -267,22 +286,30 @@ def main(words):
     return judge(chosen, {name: why for name, why in left_out.items() if why})
 
 
-def without_last_line_feed(found, out, status, err=""):
+def replace_in_harness(cases: Cases) -> None:
+    """Has the tests, which take these names from the harness when they are loaded, note what they run."""
+    checks = {"same": cases.unless_noting(harness.same), "holds": cases.unless_noting(harness.holds), "ends": without_last_line_feed}
+    speaking = dict.fromkeys(("Server", "serve", "serve_in_pieces"), Conversation)
+    replaced: dict[str, object] = {"run": cases.run, **checks, **speaking}
+    for name, other in replaced.items():
+        setattr(harness, name, other)
+
+
+def without_last_line_feed(found: harness.Ended, out: str | bytes, status: int, err: str | bytes = "") -> None:
     """In place of `harness.ends`: `rt try` prints an output that lacks its last line feed with one."""
-    as_bytes = lambda it: it if isinstance(it, bytes) else it.encode()
-    plain = lambda it: as_bytes(it).rstrip(b"\n")
-    got, wanted = (plain(found.out), found.err, found.status), (plain(out), as_bytes(err), status)
+    wanted_out, wanted_err = (it if isinstance(it, bytes) else it.encode() for it in (out, err))
+    got, wanted = (found.out.rstrip(b"\n"), found.err, found.status), (wanted_out.rstrip(b"\n"), wanted_err, status)
     harness.same(got, wanted, "standard output, standard error and the status")
 
 
 class Conversation:
     """In place of `harness.Server`, and of what else speaks with a server."""
 
-    def __init__(self, *_, **__):
+    def __init__(self, *_: object, **__: object) -> None:
         raise Unknown("a conversation")
 
 
-def judge(chosen, left_out):
+def judge(chosen: list[tuple[str, Callable[[], None]]], left_out: dict[str, Exception]) -> int:
     passed, failed = 0, 0
     for name, function in chosen:
         why = left_out.get(name) or play(function)

@@ -15,7 +15,7 @@ import signal
 import subprocess
 import sys
 import tempfile
-from typing import Iterator, List, NamedTuple, Optional
+from typing import IO, Any, Dict, Iterator, List, NamedTuple, Optional
 
 HERE = os.path.dirname(os.path.abspath(__file__))
 ENDINGS = (".mod", ".Mod", ".ob0")
@@ -91,16 +91,19 @@ def limit() -> None:
 def call(bounds: Bounds, words: List[str], given: str = "") -> Ended:
     """Runs the program with these words on this input, under the limits."""
     with tempfile.TemporaryFile() as out, tempfile.TemporaryFile() as err:
-        how = {"stdout": out, "stderr": err, "preexec_fn": limit}
+        how: Dict[str, Any] = {"stdout": out, "stderr": err, "preexec_fn": limit}
+        status: Optional[int] = None
         try:
             status = subprocess.run([bounds.program, *words], input=given.encode(), timeout=bounds.seconds, check=False, **how).returncode
         except subprocess.TimeoutExpired:
-            status = None
-        texts = []
-        for file in (out, err):
-            file.seek(0)
-            texts.append(file.read().decode(errors="replace"))
-    return Ended(*texts, status)
+            pass
+        return Ended(text_in(out), text_in(err), status)
+
+
+def text_in(file: IO[bytes]) -> str:
+    """What was written to a file, from its start."""
+    file.seek(0)
+    return file.read().decode(errors="replace")
 
 
 def shortened(text: str, most: int = 60) -> str:
@@ -169,7 +172,8 @@ def modules_in(path: str) -> Iterator[str]:
 
 def mark(bounds: Bounds, path: str) -> Optional[bool]:
     """Marks a path, and prints what is found: whether all is right, or None where there is nothing to mark."""
-    names, results = exercises(), {}
+    names = exercises()
+    results: Dict[str, bool] = {}
     print(f"{path}:")
     for file in modules_in(path):
         exercise, ending = os.path.splitext(os.path.basename(file))

@@ -4,11 +4,15 @@
 Variables: OB0_FILE (the file to edit), OB0_REPORT (where the findings go, a line of JSON each), OB0_STEPS (the name of a list
 of steps below), OB0_GIVEN (a place in the file, as JSON), OB0_WIRE (the folder of tests/lib/holding.py, which is between Kate and
 the server). What is reported is what went over the wire, and what Kate saved."""
+from __future__ import annotations
+
 import json
 import os
 import subprocess
 import sys
 import time
+from collections.abc import Callable
+from typing import Any
 
 sys.dont_write_bytecode = True
 sys.path.insert(0, os.path.join(os.path.dirname(os.path.abspath(__file__)), os.pardir, "lib"))
@@ -19,25 +23,25 @@ FILE, REPORT, WIRE = os.environ["OB0_FILE"], os.environ["OB0_REPORT"], Wire(os.e
 GIVEN = json.loads(os.environ["OB0_GIVEN"])
 
 
-def say(step, found):
+def say(step: str, found: object) -> None:
     with open(REPORT, "a", encoding="utf-8") as file:
         file.write(json.dumps({"step": step, "found": found}) + "\n")
 
 
-def published():
+def published() -> list[Any]:
     return [it["diagnostics"] for it in WIRE.published()]
 
 
-def answers(method):
+def answers(method: str) -> list[Any]:
     return [it.get("result", it.get("error")) for it in WIRE.answers(method)]
 
 
-def saved():
+def saved() -> str:
     with open(FILE, encoding="utf-8") as file:
         return file.read()
 
 
-def waited(what, value, seconds=30):
+def waited(what: str, value: Callable[[], Any], seconds: float = 30) -> Any:
     """Waits until something has a value that counts as true, and gives that."""
     end = time.monotonic() + seconds
     while time.monotonic() < end:
@@ -48,17 +52,17 @@ def waited(what, value, seconds=30):
     raise RuntimeError(f"waited in vain for {what}")
 
 
-def keys(*names):
+def keys(*names: str) -> None:
     subprocess.run(["xdotool", "key", "--delay", "60", *names], check=True)
     time.sleep(0.3)
 
 
-def typed(text):
+def typed(text: str) -> None:
     subprocess.run(["xdotool", "type", "--delay", "60", text], check=True)
     time.sleep(0.3)
 
 
-def command(name, comes):
+def command(name: str, comes: Callable[[], Any]) -> Any:
     """Chooses a command by its name, as often as it takes to be taken."""
     # (Kate 25 lists a switch whose name begins alike above one of them; chosen twice that is as it was)
     for below in 0, 0, 1, 1:
@@ -74,11 +78,11 @@ def command(name, comes):
     raise RuntimeError(f"{name} was never taken")
 
 
-def codes():
+def codes() -> list[str]:
     return [it["code"] for it in published()[-1]]
 
 
-def after(what, change):
+def after(what: str, change: Callable[[], object]) -> list[str]:
     """Makes a change and gives the codes of the diagnostics that come for it."""
     before = len(published())
     change()
@@ -87,7 +91,7 @@ def after(what, change):
     return codes()
 
 
-def saving():
+def saving() -> str:
     """Saves, and gives the text."""
     before = os.stat(FILE).st_mtime_ns
     keys("ctrl+s")
@@ -96,7 +100,7 @@ def saving():
     return saved()
 
 
-def names():
+def names() -> None:
     say("typed", after("typed", lambda: typed("$")))
     say("undone", after("undone", lambda: keys("ctrl+z")))
     say("shown", command("Symbol Info", lambda: answers("textDocument/hover"))[0]["contents"]["value"])
@@ -114,7 +118,7 @@ def names():
     say("text", saving())
 
 
-def inlining():
+def inlining() -> None:
     # (with the name selected: Kate requests them for a whole line else)
     keys("shift+Right", "alt+Return")
     found = waited("code actions", lambda: answers("textDocument/codeAction"))[-1]
@@ -128,7 +132,7 @@ LINE = "(* new *)"
 RENAME, LAYOUT = "textDocument/rename", "textDocument/formatting"
 
 
-def rename(name):
+def rename(name: str) -> None:
     keys("F2")
     time.sleep(1.5)
     keys("ctrl+a")
@@ -138,13 +142,13 @@ def rename(name):
     time.sleep(1)  # (until the text has the keys again)
 
 
-def line_above():
+def line_above() -> None:
     keys("ctrl+Home")
     typed(LINE)
     keys("Return")
 
 
-def late():
+def late() -> None:
     """An answer is held while a line is typed above, and while the file is closed, has another text and is opened again."""
     for what, method, ask in (("renamed", RENAME, lambda: rename("tot")), ("laid out", LAYOUT, lambda: command("Format", WIRE.is_held))):
         before = WIRE.text()
@@ -173,7 +177,7 @@ def late():
     say("opened again", saving())
 
 
-def main():
+def main() -> None:
     line, column = GIVEN["place"]
     manager = subprocess.Popen(["openbox"], stdout=subprocess.DEVNULL, stderr=subprocess.DEVNULL)
     time.sleep(1)

@@ -1,28 +1,33 @@
 """What is run with allocations and devices that fail: conversations and commands, each with its input and file."""
+from __future__ import annotations
+
+from typing import Any, NamedTuple
+
 import corpus
 from first_conversation import INPUT
-from harness import EXIT, SHUTDOWN, did_change, did_close, did_open, extent, frames, initialize, notice, place, request
+from harness import EXIT, SHUTDOWN, Content, Message, did_change, did_close, did_open, extent, frames, initialize, notice, place, request
 from modules import COUNTS, DIVIDES, FAULTY, LEAST, WRITES_A_GLOBAL
 
 
-DOCUMENT = {"uri": "file:///m"}
-LITERALS = {"textDocument": {"codeAction": {"codeActionLiteralSupport": {}}}}
+DOCUMENT: Message = {"uri": "file:///m"}
+LITERALS: Message = {"textDocument": {"codeAction": {"codeActionLiteralSupport": {}}}}
 
 
-def query(ident, method, line, character, **params):
-    return request(ident, f"textDocument/{method}", {"position": place(line, character), "textDocument": DOCUMENT, **params})
+def query(ident: int, method: str, line: int, character: int, **params: Any) -> Message:
+    given: Message = {"position": place(line, character), "textDocument": DOCUMENT, **params}
+    return request(ident, f"textDocument/{method}", given)
 
 
-def acted(ident, line, character):
+def acted(ident: int, line: int, character: int) -> Message:
     where = {"end": place(line, character), "start": place(line, character)}
     return request(ident, "textDocument/codeAction", {"context": {}, "range": where, "textDocument": DOCUMENT})
 
 
-def laid_out(ident):
+def laid_out(ident: int) -> Message:
     return request(ident, "textDocument/formatting", {"options": {"insertSpaces": True, "tabSize": 2}, "textDocument": DOCUMENT})
 
 
-def talk(*contents, **capabilities):
+def talk(*contents: Content, **capabilities: Any) -> bytes:
     """A conversation with these between its beginning and its end."""
     return frames([initialize(**capabilities), *contents, {**SHUTDOWN, "id": 99}, EXIT])
 
@@ -38,7 +43,7 @@ MANY = "MODULE M; VAR v0" + "".join(f",v{at}" for at in range(1, 200)) + ": INTE
 ) + " WriteLn END M."
 
 
-def about(uri, message):
+def about(uri: str, message: Message) -> Message:
     """A message about another document."""
     document = {**message["params"]["textDocument"], "uri": uri}
     return {**message, "params": {**message["params"], "textDocument": document}}
@@ -49,7 +54,7 @@ COMMENT = "(*" + "x" * 900_000 + "*)\n"
 KEPT = [f"file:///{it}" for it in "abc"]
 
 
-def several_documents():
+def several_documents() -> bytes:
     """Documents whose analyses are kept, dropped for others and made again."""
     opened = [about(it, did_open(COMMENT + LEAST)) for it in KEPT]
     queried = [about(it, query(10 + at, "hover", 4, 15)) for at, it in enumerate(KEPT + KEPT[:1])]
@@ -61,20 +66,29 @@ def several_documents():
 
 BYTE_BY_BYTE = 1 << 40  # (the call that fails: there are never that many)
 
-# name: the words, standard input, the file m.mod; and for a reader of one byte a call, the call that fails
+
+class Case(NamedTuple):
+    """The words, standard input, the file m.mod; and for a reader of one byte a call, the call that fails."""
+
+    words: list[str]
+    given: bytes
+    text: str | bytes | None
+    reads: int | None = None
+
+
 SHORT = {
-    "the first conversation": (["serve"], INPUT, None),
-    "the first conversation, byte by byte": (["serve"], INPUT, None, BYTE_BY_BYTE),
-    "line endings that join": (["serve"], talk(did_open("a\rb"), did_change(LINE_ENDINGS)), None),
-    "check a module": (["check", "m.mod"], b"", COUNTS),
-    "check a text with two faults": (["check", "m.mod"], b"", "12ab $"),
-    "run a module": (["run", "m.mod"], b"2", COUNTS),
-    "run to a fault": (["run", "m.mod"], b"", DIVIDES),
-    "rename a variable": (["rename", "m.mod", "1", "4", "k"], b"", COUNTS),
-    "rename refused": (["rename", "m.mod", "1", "4", "P"], b"", COUNTS),
+    "the first conversation": Case(["serve"], INPUT, None),
+    "the first conversation, byte by byte": Case(["serve"], INPUT, None, BYTE_BY_BYTE),
+    "line endings that join": Case(["serve"], talk(did_open("a\rb"), did_change(LINE_ENDINGS)), None),
+    "check a module": Case(["check", "m.mod"], b"", COUNTS),
+    "check a text with two faults": Case(["check", "m.mod"], b"", "12ab $"),
+    "run a module": Case(["run", "m.mod"], b"2", COUNTS),
+    "run to a fault": Case(["run", "m.mod"], b"", DIVIDES),
+    "rename a variable": Case(["rename", "m.mod", "1", "4", "k"], b"", COUNTS),
+    "rename refused": Case(["rename", "m.mod", "1", "4", "P"], b"", COUNTS),
 }
 LONG = {
-    "faults of every kind, changed": (
+    "faults of every kind, changed": Case(
         ["serve"],
         talk(
             did_open(FAULTY),
@@ -92,7 +106,7 @@ LONG = {
         ),
         None,
     ),
-    "questions about names": (
+    "questions about names": Case(
         ["serve"],
         talk(
             did_open(WRITES_A_GLOBAL),
@@ -105,33 +119,33 @@ LONG = {
         ),
         None,
     ),
-    "a name edited, with the version": (
+    "a name edited, with the version": Case(
         ["serve"],
         talk(did_open(WRITES_A_GLOBAL, version=-7), query(3, "rename", 4, 10, newName="B"), workspace={"workspaceEdit": {"documentChanges": True}}),
         None,
     ),
-    "positions in bytes": (
+    "positions in bytes": Case(
         ["serve"],
         talk(did_open("a\r\n(* 😀 *) $"), did_change([{"range": extent("1:11-1:12"), "text": "$$"}]), general={"positionEncodings": ["utf-8"]}),
         None,
     ),
-    "three documents, whose analyses are kept, dropped and made again": (["serve"], several_documents(), None),
-    "a constant inlined": (["serve"], talk(did_open(LEAST), acted(3, 3, 15), acted(4, 1, 6), **LITERALS), None),
-    "a layout": (["serve"], talk(did_open(ON_ONE_LINE), laid_out(3)), None),
-    "200 variables, renamed and laid out": (
+    "three documents, whose analyses are kept, dropped and made again": Case(["serve"], several_documents(), None),
+    "a constant inlined": Case(["serve"], talk(did_open(LEAST), acted(3, 3, 15), acted(4, 1, 6), **LITERALS), None),
+    "a layout": Case(["serve"], talk(did_open(ON_ONE_LINE), laid_out(3)), None),
+    "200 variables, renamed and laid out": Case(
         ["serve"],
         talk(did_open(MANY), query(3, "rename", 0, 14, newName="w"), laid_out(4), **LITERALS),
         None,
     ),
-    "check a module of 5,000 bytes": (["check", "m.mod"], b"", corpus.module(5000)),
-    "check a text that is too long": (["check", "m.mod"], b"", "$" * 1048577),
-    "check an ill-typed module": (["check", "m.mod"], b"", FAULTY),
-    "check no file": (["check", "none.mod"], b"", COUNTS),
-    "check a text that isn't UTF-8": (["check", "m.mod"], b"", b"MODULE \xff"),
-    "run on bad input": (["run", "m.mod"], b"1 x", COUNTS),
-    "run out of input": (["run", "m.mod"], b"", COUNTS),
-    "run with many calls": (["run", "m.mod", "--calls", "3"], b"", WRITES_A_GLOBAL),
-    "rename in 200 variables": (["rename", "m.mod", "0", "14", "w"], b"", MANY),
-    "a refused command line": (["check", "m.mod", "x"], b"", COUNTS),
-    "help": (["--help"], b"", None),
+    "check a module of 5,000 bytes": Case(["check", "m.mod"], b"", corpus.module(5000)),
+    "check a text that is too long": Case(["check", "m.mod"], b"", "$" * 1048577),
+    "check an ill-typed module": Case(["check", "m.mod"], b"", FAULTY),
+    "check no file": Case(["check", "none.mod"], b"", COUNTS),
+    "check a text that isn't UTF-8": Case(["check", "m.mod"], b"", b"MODULE \xff"),
+    "run on bad input": Case(["run", "m.mod"], b"1 x", COUNTS),
+    "run out of input": Case(["run", "m.mod"], b"", COUNTS),
+    "run with many calls": Case(["run", "m.mod", "--calls", "3"], b"", WRITES_A_GLOBAL),
+    "rename in 200 variables": Case(["rename", "m.mod", "0", "14", "w"], b"", MANY),
+    "a refused command line": Case(["check", "m.mod", "x"], b"", COUNTS),
+    "help": Case(["--help"], b"", None),
 }

@@ -1,4 +1,8 @@
 """The first conversation: what comes in and what goes out, with the lengths of its heads as they are, not counted."""
+from __future__ import annotations
+
+from collections.abc import Iterable
+
 from harness import capabilities, compact, frame
 
 IN = [
@@ -19,7 +23,7 @@ OUT = [
 HEADS_OUT = [230, 118, 38]
 
 
-def spelled(lengths, contents):
+def spelled(lengths: Iterable[int], contents: Iterable[bytes]) -> bytes:
     """Frames with these lengths."""
     return b"".join(b"Content-Length: %d\r\n\r\n%s" % it for it in zip(lengths, contents))
 

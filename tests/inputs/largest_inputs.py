@@ -1,41 +1,47 @@
 """The largest that is taken: texts of 1 MiB, long lists of faults, of changes and of messages, many documents. Each can be made in
 any size, so that bench/run.py can say how its cost grows."""
+from __future__ import annotations
+
+from collections.abc import Callable
+from typing import List, Tuple
+
 import corpus
-from harness import EXIT, MESSAGES, SHUTDOWN, answer, capabilities, did_change, did_open, error, extent, frames, initialize
+from harness import EXIT, MESSAGES, SHUTDOWN, Content, Message, answer, capabilities, did_change, did_open, error, extent, frames, initialize
 from harness import diagnostic, place, published, request
 
 
+Talk = Tuple[List[Content], List[str]]  # messages, and what is sent for them
 MIB = 1 << 20
 NO_MESSAGE = error(None, -32600, "not a message")
 FIRST, LAST = answer(1, {"capabilities": capabilities()}), answer(2, None)
 
 
-def filled(before, middle, after=""):
+def filled(before: str, middle: str, after: str = "") -> Callable[[int], str]:
     """A text of this many bytes: a middle as often as the size allows, and blanks."""
     return lambda size: (before + middle * ((size - len(before) - len(after)) // len(middle)) + after).ljust(size)
 
 
-def nested_comments(size):
+def nested_comments(size: int) -> str:
     depth = (size - len("MODULE M;  END M.")) // 4
     return ("MODULE M; " + "(*" * depth + "*)" * depth + " END M.").ljust(size)
 
 
-def long_name(size):
+def long_name(size: int) -> str:
     name = "a" * ((size - len("MODULE ; END .")) // 2)
     return f"MODULE {name}; END {name}.".ljust(size)
 
 
-def faults(code, first, apart, length=1):
+def faults(code: str, first: int, apart: int, length: int = 1) -> Callable[[int], list[Message]]:
     """The first 100 faults of a list of them on one line."""
     starts = range(first, first + 100 * apart, apart)
     return lambda size: [diagnostic(code, MESSAGES[code], f"0:{at}-0:{at + length}") for at in starts]
 
 
-def one(code, where, message=None):
+def one(code: str, where: str, message: str | None = None) -> Callable[[int], list[Message]]:
     return lambda size: [diagnostic(code, message or MESSAGES[code], where.format(size=size))]
 
 
-def none(_size):
+def none(_size: int) -> list[Message]:
     return []
 
 
@@ -59,35 +65,35 @@ TEXTS = {
 }
 
 
-def opened(count):
+def opened(count: int) -> Talk:
     text = corpus.module(10000)
     return [did_open(text, uri=f"file:///{at}") for at in range(count)], [published([], uri=f"file:///{at}") for at in range(count)]
 
 
-def changed_in_one_note(count):
+def changed_in_one_note(count: int) -> Talk:
     blank = {"range": extent("0:9-0:9"), "text": " "}
     return [did_open("MODULE M; END M."), did_change([blank] * count)], [published([]), published([], version=2)]
 
 
-def whole_texts_in_one_note(count):
+def whole_texts_in_one_note(count: int) -> Talk:
     text = corpus.module(MIB // 2)
     return [did_open("$"), did_change([{"text": text}] * count)], [published([diagnostic("BadChar", "bad character", "0:0-0:1")]), published([], version=2)]
 
 
-def queries_at_once(count):
-    hover = lambda at: request(at + 9, "textDocument/hover", {"position": place(0, 0), "textDocument": {"uri": "file:///m"}})
+def queries_at_once(count: int) -> Talk:
+    hover: Callable[[int], Message] = lambda at: request(at + 9, "textDocument/hover", {"position": place(0, 0), "textDocument": {"uri": "file:///m"}})
     return [hover(at) for at in range(count)], [error(at + 9, -32803, "unopened") for at in range(count)]
 
 
-def blanks_in_a_message(size):
+def blanks_in_a_message(size: int) -> Talk:
     return [b"[" + b" " * (size - 2) + b"]"], [NO_MESSAGE]
 
 
-def objects_in_a_message(size):
+def objects_in_a_message(size: int) -> Talk:
     return [b"[" + b"{}," * ((size - 4) // 3) + b"{}]"], [NO_MESSAGE]
 
 
-def text_in_a_message(size):
+def text_in_a_message(size: int) -> Talk:
     opening = did_open("")
     opening["params"]["textDocument"]["text"] = "$" * (size - len(frames([opening])) + len(b"Content-Length: 000\r\n\r\n"))
     return [opening], [published([diagnostic("TooLong", "text too long", "0:0-0:0")])]
@@ -105,7 +111,7 @@ TALKS = {
 }
 
 
-def of_text(make, wanted):
+def of_text(make: Callable[[int], str], wanted: Callable[[int], list[Message]]) -> Callable[[int], Talk]:
     return lambda size: ([did_open(make(size))], [published(wanted(size))])
 
 
@@ -115,7 +121,7 @@ CASES = {
 }
 
 
-def conversation(make, size):
+def conversation(make: Callable[[int], Talk], size: int) -> tuple[bytes, list[str]]:
     """The bytes of a conversation of a size, and all that is sent."""
     messages, wanted = make(size)
     return frames([initialize(), *messages, SHUTDOWN, EXIT]), [FIRST, *wanted, LAST]

@@ -1,5 +1,7 @@
 """One long conversation: random changes, each valid, and questions. What is published of each text is compared with what a
 new `check` prints of it, and the memory of the server is watched."""
+from __future__ import annotations
+
 import concurrent.futures
 import random
 import re
@@ -7,16 +9,17 @@ import re
 import corpus
 import failing
 import harness
-from harness import Server, did_change, did_close, did_open, holds, lines_of, place, request, same
+from common import match_of
+from harness import Message, Server, did_change, did_close, did_open, holds, lines_of, place, request, same
 
 
 URI = "file:///m"
 PIECES = ["", " ", "\n", "\r\n", ";", "x", "1", "0", "END", "BEGIN x := 1", "(* é 😀 *)", "(*", "*)", "$", "é", "VAR y: INTEGER;", ":=", "2147483648"]
 QUESTIONS = ["hover", "definition", "references", "prepareRename", "rename", "codeAction", "formatting"]
-LITERALS = {"textDocument": {"codeAction": {"codeActionLiteralSupport": {}}}}
+LITERALS: Message = {"textDocument": {"codeAction": {"codeActionLiteralSupport": {}}}}
 
 
-def position_of(text, at):
+def position_of(text: str, at: int) -> Message:
     """Line and UTF-16 unit of a place in a text, which is at no place between CR and LF."""
     before = re.split("\r\n|\r|\n", text[:at])
     return place(len(before) - 1, len(before[-1].encode("utf-16-le")) // 2)
@@ -25,21 +28,21 @@ def position_of(text, at):
 class Talk:
     """The conversation, from the client's side."""
 
-    def __init__(self, server, chance):
+    def __init__(self, server: Server, chance: random.Random) -> None:
         self.server, self.chance, self.version, self.idents = server, chance, 0, 1000
-        self.text = self.good = None
+        self.text = self.good = ""
 
-    def begin(self):
+    def begin(self) -> tuple[str, list[Message]]:
         """A module without a fault is opened, after a close or replacing what is open."""
-        if self.text is not None and self.chance.random() < 0.3:
+        if self.version and self.chance.random() < 0.3:
             self.server.notify(did_close(URI))
         self.text = self.good = corpus.module(self.chance.choice([300, 900, 2000]), self.chance.randrange(1000))
         self.version += 1
         return self.text, self.server.notify(did_open(self.text, URI, self.version))
 
-    def change(self):
+    def change(self) -> tuple[str, list[Message]]:
         """One to three changes in one notification: other words at a place, or what was there before."""
-        changes = []
+        changes: list[Message] = []
         for _ in range(self.chance.choice([1, 1, 2, 3])):
             if self.text != self.good and self.chance.random() < 0.4:
                 self.text = self.good
@@ -58,11 +61,11 @@ class Talk:
         self.version += 1
         return self.text, self.server.notify(did_change(changes, URI, self.version))
 
-    def query(self):
+    def query(self) -> None:
         """Some question at some place, which is answered under its own number."""
         method = self.chance.choice(QUESTIONS)
         where = position_of(self.text, self.chance.randrange(len(self.text) + 1))
-        params = {"position": where, "textDocument": {"uri": URI}, "context": {"includeDeclaration": True}, "newName": "k"}
+        params: Message = {"position": where, "textDocument": {"uri": URI}, "context": {"includeDeclaration": True}, "newName": "k"}
         if method == "codeAction":
             params = {"context": {}, "range": {"end": where, "start": where}, "textDocument": {"uri": URI}}
         if method == "formatting":
@@ -74,7 +77,7 @@ class Talk:
         holds("result" in found or found["error"]["code"] == -32803, f"{method} of\n{self.text}\n    gave {found}")
 
 
-def checked(pair):
+def checked(pair: tuple[str, list[Message]]) -> bool:
     text, diagnostics = pair
     found = harness.run(["check", "/dev/stdin"], text.encode())
     wanted = lines_of(diagnostics)
@@ -82,18 +85,19 @@ def checked(pair):
     return not diagnostics
 
 
-def resident(server):
+def resident(server: Server) -> int:
     """The memory of the server that is in use, in KiB."""
     with open(f"/proc/{server.process.pid}/status", encoding="ascii", errors="replace") as file:
-        return int(re.search(r"VmRSS:\s+(\d+)", file.read())[1])
+        return int(match_of(r"VmRSS:\s+(\d+)", file.read())[1])
 
 
-def converse(count, seed=0):
+def converse(count: int, seed: int = 0) -> str:
     """A conversation of this many changes and questions. Returns a line with figures."""
     chance = random.Random(seed)
-    published, empty, early = 0, 0, None
+    published, empty, early = 0, 0, 0
     with Server(capabilities=LITERALS) as server, concurrent.futures.ThreadPoolExecutor(failing.PROCESSORS) as pool:
-        talk, pairs = Talk(server, chance), []
+        talk = Talk(server, chance)
+        pairs: list[tuple[str, list[Message]]] = []
         for number in range(count):
             way = chance.random()
             if number == 0 or way < 0.02:

@@ -2,7 +2,13 @@
 
 Each step opens one construct that counts for nesting and leads to a place where the next one may be. A place is of
 one of five kinds: declarations D, a type T, statements S, an expression E, a factor F."""
+from __future__ import annotations
+
 import random
+from collections.abc import Callable
+from typing import Tuple
+
+Entered = Tuple[str, str, str]
 
 # construct, from where, to where, before (with | before its opening token), after
 STEPS = [
@@ -46,9 +52,9 @@ LEAVES = {"D": "", "T": "INTEGER", "S": "x := 1", "E": "1", "F": "1"}
 BEFORE, AFTER = "MODULE M; ", " END M."
 
 
-def module(walk):
+def module(walk: list[tuple[str, str]]) -> tuple[str, int]:
     """The module of a walk of (before, after) pairs, and the offset of the last opening token, at its |."""
-    text, opening, ends = BEFORE, None, [AFTER]
+    text, opening, ends = BEFORE, 0, [AFTER]
     for before, after in walk:
         if "|" in before:
             opening = len(text) + before.index("|")
@@ -57,26 +63,27 @@ def module(walk):
     return text + "".join(reversed(ends)), opening
 
 
-def leaf(walk, kind):
+def leaf(walk: list[tuple[str, str]], kind: str) -> list[tuple[str, str]]:
     return [*walk, (LEAVES[kind], "")]
 
 
-def of_one(name, depth):
+def of_one(name: str, depth: int) -> tuple[str, int]:
     """A module with this many of one construct inside one another, and the offset of the innermost one's token."""
     _, start, end, before, after = next(it for it in STEPS if it[0] == name)
-    into = {"D": [], "T": [("VAR v: ", ";")], "S": [("BEGIN ", "")], "F": [("BEGIN x := ", "")]}[start]
+    into: dict[str, list[tuple[str, str]]] = {"D": [], "T": [("VAR v: ", ";")], "S": [("BEGIN ", "")], "F": [("BEGIN x := ", "")]}
     if name not in REPEATED:
         raise ValueError(f"{name} can't stand in itself")
-    return module(leaf([*into, *[(before, after)] * depth], end))
+    return module(leaf([*into[start], *[(before, after)] * depth], end))
 
 
 # (a factor is an expression)
 REPEATED = [it[0] for it in STEPS if it[1] == it[2] or it[1:3] == ("F", "E")]
 
 
-def mixed(seed, depth):
+def mixed(seed: int, depth: int) -> tuple[str, int]:
     """A module of a random mix with this nesting, and the offset of the innermost construct's token."""
-    chance, kind, walk, left = random.Random(seed), "D", [], depth
+    chance, kind, left = random.Random(seed), "D", depth
+    walk: list[tuple[str, str]] = []
     while left:
         steps = [it for it in STEPS if it[1] == kind]
         passes = [it for it in PASSES if it[0] == kind]
@@ -103,13 +110,13 @@ ENTERED = [
 ]
 
 
-def around(statement, depth, choose):
+def around(statement: str, depth: int, choose: Callable[[], Entered]) -> str:
     """A statement inside this many others; `choose` gives the next one."""
     found = [choose() for _ in range(depth)]
     return "".join(it[1] for it in found) + statement + "".join(it[2] for it in reversed(found))
 
 
-def recursive(calls, choose):
+def recursive(calls: int, choose: Callable[[], Entered]) -> tuple[str, str]:
     """A module whose run has this many calls open, each made inside 100 nested constructs, and all it writes. A call copies
     a value of a type of 100 arrays and records inside one another."""
     types = ["t0 = ARRAY 1 OF INTEGER"] + [f"t{at} = {'RECORD f: t%d END' if at % 2 else 'ARRAY 1 OF t%d'}" % (at - 1) for at in range(1, 100)]
@@ -125,7 +132,7 @@ def recursive(calls, choose):
     return text, "".join(f" {at}" for at in range(calls, 0, -1)) + f" {calls}"
 
 
-def inward(calls, choose):
+def inward(calls: int, choose: Callable[[], Entered]) -> tuple[str, str]:
     """The same by procedures inside one another, each of which calls the one within it: the last one, as deep as a
     construct may be, has those of all others round it."""
     names = [f"p{at}" for at in range(1, calls + 1)]

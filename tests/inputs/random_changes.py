@@ -1,12 +1,14 @@
 """Random changes of one document, at borders of every kind and with faults between. After each the server, which keeps what it
 found of the text before, says the same as another server that has never seen the text."""
+from __future__ import annotations
+
 import concurrent.futures
 import json
 import random
 
 import corpus
 import faulty_modules
-from harness import Server, did_change, did_close, did_open, holds, same
+from harness import Message, Server, did_change, did_close, did_open, holds, same
 from long_conversation import LITERALS, position_of
 from random_texts import LEXEME
 
@@ -25,12 +27,12 @@ PIECES = [
 BORDERS = {"PROCEDURE", "BEGIN", "END"}  # words at which a procedure begins or ends, or its statements do
 
 
-def is_border(text, at):
+def is_border(text: str, at: int) -> bool:
     """Whether a position can be at a place: none is between CR and LF."""
     return text[at - 1 : at + 1] != "\r\n"
 
 
-def at_random(text, chance):
+def at_random(text: str, chance: random.Random) -> tuple[int, int]:
     """A range at a border of lexemes, inside of one, around one, or anywhere."""
     found = list(LEXEME.finditer(text))
     way = chance.random()
@@ -60,7 +62,7 @@ def at_random(text, chance):
     return lexeme.start(), later.end()
 
 
-def replacement(text, chance):
+def replacement(text: str, chance: random.Random) -> str:
     """What is put in: nothing, a piece, or a lexeme or a part of the text."""
     way = chance.random()
     if way < 0.2:
@@ -79,16 +81,17 @@ def replacement(text, chance):
 class Edited:
     """A document, from the client's side. What was changed can be taken back, so that a text is without faults now and then."""
 
-    def __init__(self, text, chance):
-        self.text, self.chance, self.undo = text, chance, []
+    def __init__(self, text: str, chance: random.Random) -> None:
+        self.text, self.chance = text, chance
+        self.undo: list[tuple[int, str, str]] = []  # where something was put in, that, and what was there
 
-    def put(self, start, end, new):
+    def put(self, start: int, end: int, new: str) -> Message:
         """Changes the text, and gives the change."""
         found = {"range": {"start": position_of(self.text, start), "end": position_of(self.text, end)}, "text": new}
         self.text = self.text[:start] + new + self.text[end:]
         return found
 
-    def change(self):
+    def change(self) -> Message | None:
         """A change, or None where the last one is to be taken back and there is none."""
         if self.undo and (self.chance.random() < 0.57 or len(self.text) > 6000):
             start, new, old = self.undo.pop()
@@ -104,9 +107,9 @@ class Edited:
         return self.put(start, end, new)
 
 
-def answer_of(server, uri, method, where):
+def answer_of(server: Server, uri: str, method: str, where: Message) -> str:
     """What a server answers to a question about a document, as text in which it has one name for each server."""
-    params = {"position": where, "textDocument": {"uri": uri}, "context": {"includeDeclaration": True}, "newName": "k"}
+    params: Message = {"position": where, "textDocument": {"uri": uri}, "context": {"includeDeclaration": True}, "newName": "k"}
     if method == "codeAction":
         params = {"context": {}, "range": {"end": where, "start": where}, "textDocument": {"uri": uri}}
     if method == "formatting":
@@ -118,7 +121,7 @@ def answer_of(server, uri, method, where):
 QUESTIONS = ["hover", "definition", "references", "rename", "codeAction", "formatting"]
 
 
-def same_as_new(keeping, fresh, edited, published, uri, where):
+def same_as_new(keeping: Server, fresh: Server, edited: Edited, published: list[Message], uri: str, where: str) -> None:
     """Holds what the server that keeps says of the present text to what one says that reads it for the first time."""
     same(published, fresh.notify(did_open(edited.text, uri)), f"{where}: diagnostics of\n{edited.text}\n")
     if not published or edited.chance.random() < 0.1:
@@ -129,7 +132,7 @@ def same_as_new(keeping, fresh, edited, published, uri, where):
     fresh.notify(did_close(uri))
 
 
-def converse(seed):
+def converse(seed: int) -> tuple[int, int]:
     """One conversation. Returns of how many of its texts nothing was reported, and how many had a fault of lexemes."""
     chance = random.Random(f"changes {seed}")
     text = faulty_modules.records(seed) if chance.random() < 0.2 else corpus.module(chance.choice([300, 900, 2000]), seed, chance.random() < 0.2)
@@ -148,23 +151,23 @@ def converse(seed):
     return clean, ill_lexed
 
 
-def figures(found):
+def figures(found: list[tuple[int, int]]) -> str:
     """What conversations gave, as a line."""
     clean, ill_lexed = (sum(it) for it in zip(*found))
     holds(clean and ill_lexed, f"{clean} texts without a fault, {ill_lexed} with a fault of lexemes")
     return f"{len(found) * STEPS:,} changes, after each what a new server says: {clean:,} texts without a fault, {ill_lexed:,} with faults of lexemes"
 
 
-def seeds_of(count, first):
+def seeds_of(count: int, first: int) -> range:
     return range(first, first + max(1, count // STEPS))
 
 
-def some_changes(count, first):
+def some_changes(count: int, first: int) -> str:
     """This many changes, one conversation after the other. Returns a line with figures."""
     return figures([converse(it) for it in seeds_of(count, first)])
 
 
-def many_changes(count, first, processes):
+def many_changes(count: int, first: int, processes: int) -> str:
     """This many changes, by some processes. Returns a line with figures."""
     with concurrent.futures.ProcessPoolExecutor(processes) as pool:
         return figures(list(pool.map(converse, seeds_of(count, first))))

@@ -1,19 +1,23 @@
 """Random texts, each by the number that it begins with: modules with a few lexemes or names changed, few characters, modules
 that read and write with their input and bounds, and texts with other white space."""
+from __future__ import annotations
+
 import random
 import re
+from typing import List, Tuple
 
 import aliasing_modules
 import corpus
 from reference.scanner import SYMBOLS, WORDS
 
 LEXEME = re.compile(r"\(\*.*?\*\)|[A-Za-z][A-Za-z0-9]*|[0-9]+|:=|<=|>=|\S", re.S)
+Program = Tuple[str, List[int], int, int]  # a module, its input, and how many calls and iterations are allowed
 OPERATORS = ["+", "-", "*", "DIV", "MOD", "&", "OR", "=", "#", "<", "<=", ">", ">="]
 OTHERS = [*WORDS, *SYMBOLS, "0", "1", "x", "TRUE", "INTEGER", "WriteLn", "2147483648", "1a", "$", "é", "(*", "*)", "😀"]
 NAMES = ["TRUE", "FALSE", "INTEGER", "BOOLEAN", "Read", "Write", "WriteLn", "unknown", "0", "65537"]
 
 
-def changed(text, chance, swap):
+def changed(text: str, chance: random.Random, swap: bool) -> str:
     """A text in which a few lexemes are others: any, or with `swap` names for names and operators for operators."""
     pieces, at = [], 0
     for it in LEXEME.finditer(text):
@@ -32,45 +36,45 @@ def changed(text, chance, swap):
     return "".join(pieces)
 
 
-def changed_module(seed, swap):
+def changed_module(seed: int, swap: bool) -> str:
     """A module with a few lexemes changed."""
     chance = random.Random(f"{seed} {swap}")
     text = corpus.module(chance.choice([900, 1500, 3000]), seed, chance.random() < 0.2)
     return changed(text.partition("END Corpus.")[0] + "END Corpus.", chance, swap)
 
 
-def characters(seed):
+def characters(seed: int) -> str:
     chance = random.Random(seed)
     return "".join(chance.choice("(*)1a $\r\n😀é2147483648:=<>;.MODULE") for _ in range(chance.randrange(40)))
 
 
-def program(seed):
+def program(seed: int) -> Program:
     """A module that reads and writes, with its input and bounds."""
     chance = random.Random(f"run {seed}")
     text = corpus.module(chance.choice([900, 1500, 2500]), seed)
     text = text.partition("END Corpus.")[0] + "END Corpus."
 
-    def reported_too(it):
+    def reported_too(assigned: re.Match[str]) -> str:
         way = chance.random()
-        return it[0] + (f"; Write({it[1]})" if way < 0.4 else f"; Read({it[1]})" if way < 0.45 else "; WriteLn" if way < 0.5 else "")
+        return assigned[0] + (f"; Write({assigned[1]})" if way < 0.4 else f"; Read({assigned[1]})" if way < 0.45 else "; WriteLn" if way < 0.5 else "")
 
     text = re.sub(r"\b([vnm][0-9]+) := [^;\n]*(?=;?\n)", reported_too, text)
     given = [chance.choice([0, 1, -1, 7, 1000, 2147483647, -2147483648]) for _ in range(chance.randrange(30))]
     return text, given, chance.choice([0, 1, 3, 8]), chance.choice([0, 1, 2, 5])
 
 
-def aliased(seed):
+def aliased(seed: int) -> Program:
     """A module of arrays and records that are copied and passed, with its input and bounds."""
     chance = random.Random(f"run {seed}")
     given = [chance.choice([0, 1, -1, 2, 5]) for _ in range(chance.randrange(12))]
     return aliasing_modules.module(seed), given, chance.choice([0, 2, 4, 6, 9, 64, 64, 64]), chance.choice([0, 1, 2, 3, 20, 20])
 
 
-def squeezed(text, chance):
+def squeezed(text: str, chance: random.Random) -> str:
     """A text with other white space and comments in its gaps."""
     pieces, at = [], 0
-    for it in LEXEME.finditer(text):
-        old = text[at : it.start()]
-        pieces += [chance.choice([old, old, " ", "\n", "\r\n  ", "\r", "(*a*)", " (* b\n *) ", "\t(**)\n"]) if old else chance.choice(["", "", "", " ", "\n"]), it[0]]
-        at = it.end()
+    for lexeme in LEXEME.finditer(text):
+        old = text[at : lexeme.start()]
+        pieces += [chance.choice([old, old, " ", "\n", "\r\n  ", "\r", "(*a*)", " (* b\n *) ", "\t(**)\n"]) if old else chance.choice(["", "", "", " ", "\n"]), lexeme[0]]
+        at = lexeme.end()
     return "".join(pieces)

@@ -1,20 +1,23 @@
 """One conversation about several documents: random changes, closes, texts that get lost, and questions between. Each answer is
 compared with that of a server that keeps nothing: a new one, which is given the present text alone and then the same question."""
+from __future__ import annotations
+
 import concurrent.futures
 import json
 import random
 import re
+from typing import List, Tuple
 
 import corpus
 import failing
 import harness
-from harness import EXIT, SHUTDOWN, Server, did_change, did_close, did_open, holds, initialize, notice, request, same, shown
+from harness import EXIT, SHUTDOWN, Message, Server, did_change, did_close, did_open, holds, initialize, notice, request, same, shown
 from long_conversation import PIECES, QUESTIONS, position_of
 
 WORD = re.compile(r"[A-Za-z][A-Za-z0-9]*")
 # (these leave most modules well-typed)
 MILD = [" ", "\n", "(* é *)", "  ", "\r\n"]
-CLIENT = {
+CLIENT: Message = {
     "textDocument": {"codeAction": {"codeActionLiteralSupport": {}}, "rename": {"prepareSupport": True}},
     "workspace": {"workspaceEdit": {"documentChanges": True}},
 }
@@ -27,39 +30,47 @@ SMALL = [f"file:///small/{at}" for at in range(1, 6)]
 class Document:
     """A document from the client's side. Its text is None while it isn't open, or the server doesn't know it."""
 
-    def __init__(self, uri, size=0):
-        self.uri, self.size, self.version = uri, size, 0
-        self.is_open, self.text, self.good, self.published = False, None, None, None
+    def __init__(self, uri: str, size: int = 0) -> None:
+        self.uri, self.size, self.version, self.is_open = uri, size, 0, False
+        self.text: str | None = None
+        self.good = ""  # the last text without a fault
+        self.published: list[Message] = []
+
+
+# an opening, what is published of it, a question about it, and the answer
+Query = Tuple[Message, List[Message], Message, Message]
 
 
 class Talk:
     """The conversation. What is to be compared with a server that keeps nothing is listed in `queries`."""
 
-    def __init__(self, server, chance):
-        self.server, self.chance, self.idents, self.queries = server, chance, 1000, []
+    def __init__(self, server: Server, chance: random.Random) -> None:
+        self.server, self.chance, self.idents = server, chance, 1000
+        self.queries: list[Query] = []
         self.documents = [*(Document(it) for it in SMALL), *(Document(uri, size) for uri, size in LARGE.items())]
 
-    def publishes(self, document, message):
+    def publishes(self, document: Document, message: Message) -> None:
         """Sends a message after which the document is reported."""
         document.published = self.server.notify(message)
-        if not document.published and document.size + 6000 > len(document.text):
+        if not document.published and document.text and document.size + 6000 > len(document.text):
             document.good = document.text
 
-    def open(self, document):
-        document.text = document.good = corpus.module(document.size or self.chance.choice([300, 900, 2000]), self.chance.randrange(1000))
+    def open(self, document: Document) -> None:
+        text = corpus.module(document.size or self.chance.choice([300, 900, 2000]), self.chance.randrange(1000))
+        document.text = document.good = text
         document.version, document.is_open = document.version + 1, True
-        self.publishes(document, did_open(document.text, document.uri, document.version))
+        self.publishes(document, did_open(text, document.uri, document.version))
 
-    def close(self, document):
+    def close(self, document: Document) -> None:
         document.is_open, document.text = False, None
         same(self.server.notify(did_close(document.uri)), [], "the diagnostics of a document that is closed")
 
-    def lose(self, document):
+    def lose(self, document: Document) -> None:
         """A change that can't be read."""
         self.server.send(notice("textDocument/didChange", {"contentChanges": 0, "textDocument": {"uri": document.uri, "version": 0}}))
         document.text = None
 
-    def one_change(self, document):
+    def one_change(self, document: Document) -> tuple[Message, str]:
         """A change and the text after it: the last text without a fault, a blank at a blank, or any piece anywhere."""
         chance, text = self.chance, document.text
         if text is None or (text != document.good and chance.random() < 0.5):
@@ -75,7 +86,7 @@ class Talk:
         there = {"start": position_of(text, start), "end": position_of(text, end)}
         return {"range": there, "text": new}, text[:start] + new + text[end:]
 
-    def change(self, document):
+    def change(self, document: Document) -> None:
         """One to three changes in one notification."""
         changes = []
         for _ in range(self.chance.choice([1, 1, 1, 2, 3])):
@@ -84,7 +95,7 @@ class Talk:
         document.version += 1
         self.publishes(document, did_change(changes, document.uri, document.version))
 
-    def params_of(self, document, method):
+    def params_of(self, document: Document, method: str) -> Message:
         text = document.text or document.good or "x"
         at = self.chance.randrange(len(text) + 1)
         word = WORD.search(text, at)
@@ -98,7 +109,7 @@ class Talk:
         new = self.chance.choice(["k", "fresh", word[0] if word else "x"])
         return {"context": {"includeDeclaration": self.chance.random() < 0.5}, "newName": new, "position": where, **known}
 
-    def query(self, document):
+    def query(self, document: Document) -> None:
         method = self.chance.choice(QUESTIONS)
         self.idents += 1
         question = request(self.idents, f"textDocument/{method}", self.params_of(document, method))
@@ -111,7 +122,7 @@ class Talk:
             opening = did_open(document.text, document.uri, document.version)
             self.queries.append((opening, document.published, question, found))
 
-    def step(self):
+    def step(self) -> None:
         document = self.chance.choice(self.documents[: len(SMALL)] if self.chance.random() < 0.97 else self.documents)
         way = self.chance.random()
         if not document.is_open:
@@ -127,7 +138,7 @@ class Talk:
         return self.change(document)
 
 
-def answered_alike(query):
+def answered_alike(query: Query) -> str | None:
     """Whether a server that keeps nothing says the same, and if so what kind of answer that is."""
     opening, published, question, answer = query
     found = harness.serve([initialize(**CLIENT), opening, question, SHUTDOWN, EXIT])
@@ -139,9 +150,10 @@ def answered_alike(query):
     return question["method"].partition("/")[2] if answer.get("result") else None
 
 
-def converse(count, seed=0):
+def converse(count: int, seed: int = 0) -> str:
     """A conversation of this many messages. Returns a line with figures."""
-    kinds, compared = {}, 0
+    kinds: dict[str | None, int] = {}
+    compared = 0
     with Server(capabilities=CLIENT) as server, concurrent.futures.ThreadPoolExecutor(failing.PROCESSORS) as pool:
         talk = Talk(server, random.Random(seed))
         for number in range(count):

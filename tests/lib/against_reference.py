@@ -1,18 +1,23 @@
 """The program compared with the reference (tests/reference): its diagnostics of a text, and its runs."""
+from __future__ import annotations
+
 import collections
 import concurrent.futures
+from collections.abc import Callable, Iterable
+from typing import Dict
 
 import faulty_modules
 import random_texts
-from harness import MESSAGES, Server, diagnostic, did_open, on_file, same
-from reference.runs import Run
+from harness import MESSAGES, Message, Server, diagnostic, did_open, on_file, same
+from reference.parser import Node
+from reference.runs import Activation, Run
 from reference.text import Text
 from reference.values import Ends
 
 LONG = "ended here, since it takes long"
 
 
-def diagnostics_of(text):
+def diagnostics_of(text: str) -> list[Message]:
     """The diagnostics of a text by the reference."""
     found = Text(text)
     return [
@@ -21,12 +26,12 @@ def diagnostics_of(text):
     ]
 
 
-def same_diagnostics(server, text, seed):
+def same_diagnostics(server: Server, text: str, seed: int) -> None:
     """Holds what the server publishes of a text to the reference."""
     same(server.notify(did_open(text)), diagnostics_of(text), f"seed {seed}, of the text\n{text}\n")
 
 
-MAKERS = {
+MAKERS: Dict[str, Callable[[int], str]] = {
     "lexemes changed": lambda seed: random_texts.changed_module(seed, False),
     "names and operators changed": lambda seed: random_texts.changed_module(seed, True),
     "few names": faulty_modules.module,
@@ -34,7 +39,7 @@ MAKERS = {
 }
 
 
-def compare(seeds):
+def compare(seeds: Iterable[int]) -> int:
     """Compares texts with the reference: of each seed one, of one kind after the other. Returns how many had a fault."""
     makers, faulty = list(MAKERS.values()), 0
     with Server() as server:
@@ -45,7 +50,7 @@ def compare(seeds):
     return faulty
 
 
-def many_texts(count, first, processes):
+def many_texts(count: int, first: int, processes: int) -> str:
     """This many texts, by some processes. Returns a line with figures."""
     size = 200
     parts = [range(at, min(at + size, first + count)) for at in range(first, first + count, size)]
@@ -59,14 +64,14 @@ class Short(Run):
 
     steps = 0
 
-    def statement(self, node, frame):
+    def statement(self, node: Node, frame: Activation) -> None:
         self.steps += 1
         if self.steps > 20000:
             raise Ends(LONG)
         return super().statement(node, frame)
 
 
-def run_of(make, seed):
+def run_of(make: Callable[[int], random_texts.Program], seed: int) -> str:
     """Holds a run to that by the reference, and gives how it ends."""
     text, given, calls, turns = make(seed)
     found = Short(text, given, calls, turns)
@@ -79,17 +84,17 @@ def run_of(make, seed):
     return found.end
 
 
-def counted(found):
+def counted(found: Iterable[str]) -> str:
     """How often each end came, as a line."""
     counts = collections.Counter(found)
     return ", ".join(f"{name} {counts[name]:,}" for name in sorted(counts))
 
 
-def of_either(seed):
+def of_either(seed: int) -> str:
     return run_of(random_texts.aliased if seed % 2 else random_texts.program, seed)
 
 
-def many_runs(count, first, processes):
+def many_runs(count: int, first: int, processes: int) -> str:
     """This many runs, half of them with arrays and records that are passed and copied, by some processes. Returns a line with figures."""
     with concurrent.futures.ProcessPoolExecutor(processes) as pool:
         ends = list(pool.map(of_either, range(first, first + count), chunksize=50))

@@ -1,4 +1,11 @@
-"""The program, and the tests of the crates, with allocations and devices that fail: failing.c is preloaded."""
+"""The program, and the tests of the crates, with allocations and devices that fail: failing.c is preloaded.
+
+It refuses the Nth call for memory, or it and all after it, fails the Nth read of single bytes, and takes a given number of bytes, one
+a call. It counts the calls, so a walk over all of them knows where it ends; a run takes 2 ms of its own. What `rt try` compiles has
+another allocator, which keeps what is freed: its memory figures mean nothing, and its allocations can't be made to fail (with
+`ASAN_OPTIONS=quarantine_size_mb=0` it frees most)."""
+from __future__ import annotations
+
 import concurrent.futures
 import contextlib
 import functools
@@ -6,6 +13,8 @@ import os
 import subprocess
 import tempfile
 import threading
+from collections.abc import Iterable, Iterator
+from typing import Any
 
 import harness
 from harness import Failed, holds, same, want
@@ -13,20 +22,20 @@ from harness import Failed, holds, same, want
 HERE = os.path.dirname(os.path.abspath(__file__))
 PROCESSORS = len(os.sched_getaffinity(0))
 DEVICES = [f"fault: {it}\n".encode() for it in ("Read", "Write", "File", "Input")]
-ROOM = []  # the folder of the library, kept until the end
+ROOM: list[tempfile.TemporaryDirectory[str]] = []  # the folder of the library, kept until the end
 
 
 LOCK = threading.Lock()
 
 
-def library():
+def library() -> str:
     """The preloaded library, compiled at the first use."""
     with LOCK:
         return compiled()
 
 
 @functools.lru_cache(None)
-def compiled():
+def compiled() -> str:
     want("cc")
     ROOM.append(tempfile.TemporaryDirectory())
     made = os.path.join(ROOM[0].name, "failing.so")
@@ -41,13 +50,17 @@ class Walked(harness.Ended):
     """Runs that ended alike, one after the other: their numbers, whether an allocation or a device failed, and how many calls
     of each kind the last of them made."""
 
-    def __init__(self, out, err, status, numbers, is_touched, calls):
+    def __init__(
+        self, out: bytes, err: bytes, status: int, numbers: range, is_touched: bool, calls: Iterable[int]
+    ) -> None:
         super().__init__(out, err, status)
         self.numbers, self.is_touched = numbers, is_touched
         self.calls = dict(zip(("memory", "calls", "short"), calls))
 
 
-def walked(words, given, cwd, kind, numbers, ending, **fails):
+def walked(
+    words: list[str], given: bytes, cwd: str | None, kind: str, numbers: range, ending: str, **fails: object
+) -> list[Walked]:
     """Runs a program once for each of these numbers, in one process that forks: what came, in their order. `kind` is what
     fails at the number, and `fails` what else does, as failing.c has it."""
     with tempfile.TemporaryFile() as stdin, tempfile.TemporaryFile() as reports:
@@ -58,7 +71,7 @@ def walked(words, given, cwd, kind, numbers, ending, **fails):
         # (nothing else of this environment: what a program takes in before main is not to depend on it)
         own = {f"OB0_{name.upper()}": str(value) for name, value in named.items() if value is not None}
         own.update(LD_PRELOAD=library(), PATH=os.environ.get("PATH", ""))
-        how = {"stdin": stdin, "stdout": subprocess.DEVNULL, "stderr": subprocess.PIPE, "cwd": cwd, "env": own}
+        how: dict[str, Any] = {"stdin": stdin, "stdout": subprocess.DEVNULL, "stderr": subprocess.PIPE, "cwd": cwd, "env": own}
         ran = subprocess.run(words, pass_fds=[reports.fileno()], check=False, **how)
         if ran.returncode:
             raise Failed(f"{words} could not be walked, {span}: status {ran.returncode}, {ran.stderr.decode(errors='replace')}")
@@ -73,7 +86,9 @@ def walked(words, given, cwd, kind, numbers, ending, **fails):
     return found
 
 
-def walk(words, given, cwd, kind, numbers, ending="", **fails):
+def walk(
+    words: list[str], given: bytes, cwd: str | None, kind: str, numbers: range, ending: str = "", **fails: object
+) -> Iterator[Walked]:
     """The same by as many processes as there are processors."""
     size = -(-len(numbers) // PROCESSORS)
     parts = [numbers[at : at + size] for at in range(0, len(numbers), size)]
@@ -82,19 +97,19 @@ def walk(words, given, cwd, kind, numbers, ending="", **fails):
             yield from found
 
 
-def undisturbed(words, given=b"", cwd=None, **fails):
+def undisturbed(words: list[str], given: bytes = b"", cwd: str | None = None, **fails: object) -> Walked:
     """A run in which no allocation fails."""
     return walked(words, given, cwd, "memory", range(1), "", **fails)[0]
 
 
-def fronts(written):
+def fronts(written: bytes) -> list[bytes]:
     """What a conversation's output has before each message and after the last."""
     contents = harness.unframed(written)
     return [harness.frames(contents[:count]) for count in range(len(contents) + 1)]
 
 
 @contextlib.contextmanager
-def beside(text):
+def beside(text: str | bytes | None) -> Iterator[str]:
     """A folder in which m.mod has this text (or these bytes; None: there is no file)."""
     with tempfile.TemporaryDirectory() as room:
         if text is not None:
@@ -103,7 +118,9 @@ def beside(text):
         yield room
 
 
-def refused(name, words, given=b"", text=None, reads=None):
+def refused(
+    name: str, words: list[str], given: bytes = b"", text: str | bytes | None = None, reads: int | None = None
+) -> dict[str, int]:
     """Runs the program with each allocation failing in turn, alone and with all after it. It has to end with the status of
     out of memory, what it wrote a prefix of whole messages (of a command: nothing, or all), or as if no allocation had
     failed. Returns how many runs ended either way."""
@@ -114,20 +131,20 @@ def refused(name, words, given=b"", text=None, reads=None):
         allowed = fronts(plain.out) if words[0] == "serve" else [b"", plain.out]
         numbers = range(1, plain.calls["memory"] + 1)
         for ending in ("", ".."):
-            for it in walk(command, given, room, "memory", numbers, ending, reads=reads):
-                where = f"{name}: allocation {it.numbers[0]}{ending} refused"
-                holds(it.is_touched, f"{where}: it wasn't")
-                if (it.out, it.err, it.status) == (plain.out, plain.err, plain.status):
-                    counts["undisturbed"] += len(it.numbers)
+            for run in walk(command, given, room, "memory", numbers, ending, reads=reads):
+                where = f"{name}: allocation {run.numbers[0]}{ending} refused"
+                holds(run.is_touched, f"{where}: it wasn't")
+                if (run.out, run.err, run.status) == (plain.out, plain.err, plain.status):
+                    counts["undisturbed"] += len(run.numbers)
                     continue
-                same((it.err, it.status), (b"fault: Memory\n", 5), where)
-                holds(it.out in allowed, f"{where}: standard output ends with {it.out[-80:]!r}")
-                counts["refused"] += len(it.numbers)
+                same((run.err, run.status), (b"fault: Memory\n", 5), where)
+                holds(run.out in allowed, f"{where}: standard output ends with {run.out[-80:]!r}")
+                counts["refused"] += len(run.numbers)
     holds(counts["refused"], f"{name}: nothing was ever refused")
     return counts
 
 
-def broken(name, words, given=b"", text=None):
+def broken(name: str, words: list[str], given: bytes = b"", text: str | bytes | None = None) -> int:
     """Runs the program with each of its reads and writes failing in turn, of whatever file. It has to end with the status of
     a device that fails, what it wrote a prefix of what it writes else; where the failed call is that on standard error, all
     else is as without. Returns how many runs that were."""
@@ -135,17 +152,17 @@ def broken(name, words, given=b"", text=None):
     with beside(text) as room:
         plain = undisturbed(command, given, room)
         numbers = range(1, plain.calls["calls"] + 1)
-        for it in walk(command, given, room, "calls", numbers):
-            where = f"{name}: read or write {it.numbers[0]} fails"
-            holds(it.is_touched, f"{where}: it didn't")
-            if plain.err and (it.out, it.err, it.status) == (plain.out, b"", plain.status):
+        for run in walk(command, given, room, "calls", numbers):
+            where = f"{name}: read or write {run.numbers[0]} fails"
+            holds(run.is_touched, f"{where}: it didn't")
+            if plain.err and (run.out, run.err, run.status) == (plain.out, b"", plain.status):
                 continue
-            holds(it.status == 4 and it.err in DEVICES, f"{where}: status {it.status}, {it.err!r}")
-            holds(plain.out.startswith(it.out), f"{where}: standard output ends with {it.out[-80:]!r}")
+            holds(run.status == 4 and run.err in DEVICES, f"{where}: status {run.status}, {run.err!r}")
+            holds(plain.out.startswith(run.out), f"{where}: standard output ends with {run.out[-80:]!r}")
     return len(numbers)
 
 
-def shortened(name, words, given=b"", text=None):
+def shortened(name: str, words: list[str], given: bytes = b"", text: str | bytes | None = None) -> int:
     """Runs the program with each of its reads and writes moving one byte in turn, which changes nothing. Returns how many
     runs that were."""
     command = [harness.BINARY, *words]

@@ -1,5 +1,7 @@
 """What the end-to-end tests share: the table of tests, the program over a real pipe, and short words for messages. After it is
 imported the helpers, the inputs, the reference and the scripts of tools/ and bench/ can be imported too."""
+from __future__ import annotations
+
 import array
 import fcntl
 import glob
@@ -12,23 +14,29 @@ import tempfile
 import termios
 import threading
 import time
+from collections.abc import Iterable, Sequence
+from typing import Any, Callable, Dict, IO, List, NoReturn, Tuple, TypeVar, Union
 
 TOP = os.path.dirname(os.path.dirname(os.path.dirname(os.path.abspath(__file__))))
 sys.path += [os.path.join(TOP, *it) for it in (["tests"], ["tests", "lib"], ["tests", "inputs"], ["tools"], ["bench"])]
 
 import common  # noqa: E402
 import editors  # noqa: E402
+from framing import Content as Content, Message as Message, compact as compact, frame as frame, frames as frames  # noqa: E402
+from framing import Incoming  # noqa: E402
 
 BINARY = os.environ.get("OB0") or os.path.join(TOP, "bin", "ob0")
 SECONDS = 60  # the longest that one conversation may take
 
-TESTS = []
+Test = Callable[[], None]
+Ident = Union[int, str, None]  # the id of a request
+TESTS: List[Tuple[str, Test]] = []
 
 
-def test(name):
+def test(name: str) -> Callable[[Test], Test]:
     """Makes a function a test under this name."""
 
-    def take(function):
+    def take(function: Test) -> Test:
         TESTS.append((name, function))
         return function
 
@@ -43,30 +51,30 @@ class Skipped(Exception):
     """A test that is left out; the run says so by name."""
 
 
-def leave_out(why, is_required=False):
+def leave_out(why: str, is_required: bool = False) -> NoReturn:
     """Leaves this test out. In `make test` (the variable OB0_WHOLE) what is required fails instead."""
     if is_required and os.environ.get("OB0_WHOLE"):
         raise Failed(f"{why}, and the whole test requires it")
     raise Skipped(why)
 
 
-def need_program():
+def need_program() -> None:
     """Leaves this test out where there is no program yet."""
     if not os.path.exists(BINARY):
         raise Skipped("it runs the program")
 
 
-def shown(value, most=600):
+def shown(value: object, most: int = 600) -> str:
     text = value if isinstance(value, str) else repr(value)
     return text if len(text) <= most else f"{text[:most]}.. ({len(text)} in all)"
 
 
-def same(got, wanted, what="the result"):
+def same(got: object, wanted: object, what: str = "the result") -> None:
     if got != wanted:
         raise Failed(f"{what}: wanted {shown(wanted)}\n    got {shown(got)}")
 
 
-def holds(fact, what):
+def holds(fact: object, what: str) -> None:
     if not fact:
         raise Failed(what)
 
@@ -74,23 +82,7 @@ def holds(fact, what):
 # Messages
 
 
-def compact(value):
-    """JSON as the server writes it: compact, members in byte order of their names."""
-    return json.dumps(value, separators=(",", ":"), sort_keys=True, ensure_ascii=False)
-
-
-def frame(content):
-    """The bytes of a message: a content in bytes, as text, or as a value."""
-    if not isinstance(content, bytes):
-        content = (content if isinstance(content, str) else compact(content)).encode()
-    return b"Content-Length: %d\r\n\r\n" % len(content) + content
-
-
-def frames(contents):
-    return b"".join(frame(it) for it in contents)
-
-
-def unframed(written):
+def unframed(written: bytes) -> list[str]:
     """The contents of what the server wrote, by the head that it writes and no other."""
     contents = []
     while written:
@@ -103,31 +95,31 @@ def unframed(written):
     return contents
 
 
-def request(ident, method, params=None):
-    found = {"jsonrpc": "2.0", "id": ident, "method": method}
+def request(ident: Ident, method: str, params: object = None) -> Message:
+    found: Message = {"jsonrpc": "2.0", "id": ident, "method": method}
     return found if params is None else {**found, "params": params}
 
 
-def notice(method, params=None):
-    found = {"jsonrpc": "2.0", "method": method}
+def notice(method: str, params: object = None) -> Message:
+    found: Message = {"jsonrpc": "2.0", "method": method}
     return found if params is None else {**found, "params": params}
 
 
-def answer(ident, result):
+def answer(ident: Ident, result: object) -> str:
     return compact({"id": ident, "jsonrpc": "2.0", "result": result})
 
 
-def error(ident, code, message):
+def error(ident: Ident, code: int, message: str) -> str:
     return compact({"error": {"code": code, "message": message}, "id": ident, "jsonrpc": "2.0"})
 
 
-def initialize(ident=1, **capabilities):
+def initialize(ident: Ident = 1, **capabilities: Any) -> Message:
     return request(ident, "initialize", {"capabilities": capabilities})
 
 
-def capabilities(prepare=False, literals=False, utf8=False):
+def capabilities(prepare: bool = False, literals: bool = False, utf8: bool = False) -> Message:
     """What the server announces to a client that supports these."""
-    found = {
+    found: Message = {
         "definitionProvider": True,
         "documentFormattingProvider": True,
         "hoverProvider": True,
@@ -142,44 +134,44 @@ def capabilities(prepare=False, literals=False, utf8=False):
     return found
 
 
-def did_open(text, uri="file:///m", version=1):
+def did_open(text: str, uri: str = "file:///m", version: object = 1) -> Message:
     document = {"languageId": "oberon-0", "text": text, "uri": uri, "version": version}
     return notice("textDocument/didOpen", {"textDocument": document})
 
 
-def did_change(changes, uri="file:///m", version=2):
+def did_change(changes: str | list[Any], uri: str = "file:///m", version: object = 2) -> Message:
     """A change: a text for the whole, or a list of changes."""
-    changes = [{"text": changes}] if isinstance(changes, str) else changes
-    return notice("textDocument/didChange", {"contentChanges": changes, "textDocument": {"uri": uri, "version": version}})
+    listed = [{"text": changes}] if isinstance(changes, str) else changes
+    return notice("textDocument/didChange", {"contentChanges": listed, "textDocument": {"uri": uri, "version": version}})
 
 
-def did_close(uri="file:///m"):
+def did_close(uri: str = "file:///m") -> Message:
     return notice("textDocument/didClose", {"textDocument": {"uri": uri}})
 
 
-def place(line, character):
+def place(line: int, character: int) -> Message:
     return {"character": character, "line": line}
 
 
-def extent(text):
+def extent(text: str) -> Message:
     """The range of `L:C-L:C`."""
     start, end = (place(*map(int, it.split(":"))) for it in text.split("-"))
     return {"end": end, "start": start}
 
 
-def diagnostic(code, message, where):
+def diagnostic(code: str, message: str, where: str) -> Message:
     """A diagnostic."""
     return {"code": code, "message": message, "range": extent(where), "severity": 1}
 
 
-def published(diagnostics, uri="file:///m", version=1):
-    params = {"diagnostics": diagnostics, "uri": uri}
+def published(diagnostics: list[Message], uri: str = "file:///m", version: int | None = 1) -> str:
+    params: Message = {"diagnostics": diagnostics, "uri": uri}
     if version is not None:
         params["version"] = version
     return compact(notice("textDocument/publishDiagnostics", params))
 
 
-def lines_of(diagnostics):
+def lines_of(diagnostics: list[Message]) -> bytes:
     """Diagnostics as `check` prints them."""
     starts = ((it["range"]["start"], it) for it in diagnostics)
     return "".join(f"{at['line']}:{at['character']}: {it['code']}: {it['message']}\n" for at, it in starts).encode()
@@ -195,20 +187,20 @@ EXIT = notice("exit")
 class Ended:
     """What a run of the program wrote, and the status that it ended with."""
 
-    def __init__(self, out, err, status):
+    def __init__(self, out: bytes, err: bytes, status: int | None) -> None:
         self.out, self.err, self.status = out, err, status
 
-    def contents(self):
+    def contents(self) -> list[str]:
         return unframed(self.out)
 
 
-def run(words, given=b"", stack=None, cwd=None):
+def run(words: Sequence[str], given: bytes = b"", stack: int | None = None, cwd: str | None = None) -> Ended:
     """Runs the program with these words on this standard input, all at once, under a stack of this many kilobytes."""
     need_program()
     words = [BINARY, *words]
     if stack:
         words = ["sh", "-c", f'ulimit -S -s {stack}; exec "$@"', "sh", *words]
-    how = {"stdin": subprocess.PIPE, "stdout": subprocess.PIPE, "stderr": subprocess.PIPE, "cwd": cwd}
+    how: dict[str, Any] = {"stdin": subprocess.PIPE, "stdout": subprocess.PIPE, "stderr": subprocess.PIPE, "cwd": cwd}
     with subprocess.Popen(words, **how) as process:
         try:
             out, err = process.communicate(given, timeout=SECONDS)
@@ -218,38 +210,46 @@ def run(words, given=b"", stack=None, cwd=None):
     return Ended(out, err, process.returncode)
 
 
-def serve(contents, **how):
+def serve(contents: bytes | Iterable[Content], **how: Any) -> Ended:
     """A conversation whose messages are all there from the start."""
     given = contents if isinstance(contents, bytes) else frames(contents)
     return run(["serve"], given, **how)
 
 
-def unread(pipe):
+def pipes_of(process: subprocess.Popen[bytes]) -> tuple[IO[bytes], IO[bytes], IO[bytes]]:
+    """A process's standard input, output and error, each of which is a pipe."""
+    assert process.stdin and process.stdout and process.stderr
+    return process.stdin, process.stdout, process.stderr
+
+
+def unread(pipe: IO[bytes]) -> int:
     """How many bytes of a pipe nobody has read yet."""
     found = array.array("i", [0])
     fcntl.ioctl(pipe, termios.FIONREAD, found)
     return found[0]
 
 
-def serve_in_pieces(pieces):
-    """A conversation whose bytes come in these pieces: each is written once the server has read the one before."""
-    how = {"stdin": subprocess.PIPE, "stdout": subprocess.PIPE, "stderr": subprocess.PIPE, "bufsize": 0}
+def serve_in_pieces(pieces: Iterable[bytes]) -> Ended:
+    """A conversation whose bytes come in these pieces: each is written once the server has read the one before, which is once its
+    pipe is empty."""
+    how: dict[str, Any] = {"stdin": subprocess.PIPE, "stdout": subprocess.PIPE, "stderr": subprocess.PIPE, "bufsize": 0}
     with subprocess.Popen([BINARY, "serve"], **how) as process:
-        written = {}
+        given, out, err = pipes_of(process)
+        written: dict[str, bytes] = {}
 
-        def drain(name, pipe):
+        def drain(name: str, pipe: IO[bytes]) -> None:
             written[name] = pipe.read()
 
-        readers = [threading.Thread(target=drain, args=it) for it in (("out", process.stdout), ("err", process.stderr))]
-        for it in readers:
-            it.start()
+        readers = [threading.Thread(target=drain, args=it) for it in (("out", out), ("err", err))]
+        for reader in readers:
+            reader.start()
         end = time.monotonic() + SECONDS
         try:
             for piece in pieces:
-                process.stdin.write(piece)
-                while unread(process.stdin) and process.poll() is None and time.monotonic() < end:
+                given.write(piece)
+                while unread(given) and process.poll() is None and time.monotonic() < end:
                     time.sleep(0.0001)
-            process.stdin.close()
+            given.close()
         except BrokenPipeError:
             pass
         try:
@@ -257,56 +257,59 @@ def serve_in_pieces(pieces):
         except subprocess.TimeoutExpired:
             process.kill()
             raise Failed(f"the program had not ended after {SECONDS} seconds") from None
-        for it in readers:
-            it.join()
+        for reader in readers:
+            reader.join()
     return Ended(written["out"], written["err"], process.returncode)
+
+
+S = TypeVar("S", bound="Server")
 
 
 class Server:
     """A server in conversation: messages go one at a time, and answers are awaited."""
 
-    def __init__(self, silent=False, **capabilities):
-        how = {"stdin": subprocess.PIPE, "stdout": subprocess.PIPE, "stderr": subprocess.PIPE, "bufsize": 0}
+    def __init__(self, silent: bool = False, **capabilities: Any) -> None:
+        how: dict[str, Any] = {"stdin": subprocess.PIPE, "stdout": subprocess.PIPE, "stderr": subprocess.PIPE, "bufsize": 0}
         self.process = subprocess.Popen([BINARY, "serve"], **how)
-        self.held, self.idents = b"", 0
+        self.given, self.out, self.err = pipes_of(self.process)
+        self.incoming, self.idents = Incoming(), 0
         if not silent:
-            self.first = self.query("initialize", {"capabilities": {}, **capabilities})
+            params: Message = {"capabilities": {}, **capabilities}
+            self.first = self.query("initialize", params)
             self.send(notice("initialized", {}))
 
-    def __enter__(self):
+    def __enter__(self: S) -> S:
         return self
 
-    def __exit__(self, *why):
+    def __exit__(self, *why: object) -> None:
         if self.process.poll() is None:
             self.process.kill()
         self.process.wait()
-        for it in (self.process.stdin, self.process.stdout, self.process.stderr):
-            it.close()
+        for pipe in (self.given, self.out, self.err):
+            pipe.close()
 
-    def send(self, message):
-        given = memoryview(frame(message))
-        while given:
-            given = given[self.process.stdin.write(given) :]
+    def send(self, message: Content) -> None:
+        left = memoryview(frame(message))
+        while left:
+            left = left[self.given.write(left) :]
 
-    def take(self):
+    def take(self) -> Message:
         """The next message that the server sends, as a value."""
         end = time.monotonic() + SECONDS
         while True:
-            head, empty, rest = self.held.partition(b"\r\n\r\n")
-            if empty:
-                length = int(head.partition(b": ")[2])
-                if len(rest) >= length:
-                    self.held = rest[length:]
-                    return json.loads(rest[:length])
+            content = self.incoming.take()
+            if content is not None:
+                found: Message = json.loads(content)
+                return found
             left = end - time.monotonic()
-            if left <= 0 or not select.select([self.process.stdout], [], [], left)[0]:
+            if left <= 0 or not select.select([self.out], [], [], left)[0]:
                 raise Failed(f"no message came within {SECONDS} seconds")
-            came = os.read(self.process.stdout.fileno(), 1 << 16)
+            came = os.read(self.out.fileno(), 1 << 16)
             if not came:
                 raise Failed("the server ended in the middle of the conversation")
-            self.held += came
+            self.incoming.add(came)
 
-    def query(self, method, params=None):
+    def query(self, method: str, params: object = None) -> Message:
         """Sends a request and returns its answer; nothing else may come before it."""
         self.idents += 1
         self.send(request(self.idents, method, params))
@@ -314,14 +317,15 @@ class Server:
         same(found.get("id"), self.idents, f"the id of the answer to {method}")
         return found
 
-    def notify(self, message):
+    def notify(self, message: Content) -> list[Message]:
         """Sends an open, a change or a close and returns the diagnostics that come."""
         self.send(message)
         found = self.take()
         same(found.get("method"), "textDocument/publishDiagnostics", "what came")
-        return found["params"]["diagnostics"]
+        diagnostics: list[Message] = found["params"]["diagnostics"]
+        return diagnostics
 
-    def end(self):
+    def end(self) -> int:
         """Shuts the server down and returns its status."""
         same(self.query("shutdown").get("result", 0), None, "the answer to shutdown")
         self.send(EXIT)
@@ -334,10 +338,10 @@ class Server:
 # Editors and other tools
 
 
-MISSING = {}  # what tests wanted and isn't here, with its package
+MISSING: Dict[str, List[str]] = {}  # what tests wanted and isn't here, with its package
 
 
-def want(*names):
+def want(*names: str) -> None:
     """Leaves this test out where one of these tools (of tools/editors.py) isn't here."""
     missing = [it for it in names if not editors.is_here(it)]
     MISSING.update({it: [editors.TOOLS[it][1]] for it in missing})
@@ -345,7 +349,7 @@ def want(*names):
         leave_out(f"{' and '.join(missing)} missing", any(it in editors.REQUIRED for it in missing))
 
 
-def want_proved():
+def want_proved() -> None:
     """Leaves a test out where the program isn't bin/ob0, or that isn't the proved program of these sources."""
     if os.path.abspath(BINARY) != common.BINARY or not common.is_current():
         raise Skipped("bin/ob0 is not the proved program of these sources")
@@ -354,19 +358,21 @@ def want_proved():
 # Texts and files
 
 
-def marked(text, *codes):
+def marked(text: str, *codes: str) -> tuple[str, list[Message]]:
     """A text whose faulty places are between ⟦ and ⟧, and what is reported of them, a code for each place in order."""
-    plain, starts, found = "", [], []
-    for it in text:
-        if it == "⟦":
+    plain = ""
+    starts: list[int] = []
+    found: list[tuple[int, int]] = []
+    for character in text:
+        if character == "⟦":
             starts.append(len(plain))
-        elif it == "⟧":
+        elif character == "⟧":
             found.append((starts.pop(), len(plain)))
         else:
-            plain += it
+            plain += character
     found.sort()
     assert len(found) == len(codes) and not starts, text
-    position = lambda at: f"{plain.count(chr(10), 0, at)}:{at - (plain.rfind(chr(10), 0, at) + 1)}"
+    position: Callable[[int], str] = lambda at: f"{plain.count(chr(10), 0, at)}:{at - (plain.rfind(chr(10), 0, at) + 1)}"
     return plain, [diagnostic(code, MESSAGES[code], f"{position(a)}-{position(b)}") for code, (a, b) in zip(codes, found)]
 
 
@@ -394,7 +400,9 @@ MESSAGES = {
 }
 
 
-def on_file(command, text, *more, given=b"", name="m.mod", stack=None):
+def on_file(
+    command: str, text: str | bytes, *more: str, given: bytes = b"", name: str = "m.mod", stack: int | None = None
+) -> Ended:
     """Runs a command on a file with this text (or these bytes)."""
     with tempfile.TemporaryDirectory() as room:
         with open(os.path.join(room, name), "wb") as file:
@@ -402,28 +410,28 @@ def on_file(command, text, *more, given=b"", name="m.mod", stack=None):
         return run([command, name, *more], given, stack, cwd=room)
 
 
-def ends(found, out, status, err=""):
+def ends(found: Ended, out: str | bytes, status: int | None, err: str | bytes = "") -> None:
     """Holds a run of the program to what it must write and to its status."""
     wanted = tuple(it if isinstance(it, bytes) else it.encode() for it in (out, err))
     same((found.out, found.err, found.status), (*wanted, status), "standard output, standard error and the status")
 
 
-def edited(text, places, new):
+def edited(text: str, places: Sequence[str], new: str) -> str:
     """A text with a new name at these places, each on one line."""
     lines = text.split("\n")
-    for it in reversed(places):
-        at = extent(it)
+    for where in reversed(places):
+        at = extent(where)
         line, start, end = at["start"]["line"], at["start"]["character"], at["end"]["character"]
         lines[line] = lines[line][:start] + new + lines[line][end:]
     return "\n".join(lines)
 
 
-def text_of(*path):
+def text_of(*path: str) -> str:
     """A file of the repository."""
     with open(os.path.join(TOP, *path), encoding="utf-8") as file:
         return file.read()
 
 
-def examples():
+def examples() -> list[str]:
     """The modules of examples/, by their paths from the top."""
     return sorted(os.path.relpath(it, TOP) for it in glob.glob(os.path.join(TOP, "examples", "*.mod")))

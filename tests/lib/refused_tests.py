@@ -1,8 +1,12 @@
 """Tests of the crates whose names begin with `a_refused_`: each is run with each of its allocations failing in turn. Their
 programs are those that `rt ci` and `rt test` leave in crates/NAME/out."""
+from __future__ import annotations
+
+import functools
 import itertools
 import os
 import subprocess
+from collections.abc import Callable, Iterator
 
 import failing
 from harness import TOP, holds, leave_out, same
@@ -10,7 +14,7 @@ from harness import TOP, holds, leave_out, same
 CRATES = ("ob0_tests_low", "ob0_tests_language", "ob0_tests_session")
 
 
-def program_of(crate):
+def program_of(crate: str) -> str:
     """The program of a crate's tests; without it the test is left out."""
     program = os.path.join(TOP, "crates", crate, "out", f"{crate}_tests")
     if not os.access(program, os.X_OK):
@@ -18,14 +22,14 @@ def program_of(crate):
     return program
 
 
-def tests_of(crate):
+def tests_of(crate: str) -> list[str]:
     """The tests of a crate that are to be run so."""
     ran = subprocess.run([program_of(crate), "--list"], stdout=subprocess.PIPE, check=True)
     names = [line.partition(": test")[0] for line in ran.stdout.decode().splitlines()]
     return [it for it in names if it.rpartition("::")[2].startswith("a_refused_")]
 
 
-def played(out):
+def played(out: bytes) -> list[tuple[int, ...]]:
     """The numbers that a test prints after `played`, a line each time: the events that were made, and what came of them."""
     lines = [it for it in out.decode().splitlines() if it.startswith("played ")]
     return [tuple(map(int, it.split()[1:])) for it in lines]
@@ -35,7 +39,7 @@ def played(out):
 PLAYED, STEPPED = "world::a_refused_event_leaves_what_was_played_before", "world::a_refused_step_ends_what_was_played"
 
 
-def refusals(crate, test):
+def refusals(crate: str, test: str) -> list[list[tuple[int, ...]]]:
     """What a test prints of what was played, with each of its allocations failing in turn, and at last with none."""
     words = [program_of(crate), test]
     plain = failing.undisturbed(words)
@@ -45,7 +49,7 @@ def refusals(crate, test):
     return [*found, played(plain.out)]
 
 
-def plays_exactly(crate):
+def plays_exactly(crate: str) -> str:
     """Compares what was played to what was made one by one, with the same allocation failing: it is the same, by the number
     of events and what came of them. Returns a line with figures."""
     ones, others = refusals(crate, PLAYED), refusals(crate, STEPPED)
@@ -58,7 +62,7 @@ def plays_exactly(crate):
     return f"{len(others):,} allocations refused"
 
 
-def walk(crate, test, most):
+def walk(crate: str, test: str, most: int) -> str:
     """Runs a test with its allocations failing in turn: all of them, or of more than `most` each second, third and so on.
     Returns a line with figures."""
     words = [program_of(crate), test]
@@ -66,17 +70,17 @@ def walk(crate, test, most):
     calls = plain.calls["memory"]
     holds(plain.status == 0 and calls, f"{test} fails where nothing is refused, or takes no memory")
     numbers = range(1, calls + 1, max(1, calls // most))
-    for it in failing.walk(words, b"", None, "memory", numbers):
-        where = f"{test}, allocation {it.numbers[0]} of {calls}"
-        holds(it.is_touched, f"{where} wasn't refused")
-        same((it.status, it.out.endswith(b"test result: ok\n")), (0, True), f"{where}: {it.err.decode(errors='replace')}")
+    for run in failing.walk(words, b"", None, "memory", numbers):
+        where = f"{test}, allocation {run.numbers[0]} of {calls}"
+        holds(run.is_touched, f"{where} wasn't refused")
+        same((run.status, run.out.endswith(b"test result: ok\n")), (0, True), f"{where}: {run.err.decode(errors='replace')}")
     return f"{len(numbers):,} of {calls:,} allocations refused"
 
 
-def checks(crate, most):
+def checks(crate: str, most: int) -> Iterator[tuple[str, Callable[[], str]]]:
     """What is done with a crate's tests: names, each with what does it."""
     found = tests_of(crate)
     for test in found:
-        yield test, lambda test=test: walk(crate, test, most)
+        yield test, functools.partial(walk, crate, test, most)
     if STEPPED in found:
-        yield "what was played, exactly", lambda: plays_exactly(crate)
+        yield "what was played, exactly", functools.partial(plays_exactly, crate)

@@ -1,4 +1,6 @@
 """A program in a terminal, for the tests of editors and shells."""
+from __future__ import annotations
+
 import fcntl
 import os
 import pty
@@ -15,8 +17,11 @@ from harness import Failed
 class Screen:
     """A program in a terminal (of a size in lines and columns): keys go to it, and what it draws is waited for."""
 
-    def __init__(self, words, environment, cwd, size=None):
+    def __init__(
+        self, words: list[str], environment: dict[str, str], cwd: str, size: tuple[int, int] | None = None
+    ) -> None:
         self.drawn = b""
+        self.status: int | None = None
         self.process, self.terminal = pty.fork()
         if self.process == 0:
             if size:
@@ -24,23 +29,37 @@ class Screen:
             os.chdir(cwd)
             os.execvpe(words[0], words, environment)
 
-    def __enter__(self):
+    def __enter__(self) -> Screen:
         return self
 
-    def __exit__(self, *why):
-        # (with what it has started)
-        os.killpg(self.process, signal.SIGKILL)
+    def __exit__(self, *why: object) -> None:
+        if self.status is None:
+            # (with what it has started)
+            os.killpg(self.process, signal.SIGKILL)
+            os.waitpid(self.process, 0)
         os.close(self.terminal)
-        os.waitpid(self.process, 0)
 
-    def read(self, seconds):
+    def read(self, seconds: float) -> bool:
+        """Reads what is drawn within some seconds: False where the terminal is closed."""
         if select.select([self.terminal], [], [], seconds)[0]:
             try:
                 self.drawn += os.read(self.terminal, 1 << 16)
             except OSError:
                 time.sleep(seconds)
+                return False
+        return True
 
-    def shows(self, pattern, what, seconds=180):
+    def ends(self, what: str, seconds: float) -> int:
+        """Waits until the program ends, and returns its status."""
+        end = time.monotonic() + seconds
+        while self.read(0.5):
+            if time.monotonic() > end:
+                raise Failed(f"{what} had not ended after {seconds} seconds: {self.drawn[-500:]!r}")
+        ended = os.waitpid(self.process, 0)[1]
+        self.status = os.WEXITSTATUS(ended) if os.WIFEXITED(ended) else -os.WTERMSIG(ended)
+        return self.status
+
+    def shows(self, pattern: bytes, what: str, seconds: float = 180) -> None:
         """Waits until what was drawn since the last keys has this."""
         end = time.monotonic() + seconds
         while not re.search(pattern, self.drawn):
@@ -48,6 +67,6 @@ class Screen:
                 raise Failed(f"{what}: {pattern!r} was waited for in vain: {self.drawn[-800:]!r}")
             self.read(0.2)
 
-    def keys(self, keys):
+    def keys(self, keys: bytes) -> None:
         self.drawn = b""
         os.write(self.terminal, keys)

@@ -1,60 +1,77 @@
 """Renaming and inlining, by docs/PROTOCOL.md and docs/LANGUAGE.md. An edit is a triple of a start, an end and a new text; a
 refusal is its name, with the range in it."""
+from __future__ import annotations
+
 import re
+from collections.abc import Iterable
+from typing import NamedTuple, Optional, Tuple
 
-from reference.scanner import LIMIT, WORDS
-from reference.text import Text
+from reference.names import Declared
+from reference.scanner import LIMIT, WORDS, Token
+from reference.text import Span, Text
+from reference.types import Type
+from reference.values import Value
+
+Edit = Tuple[int, int, str]
+Refusal = Tuple[str, Optional[Span]]
 
 
-def patched(text, edits):
+class Meant(NamedTuple):
+    """What an identifier is: of a name its token and what declares it; of a field the token that declares it, and its record."""
+
+    token: Token
+    declared: Declared | None
+    record: Type | None
+
+
+def patched(text: str, edits: Iterable[Edit]) -> str:
     for start, end, new in sorted(edits, reverse=True):
         text = text[:start] + new + text[end:]
     return text
 
 
-def at_place(found, at):
-    """What the identifier at a place is: a declaration, a field's declaring identifier with its record, or None."""
+def at_place(found: Text, at: int) -> Meant | None:
+    """What the identifier at a place is, None where there is none."""
     for token, declared in found.bound.items():
         if token.start <= at <= token.end:
-            return "name", token, declared
+            return Meant(token, declared, None)
     for token, declaring, record in found.fields:
         if token.start <= at <= token.end:
-            return "field", declaring, record
-    return None, None, None
+            return Meant(declaring, None, record)
+    return None
 
 
-def bindings(found):
+def bindings(found: Text) -> list[int | str]:
     """For each identifier that is bound, in order, the place in this list of what declares it (or a predeclared name)."""
     names = sorted(found.bound.items(), key=lambda it: it[0].start)
     index = {declared: at for at, (token, declared) in enumerate(names) if declared.token is token}
     return [index.get(declared, declared.name) for _, declared in names]
 
 
-def rename(text, at, new):
+def rename(text: str, at: int, new: str) -> list[Edit] | Refusal:
     """The edits of a rename in a well-typed text, or the refusal: a name and a place."""
     found = Text(text)
-    kind, token, of = at_place(found, at)
-    if not kind:
+    meant = at_place(found, at)
+    if not meant:
         return "NoName", None
-    if kind == "name" and of.is_predeclared:
+    token, declared, record = meant
+    if declared and declared.is_predeclared:
         return "Predeclared", None
     if not re.fullmatch(r"[A-Za-z][A-Za-z0-9]*", new) or new in WORDS:
         return "BadName", None
-    if kind == "field":
-        if new == token.text:
-            return []
-        other = next((it for name, _, it in of.fields if name == new), None)
-        places = [(it.start, it.end) for it, declaring, _ in found.fields if declaring is token]
+    if new == token.text:
+        return []
+    if declared:
+        other = declared.block[new].token if new in declared.block else None
+        places = found.places(declared)
     else:
-        if new == of.name:
-            return []
-        other = of.block[new].token if new in of.block else None
-        places = found.places(of)
+        other = next((it for name, _, it in record.fields if name == new), None) if record else None
+        places = [(it.start, it.end) for it, declaring, _ in found.fields if declaring is token]
     if other:
         return "Duplicate", (other.start, other.end)
     edits = [(start, end, new) for start, end in sorted(places)]
     after = patched(text, edits)
-    if kind == "name":
+    if declared:
         # (a text past the limit has no tree: what is bound in it is looked up without its last spaces)
         changed = Text(after.rstrip())
         names = sorted(found.bound.items(), key=lambda it: it[0].start)
@@ -64,22 +81,23 @@ def rename(text, at, new):
     return ("TooLong", None) if len(after.encode()) > LIMIT else edits
 
 
-def literal(value):
+def literal(value: Value) -> str:
     if isinstance(value, bool):
         return "TRUE" if value else "FALSE"
     return str(value) if value >= 0 else "(-2147483647 - 1)" if value == -2147483648 else f"({value})"
 
 
-def inline(text, at, everywhere):
+def inline(text: str, at: int, everywhere: bool) -> list[Edit] | Refusal:
     """The edits of inlining a constant, or the refusal."""
     found = Text(text)
-    kind, token, of = at_place(found, at)
-    if kind != "name" or of.kind != "const" or of.is_predeclared:
+    meant = at_place(found, at)
+    of = meant.declared if meant else None
+    if not meant or not of or of.kind != "const" or not of.token or of.value is None:
         return "NoName", None
-    if not everywhere and token is of.token:
+    if not everywhere and meant.token is of.token:
         return "NoName", None
     written = literal(of.value)
-    uses = [it for it, declared in found.bound.items() if declared is of and it is not of.token] if everywhere else [token]
+    uses = [it for it, declared in found.bound.items() if declared is of and it is not of.token] if everywhere else [meant.token]
     uses.sort(key=lambda it: it.start)
     edits = [(it.start, it.end, written) for it in uses]
     semicolon = of.token
@@ -93,9 +111,9 @@ def inline(text, at, everywhere):
     if any(code == "TooDeep" for code, *_ in Text(after).faults):
         return "TooDeep", None
     if isinstance(of.value, bool):
-        for it in uses:
-            placed = Text(patched(text, [(it.start, it.end, written)]))
-            bound = next(declared for name, declared in placed.bound.items() if name.start == it.start)
+        for use in uses:
+            placed = Text(patched(text, [(use.start, use.end, written)]))
+            bound = next(declared for name, declared in placed.bound.items() if name.start == use.start)
             if not bound.is_predeclared:
                 return "Shadowed", None
     if everywhere and any(it.kind == "comment" and of.token.start < it.start < semicolon.start for it in found.lexemes):

@@ -1,52 +1,60 @@
 """Formatting, by docs/LANGUAGE.md: the edits that lay a module out."""
+from __future__ import annotations
+
+from reference.edits import Edit
+from reference.parser import Node
+from reference.scanner import Token
 from reference.text import Text
 
 
-def levels(module):
+def levels(module: Node) -> dict[Token, int]:
     """The tokens that begin a line, each with its level."""
     found = {module.first: 0}
 
-    def block(node, level):
+    def block(node: Node, level: int) -> None:
         for it in node.words:
             found[it] = level
         for name, _ in (*node.constants, *node.types):
             found[name] = level + 1
         for names, _ in node.variables:
             found[names[0]] = level + 1
-        for it in node.procedures:
-            found[it.first] = level + 1
-            block(it, level + 1)
+        for inner in node.procedures:
+            found[inner.first] = level + 1
+            block(inner, level + 1)
         body(node.body, level + 1)
 
-    def body(statements, level):
-        for it in statements:
-            found[it.first] = level
-            for word in getattr(it, "words", ()):
+    def body(statements: list[Node], level: int) -> None:
+        for statement in statements:
+            found[statement.first] = level
+            for word in getattr(statement, "words", ()):
                 found[word] = level
-            for _, inner in getattr(it, "parts", ()):
+            for _, inner in getattr(statement, "parts", ()):
                 body(inner, level + 1)
-            body(getattr(it, "other", ()), level + 1)
-            body(getattr(it, "body", ()), level + 1)
+            body(getattr(statement, "other", []), level + 1)
+            body(getattr(statement, "body", []), level + 1)
 
     block(module, 0)
     return found
 
 
-def layout(text, indent):
+def layout(text: str, indent: str) -> list[Edit]:
     """The edits that lay a well-typed text out, each a whole gap."""
     found = Text(text)
     begins, parser = levels(found.module), found.parser
-    lexemes, edits = found.lexemes, []
-    starts = lambda level: "\n" + indent * level
+    lexemes = found.lexemes
+    edits: list[Edit] = []
 
-    def level_at(place):
+    def starts(level: int) -> str:
+        return "\n" + indent * level
+
+    def level_at(place: int) -> int:
         """The level of the line of the token at or after this place in the list."""
         token = next((it for it in lexemes[place:] if it.kind != "comment"), None)
         if token is None:
             return 0
         return begins[max((it for it in begins if it.start <= token.start), key=lambda it: it.start)]
 
-    def gap(place, old):
+    def gap(place: int, old: str) -> str:
         before, after = lexemes[place - 1], lexemes[place]
         if after.kind == "comment":
             return starts(level_at(place)) if "\n" in old or "\r" in old else " "

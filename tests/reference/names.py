@@ -1,32 +1,54 @@
 """Scopes, by docs/LANGUAGE.md: the declaration that each name is bound to, and the faults Duplicate, Undeclared and EndName."""
+from __future__ import annotations
+
+
+
+from collections.abc import Iterable
+from typing import TYPE_CHECKING
+from reference.parser import Node
+from reference.scanner import Token
+
+if TYPE_CHECKING:
+    from reference.types import Type
+    from reference.values import Value
 
 
 class Declared:
     """A declaration: its kind is 'const', 'type', 'var' or 'procedure'. The type, the value and the formal parameters are
-    filled in by the rules of types; the token and the block are None for a predeclared name."""
+    filled in by the rules of types; the token is None, and the block is empty, for a predeclared name."""
 
-    def __init__(self, kind, name, type_=None, value=None, formals=(), node=None):
+    def __init__(
+        self,
+        kind: str,
+        name: str,
+        type_: Type | None = None,
+        value: Value | None = None,
+        formals: Iterable[tuple[bool, Type | None]] = (),
+        node: Node | None = None,
+    ) -> None:
         self.kind, self.name, self.type, self.value = kind, name, type_, value
-        self.formals, self.node = formals, node
-        self.token = self.block = None
+        self.formals, self.node = list(formals), node
+        self.token: Token | None = None
+        self.block: dict[str, Declared] = {}
 
     @property
-    def is_predeclared(self):
+    def is_predeclared(self) -> bool:
         return self.token is None
 
 
 class Scopes:
     """`bound` has the declaration of each identifier that declares, uses or closes; fields and the module's name are in none."""
 
-    def __init__(self, module, predeclared):
-        self.faults, self.bound = set(), {}
+    def __init__(self, module: Node, predeclared: Iterable[Declared]) -> None:
+        self.faults: set[tuple[int, int, str]] = set()
+        self.bound: dict[Token, Declared] = {}
         self.blocks = [{it.name: it for it in predeclared}]
         self.block(module)
 
-    def report(self, code, token):
+    def report(self, code: str, token: Token) -> None:
         self.faults.add((token.start, token.end, code))
 
-    def declare(self, kind, token, node=None):
+    def declare(self, kind: str, token: Token, node: Node | None = None) -> Declared:
         """Declares a name in the innermost block."""
         declared, block = Declared(kind, token.text, node=node), self.blocks[-1]
         if token.text in block:
@@ -35,14 +57,14 @@ class Scopes:
         block[token.text] = self.bound[token] = declared
         return declared
 
-    def look_up(self, token):
+    def look_up(self, token: Token) -> None:
         found = next((it[token.text] for it in reversed(self.blocks) if token.text in it), None)
         if found:
             self.bound[token] = found
         else:
             self.report("Undeclared", token)
 
-    def block(self, node):
+    def block(self, node: Node) -> None:
         self.blocks.append({})
         if node.kind == "procedure":
             self.heading(node)
@@ -56,8 +78,8 @@ class Scopes:
             self.type(written)
             for it in tokens:
                 self.declare("var", it)
-        for it in node.procedures:
-            self.block(it)
+        for procedure in node.procedures:
+            self.block(procedure)
         self.sequence(node.body)
         if node.closing.text != node.name.text:
             self.report("EndName", node.closing)
@@ -65,7 +87,7 @@ class Scopes:
         if node.kind == "procedure":
             self.bound[node.closing] = node.declared
 
-    def heading(self, node):
+    def heading(self, node: Node) -> None:
         """The parameters, in the procedure's block, and then its name, in the block around it."""
         for _, tokens, written in node.formals:
             self.type(written)
@@ -75,7 +97,7 @@ class Scopes:
         node.declared = self.declare("procedure", node.name, node)
         self.blocks.append(own)
 
-    def type(self, node):
+    def type(self, node: Node) -> None:
         if node.kind == "named":
             self.look_up(node.first)
         elif node.kind == "array":
@@ -85,12 +107,12 @@ class Scopes:
             seen = set()
             for tokens, written in node.fields:
                 self.type(written)
-                for it in tokens:
-                    if it.text in seen:
-                        self.report("Duplicate", it)
-                    seen.add(it.text)
+                for token in tokens:
+                    if token.text in seen:
+                        self.report("Duplicate", token)
+                    seen.add(token.text)
 
-    def expression(self, node):
+    def expression(self, node: Node) -> None:
         if node.kind == "designator":
             self.designator(node)
         elif node.kind == "parens":
@@ -101,17 +123,17 @@ class Scopes:
             self.expression(node.left)
             self.expression(node.right)
 
-    def designator(self, node):
+    def designator(self, node: Node) -> None:
         self.look_up(node.first)
-        for token, part in node.selectors:
-            if token.kind == "[":
+        for _, part in node.selectors:
+            if isinstance(part, Node):
                 self.expression(part)
 
-    def sequence(self, body):
+    def sequence(self, body: list[Node]) -> None:
         for it in body:
             self.statement(it)
 
-    def statement(self, node):
+    def statement(self, node: Node) -> None:
         if node.kind == "assign":
             self.designator(node.target)
             self.expression(node.right)

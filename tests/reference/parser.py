@@ -1,5 +1,12 @@
 """The grammar, by docs/LANGUAGE.md: the tree of a text, or the first fault of its syntax."""
+from __future__ import annotations
+
+from typing import Any, NoReturn, TYPE_CHECKING
+
 from reference.scanner import Token
+
+if TYPE_CHECKING:
+    from reference.names import Declared
 
 
 class Refused(Exception):
@@ -7,9 +14,40 @@ class Refused(Exception):
 
 
 class Node:
-    """A part of the tree, from one token to another."""
+    """A part of the tree, from one token to another. Its kind says which of these parts it has."""
 
-    def __init__(self, kind, first, **parts):
+    # a module or a procedure: its name, its declarations, its body and the closing name; a procedure has parameters too, and
+    # what the rules of scopes find out
+    name: Token
+    constants: list[tuple[Token, Node]]
+    types: list[tuple[Token, Node]]
+    variables: list[tuple[list[Token], Node]]
+    procedures: list[Node]
+    body: list[Node]
+    closing: Token
+    formals: list[tuple[bool, list[Token], Node]]
+    declared: Declared
+    # a type
+    length: Node
+    element: Node
+    fields: list[tuple[list[Token], Node]]
+    # a statement: parts of IF are conditions with statements, and `other` is after its ELSE
+    target: Node
+    right: Node
+    arguments: list[Node]
+    condition: Node
+    parts: list[tuple[Node, list[Node]]]
+    other: list[Node]
+    # an expression; a selector is a sign with the field's name, or with the index
+    operator: str
+    left: Node
+    operand: Node
+    inside: Node
+    selectors: list[tuple[Token, Token | Node]]
+    # the words that begin a line beside its first token
+    words: list[Token]
+
+    def __init__(self, kind: str, first: Token, **parts: Any) -> None:
         self.kind, self.first, self.last = kind, first, first
         self.__dict__.update(parts)
 
@@ -20,44 +58,45 @@ RELATIONS = ("=", "#", "<", "<=", ">", ">=")
 class Parser:
     """By descent, one function for each production."""
 
-    def __init__(self, text, tokens):
+    def __init__(self, text: str, tokens: list[Token]) -> None:
         end = Token("end", "", len(text))
         self.tokens, self.at = [*(it for it in tokens if it.kind != "comment"), end], 0
         # what the layout needs: signs, and parentheses that open parameters or arguments
-        self.signs, self.opening = set(), set()
+        self.signs: set[Token] = set()
+        self.opening: set[Token] = set()
 
     @property
-    def kind(self):
+    def kind(self) -> str:
         return self.tokens[self.at].kind
 
-    def refuse(self, expected):
+    def refuse(self, expected: str) -> NoReturn:
         raise Refused("Syntax", self.tokens[self.at], f"expected {expected}")
 
-    def need(self, kind):
+    def need(self, kind: str) -> Token:
         """Takes a token of this kind and gives it."""
         if self.kind != kind:
             self.refuse({"ident": "identifier", "end": "end of text"}.get(kind, kind))
         self.at += 1
         return self.tokens[self.at - 1]
 
-    def has(self, *kinds):
+    def has(self, *kinds: str) -> Token | None:
         """Takes a token of one of these kinds, if it is there."""
         if self.kind not in kinds:
             return None
         self.at += 1
         return self.tokens[self.at - 1]
 
-    def deeper(self, depth):
+    def deeper(self, depth: int) -> int:
         """The nesting of what the next token opens."""
         if depth == 100:
             raise Refused("TooDeep", self.tokens[self.at], "nested too deep")
         return depth + 1
 
-    def close(self, node):
+    def close(self, node: Node) -> Node:
         node.last = self.tokens[self.at - 1]
         return node
 
-    def module(self):
+    def module(self) -> Node:
         node = Node("module", self.need("MODULE"), name=self.need("ident"))
         self.need(";")
         self.block(node, 0)
@@ -65,7 +104,7 @@ class Parser:
         self.need("end")
         return self.close(node)
 
-    def block(self, node, depth):
+    def block(self, node: Node, depth: int) -> None:
         """Declarations, a body, END and the closing name."""
         node.constants, node.types, node.variables, node.procedures, node.body = [], [], [], [], []
         first = self.at
@@ -99,13 +138,13 @@ class Parser:
         node.words = [*own, *([self.tokens[start]] if self.tokens[start].kind == "BEGIN" else []), self.need("END")]
         node.closing = self.need("ident")
 
-    def names(self):
+    def names(self) -> list[Token]:
         found = [self.need("ident")]
         while self.has(","):
             found.append(self.need("ident"))
         return found
 
-    def procedure(self, depth):
+    def procedure(self, depth: int) -> Node:
         depth = self.deeper(depth)
         node = Node("procedure", self.need("PROCEDURE"), name=self.need("ident"), formals=[])
         if self.kind == "(":
@@ -119,13 +158,13 @@ class Parser:
         self.block(node, depth)
         return self.close(node)
 
-    def section(self, depth):
+    def section(self, depth: int) -> tuple[bool, list[Token], Node]:
         by_place = bool(self.has("VAR"))
         names = self.names()
         self.need(":")
         return by_place, names, self.type(depth)
 
-    def type(self, depth):
+    def type(self, depth: int) -> Node:
         if self.kind == "ident":
             return self.close(Node("named", self.need("ident")))
         if self.kind == "ARRAY":
@@ -148,13 +187,13 @@ class Parser:
             return self.close(node)
         return self.refuse("type")
 
-    def sequence(self, depth):
+    def sequence(self, depth: int) -> list[Node]:
         found = [self.statement(depth)]
         while self.has(";"):
             found.append(self.statement(depth))
         return [it for it in found if it]
 
-    def statement(self, depth):
+    def statement(self, depth: int) -> Node | None:
         if self.kind == "ident":
             return self.assignment_or_call(depth)
         if self.kind not in ("IF", "WHILE", "REPEAT"):
@@ -181,12 +220,12 @@ class Parser:
         node.words.append(self.need("END"))
         return self.close(node)
 
-    def guarded(self, depth):
+    def guarded(self, depth: int) -> tuple[Node, list[Node]]:
         condition = self.expression(depth)
         self.need("THEN")
         return condition, self.sequence(depth)
 
-    def assignment_or_call(self, depth):
+    def assignment_or_call(self, depth: int) -> Node:
         target = self.designator(depth)
         if target.selectors or self.kind == ":=":
             self.need(":=")
@@ -201,7 +240,7 @@ class Parser:
             self.need(")")
         return self.close(node)
 
-    def designator(self, depth):
+    def designator(self, depth: int) -> Node:
         node = Node("designator", self.need("ident"), selectors=[])
         while self.kind in (".", "["):
             if self.kind == ".":
@@ -212,32 +251,32 @@ class Parser:
                 self.need("]")
         return self.close(node)
 
-    def expression(self, depth):
+    def expression(self, depth: int) -> Node:
         left = self.simple(depth)
         operator = self.has(*RELATIONS)
         if not operator:
             return left
         return self.close(Node("binary", left.first, operator=operator.kind, left=left, right=self.simple(depth)))
 
-    def simple(self, depth):
+    def simple(self, depth: int) -> Node:
         sign = self.has("+", "-")
         left = self.term(depth)
         if sign:
             self.signs.add(sign)
             left = self.close(Node("sign", sign, operator=sign.kind, operand=left))
         while self.kind in ("+", "-", "OR"):
-            operator = self.has(self.kind).kind
+            operator = self.need(self.kind).kind
             left = self.close(Node("binary", left.first, operator=operator, left=left, right=self.term(depth)))
         return left
 
-    def term(self, depth):
+    def term(self, depth: int) -> Node:
         left = self.factor(depth)
         while self.kind in ("*", "DIV", "MOD", "&"):
-            operator = self.has(self.kind).kind
+            operator = self.need(self.kind).kind
             left = self.close(Node("binary", left.first, operator=operator, left=left, right=self.factor(depth)))
         return left
 
-    def factor(self, depth):
+    def factor(self, depth: int) -> Node:
         if self.kind == "ident":
             return self.designator(depth)
         if self.kind == "integer":

@@ -1,8 +1,15 @@
 """What is at a place, by docs/PROTOCOL.md and docs/LANGUAGE.md: the hover text, the declaration, and every use."""
-from reference.types import BOOLEAN, INTEGER
+from __future__ import annotations
 
 
-def type_text(type_):
+from reference.names import Declared
+from reference.scanner import Token
+from reference.text import Span, Text
+from reference.types import BOOLEAN, INTEGER, Type
+
+
+def type_text(type_: Type | None) -> str:
+    assert type_  # (in a well-typed module)
     if type_ in (INTEGER, BOOLEAN):
         return "INTEGER" if type_ is INTEGER else "BOOLEAN"
     if type_.form == "array":
@@ -10,7 +17,7 @@ def type_text(type_):
     return f"RECORD with {len(type_.fields)} fields"
 
 
-def name_text(name, declared):
+def name_text(name: str, declared: Declared) -> str:
     if declared.is_predeclared:
         return f"predeclared {name}"
     if declared.kind == "const":
@@ -19,23 +26,27 @@ def name_text(name, declared):
         return f"TYPE {name} = {type_text(declared.type)}"
     if declared.kind == "var":
         return f"VAR {name}: {type_text(declared.type)}"
-    names = [it for _, names, _ in declared.node.formals for it in names]
+    formals = declared.node.formals if declared.node else []
+    names = [it for _, names, _ in formals for it in names]
     listed = [f"{'VAR ' if by_place else ''}{it.text}: {type_text(type_)}" for (by_place, type_), it in zip(declared.formals, names)]
     return f"PROCEDURE {name}({'; '.join(listed)})"
 
 
-def on(token, at):
+def on(token: Token, at: int) -> bool:
     return token.start <= at <= token.end
 
 
-def at_place(found, at):
+def span(token: Token) -> Span:
+    return token.start, token.end
+
+
+def at_place(found: Text, at: int) -> tuple[Span, str, Span | None, list[Span]] | None:
     """At a place of a well-typed text: the span of the name or field there, its hover text, the span of what
     declares it, and all its places, that one too. None where there is none."""
-    span = lambda it: (it.start, it.end)
     for token, declared in found.bound.items():
         if on(token, at):
-            declaring = None if declared.is_predeclared else span(declared.token)
-            return span(token), name_text(token.text, declared), declaring, found.places(declared)
+            at_declaration = span(declared.token) if declared.token else None
+            return span(token), name_text(token.text, declared), at_declaration, found.places(declared)
     for token, declaring, record in found.fields:
         if on(token, at):
             type_ = next(it for _, it, name in record.fields if name is declaring)

@@ -1,44 +1,55 @@
 """Runs of a well-typed module, by docs/LANGUAGE.md: what is written, and how the run ends."""
-import copy
+from __future__ import annotations
 
+import copy
+from collections.abc import Iterable
+from typing import Any, Dict, Tuple
+
+from reference.names import Declared
+from reference.parser import Node
+from reference.scanner import Token
 from reference.text import Text
-from reference.types import INTEGER
+from reference.types import INTEGER, Type
 from reference.values import Ends, apply, whole
+
+Activation = Dict[Declared, Any]  # of a variable its cell, of a procedure the activation in which it was declared
+Place = Tuple[Any, Any]  # a holder, and a key in it
 
 
 class Run:
     """A run of a well-typed module."""
 
-    def __init__(self, text, given=(), calls=64, turns=100000):
-        self.given, self.calls, self.turns, self.open, self.out = list(given), calls, turns, 0, []
+    def __init__(self, text: str, given: Iterable[int] = (), calls: int = 64, turns: int = 100000) -> None:
+        self.given, self.calls, self.turns, self.open = list(given), calls, turns, 0
+        self.out: list[int | str] = []
         found = Text(text)
         self.bound = found.bound
-        frame = {}
+        frame: Activation = {}
         try:
             self.enter(found.module, frame)
             self.end = "Done"
         except Ends as why:
-            self.end = why.args[0]
+            self.end = str(why)
 
-    def output(self):
-        return "".join(it if it == "\n" else f" {it}" for it in self.out)
+    def output(self) -> str:
+        return "".join("\n" if it == "\n" else f" {it}" for it in self.out)
 
-    def enter(self, node, frame):
+    def enter(self, node: Node, frame: Activation) -> None:
         """Runs a body with new variables in an activation. An activation maps each variable to a cell, and each
         procedure to the activation in which it was declared."""
         for names, _ in node.variables:
             for it in names:
                 declared = self.bound[it]
                 frame[declared] = [zero(declared.type)]
-        for it in node.procedures:
-            frame[it.declared] = frame
+        for procedure in node.procedures:
+            frame[procedure.declared] = frame
         self.sequence(node.body, frame)
 
-    def sequence(self, body, frame):
+    def sequence(self, body: list[Node], frame: Activation) -> None:
         for it in body:
             self.statement(it, frame)
 
-    def statement(self, node, frame):
+    def statement(self, node: Node, frame: Activation) -> None:
         if node.kind == "assign":
             put(*self.place(node.target, frame), copy.deepcopy(self.value(node.right, frame)))
         elif node.kind == "call":
@@ -66,12 +77,13 @@ class Run:
                     raise Ends("TurnBound")
         return None
 
-    def call(self, node, frame):
+    def call(self, node: Node, frame: Activation) -> None:
         found = self.bound[node.name]
-        cells = []
-        for (by_place, _), it in zip(found.formals, node.arguments):
-            cells.append(self.place(it, frame) if by_place else ([copy.deepcopy(self.value(it, frame))], 0))
-        if found.is_predeclared:
+        cells = [
+            self.place(argument, frame) if by_place else ([copy.deepcopy(self.value(argument, frame))], 0)
+            for (by_place, _), argument in zip(found.formals, node.arguments)
+        ]
+        if not found.node:
             return self.predeclared(found.name, cells)
         if self.open >= self.calls:
             raise Ends("CallBound")
@@ -84,7 +96,7 @@ class Run:
         self.open -= 1
         return None
 
-    def predeclared(self, name, cells):
+    def predeclared(self, name: str, cells: list[Place]) -> None:
         if name == "Read":
             if not self.given:
                 raise Ends("InputEnd")
@@ -95,13 +107,13 @@ class Run:
         else:
             self.out.append("\n")
 
-    def place(self, node, frame):
+    def place(self, node: Node, frame: Activation) -> Place:
         """A place: a holder and a key in it."""
         cell = frame[self.bound[node.first]]
         holder, key = cell if isinstance(cell, tuple) else (cell, 0)
-        for token, part in node.selectors:
+        for _, part in node.selectors:
             holder = holder[key]
-            if token.kind == "[":
+            if isinstance(part, Node):
                 key = self.value(part, frame)
                 if not 0 <= key < len(holder):
                     raise Ends("Index")
@@ -109,7 +121,7 @@ class Run:
                 key = part.text
         return holder, key
 
-    def value(self, node, frame):
+    def value(self, node: Node, frame: Activation) -> Any:
         if node.kind == "integer":
             return int(node.first.text)
         if node.kind == "parens":
@@ -132,8 +144,8 @@ class Run:
         return right if node.operator in ("&", "OR") else apply(node.operator, left, right)
 
 
-def put(holder, key, value):
-    """Gives a place another value. Of an array or a record each part stays where it is, as other places lead to it."""
+def put(holder: Any, key: Any, value: Any) -> None:
+    """Gives a place another value. Of an array or a record each part stays where it is, as VAR parameters lead to it still."""
     if isinstance(value, (list, dict)):
         for it in value if isinstance(value, dict) else range(len(value)):
             put(holder[key], it, value[it])
@@ -141,19 +153,20 @@ def put(holder, key, value):
         holder[key] = value
 
 
-class Frame(dict):
+class Frame(Activation):
     """An activation: what isn't found here is found in the one round it."""
 
-    def __init__(self, outer):
+    def __init__(self, outer: Activation) -> None:
         super().__init__()
         self.outer = outer
 
-    def __missing__(self, declared):
+    def __missing__(self, declared: Declared) -> Any:
         return self.outer[declared]
 
 
-def zero(type_):
-    """The first value of a variable."""
+def zero(type_: Type | None) -> Any:
+    """The first value of a variable of a well-typed module."""
+    assert type_
     if type_.form == "array":
         return [zero(type_.element) for _ in range(type_.length)]
     if type_.form == "record":

@@ -1,4 +1,6 @@
 """Scanning, by docs/LANGUAGE.md: the lexemes of a text, and what is wrong with them. Offsets count characters."""
+from __future__ import annotations
+
 import re
 
 WORDS = (
@@ -11,11 +13,11 @@ LIMIT, MOST = 1048576, 2147483647  # bytes of a text, the greatest number
 class Token:
     """A lexeme: its kind is 'ident', 'integer', 'comment', 'end', or its own spelling."""
 
-    def __init__(self, kind, text, start):
+    def __init__(self, kind: str, text: str, start: int) -> None:
         self.kind, self.text, self.start, self.end = kind, text, start, start + len(text)
 
 
-def comment_end(text, at):
+def comment_end(text: str, at: int) -> int | None:
     """Where the comment that opens here ends, or None."""
     depth = 0
     while at < len(text):
@@ -30,15 +32,19 @@ def comment_end(text, at):
     return None
 
 
-SPACE, WORD, DIGITS, JOINED = map(re.compile, (r"[ \t\r\n]+", r"[A-Za-z][A-Za-z0-9]*", r"[0-9]+", r"[0-9][A-Za-z0-9]*"))
+SPACE = re.compile(r"[ \t\r\n]+")
+WORD = re.compile(r"[A-Za-z][A-Za-z0-9]*")
+NUMBER = re.compile(r"([0-9]+)[A-Za-z0-9]*")  # and the letters that join it
 SYMBOL = re.compile("|".join(map(re.escape, SYMBOLS)))
 
 
-def scan(text):
+def scan(text: str) -> tuple[list[Token], list[tuple[str, int, int]]]:
     """The lexemes that aren't white space, and the faults, triples of a code, a start and an end."""
     if len(text.encode()) > LIMIT:
         return [], [("TooLong", 0, 0)]
-    found, faults, at = [], [], 0
+    found: list[Token] = []
+    faults: list[tuple[str, int, int]] = []
+    at = 0
     while at < len(text) and len(faults) < 100:
         if space := SPACE.match(text, at):
             at = space.end()
@@ -52,14 +58,13 @@ def scan(text):
         elif word := WORD.match(text, at):
             found.append(Token(word[0] if word[0] in WORDS else "ident", word[0], at))
             at = word.end()
-        elif digits := DIGITS.match(text, at):
-            whole = JOINED.match(text, at)
-            if whole.end() > digits.end():
-                faults.append(("NumberJoinsLetter", at, whole.end()))
-            elif int(digits[0]) > MOST:
-                faults.append(("NumberTooLarge", at, digits.end()))
-            found.append(Token("integer", digits[0], at))
-            at = whole.end()
+        elif number := NUMBER.match(text, at):
+            if number.end() > number.end(1):
+                faults.append(("NumberJoinsLetter", at, number.end()))
+            elif int(number[1]) > MOST:
+                faults.append(("NumberTooLarge", at, number.end()))
+            found.append(Token("integer", number[1], at))
+            at = number.end()
         elif symbol := SYMBOL.match(text, at):
             found.append(Token(symbol[0], symbol[0], at))
             at = symbol.end()

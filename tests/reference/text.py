@@ -1,11 +1,16 @@
 """A text with everything that the rules say of it, layer by layer: a layer is gone through only where those before it found no fault."""
+from __future__ import annotations
+
 import re
 import sys
+from typing import Tuple
 
 from reference import types
-from reference.names import Scopes
+from reference.names import Declared, Scopes
 from reference.parser import Parser, Refused
-from reference.scanner import scan
+from reference.scanner import Token, scan
+
+Span = Tuple[int, int]
 
 CODES = (
     "TooLong BadChar OpenComment NumberTooLarge NumberJoinsLetter Syntax TooDeep Duplicate Undeclared EndName WrongKind "
@@ -20,10 +25,12 @@ class Text:
     """`faults` has a code, a start, an end and, of the parser's, a message for each. `bound` and `fields` are those of Scopes
     and Types; without a tree both are empty."""
 
-    def __init__(self, text):
-        self.text, self.module, self.bound, self.fields = text, None, {}, []
+    def __init__(self, text: str) -> None:
+        self.text = text
+        self.bound: dict[Token, Declared] = {}
+        self.fields: list[tuple[Token, Token, types.Type]] = []
         self.lexemes, scanning = scan(text)
-        self.faults = [(*it, None) for it in scanning[:MAX_FAULTS]]
+        self.faults: list[tuple[str, int, int, str | None]] = [(*it, None) for it in scanning[:MAX_FAULTS]]
         if self.faults:
             return
         self.parser = Parser(text, self.lexemes)
@@ -40,10 +47,10 @@ class Text:
         self.faults = [(code, start, end, None) for start, end, code in found[:MAX_FAULTS]]
 
     @property
-    def is_well_typed(self):
+    def is_well_typed(self) -> bool:
         return not self.faults
 
-    def position(self, at, utf8=False):
+    def position(self, at: int, utf8: bool = False) -> tuple[int, int]:
         """Line and character of an offset."""
         before = re.split(r"\r\n|\r|\n", self.text[:at])
         # (between CR and LF is the end of the line)
@@ -52,6 +59,6 @@ class Text:
         line = before[-1]
         return len(before) - 1, len(line.encode()) if utf8 else len(line.encode("utf-16-le")) // 2
 
-    def places(self, declared):
+    def places(self, declared: Declared) -> list[Span]:
         """Where a declaration is declared, used and closed, in order."""
         return sorted((token.start, token.end) for token, it in self.bound.items() if it is declared)

@@ -1,4 +1,12 @@
 """Values: what an operator gives, and what a constant expression is, by docs/LANGUAGE.md."""
+from __future__ import annotations
+
+from collections.abc import Callable
+from typing import Union
+
+from reference.parser import Node
+
+Value = Union[int, bool]
 LEAST, MOST = -2147483648, 2147483647
 
 
@@ -6,13 +14,13 @@ class Ends(Exception):
     """The end of a run, or of an evaluation."""
 
 
-def whole(number):
+def whole(number: int) -> int:
     if not LEAST <= number <= MOST:
         raise Ends("Overflow")
     return number
 
 
-def apply(operator, left, right):
+def apply(operator: str, left: Value, right: Value) -> Value:
     """The value of an operation on two values, & and OR aside."""
     if operator in ("DIV", "MOD"):
         if right < 1:
@@ -23,7 +31,7 @@ def apply(operator, left, right):
     return {"=": left == right, "#": left != right, "<": left < right, "<=": left <= right, ">": left > right, ">=": left >= right}[operator]
 
 
-def value_of(node, constant_of):
+def value_of(node: Node, constant_of: Callable[[Node], Value]) -> Value:
     """The value of a constant expression."""
     if node.kind == "integer":
         return int(node.first.text)

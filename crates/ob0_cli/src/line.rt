@@ -1,4 +1,14 @@
 //! The command line.
+//!
+//! A further subcommand: an `App` in `specs/Lines.antt`, a case of `HoldsValues` and of `NeedsAt`, and in
+//! `proofs/Named.antt` a `.._fits` and a `.._needs` by `refl` under `unfolding clap_on_literals nth`; an `App` of
+//! several arguments needs a line for each in the answers of its definition (`app_of` is put together step by step,
+//! with `global ≡ false` of each argument as a clause `own`). Nothing depends on the options of `serve`: only its `App`
+//! and `serve_definition` know them.
+//!
+//! Traps: a `ghost` clause can't be picked where a function takes a `&str`, so the bound of a number is a function of
+//! its name (`most_of`); a local named `run` is `run'` in the answers; `where` blocks want every `_` written out. Help
+//! texts are constants of at most 80 columns, one for each command: a test counts.
 
 ghost use Rattle.std.specs.Prelude.{◌≡◌, ◌≤◌, Some, false, IfOk, IfErr, map};
 ghost use Rattle.clap.specs.Words.{app_of, first_of, found_of, new_app, rows_of, rule_of, subcommand_rows_of};

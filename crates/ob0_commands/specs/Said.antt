@@ -1,4 +1,8 @@
 -- What the commands print on standard error, in bytes of UTF-8.
+-- `Says` is nothing printed (the writer is as it was, not its bytes alone, which may not be known) or a line, which is
+-- flushed, unless the writer failed. What a command says is a function of that line to what has a fault, an end or a
+-- refusal (`NamesFault`, `PrintsEnded`, `RefusesName`), so the line is that of the same run and the same refusal as the
+-- status and the output.
 -- Rule: docs/PROTOCOL.md, The program 2, 3, 5, 6 and 7.
 use Rattle.std.specs.Prelude.{◌≡◌, ◌++◌, ℕ, List, Option, Some, None, Bool, true, false, codes}
 use Rattle.std.specs.Io.KnownBytes.{Appends}

@@ -1,4 +1,10 @@
 -- The statuses with which a command on a file ends.
+-- Status 4 has two sides. `unreported` says what is wrong where it comes (`CanNotReport`, `CanNotRun`); `readable`,
+-- `unfailed` and `read` say that with any other status the file has a text or is too long, and neither output nor input
+-- has failed since before. Only of an input that is no list of numbers the other side is weaker: what 0 and 1 mean has
+-- such a list (`IsInputOf`), and 5 may come for either. `text_of` can't return `Memory` (it allocates nothing), so 5
+-- comes only for a file that isn't too long (`memory`). Each command prints after its last allocation, so a fault other
+-- than `Write` leaves the output as it was (`PrintsNothing`), and `unprinted` says so of every status but 0 and 1.
 -- Rule: docs/PROTOCOL.md, The program 8.
 use Rattle.std.specs.Prelude.{◌≡◌, ◌≢◌, ◌≤◌, ◌⊎◌, ℕ, List, Option, Bool, true, length}
 use Rattle.std.specs.Str.{IsUtf8}

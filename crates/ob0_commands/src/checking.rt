@@ -1,4 +1,7 @@
 //! Printing what is wrong with a file.
+//!
+//! A file of more bytes than a text may have is too long whatever its bytes, so that is reported before UTF-8 is looked
+//! at. All positions are found in one pass.
 
 ghost use Rattle.std.specs.Prelude.{◌≡◌, ◌≢◌, ◌<◌, ◌≤◌, [], true, false, IfOk, IfNone, IfSome, MatchOption, OnOk, IfErr, codes, length, map, string_bytes};
 ghost use Rattle.std.specs.Io.KnownBytes.{Appends};

@@ -1,4 +1,10 @@
 //! The numbers of an input.
+//!
+//! The input is read whole before the run, and its words are cut out of its bytes, so only a word has to be UTF-8. A
+//! word with a `+` is no number, though Rust's parse would take it. `WritesNumbers` goes from the beginning, and so
+//! does the loop's invariant: what is left and writes more, writes what was found and more (`Gathered`). That a text is
+//! refused only if it is no list of numbers is the other way: where the text is one, so is what is left, and its first
+//! word is all up to white space (`first_word` of `proofs/Words`).
 
 ghost use Rattle.std.specs.Prelude.{◌≡◌, ◌≤◌, ℤ, IfOk, OnOk, IfErr, IfSome, MatchOption, length, suc};
 ghost use Rattle.std.specs.List.{position_or_len};

@@ -1,4 +1,10 @@
 //! Another name in a file's text.
+//!
+//! `rename_text` makes one analysis of the text: the renaming is put to it (`rename_in` of `ob0_edits`), and where the
+//! text isn't a well-typed module its `diagnoses` are printed. So it doesn't call `check`; `text_of` and
+//! `print_diagnoses` serve both. The part after the test of UTF-8 is a function of its own (`rename_in_text`), since
+//! the proof needs that its text is a `&str`: `rename_in` speaks of the characters of a text, and `diagnoses` of its
+//! bytes.
 
 ghost use Rattle.std.specs.Prelude.{◌≡◌, ◌≢◌, ◌≤◌, true, false, IfOk, IfErr, OnOk, OnErr, length};
 ghost use Rattle.ob0_commands.specs.Outputs.{IsHandedOn};

@@ -1,4 +1,14 @@
 //! Running a file's module: its input, and what a run outputs.
+//!
+//! `run_text` analyses and lowers the text once: a question of its own (`LoweringQuestion`, for `ask` of
+//! `ob0_analysis`) gives the program, or what is wrong with the text. Then the input is read, and the program is
+//! executed on it. Of the module nothing has to live so long: that the program runs as a module of this text is a fact
+//! about both (`IsLoweredTo`), and `execute` makes the defined run of it (`RunsAs`).
+//!
+//! What a run outputs is written in pieces of at most `PIECE_SIZE` bytes, so its text isn't stored beside its items
+//! (`print_items`): `IsWrittenBut` says what was written and what waits. A piece is an `ArrayString`, which is on the
+//! stack and doesn't grow; it is written where the next item might not fit. So nothing is allocated once something is
+//! printed (a `String` could allocate between pieces, as far as a contract knows).
 
 ghost use Rattle.std.specs.Prelude.{◌≡◌, ◌≢◌, ◌+◌, ◌≤◌, ◌++◌, true, false, IfOk, IfErr, IfNone, MatchOption, MatchResult, OnOk, OnErr, length, option_map, suc};
 ghost use Rattle.std.specs.Io.KnownBytes.{Appends};

@@ -1,4 +1,11 @@
 -- Where the lines of a text start, in bytes.
+-- A line starts at an offset by the bytes on both sides alone: after LF, and after a CR that no LF follows.
+-- `starts_after` says it of a run of bytes, with what follows them; the text's start is an offset after an LF that
+-- precedes the text, so the whole table is `starts_after 0 (LF ∷ bytes) []` (`StartLaws.table`, by the characters'
+-- starts `following_ends`). It splits at any place (`following-append`), sees only the first byte after
+-- (`following-next`), and moves (`following-moved`). So a change keeps the starts before it, tests its own bytes with
+-- one on either side, and moves the starts after it (`table-mended`): CR and LF that join or part at a border are no
+-- case of their own.
 -- Rule: docs/PROTOCOL.md, Positions 2 (by bytes, for the table of lines).
 use Rattle.std.specs.Prelude.{◌≡◌, ℕ, suc, ◌+◌, ◌-◌, ◌<◌, ◌≤◌, if◌then◌else◌, List, [], ◌∷◌, ◌++◌, length, map, reverse, slice_index, refl}
 use Rattle.std.specs.Str.{chars}

@@ -1,5 +1,10 @@
 -- Places in a text that a pass over it has reached,
 -- and what the pass knows of all that follows them.
+-- What a pass knows of *all* places after it: `IsCounted` (positions of later offsets are counted on from here) and
+-- `IsSought` (what precedes the sought position, and each later one, is found in the rest). Each step of a loop keeps
+-- this by one lemma a case (`PositionSteps`, `PlaceSteps`); so stopping and going on again is no case of its own, and
+-- the loops over lists need no answers. In a pass towards a position nothing is known of positions between CR and LF,
+-- so `IsSought` speaks of positions from the sought one on.
 -- Rule: none; for private contracts of passes over a text.
 use Rattle.std.specs.Prelude.{◌≡◌, ℕ, ◌+◌, ◌-◌, ◌<◌, ◌≤◌, ◌⊎◌, if◌then◌else◌, ◌==◌, List, ◌++◌, length, drop}
 use Rattle.std.specs.Str.{IsUtf8, chars}

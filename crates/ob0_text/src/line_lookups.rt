@@ -1,4 +1,15 @@
 //! What is found by the table of a text's lines.
+//!
+//! Halving: `starts_before` returns the length of the prefix, wherever the table is cut into what is below a bound and
+//! what isn't; the loop keeps that this length is between its two ends (`in_front`, `not_in_front` in `Halving`). A
+//! pass may begin at any line's start (`line_counted`, `line_sought` in `LinePlaces`), so correctness doesn't need the
+//! nearest line; the nearest is for cost alone.
+//!
+//! Positions and offsets of a list go on from the place before where it is at most 32 bytes away or in the same line,
+//! and else from the start of the line, which is found in the table (`nearest_before`, `place_after`). So they cost
+//! what lies between places in one line, and a halving for each other place; on one long line they are one pass, as
+//! those of the plain store are. Both ends of a changed range are looked for in one pass where they are in one line
+//! (`bounds_in`).
 
 ghost use Rattle.std.specs.Prelude.{◌≡◌, ◌+◌, ◌-◌, ◌<◌, ◌≤◌, IfOk, length, map, min, slice_get, slice_index};
 ghost use Rattle.std.specs.Option.{option_map};

@@ -1,4 +1,8 @@
 //! The store of lines: one `String`, and the table of where its lines start.
+//!
+//! Its model is the text and the unit; its invariant says that its table is the text's (`HasLines`). All clauses of
+//! `TextStore` are met as they are, by functions over a text and its table (`line_lookups.rt`, `line_table.rt`). The
+//! session, `serve` and the commands run over this store; `Whole` is the plain one, with which tests compare it.
 
 ghost use Rattle.std.specs.Prelude.{◌≡◌, slice_get};
 ghost use Rattle.std.specs.Option.{option_map};

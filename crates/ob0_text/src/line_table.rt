@@ -1,4 +1,13 @@
 //! The table of a text's lines, in two parts.
+//!
+//! The starts before the last change are offsets, those after it distances from the text's end, the last line's first.
+//! What stays after a change then keeps its distance (`with_the_end` in `LineTables`), and a change costs the starts
+//! that it adds or drops and those between it and the change before (`move_left`, `move_right`, whose clauses say that
+//! no start changes). Changes far apart in turn move all that lies between them each time.
+//!
+//! `replace` allocates all memory first: the starts of the new text, capacity in both parts, then the text. After that
+//! no allocation can fail, which the contracts of `reserve` and `extend_from_slice` say. Where an allocation fails
+//! while starts are moved, the table is cut elsewhere and is still the text's.
 
 ghost use Rattle.std.specs.Prelude.{◌≡◌, ◌+◌, ◌<◌, ◌≤◌, ◌++◌, IfOk, OnOk, OnErr, drop, length, min, slice_index, string_bytes, take};
 ghost use Rattle.std.specs.Str.{IsCharBoundary};

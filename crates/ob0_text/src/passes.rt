@@ -1,4 +1,9 @@
 //! Passes over a text that find positions of offsets and offsets of positions.
+//!
+//! A pass towards an offset takes ASCII by its bytes after the last stretch and over lines (`past_ascii`; CR and other
+//! characters are decoded), since places of edits are close to one another. A pass towards a position decodes: in the
+//! store of lines it has fewer than 64 characters of the position's line to go. Both keep what they kept (`IsPlace`,
+//! `IsPlaceBefore`); `StretchSteps` takes either past the characters of a stretch, by the step past one character.
 
 ghost use Rattle.std.specs.Prelude.{◌≡◌, ◌==◌, ◌||◌, ◌+◌, ◌-◌, ◌<◌, ◌≤◌, true, IfOk, IfSome, None, map};
 ghost use Rattle.std.specs.Str.{IsCharBoundary, chars};

@@ -1,4 +1,9 @@
 //! Stretches of a line: characters that are one after another, counted together.
+//!
+//! A stretch has up to 64 bytes of whole characters, of which none ends a line. Nothing of it is decoded: line ends are
+//! counted, and in UTF-16 the bytes that begin a character, those of four bytes twice (`utf16_units_at`; `StretchBytes`
+//! has it that this is the width of the characters). Both counts are loops without an early exit over a number of 8
+//! bits, which the compiler makes for many bytes at a time; a flag instead of the number of line ends isn't made so.
 
 ghost use Rattle.std.specs.Prelude.{◌≡◌, ◌==◌, ◌||◌, ◌+◌, ◌<◌, ◌≤◌, false, IfSome, length, sum_by};
 ghost use Rattle.std.specs.List.{All};
