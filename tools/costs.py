@@ -31,7 +31,7 @@ class Module(NamedTuple):
     def kind(self, lemmas: List[str]) -> str:
         """What a module is: one of our own files of definitions or lemmas, or one that rattle makes for a function."""
         part, _, inside = self.name.partition(".")
-        if part == "specs":
+        if part == "specs" and "." not in inside:
             return "definitions"
         if inside in lemmas:
             return "lemmas"
@@ -45,10 +45,11 @@ class Module(NamedTuple):
         path = inside.split(".")
         if part != "proofs" or len(path) < 2:
             return self.name
-        made = [i for i, it in enumerate(path) if re.match(r"(?:[A-Z]\w*(?:-[\d-]+)?|The\w+)$", it)]
         # (a type's name is part of a function's path, what comes after the function isn't)
-        end = made[-1] if made else len(path)
-        return ".".join(path[: max(1, end)])
+        end = len(path)
+        while end > 1 and re.match(r"[A-Z]\w*(?:-[\w-]+)?$", path[end - 1]):
+            end -= 1
+        return ".".join(path[:end])
 
 
 def modules_of(crate: str) -> List[Module]:
