@@ -14,6 +14,7 @@ ghost use Rattle.ob0_text.specs.LineStarts.{with_ending};
 use crate::line_lookups::{bounds_in, line_in, offset_in, offsets_in, position_in, positions_in};
 use crate::line_table::LineTable;
 use crate::position_types::{Position, Range, Unit};
+use crate::replaced_bytes::ReplacedBytes;
 use crate::stores::TextStore;
 use std::alloc::{AllocError, Global};
 use std::marker::Model;
@@ -93,10 +94,15 @@ impl TextStore for Lines {
         offsets_in(alloc, self.text.as_str(), &self.table, self.unit, positions)
     }
 
-    fn replace(&mut self, range: Range, text: &str) -> Result<(), AllocError> {
+    fn replace_at(&mut self, range: Range, text: &str) -> Result<ReplacedBytes, AllocError> {
         let (start, end) = self.bounds(range);
         let (from, to) = (start.min(end), start.max(end));
-        self.table.replace(&mut self.text, from, to, text)
+        self.table.replace(&mut self.text, from, to, text)?;
+        Ok(ReplacedBytes {
+            from,
+            removed: to - from,
+            added: text.len(),
+        })
     }
 
     fn as_str(&self) -> &str {
