@@ -1,4 +1,4 @@
--- A text whose identifiers between are written as those before them has its identifiers written as before.
+-- A text whose tokens between are written as those before them has its tokens written as before: its identifiers, and all its words.
 use Rattle.std.proofs.Common.{◌≡◌, ℕ, ◌+◌, ◌-◌, ◌≤◌, List, [], ◌∷◌, ◌++◌, map, take, drop, refl, sym, ap, ap₂, ◌∙◌, arith, ⊎_elim}
 use Rattle.std.specs.List.{All}
 use Rattle.std.proofs.lemmas.List.{take-append-drop, drop-drop, drop-take, take-take}
@@ -6,14 +6,11 @@ use Rattle.std.proofs.lemmas.List.Elements.{All-head, All-tail}
 use Rattle.std.proofs.lemmas.Bool.{cases_lt}
 use Rattle.ob0_scan.specs.declared.lexeme.Span.{Span}
 use Rattle.ob0_scan.specs.declared.lexeme.Token.{Token}
+use Rattle.ob0_scan.specs.declared.lexeme.TokenKind.{TokenKind}
 use Rattle.ob0_scan.specs.declared.rescanning.Between.{Between}
 use Rattle.ob0_scan.specs.Scanned.{Scanned, spanned}
-use Rattle.ob0_scan.specs.Reused.{IsReplaced, name_of, names_in, move_span, moved_token}
+use Rattle.ob0_scan.specs.Reused.{IsReplaced, name_of, names_in, words_in, move_span, moved_token}
 use Rattle.ob0_scan.specs.Rescanning.{IsBetween, with_between}
-
-names-append : (text : List ℕ) (a b : List Token) → names_in text (a ++ b) ≡ names_in text a ++ names_in text b
-names-append text [] b = refl
-names-append text (t ∷ a) b = ap (λ ns. name_of t.kind (spanned text t.span) ∷ ns) (names-append text a b)
 
 -- what lies in the first bytes of a text is there in those alone
 in_first : (text : List ℕ) (n s w : ℕ) → w ≤ n - s → take w (drop s (take n text)) ≡ take w (drop s text)
@@ -47,33 +44,52 @@ module _ (old new : List ℕ) (from removed added : ℕ) (r : IsReplaced old new
         further : (text : List ℕ) (n m : ℕ) → drop (n + m) text ≡ drop m (drop n text)
         further text n m = sym (drop-drop m n text)
 
-  before_stays : (tokens : List Token) → All (λ (t : Token). t.span.end ≤ from) tokens → names_in new tokens ≡ names_in old tokens
-  before_stays [] h = refl
-  before_stays (t ∷ tokens) h =
-      ap₂ (λ n ns. name_of t.kind n ∷ ns) (in_front old new from t.span r.front (All-head (λ (x : Token). x.span.end ≤ from) t tokens h)) (before_stays tokens (All-tail (λ (x : Token). x.span.end ≤ from) t tokens h))
+-- what is made of each token, by its kind and by how it is written
+module _ {X : Type 0} (of : TokenKind → List ℕ → X) where
+  abbrev written : List ℕ → List Token → List X
+  written text tokens = map (λ (t : Token). of t.kind (spanned text t.span)) tokens
 
-  after_stays : (tokens : List Token) → All (λ (t : Token). from + removed ≤ t.span.start) tokens → names_in new (map (moved_token removed added) tokens) ≡ names_in old tokens
-  after_stays [] h = refl
-  after_stays (t ∷ tokens) h =
-      ap₂ (λ n ns. name_of t.kind n ∷ ns) (at_back t.span (All-head (λ (x : Token). from + removed ≤ x.span.start) t tokens h)) (after_stays tokens (All-tail (λ (x : Token). from + removed ≤ x.span.start) t tokens h))
+  written-append : (text : List ℕ) (a b : List Token) → written text (a ++ b) ≡ written text a ++ written text b
+  written-append text [] b = refl
+  written-append text (t ∷ a) b = ap (λ ns. of t.kind (spanned text t.span) ∷ ns) (written-append text a b)
+
+  before_stays : (old new : List ℕ) (from removed added : ℕ) → IsReplaced old new from removed added → (tokens : List Token) → All (λ (t : Token). t.span.end ≤ from) tokens → written new tokens ≡ written old tokens
+  before_stays old new from removed added r [] h = refl
+  before_stays old new from removed added r (t ∷ tokens) h =
+      ap₂ (λ n ns. of t.kind n ∷ ns) (in_front old new from t.span r.front (All-head (λ (x : Token). x.span.end ≤ from) t tokens h)) (before_stays old new from removed added r tokens (All-tail (λ (x : Token). x.span.end ≤ from) t tokens h))
+
+  after_stays : (old new : List ℕ) (from removed added : ℕ) → IsReplaced old new from removed added → (tokens : List Token) → All (λ (t : Token). from + removed ≤ t.span.start) tokens → written new (map (moved_token removed added) tokens) ≡ written old tokens
+  after_stays old new from removed added r [] h = refl
+  after_stays old new from removed added r (t ∷ tokens) h =
+      ap₂ (λ n ns. of t.kind n ∷ ns) (at_back old new from removed added r t.span (All-head (λ (x : Token). from + removed ≤ x.span.start) t tokens h)) (after_stays old new from removed added r tokens (All-tail (λ (x : Token). from + removed ≤ x.span.start) t tokens h))
+
+  written_stays : (old : Scanned) (new : List ℕ) (from removed added : ℕ) (b : Between) → IsReplaced old.text new from removed added → IsBetween old new from removed added b
+      → written new b.tokens.items ≡ written old.text (take (b.following.tokens - b.front.tokens) (drop b.front.tokens old.tokens))
+      → written new (with_between old new removed added b).tokens ≡ written old.text old.tokens
+  written_stays old new from removed added b r w same =
+      let front : List Token = take b.front.tokens old.tokens in
+      let gone : List Token = take (b.following.tokens - b.front.tokens) (drop b.front.tokens old.tokens) in
+      let rest : List Token = drop b.following.tokens old.tokens in
+      let place : b.front.tokens + (b.following.tokens - b.front.tokens) ≡ b.following.tokens = omega (arith, w.tokens_ordered) in
+      let parts : gone ++ rest ≡ drop b.front.tokens old.tokens =
+      ap (λ l. gone ++ l) (ap (λ n. drop n old.tokens) (sym place) ∙ sym (drop-drop (b.following.tokens - b.front.tokens) b.front.tokens old.tokens))
+      ∙ take-append-drop (b.following.tokens - b.front.tokens) (drop b.front.tokens old.tokens) in
+      let middle : written new (b.tokens.items ++ map (moved_token removed added) rest) ≡ written old.text (drop b.front.tokens old.tokens) =
+      written-append new b.tokens.items (map (moved_token removed added) rest)
+      ∙ ap₂ (λ x y. x ++ y) same (after_stays old.text new from removed added r rest w.tokens_after)
+      ∙ sym (written-append old.text gone rest)
+      ∙ ap (written old.text) parts in
+      written-append new front (b.tokens.items ++ map (moved_token removed added) rest)
+      ∙ ap₂ (λ x y. x ++ y) (before_stays old.text new from removed added r front w.tokens_before) middle
+      ∙ sym (written-append old.text front (drop b.front.tokens old.tokens))
+      ∙ ap (written old.text) (take-append-drop b.front.tokens old.tokens)
 
 pub names_stay : (old : Scanned) (new : List ℕ) (from removed added : ℕ) (b : Between) → IsReplaced old.text new from removed added → IsBetween old new from removed added b
     → names_in new b.tokens.items ≡ names_in old.text (take (b.following.tokens - b.front.tokens) (drop b.front.tokens old.tokens))
     → names_in new (with_between old new removed added b).tokens ≡ names_in old.text old.tokens
-names_stay old new from removed added b r w same =
-    let front : List Token = take b.front.tokens old.tokens in
-    let gone : List Token = take (b.following.tokens - b.front.tokens) (drop b.front.tokens old.tokens) in
-    let rest : List Token = drop b.following.tokens old.tokens in
-    let place : b.front.tokens + (b.following.tokens - b.front.tokens) ≡ b.following.tokens = omega (arith, w.tokens_ordered) in
-    let parts : gone ++ rest ≡ drop b.front.tokens old.tokens =
-    ap (λ l. gone ++ l) (ap (λ n. drop n old.tokens) (sym place) ∙ sym (drop-drop (b.following.tokens - b.front.tokens) b.front.tokens old.tokens))
-    ∙ take-append-drop (b.following.tokens - b.front.tokens) (drop b.front.tokens old.tokens) in
-    let middle : names_in new (b.tokens.items ++ map (moved_token removed added) rest) ≡ names_in old.text (drop b.front.tokens old.tokens) =
-    names-append new b.tokens.items (map (moved_token removed added) rest)
-    ∙ ap₂ (λ x y. x ++ y) same (after_stays old.text new from removed added r rest w.tokens_after)
-    ∙ sym (names-append old.text gone rest)
-    ∙ ap (names_in old.text) parts in
-    names-append new front (b.tokens.items ++ map (moved_token removed added) rest)
-    ∙ ap₂ (λ x y. x ++ y) (before_stays old.text new from removed added r front w.tokens_before) middle
-    ∙ sym (names-append old.text front (drop b.front.tokens old.tokens))
-    ∙ ap (names_in old.text) (take-append-drop b.front.tokens old.tokens)
+names_stay old new from removed added b r w same = written_stays name_of old new from removed added b r w same
+
+pub words_stay : (old : Scanned) (new : List ℕ) (from removed added : ℕ) (b : Between) → IsReplaced old.text new from removed added → IsBetween old new from removed added b
+    → words_in new b.tokens.items ≡ words_in old.text (take (b.following.tokens - b.front.tokens) (drop b.front.tokens old.tokens))
+    → words_in new (with_between old new removed added b).tokens ≡ words_in old.text old.tokens
+words_stay old new from removed added b r w same = written_stays (λ k text. record { kind = k; text = text }) old new from removed added b r w same

@@ -6,7 +6,7 @@ use Rattle.ob0_scan.specs.declared.lexeme.Span.{Span}
 use Rattle.ob0_scan.specs.declared.lexeme.Token.{Token}
 use Rattle.ob0_scan.specs.declared.lexeme.TokenKind.{TokenKind}
 use Rattle.ob0_scan.specs.declared.lexeme.TokenKind.TheVariants as kind
-use Rattle.ob0_scan.specs.Scanned.{Scanned, spanned}
+use Rattle.ob0_scan.specs.Scanned.{Scanned, Word, read_in, spanned}
 
 -- The new text has `added` bytes instead of the `removed` bytes of the old text from `from` on.
 -- Before and after these the two texts are equal.
@@ -36,6 +36,10 @@ name_of (kind.Symbol symbol) text = []
 -- with nothing for each other token
 abbrev pub names_in : List ℕ → List Token → List (List ℕ)
 names_in text tokens = map (λ (t : Token). name_of t.kind (spanned text t.span)) tokens
+
+-- the tokens of a text as the grammar sees them: their kinds, and how they are written
+abbrev pub words_in : List ℕ → List Token → List Word
+words_in text tokens = map (read_in text) tokens
 
 -- a span after the change is moved by what was added less what was removed
 abbrev pub move_span : ℕ → ℕ → Span → Span

@@ -7,10 +7,10 @@ ghost use Rattle.ob0_scan.specs.declared.lexeme.Span.{Span};
 ghost use Rattle.ob0_scan.specs.declared.lexeme.Token.{Token};
 ghost use Rattle.ob0_scan.specs.declared.lexeme.TokenKind.TheVariants.{Identifier, Integer};
 ghost use Rattle.ob0_scan.specs.declared.rescanning.NotRescanned.TheVariants as rescanned;
-ghost use Rattle.ob0_scan.specs.Scanned.{IsScanOf, spanned};
+ghost use Rattle.ob0_scan.specs.Scanned.{IsScanOf, read_in, spanned};
 ghost use Rattle.ob0_scan.specs.Refused.{IsRightRefusal, IsRightRefusalOver};
 ghost use Rattle.ob0_scan.specs.UnderWay.{IsUnderWay};
-ghost use Rattle.ob0_scan.specs.Reused.{IsReplaced, Reuses, kinds, move_span, moved_token, tokens_before_change, comments_before_change, back_tokens, back_comments, valueless, name_of, names_in};
+ghost use Rattle.ob0_scan.specs.Reused.{IsReplaced, Reuses, kinds, move_span, moved_token, tokens_before_change, comments_before_change, back_tokens, back_comments, valueless, name_of, names_in, words_in};
 ghost use Rattle.ob0_scan.specs.SameKinds.{HasSameTokens};
 ghost use Rattle.ob0_scan.specs.Rescanning.{token_end, comment_end, last_end, token_begins, comment_begins, AreInOrder, IsMovable, ReadsOn, IsMet, IsBetween};
 
@@ -277,6 +277,45 @@ impl Between {
             replaced,
         )
     }
+
+    /// Whether the tokens between are what the old ones are in whose place they come, and are written as these.
+    fn has_words_of(&self, new_text: &str, old: &Tokens) -> bool
+        requires ordered { self.now.front.tokens ≤ self.now.following.tokens }
+        requires inside { self.now.following.tokens ≤ length old.now.tokens }
+        ensures { result ≡ true → words_in new_text.now self.now.tokens.items
+            ≡ words_in old.now.text (take (self.now.following.tokens - self.now.front.tokens)
+            (drop self.now.front.tokens old.now.tokens)) }
+    {
+        let replaced = &old.tokens()[self.front.tokens..self.following.tokens];
+        have_same_words(
+            new_text.as_bytes(),
+            &self.tokens,
+            old.text().as_bytes(),
+            replaced,
+        )
+    }
+}
+
+/// Whether tokens of two texts are of the same kinds and written alike, one after the other.
+fn have_same_words(new_text: &[u8], new: &[Token], old_text: &[u8], old: &[Token]) -> bool
+    ensures { result ≡ true → words_in new_text.now new.now ≡ words_in old_text.now old.now }
+{
+    if new.len() != old.len() {
+        return false;
+    }
+    for index in 0..new.len() {
+        if !is_same_word(new_text, new[index], old_text, old[index]) {
+            return false;
+        }
+    }
+    true
+}
+
+/// Whether two tokens are of one kind, and written alike.
+fn is_same_word(new_text: &[u8], new: Token, old_text: &[u8], old: Token) -> bool
+    ensures { result ≡ true → read_in new_text.now new ≡ read_in old_text.now old }
+{
+    new.kind == old.kind && is_same_piece(new_text, new.span, old_text, old.span)
 }
 
 /// Whether the identifiers among tokens of two texts are written alike, one after the other.
@@ -432,6 +471,9 @@ pub fn rescan_in_place(
     ensures same_names { IfOk result
         (λ r. r.same_names ≡ true → names_in r.rescan.tokens.text r.rescan.tokens.tokens
         ≡ names_in old.text old.tokens) }
+    ensures same_words { IfOk result
+        (λ r. r.same_words ≡ true → words_in r.rescan.tokens.text r.rescan.tokens.tokens
+        ≡ words_in old.text old.tokens) }
     ensures same { IfOk result
         (λ r. HasSameTokens r.same old.tokens r.rescan.tokens.tokens) }
 {
@@ -445,6 +487,7 @@ pub fn rescan_in_place(
             let read = between.tokens.len() + between.comments.len();
             let alike = between.is_alike(old.tokens());
             let same_names = between.has_names_of(new_text, &old);
+            let same_words = between.has_words_of(new_text, &old);
             let (front, old_back) = (between.front.tokens, between.following.tokens);
             let following = old.tokens().len() - old_back;
             let tokens = old.with(new_text, between, change)?;
@@ -458,6 +501,7 @@ pub fn rescan_in_place(
                 same,
                 alike,
                 same_names,
+                same_words,
             })
         }
         Err(refusal) => match refusal {

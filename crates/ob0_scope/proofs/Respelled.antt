@@ -1,32 +1,36 @@
 -- Bindings stay where the tokens of a text are named as they were.
 -- The numbers of a tree are in no scope, so what is known of each part holds for any numbers, and the table of the old
--- text, which has all marks of its module, numbers the new one. Faults have spans, which move, so this is about modules
--- without any.
-use Rattle.std.proofs.Common.{◌≡◌, ◌<◌, ℕ, zero, suc, Bool, true, false, not, ◌||◌, Option, Some, None, List, [], ◌∷◌, ◌++◌, length, drop, get_or, slice_get, is_some, if◌then◌else◌, refl, sym, ap, ◌∙◌, subst, arith}
+-- text, which has all marks of its module, numbers the new one. Faults have spans, which move: where all tokens are
+-- written alike, they are at the same tokens.
+use Rattle.std.proofs.Common.{◌≡◌, ◌<◌, ℕ, zero, suc, Bool, true, false, not, ◌||◌, Option, Some, None, List, [], ◌∷◌, ◌++◌, length, map, drop, get_or, slice_get, is_some, if◌then◌else◌, refl, sym, ap, ◌∙◌, subst, arith}
 use Rattle.std.specs.List.{HoldsAt, filter, list_any}
 use Rattle.ob0_scan.specs.declared.fault.Fault.{Fault}
 use Rattle.ob0_scan.specs.declared.lexeme.Token.{Token}
 use Rattle.ob0_scan.specs.declared.lexeme.TokenKind.{TokenKind}
 use Rattle.ob0_scan.specs.declared.lexeme.TokenKind.TheVariants as kind
 use Rattle.ob0_scan.specs.Reused.{kinds, name_of, names_in, valueless}
-use Rattle.ob0_scan.specs.Scanned.{Scanned, spanned}
+use Rattle.ob0_scan.specs.Scanned.{Scanned, Word, read_in, spanned}
 use Rattle.ob0_tree.specs.declared.tree.ModuleTree.{ModuleTree}
 use Rattle.ob0_tree.specs.declared.tree.Role.{Role}
 use Rattle.ob0_tree.specs.declared.tree.Role.TheVariants as role
 use Rattle.ob0_tree.specs.Order.{AreIdentifiers, names_only}
-use Rattle.ob0_tree.specs.Parsed.{named_tree_of, parsed_by, tree_of}
+use Rattle.ob0_tree.specs.Parsed.{Parsed, named_tree_of, parsed_by, tree_of}
 use Rattle.ob0_tree.specs.Places.{text_at, text_in, value_at}
 use Rattle.ob0_tree.specs.Tree.{Tree, identifiers, mapped, module_text, occurrences}
 use Rattle.ob0_tree.proofs.Leaves.{leaves_are_identifiers}
+use Rattle.std.proofs.lemmas.Simd.{map-map}
 use Rattle.ob0_scope_table.specs.Bindings.{resolution_by}
+use Rattle.ob0_scope_table.specs.FaultTokens.{AreWrittenAlike, moved_faults}
+use Rattle.ob0_scope_table.proofs.FaultTokens.{names_same}
+use Rattle.ob0_scope_table.proofs.TokenOrder.{faults_move}
 use Rattle.ob0_language_names.specs.DeclaredOnce.{declared_once}
 use Rattle.ob0_scope_table.specs.DeclaredTwice.{twice_in}
 use Rattle.ob0_language_names.specs.Names.{Name, as_names}
-use Rattle.ob0_scope_table.specs.Resolution.{AreFaultsOf, IsNumbering, IsResolution, is_of_declarations, is_of_occurrences, ordinal_in, undeclared_at, with_ordinal}
+use Rattle.ob0_scope_table.specs.Resolution.{AreFaultsOf, IsBinding, IsNumbering, IsResolution, NamesAlone, is_of_declarations, is_of_occurrences, ordinal_in, unbound_in, undeclared_at, with_ordinal}
 use Rattle.ob0_language_names.specs.Scopes.{Labels, as_label, relabelled}
 use Rattle.ob0_scope_table.specs.declared.resolved.Bindings.{Bindings}
 use Rattle.ob0_scope_numbering.specs.Marking.{started}
-use Rattle.ob0_scope.specs.Respelled.{AreNamedAlike, BindingsStay}
+use Rattle.ob0_scope.specs.Respelled.{AreMoved, AreNamedAlike, BindingsKeepTokens, BindingsStay}
 use Rattle.ob0_scope_numbering.specs.Written.{as_in}
 use Rattle.ob0_scope.proofs.Alike.{AllAlike, alike}
 use Rattle.ob0_scope.proofs.Made.{faults_reported, undeclared_unbound}
@@ -129,4 +133,44 @@ bindings_stay old new tree b w parsed r none = record {
   declaring = r.declaring;
   occurring = r.occurring;
   reported = nothing_at_fault old new tree b w r none;
+}
+
+-- ---- where all tokens are written alike
+
+pub named_alike : (old new : Scanned) → AreWrittenAlike old new → AreNamedAlike old new
+named_alike old new w = record {
+  same_kinds = sym (map-map (λ (x : Word). valueless x.kind) (read_in new.text) new.tokens) ∙ (ap (map (λ (x : Word). valueless x.kind)) w.same_words ∙ map-map (λ (x : Word). valueless x.kind) (read_in old.text) old.tokens);
+  same_names = sym (map-map (λ (x : Word). name_of x.kind x.text) (read_in new.text) new.tokens)
+      ∙ (ap (map (λ (x : Word). name_of x.kind x.text)) w.same_words ∙ map-map (λ (x : Word). name_of x.kind x.text) (read_in old.text) old.tokens);
+}
+
+module _ (old new : Scanned) (tree : ModuleTree) (b c : Bindings) (w : AreWrittenAlike old new) (r : IsResolution (resolution_by (parsed_by old tree) b)) (m : AreMoved old new b c) where
+  abbrev before : Parsed
+  before = parsed_by old tree
+
+  abbrev after : Parsed
+  after = parsed_by new tree
+
+  numbered_alike : IsNumbering after b.ordinals.items
+  numbered_alike = numbering old new tree b (named_alike old new w) r
+
+  faults_there : c.faults.items ≡ twice_in after ++ unbound_in after
+  faults_there =
+      m.faults
+      ∙ (ap (moved_faults old new) r.reported.by_kind
+      ∙ faults_move old new w (twice_in before ++ unbound_in before) (twice_in after ++ unbound_in after) (names_same old new w tree))
+
+  faults_moved : AreFaultsOf after c.faults.items
+  faults_moved =
+      subst (AreFaultsOf after) (ap (λ fs. twice_in after ++ fs) (undeclared_unbound after b.ordinals.items numbered_alike) ∙ sym faults_there) (faults_reported after b.ordinals.items numbered_alike)
+
+pub bindings_keep_tokens : BindingsKeepTokens
+bindings_keep_tokens old new tree b c w parsed r m = record {
+  parsed = parsed;
+  numbering = subst (IsNumbering (parsed_by new tree)) (sym m.ordinals) (numbered_alike old new tree b c w r m);
+  binding = subst (IsBinding (parsed_by new tree)) (sym m.ordinals) (labelled old new tree b (named_alike old new w) r with_ordinal);
+  names_alone = subst (NamesAlone (parsed_by new tree)) (sym m.ordinals) r.names_alone;
+  declaring = m.declarations ∙ r.declaring;
+  occurring = m.occurrences ∙ r.occurring;
+  reported = faults_moved old new tree b c w r m;
 }

@@ -6,6 +6,7 @@ use Rattle.ob0_scan.specs.Scanned.{Scanned}
 use Rattle.ob0_tree.specs.Parsed.{IsParsed, parsed_by}
 use Rattle.ob0_tree.specs.declared.tree.ModuleTree.{ModuleTree}
 use Rattle.ob0_scope_table.specs.Bindings.{resolution_by}
+use Rattle.ob0_scope_table.specs.FaultTokens.{AreWrittenAlike, moved_faults}
 use Rattle.ob0_scope_table.specs.Resolution.{IsResolution}
 use Rattle.ob0_scope_table.specs.declared.resolved.Bindings.{Bindings}
 
@@ -23,3 +24,21 @@ BindingsStay =
     → IsResolution (resolution_by (parsed_by old tree) b)
     → b.faults.items ≡ []
     → IsResolution (resolution_by (parsed_by new tree) b)
+
+-- the same bindings, with the faults at the same tokens of another text
+pub record AreMoved (old new : Scanned) (b c : Bindings) : Type 0 where
+  pub ordinals : c.ordinals.items ≡ b.ordinals.items
+  pub declarations : c.declarations.items ≡ b.declarations.items
+  pub occurrences : c.occurrences.items ≡ b.occurrences.items
+  pub faults : c.faults.items ≡ moved_faults old new b.faults.items
+
+-- the bindings of a module are those of the same tree over tokens that are written alike,
+-- with its faults at the same tokens
+abbrev pub BindingsKeepTokens : Type 0
+BindingsKeepTokens =
+    (old new : Scanned) (tree : ModuleTree) (b c : Bindings)
+    → AreWrittenAlike old new
+    → IsParsed (parsed_by new tree)
+    → IsResolution (resolution_by (parsed_by old tree) b)
+    → AreMoved old new b c
+    → IsResolution (resolution_by (parsed_by new tree) c)

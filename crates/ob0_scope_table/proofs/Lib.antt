@@ -1,3 +1,5 @@
 pub mod Bound
 pub mod Plain
 pub mod Counted
+pub mod TokenOrder
+pub mod FaultTokens

@@ -4,3 +4,4 @@ pub mod Resolution
 pub mod Spans
 pub mod DeclaredTwice
 pub mod InLabels
+pub mod FaultTokens

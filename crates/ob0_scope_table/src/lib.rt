@@ -2,10 +2,12 @@
 //! trees with labels by it.
 #![tactic(auto)]
 
+mod fault_tokens;
 mod ordinal_entry;
 mod resolved;
 mod table;
 
+pub use fault_tokens::{FaultAt, faults_at_tokens, tokens_of_faults};
 pub use ordinal_entry::OrdinalEntry;
 pub use resolved::{Bindings, PREDECLARED, Resolved};
 pub use table::{ordinal_at, token_span};

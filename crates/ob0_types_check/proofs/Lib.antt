@@ -42,3 +42,5 @@ pub mod MadeOnce
 pub mod TypedTypes
 pub mod TypedDeclarations
 pub mod TypedModules
+pub mod SameFaults
+pub mod SameModules

@@ -1,9 +1,9 @@
 use Rattle.std.proofs.Common.{◌≡◌, ◌+◌, ◌-◌, ℕ, List, length, refl, sym, ap, ap₂, ◌∙◌, subst, take, drop, arith}
 use Rattle.ob0_scan.specs.declared.lexeme.Token.{Token}
 use Rattle.ob0_scan.specs.Scanned.{Scanned, IsScanOf}
-use Rattle.ob0_scan.specs.Reused.{kinds, names_in, Reuses}
+use Rattle.ob0_scan.specs.Reused.{kinds, names_in, words_in, Reuses}
 use Rattle.ob0_scan.proofs.Alike.{kinds_stay}
-use Rattle.ob0_scan.proofs.Named.{names_stay}
+use Rattle.ob0_scan.proofs.Named.{names_stay, words_stay}
 use Rattle.ob0_scan.proofs.SameKinds.{joined_tokens, same_tokens}
 use Rattle.ob0_scan.specs.SameKinds.{HasSameTokens}
 use Rattle.ob0_scan.specs.declared.tokens.SameTokens.{SameTokens}
@@ -37,6 +37,13 @@ returns-in_ok-tokens-in-Ok-clause-same_names c =
     λ same. ap (λ (s : Scanned). names_in s.text s.tokens) c.in_ok-tokens-in-Ok.ensures
     ∙ names_stay c.args.old c.args.new_text.now c.args.from c.args.removed c.args.added b c.requires c.in-Ok.ensures.ok
     (c.has_names_of-same_names.ensures same)
+
+pub returns-in_ok-tokens-in-Ok-clause-same_words : goal.returns-in_ok-tokens-in-Ok-clause-same_words
+returns-in_ok-tokens-in-Ok-clause-same_words c =
+    let b = c.in-Ok.between in
+    λ same. ap (λ (s : Scanned). words_in s.text s.tokens) c.in_ok-tokens-in-Ok.ensures
+    ∙ words_stay c.args.old c.args.new_text.now c.args.from c.args.removed c.args.added b c.requires c.in-Ok.ensures.ok
+    (c.has_words_of-same_words.ensures same)
 
 pub returns-in_ok-tokens-in-Ok-clause-same : goal.returns-in_ok-tokens-in-Ok-clause-same
 returns-in_ok-tokens-in-Ok-clause-same c =

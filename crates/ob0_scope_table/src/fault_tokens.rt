@@ -1,0 +1,101 @@
+//! Faults by their tokens, and by their places again in a text whose tokens are written alike.
+
+ghost use Rattle.std.specs.Prelude.{◌≡◌, ◌≤◌, IfOk, length, map, nat_lt};
+ghost use Rattle.std.specs.List.Sorted.{IsNonDecreasingBy, IsPartitionPoint};
+ghost use Rattle.ob0_scan.specs.declared.lexeme.Token as token;
+ghost use Rattle.ob0_scope_table.specs.FaultTokens.{begun_at, ended_at, fault_at, tokens_of};
+
+use crate::table::token_span;
+use ob0_scan::{Code, Fault, Span, Token, Tokens};
+use std::alloc::{AllocError, Global};
+
+/// A fault by the first and the last token of what is at fault.
+#[derive(Clone, Copy)]
+pub struct FaultAt {
+    pub code: Code,
+    pub first: usize,
+    pub last: usize,
+}
+
+/// The tokens where the faults of a text begin and end.
+pub fn tokens_of_faults(
+    alloc: Global,
+    tokens: &Tokens,
+    faults: &[Fault],
+) -> Result<Vec<FaultAt>, AllocError>
+    ensures { IfOk result (λ found. found.items ≡ map (tokens_of tokens.now.tokens) faults.now) }
+{
+    let mut found = Vec::new(alloc);
+    for fault in faults {
+        found.push(find_tokens(tokens, fault))?;
+    }
+    Ok(found)
+}
+
+/// The tokens where a fault begins and ends.
+fn find_tokens(tokens: &Tokens, fault: &Fault) -> FaultAt
+    ensures { result ≡ tokens_of tokens.now.tokens fault.now }
+{
+    // For the proof: what the contract of this call says.
+    let _text = tokens.text();
+    let all = tokens.tokens();
+    let first = token_begun(all, fault.span.start as usize);
+    let last = token_ended(all, fault.span.end as usize);
+    FaultAt {
+        code: fault.code,
+        first,
+        last,
+    }
+}
+
+/// The faults at these tokens of a text.
+pub fn faults_at_tokens(
+    alloc: Global,
+    tokens: &Tokens,
+    found: &[FaultAt],
+) -> Result<Vec<Fault>, AllocError>
+    ensures { IfOk result (λ faults. faults.items ≡ map (fault_at tokens.now) found.now) }
+{
+    let mut faults = Vec::new(alloc);
+    for fault in found {
+        faults.push(place_fault(tokens, fault))?;
+    }
+    Ok(faults)
+}
+
+/// A fault at these tokens of a text.
+fn place_fault(tokens: &Tokens, fault: &FaultAt) -> Fault
+    ensures { result ≡ fault_at tokens.now fault.now }
+{
+    let first = token_span(tokens, fault.first);
+    let last = token_span(tokens, fault.last);
+    Fault {
+        code: fault.code,
+        span: Span {
+            start: first.start,
+            end: last.end,
+        },
+    }
+}
+
+/// The token that begins at a place where one begins. It is found by halving.
+fn token_begun(tokens: &[Token], place: usize) -> usize
+    ensures { IsNonDecreasingBy (λ (t : token.Token). t.span.start) tokens.now
+        → result ≡ begun_at tokens.now place }
+{
+    if place == 0 {
+        return tokens.len();
+    }
+    tokens.partition_point(|token| (token.span.start as usize) < place)
+}
+
+/// The token that ends at a place where one ends. It is found by halving.
+fn token_ended(tokens: &[Token], place: usize) -> usize
+    ensures { IsNonDecreasingBy (λ (t : token.Token). t.span.end) tokens.now
+        → result ≡ ended_at tokens.now place }
+{
+    if place == 0 {
+        return tokens.len();
+    }
+    tokens.partition_point(|token| (token.span.end as usize) < place)
+}

@@ -1,0 +1,30 @@
+-- What is found of a module's types where the tokens of its text are written as they were.
+-- Rule: docs/LANGUAGE.md, Types 8, Faults of scopes and types 1.
+use Rattle.std.specs.Prelude.{◌≡◌}
+use Rattle.ob0_scan.specs.Scanned.{Scanned}
+use Rattle.ob0_tree.specs.Parsed.{parsed_by}
+use Rattle.ob0_tree.specs.declared.tree.ModuleTree.{ModuleTree}
+use Rattle.ob0_scope_table.specs.Bindings.{resolution_by}
+use Rattle.ob0_scope_table.specs.FaultTokens.{AreWrittenAlike, moved_faults}
+use Rattle.ob0_scope_table.specs.Resolution.{IsResolution}
+use Rattle.ob0_scope_table.specs.declared.resolved.Bindings.{Bindings}
+use Rattle.ob0_types.specs.CheckedModules.{AreTypesOf}
+use Rattle.ob0_types.specs.declared.checked.ModuleTypes.{ModuleTypes}
+
+-- the same findings, with the faults at the same tokens of another text
+pub record AreTypesMoved (old new : Scanned) (types moved : ModuleTypes) : Type 0 where
+  pub known : moved.known ≡ types.known
+  pub fields : moved.fields ≡ types.fields
+  pub faults : moved.faults.items ≡ moved_faults old new types.faults.items
+
+-- what was found of a module's types is found of the same tree over tokens that are written alike,
+-- with its faults at the same tokens
+abbrev pub TypesKeepTokens : Type 0
+TypesKeepTokens =
+    (old new : Scanned) (tree : ModuleTree) (b c : Bindings) (types moved : ModuleTypes)
+    → AreWrittenAlike old new
+    → AreTypesOf (resolution_by (parsed_by old tree) b) types
+    → IsResolution (resolution_by (parsed_by new tree) c)
+    → c.ordinals.items ≡ b.ordinals.items
+    → AreTypesMoved old new types moved
+    → AreTypesOf (resolution_by (parsed_by new tree) c) moved

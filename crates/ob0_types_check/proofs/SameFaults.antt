@@ -1,0 +1,327 @@
+-- Where the tokens of two texts are written alike, what is reported of a part over the one is reported of it over the
+-- other, at the same tokens; and the same is known of it. A value that goes along has its text, so it is one value over
+-- each of the two.
+use Rattle.std.proofs.Common.{◌≡◌, ℕ, suc, Bool, true, false, not, ◌&&◌, List, [], ◌∷◌, ◌++◌, Option, Some, None, length, nat_eq, option_and_then, pos, ◌+◌, refl, sym, ap, ◌∙◌, subst, if◌then◌else◌}
+use Rattle.std.specs.Prelude.{nat_lt}
+use Rattle.std.specs.List.{filter}
+use Rattle.ob0_scan.specs.declared.fault.Code.{Code}
+use Rattle.ob0_scan.specs.declared.fault.Code.TheVariants as code
+use Rattle.ob0_scan.specs.declared.fault.Fault.{Fault}
+use Rattle.ob0_scan.specs.Scanned.{Scanned, read_in}
+use Rattle.std.proofs.lemmas.List.{length-map}
+use Rattle.ob0_tree.specs.declared.tree.AddOperator.{AddOperator}
+use Rattle.ob0_tree.specs.declared.tree.MultiplyOperator.{MultiplyOperator}
+use Rattle.ob0_tree.specs.declared.tree.Relation.{Relation}
+use Rattle.ob0_tree.specs.declared.tree.Sign.{Sign}
+use Rattle.ob0_tree.specs.Places.{text_at, value_at}
+use Rattle.ob0_tree.specs.Tree.{Tree, addend, adds, assigns, branches, calls, compares, designator, else_branch, else_part, elsif_branch, elsif_part, empty, end, expression, factor, field, further_statement, index, integer, item, items, maybe, more, multiplier, multiplies, negation, none, one, parenthesised, product, relates, repeat_loop, runs, selector, sequence, simple, statement, sum, term, then_statement, while_loop}
+use Rattle.ob0_language_types.specs.Arguments.{arguments_listed}
+use Rattle.ob0_language_types.specs.Selected.{both}
+use Rattle.ob0_language_types.specs.Typing.{array_length, given_value}
+use Rattle.ob0_language_values.specs.Values.{Value, negate, number, relate}
+use Rattle.ob0_language_values.specs.Values.{apply_sign as with_sign}
+use Rattle.ob0_scope_table.specs.FaultTokens.{AreAtSameTokens, AreWrittenAlike}
+use Rattle.ob0_scope_table.proofs.FaultTokens.{both_same, none_same, one_same, texts_stay, values_stay}
+use Rattle.ob0_types_table.specs.Operators.{product_value, sum_value}
+use Rattle.ob0_types_check.specs.ExpressionFaults.{reported_addends, reported_expression, reported_factor, reported_multipliers, reported_selectors, reported_simple, reported_term}
+use Rattle.ob0_types_check.specs.Known.{Facts, Form, KnownFormal, Meaning, Operand, Reported, a_constant, a_procedure, a_record, a_scalar, a_type, a_variable, an_array, unknown_form}
+use Rattle.ob0_types_check.specs.Operations.{a_constant_name, a_name, a_number, add_operands, after_sign, at_tokens, comparison_type, complement_operand, element_in, element_selected, enclosed, field_in, field_selected, fits, found_field, joint_operand, multiply_operands, name_operand, named_value, part_of, relate_operands, required, required_both, required_by_add, required_by_multiply, required_by_relation, right, sign_operand, token_after, token_before, ◌>>=◌}
+use Rattle.ob0_types_check.specs.StatementFaults.{call_by_meaning, passed, reported_argument, reported_arguments, reported_assignment, reported_call, reported_condition, reported_else, reported_elsifs, reported_parts, reported_required, reported_sequence, reported_statement, reported_statements, reported_target, target_by_meaning}
+use Rattle.ob0_types_check.specs.TypeFaults.{in_bounds, length_given, length_of, operand_value, reported_constant, type_meant, valued}
+
+-- the same facts over another text
+abbrev pub over : {T : Type 0} → Facts T → Scanned → Facts T
+over facts source = record { source = source; types = facts.types; object_for = facts.object_for; only_constants = facts.only_constants }
+
+module _ (old new : Scanned) where
+  abbrev pub Same : List Fault → List Fault → Type 0
+  Same before after = AreAtSameTokens old new before after
+
+  -- what is known comes of one value, and the faults are at the same tokens
+  pub record Alike {Z A : Type 0} (f g : Z → A) (r s : Reported A) : Type 0 where
+    pub value : Z
+    pub before : r.known ≡ f value
+    pub after : s.known ≡ g value
+    pub faults : Same r.faults s.faults
+
+  abbrev pub Equal : {A : Type 0} → Reported A → Reported A → Type 0
+  Equal {A} r s = Alike (λ (x : A). x) (λ (x : A). x) r s
+
+  pub rightly : {Z A : Type 0} (f g : Z → A) (z : Z) → Alike f g (right (f z)) (right (g z))
+  rightly f g z = record { value = z; before = refl; after = refl; faults = none_same old new }
+
+  pub equal : {A : Type 0} (x : A) → Equal (right x) (right x)
+  equal x = record { value = x; before = refl; after = refl; faults = none_same old new }
+
+  pub goes_on : {Z A Y B : Type 0} {f g : Z → A} {h k : Y → B} {t u : Reported A} (next other : A → Reported B) → Alike f g t u → ((z : Z) → Alike h k (next (f z)) (other (g z))) → Alike h k (t >>= next) (u >>= other)
+  goes_on {Z} {A} {Y} {B} {f} {g} {h} {k} {t} {u} next other p q =
+      let n : Alike h k (next t.known) (other u.known) = subst (λ a. Alike h k (next a) (other u.known)) (sym p.before) (subst (λ b. Alike h k (next (f p.value)) (other b)) (sym p.after) (q p.value)) in
+      record { value = n.value; before = n.before; after = n.after; faults = both_same old new p.faults n.faults }
+
+  -- what follows has no fault of its own
+  pub gives : {A B : Type 0} {t u : Reported A} (made : A → B) → Equal t u → Equal (t >>= (λ x. right (made x))) (u >>= (λ x. right (made x)))
+  gives made p = goes_on (λ x. right (made x)) (λ x. right (made x)) p (λ x. equal (made x))
+
+  pub either : {A : Type 0} {r s x y : Reported A} (b : Bool) → Equal r s → Equal x y → Equal (if b then r else x) (if b then s else y)
+  either true p q = p
+  either false p q = q
+
+module _ (old new : Scanned) (w : AreWrittenAlike old new) where
+  same_count : length new.tokens ≡ length old.tokens
+  same_count = sym (length-map new.tokens (read_in new.text)) ∙ (ap length w.same_words ∙ length-map old.tokens (read_in old.text))
+
+  after_same : (token : ℕ) → token_after new token ≡ token_after old token
+  after_same token = ap (λ n. if nat_lt token n then token + 1 else token) same_count
+
+  module _ {T : Type 0} (facts : Facts T) where
+    abbrev fo : Facts T
+    fo = over facts old
+
+    abbrev fn : Facts T
+    fn = over facts new
+
+    abbrev Eq : {A : Type 0} → Reported A → Reported A → Type 0
+    Eq r s = Equal old new r s
+
+    pub at_same : (c : Code) (first last : ℕ) → Same old new (at_tokens fo c first last) (at_tokens fn c first last)
+    at_same c first last = one_same old new (record { code = c; first = first; last = last })
+
+    faulty : {A : Type 0} (x : A) (c : Code) (first last : ℕ) → Eq (record { known = x; faults = at_tokens fo c first last }) (record { known = x; faults = at_tokens fn c first last })
+    faulty x c first last = record { value = x; before = refl; after = refl; faults = at_same c first last }
+
+    unless_fits : (b : Bool) (c : Code) (first last : ℕ) → Same old new (if b then [] else at_tokens fo c first last) (if b then [] else at_tokens fn c first last)
+    unless_fits true c first last = none_same old new
+    unless_fits false c first last = at_same c first last
+
+    -- ---- operations
+
+    pub required_same : (wanted : T) (o : Operand T) → Eq (required fo wanted o) (required fn wanted o)
+    required_same wanted o = record { value = (required fo wanted o).known; before = refl; after = refl; faults = unless_fits (fits facts.types o.of wanted) code.TypeMismatch o.first o.last }
+
+    both_required : (wanted : T) (a b : Operand T) → Eq (required_both fo wanted a b) (required_both fn wanted a b)
+    both_required wanted a b =
+        either old new (fits facts.types a.of wanted)
+        (record { value = if facts.types.same a.of wanted then (required fo wanted b).known else facts.types.unknown; before = refl; after = refl; faults = (required_same wanted b).faults })
+        (faulty facts.types.unknown code.TypeMismatch a.first a.last)
+
+    added_same : (o : AddOperator) (a b : Operand T) → Eq (add_operands fo o a b) (add_operands fn o a b)
+    added_same o a b = gives old new (λ t. joint_operand t (option_and_then (sum_value o b.value) a.value) a b) (both_required (required_by_add facts.types o) a b)
+
+    multiplied_same : (o : MultiplyOperator) (a b : Operand T) → Eq (multiply_operands fo o a b) (multiply_operands fn o a b)
+    multiplied_same o a b = gives old new (λ t. joint_operand t (option_and_then (product_value o b.value) a.value) a b) (both_required (required_by_multiply facts.types o) a b)
+
+    related_same : (r : Relation) (a b : Operand T) → Eq (relate_operands fo r a b) (relate_operands fn r a b)
+    related_same r a b =
+        gives old new (λ t. joint_operand (comparison_type facts.types t) (both (λ x y. given_value (relate r x y)) a.value b.value) a b) (both_required (required_by_relation facts.types r a.of) a b)
+
+    signed_same : (s : Option Sign) (o : Operand T) → Eq (sign_operand fo s o) (sign_operand fn s o)
+    signed_same None o = equal old new o
+    signed_same (Some s) o = gives old new (λ t. after_sign t (option_and_then (λ x. given_value (with_sign (Some s) x)) o.value) o) (required_same facts.types.integer o)
+
+    complement_same : (o : Operand T) → Eq (complement_operand fo o) (complement_operand fn o)
+    complement_same o = gives old new (λ t. after_sign t (option_and_then (λ x. given_value (negate x)) o.value) o) (required_same facts.types.boolean o)
+
+    number_same : (n : ℕ) → Eq (right (a_number fo n)) (right (a_number fn n))
+    number_same n = record { value = a_number fo n; before = refl; after = λ j. a_number_of (values_stay old new w j n); faults = none_same old new } where
+      a_number_of : ℕ → Operand T
+      a_number_of v = record { of = facts.types.integer; value = Some (number (pos v)); is_place = false; first = n; last = n }
+
+    enclosed_same : (o : Operand T) → Eq (right (enclosed fo o)) (right (enclosed fn o))
+    enclosed_same o = record {
+      value = enclosed fo o;
+      before = refl;
+      after = ap (λ last. record { of = o.of; value = o.value; is_place = false; first = token_before o.first; last = last }) (after_same o.last);
+      faults = none_same old new;
+    }
+
+    value_named : (token : ℕ) (m : Option (Meaning T)) → Eq (named_value fo token m) (named_value fn token m)
+    value_named token None = equal old new (a_name facts.types.unknown token)
+    value_named token (Some (a_constant v)) = equal old new (a_constant_name facts.types v token)
+    value_named token (Some (a_variable t)) = either old new facts.only_constants (faulty (a_name facts.types.unknown token) code.NotConstant token token) (equal old new (a_name t token))
+    value_named token (Some (a_type t)) = faulty (a_name facts.types.unknown token) code.WrongKind token token
+    value_named token (Some (a_procedure fs)) = faulty (a_name facts.types.unknown token) code.WrongKind token token
+
+    named_same : (token : ℕ) → Eq (name_operand fo token) (name_operand fn token)
+    named_same token = value_named token (facts.object_for token)
+
+    found_same : (token : ℕ) (t : Option T) → Eq (found_field fo token t) (found_field fn token t)
+    found_same token None = faulty facts.types.unknown code.NoField token token
+    found_same token (Some t) = equal old new t
+
+    field_same : (token : ℕ) (form : Form T) → Eq (field_in fo token form) (field_in fn token form)
+    field_same token (a_record fields) = subst (λ x. Eq (field_in fo token (a_record fields)) (found_field fn token (fields x))) (λ j. sym (texts_stay old new w) j token) (found_same token (fields (text_at old token)))
+    field_same token unknown_form = equal old new facts.types.unknown
+    field_same token a_scalar = faulty facts.types.unknown code.NotRecord (token_before token) (token_before token)
+    field_same token (an_array t) = faulty facts.types.unknown code.NotRecord (token_before token) (token_before token)
+
+    field_after : (o : Operand T) (token : ℕ) → Eq (field_selected fo o token) (field_selected fn o token)
+    field_after o token = gives old new (λ t. part_of o t token) (field_same token (facts.types.form o.of))
+
+    element_same : (i : Operand T) (of : T) (form : Form T) → Eq (element_in fo i of form) (element_in fn i of form)
+    element_same i of (an_array t) = equal old new (if facts.types.same of facts.types.integer then t else facts.types.unknown)
+    element_same i of unknown_form = equal old new facts.types.unknown
+    element_same i of a_scalar = faulty facts.types.unknown code.NotArray (token_before i.first) (token_before i.first)
+    element_same i of (a_record fields) = faulty facts.types.unknown code.NotArray (token_before i.first) (token_before i.first)
+
+    element_after : (o i : Operand T) → Eq (element_selected fo o i) (element_selected fn o i)
+    element_after o i =
+        goes_on old new (λ n. element_in fo i n (facts.types.form o.of) >>= (λ t. right (part_of o t (token_after old i.last)))) (λ n. element_in fn i n (facts.types.form o.of) >>= (λ t. right (part_of o t (token_after new i.last)))) (required_same facts.types.integer i)
+        (λ n.
+        goes_on old new (λ t. right (part_of o t (token_after old i.last))) (λ t. right (part_of o t (token_after new i.last))) (element_same i n (facts.types.form o.of))
+        (λ t. record { value = part_of o t (token_after old i.last); before = refl; after = ap (part_of o t) (after_same i.last); faults = none_same old new }))
+
+    -- ---- expressions
+
+    mutual
+      unfolding reported_expression
+
+      pub expression_same : (e : Tree ℕ expression) → Eq (reported_expression fo e) (reported_expression fn e)
+      expression_same (compares a none) = simple_same a
+      expression_same (compares a (one (relates r b))) =
+          goes_on old new (λ x. reported_simple fo b >>= relate_operands fo r x) (λ x. reported_simple fn b >>= relate_operands fn r x) (simple_same a)
+          (λ x. goes_on old new (relate_operands fo r x) (relate_operands fn r x) (simple_same b) (λ y. related_same r x y))
+
+      simple_same : (e : Tree ℕ simple) → Eq (reported_simple fo e) (reported_simple fn e)
+      simple_same (sum s t rest) =
+          goes_on old new (λ x. sign_operand fo s x >>= (λ y. reported_addends fo y rest)) (λ x. sign_operand fn s x >>= (λ y. reported_addends fn y rest)) (term_same t)
+          (λ x. goes_on old new (λ y. reported_addends fo y rest) (λ y. reported_addends fn y rest) (signed_same s x) (λ y. addends_same y rest))
+
+      addends_same : (x : Operand T) (rest : Tree ℕ (items addend)) → Eq (reported_addends fo x rest) (reported_addends fn x rest)
+      addends_same x end = equal old new x
+      addends_same x (more (adds o t) rest) =
+          goes_on old new (λ y. add_operands fo o x y >>= (λ z. reported_addends fo z rest)) (λ y. add_operands fn o x y >>= (λ z. reported_addends fn z rest)) (term_same t)
+          (λ y. goes_on old new (λ z. reported_addends fo z rest) (λ z. reported_addends fn z rest) (added_same o x y) (λ z. addends_same z rest))
+
+      term_same : (t : Tree ℕ term) → Eq (reported_term fo t) (reported_term fn t)
+      term_same (product f rest) = goes_on old new (λ x. reported_multipliers fo x rest) (λ x. reported_multipliers fn x rest) (factor_same f) (λ x. multipliers_same x rest)
+
+      multipliers_same : (x : Operand T) (rest : Tree ℕ (items multiplier)) → Eq (reported_multipliers fo x rest) (reported_multipliers fn x rest)
+      multipliers_same x end = equal old new x
+      multipliers_same x (more (multiplies o f) rest) =
+          goes_on old new (λ y. multiply_operands fo o x y >>= (λ z. reported_multipliers fo z rest)) (λ y. multiply_operands fn o x y >>= (λ z. reported_multipliers fn z rest)) (factor_same f)
+          (λ y. goes_on old new (λ z. reported_multipliers fo z rest) (λ z. reported_multipliers fn z rest) (multiplied_same o x y) (λ z. multipliers_same z rest))
+
+      factor_same : (f : Tree ℕ factor) → Eq (reported_factor fo f) (reported_factor fn f)
+      factor_same (designator x path) = goes_on old new (λ base. reported_selectors fo base path) (λ base. reported_selectors fn base path) (named_same x) (λ base. selectors_same base path)
+      factor_same (integer n) = number_same n
+      factor_same (parenthesised e) = goes_on old new (λ x. right (enclosed fo x)) (λ x. right (enclosed fn x)) (expression_same e) (λ x. enclosed_same x)
+      factor_same (negation f) = goes_on old new (complement_operand fo) (complement_operand fn) (factor_same f) (λ x. complement_same x)
+
+      pub selectors_same : (x : Operand T) (path : Tree ℕ (items selector)) → Eq (reported_selectors fo x path) (reported_selectors fn x path)
+      selectors_same x end = equal old new x
+      selectors_same x (more (field n) rest) = goes_on old new (λ y. reported_selectors fo y rest) (λ y. reported_selectors fn y rest) (field_after x n) (λ y. selectors_same y rest)
+      selectors_same x (more (index e) rest) =
+          goes_on old new (λ i. element_selected fo x i >>= (λ y. reported_selectors fo y rest)) (λ i. element_selected fn x i >>= (λ y. reported_selectors fn y rest)) (expression_same e)
+          (λ i. goes_on old new (λ y. reported_selectors fo y rest) (λ y. reported_selectors fn y rest) (element_after x i) (λ y. selectors_same y rest))
+
+    -- ---- constants, lengths and names of types
+
+    value_same : (o : Operand T) (v : Option Value) → Eq (valued fo o v) (valued fn o v)
+    value_same o None = faulty None code.ConstFault o.first o.last
+    value_same o (Some v) = equal old new (Some v)
+
+    pub constant_same : (e : Tree ℕ expression) → Eq (reported_constant fo e) (reported_constant fn e)
+    unfolding reported_constant
+    constant_same e = goes_on old new (operand_value fo) (operand_value fn) (expression_same e) (λ o. either old new (facts.types.same o.of facts.types.unknown) (equal old new None) (value_same o o.value))
+
+    bounds_same : (o : Operand T) (n : Option ℕ) → Eq (in_bounds fo o n) (in_bounds fn o n)
+    bounds_same o None = faulty None code.ArrayLength o.first o.last
+    bounds_same o (Some n) = equal old new (Some n)
+
+    given_same : (o : Operand T) (v : Option Value) → Eq (length_given fo o v) (length_given fn o v)
+    given_same o None = faulty None code.ConstFault o.first o.last
+    given_same o (Some v) = bounds_same o (array_length v)
+
+    pub length_same : (o : Operand T) → Eq (length_of fo o) (length_of fn o)
+    length_same o =
+        goes_on old new (λ t. if facts.types.same t facts.types.integer then length_given fo o o.value else right None) (λ t. if facts.types.same t facts.types.integer then length_given fn o o.value else right None) (required_same facts.types.integer o)
+        (λ t. either old new (facts.types.same t facts.types.integer) (given_same o o.value) (equal old new None))
+
+    pub type_same : (token : ℕ) (m : Option (Meaning T)) → Eq (type_meant fo token m) (type_meant fn token m)
+    type_same token (Some (a_type t)) = equal old new t
+    type_same token (Some (a_constant v)) = faulty facts.types.unknown code.WrongKind token token
+    type_same token (Some (a_variable t)) = faulty facts.types.unknown code.WrongKind token token
+    type_same token (Some (a_procedure fs)) = faulty facts.types.unknown code.WrongKind token token
+    type_same token None = equal old new facts.types.unknown
+
+    -- ---- statements
+
+    abbrev Alright : List Fault → List Fault → Type 0
+    Alright a b = Same old new a b
+
+    required_there : (wanted : T) (e : Tree ℕ expression) → Alright (reported_required fo wanted e) (reported_required fn wanted e)
+    unfolding reported_required
+    required_there wanted e = (goes_on old new (required fo wanted) (required fn wanted) (expression_same e) (λ o. required_same wanted o)).faults
+
+    target_meant : (token : ℕ) (m : Option (Meaning T)) → Eq (target_by_meaning fo token m) (target_by_meaning fn token m)
+    target_meant token (Some (a_variable t)) = equal old new t
+    target_meant token (Some (a_constant v)) = faulty facts.types.unknown code.NotVariable token token
+    target_meant token (Some (a_type t)) = faulty facts.types.unknown code.WrongKind token token
+    target_meant token (Some (a_procedure fs)) = faulty facts.types.unknown code.WrongKind token token
+    target_meant token None = equal old new facts.types.unknown
+
+    target_same : (x : ℕ) (path : Tree ℕ (items selector)) → Eq (reported_target fo x path) (reported_target fn x path)
+    unfolding reported_target
+    target_same x path = goes_on old new (λ t. reported_selectors fo (a_name t x) path) (λ t. reported_selectors fn (a_name t x) path) (target_meant x (facts.object_for x)) (λ t. selectors_same (a_name t x) path)
+
+    assigned_same : (a b : Reported (Operand T)) (e : Tree ℕ expression) → Eq a b → Alright (reported_assignment fo a e) (reported_assignment fn b e)
+    assigned_same a b e p =
+        both_same old new p.faults
+        (subst (λ (x : Operand T). Alright (reported_required fo x.of e) (reported_required fn b.known.of e)) (sym p.before)
+        (subst (λ (x : Operand T). Alright (reported_required fo p.value.of e) (reported_required fn x.of e)) (sym p.after) (required_there p.value.of e)))
+
+    passed_same : (f : KnownFormal T) (o : Operand T) → Eq (passed fo f o) (passed fn f o)
+    passed_same f o = either old new (f.by_place && not o.is_place) (faulty facts.types.unknown code.NotVariable o.first o.last) (required_same f.of o)
+
+    argument_same : (f : KnownFormal T) (e : Tree ℕ expression) → Alright (reported_argument fo f e) (reported_argument fn f e)
+    unfolding reported_argument
+    argument_same f e = (goes_on old new (passed fo f) (passed fn f) (expression_same e) (λ o. passed_same f o)).faults
+
+    arguments_same : (fs : List (KnownFormal T)) (es : List (Tree ℕ expression)) → Alright (reported_arguments fo fs es) (reported_arguments fn fs es)
+    arguments_same [] es = none_same old new
+    arguments_same (f ∷ fs) [] = none_same old new
+    arguments_same (f ∷ fs) (e ∷ es) = both_same old new (argument_same f e) (arguments_same fs es)
+
+    parts_same : (es : List (Tree ℕ expression)) → Alright (reported_parts fo es) (reported_parts fn es)
+    parts_same [] = none_same old new
+    parts_same (e ∷ es) = both_same old new (expression_same e).faults (parts_same es)
+
+    counted_same : (b : Bool) (p : ℕ) (fs : List (KnownFormal T)) (es : List (Tree ℕ expression))
+        → Alright (if b then reported_arguments fo fs es else at_tokens fo code.ArgumentCount p p) (if b then reported_arguments fn fs es else at_tokens fn code.ArgumentCount p p)
+    counted_same true p fs es = arguments_same fs es
+    counted_same false p fs es = at_same code.ArgumentCount p p
+
+    call_meant : (p : ℕ) (m : Option (Meaning T)) (es : List (Tree ℕ expression)) → Alright (call_by_meaning fo p m es) (call_by_meaning fn p m es)
+    call_meant p (Some (a_procedure fs)) es = counted_same (nat_eq (length fs) (length es)) p fs es
+    call_meant p (Some (a_type t)) es = both_same old new (at_same code.WrongKind p p) (parts_same es)
+    call_meant p (Some (a_constant v)) es = both_same old new (at_same code.WrongKind p p) (parts_same es)
+    call_meant p (Some (a_variable t)) es = both_same old new (at_same code.WrongKind p p) (parts_same es)
+    call_meant p None es = parts_same es
+
+    mutual
+      unfolding reported_statement
+
+      statement_same : (s : Tree ℕ statement) → Alright (reported_statement fo s) (reported_statement fn s)
+      statement_same empty = none_same old new
+      statement_same (assigns x path e) = assigned_same (reported_target fo x path) (reported_target fn x path) e (target_same x path)
+      statement_same (calls p es) = call_meant p (facts.object_for p) (arguments_listed es)
+      statement_same (branches e statements rest last) =
+          both_same old new (required_there facts.types.boolean e) (both_same old new (sequence_same statements) (both_same old new (elsifs_same rest) (else_same last)))
+      statement_same (while_loop e statements) = both_same old new (required_there facts.types.boolean e) (sequence_same statements)
+      statement_same (repeat_loop statements e) = both_same old new (sequence_same statements) (required_there facts.types.boolean e)
+
+      pub sequence_same : (s : Tree ℕ sequence) → Alright (reported_sequence fo s) (reported_sequence fn s)
+      sequence_same (runs a rest) = both_same old new (statement_same a) (statements_same rest)
+
+      statements_same : (rest : Tree ℕ (items further_statement)) → Alright (reported_statements fo rest) (reported_statements fn rest)
+      statements_same end = none_same old new
+      statements_same (more (then_statement a) rest) = both_same old new (statement_same a) (statements_same rest)
+
+      elsifs_same : (rest : Tree ℕ (items elsif_part)) → Alright (reported_elsifs fo rest) (reported_elsifs fn rest)
+      elsifs_same end = none_same old new
+      elsifs_same (more (elsif_branch e statements) rest) =
+          both_same old new (required_there facts.types.boolean e) (both_same old new (sequence_same statements) (elsifs_same rest))
+
+      else_same : (last : Tree ℕ (maybe else_part)) → Alright (reported_else fo last) (reported_else fn last)
+      else_same none = none_same old new
+      else_same (one (else_branch statements)) = sequence_same statements
