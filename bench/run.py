@@ -513,6 +513,22 @@ def many_documents() -> None:
         said("peak memory", megabytes(peak_until_now(talk.process.pid)))
 
 
+@measure("questions: a hover in each of some documents of 1 MB in turn")
+def questions_in_turn():
+    """Four of the longest are kept: with one more each question reads a whole text again."""
+    text = corpus.module(MIB - 1000)
+    here = place_of(text, middle_name(text))
+    for count in (1, 2, 4, 5):
+        uris = ["file:///m", *(f"file:///{number}" for number in range(count - 1))]
+        with Talk(text) as talk:
+            for uri in uris[1:]:
+                talk.after(did_open(text, uri))
+            known = [{"position": here, "textDocument": {"uri": uri}} for uri in uris]
+            rounds = [[talk.after(request(5, "textDocument/hover", params))[0] for params in known] for _ in range(3)]
+            taken = spread([seconds for times in rounds[1:] for seconds in times])
+            said(f"{count} of them: milliseconds, least, middle, most; peak memory", f"{taken}; {megabytes(peak_until_now(talk.process.pid))}")
+
+
 @measure("serve: documents of 1 MB that become a comment that isn't closed")
 def commented_out() -> None:
     """What is kept of a text without lexemes is bounded by what it counts for: both lines are about the same."""

@@ -49,9 +49,9 @@ def about(uri: str, message: Message) -> Message:
     return {**message, "params": {**message["params"], "textDocument": document}}
 
 
-# (three such texts are more than the session keeps analyses of)
+# (five such texts are more than the session keeps analyses of)
 COMMENT = "(*" + "x" * 900_000 + "*)\n"
-KEPT = [f"file:///{it}" for it in "abc"]
+KEPT = [f"file:///{it}" for it in "abcde"]
 
 
 def several_documents() -> bytes:
@@ -129,7 +129,7 @@ LONG = {
         talk(did_open("a\r\n(* 😀 *) $"), did_change([{"range": extent("1:11-1:12"), "text": "$$"}]), general={"positionEncodings": ["utf-8"]}),
         None,
     ),
-    "three documents, whose analyses are kept, dropped and made again": Case(["serve"], several_documents(), None),
+    "five documents, whose analyses are kept, dropped and made again": Case(["serve"], several_documents(), None),
     "a constant inlined": Case(["serve"], talk(did_open(LEAST), acted(3, 3, 15), acted(4, 1, 6), **LITERALS), None),
     "a layout": Case(["serve"], talk(did_open(ON_ONE_LINE), laid_out(3)), None),
     "200 variables, renamed and laid out": Case(

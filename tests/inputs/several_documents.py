@@ -22,8 +22,8 @@ CLIENT: Message = {
     "workspace": {"workspaceEdit": {"documentChanges": True}},
 }
 REFUSED = -32803
-# (more than the session keeps in all: 2 MiB)
-LARGE = {"file:///large/1": 700_000, "file:///large/2": 800_000, "file:///large/3": 900_000}
+# (more than the session keeps in all: 4 MiB)
+LARGE = {f"file:///large/{at}": 750_000 + 50_000 * at for at in range(1, 6)}
 SMALL = [f"file:///small/{at}" for at in range(1, 6)]
 
 

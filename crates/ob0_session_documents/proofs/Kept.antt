@@ -1,13 +1,13 @@
 -- What the entries of a cache are after a call.
-use Rattle.std.proofs.Common.{◌≡◌, ◌∙◌, ℕ, ◌⊎◌, inl, inr, Bool, true, false, cond, take, List, [], ◌∷◌, Contains, Some, None, String, string_bytes, Global, sym, ap, subst}
+use Rattle.std.proofs.Common.{◌≡◌, ◌∙◌, ℕ, ◌⊎◌, inl, inr, Bool, true, false, cond, take, List, [], ◌∷◌, Contains, IfSome, Bor, Option, option_copied, Some, None, String, string_bytes, Global, sym, ap, subst}
 use Rattle.std.specs.Str.{bytes_eq}
 use Rattle.std.specs.Map.{keys_of, lookup, remove_entry}
 use Rattle.std.specs.List.{AllByRecursion, IsDistinct}
 use Rattle.std.specs.String.{string_eq, string_eq_equiv}
 use Rattle.std.proofs.lemmas.Slice.Eq.{bytes_eq-Decides}
 use Rattle.std.proofs.lemmas.Map.{none_passes_from_lookup, lookup-remove_entry}
-use Rattle.lru.specs.LruCache.{LruCache, put_entries}
-use Rattle.lru.proofs.CallerLemmas.{Contains-lookup, Contains-remove_entry, Contains-put_entries, Contains-take}
+use Rattle.lru.specs.LruCache.{LruCache, promoted, put_entries}
+use Rattle.lru.proofs.CallerLemmas.{Contains-lookup, Contains-promoted, Contains-remove_entry, Contains-put_entries, Contains-take}
 use Rattle.lru.proofs.Splits.{Contains-cons, Contains-nil}
 use Rattle.ob0_session_documents.specs.KeptAnalyses.{IsIn}
 
@@ -32,7 +32,17 @@ pub found_in : (uri : List ℕ) (cache : LruCache (String Global) (List ℕ)) (t
 found_in uri cache text h =
     let at = Contains-lookup (is_uri uri) cache.entries text h in (at.0, at.1, sym ((bytes_eq-Decides uri (string_bytes at.0)).0 at.2))
 
--- what is left after that is under other uris
+-- what is found in a cache is there under the uri
+pub peeked_in : (uri : List ℕ) (cache : LruCache (String Global) (List ℕ)) (found : Option (Bor (List ℕ))) → option_copied found ≡ lookup (is_uri uri) cache.entries → IfSome found (λ a. IsIn (Some cache) uri a.now)
+peeked_in uri cache None h = tt
+peeked_in uri cache (Some a) h = found_in uri cache a.now (sym h)
+
+-- what is there after a document was promoted
+pub promoted_in : (document : List ℕ) (old new : LruCache (String Global) (List ℕ)) → new.entries ≡ promoted (is_uri document) old.entries → (u t : List ℕ) → IsIn (Some new) u t → IsIn (Some old) u t
+promoted_in document old new is u t h =
+    (h.0, Contains-promoted (is_uri document) old.entries (h.0, t) (subst (λ l. Contains l (h.0, t)) is h.1), h.2)
+
+-- what is left after one was taken out is under other uris
 pub left_in : (uri : List ℕ) (old new : LruCache (String Global) (List ℕ)) → IsDistinct string_eq (keys_of old.entries) → new.entries ≡ remove_entry (is_uri uri) old.entries
     → (u text : List ℕ) → IsIn (Some new) u text → IsIn (Some old) u text × (u ≡ uri → ⊥)
 left_in uri old new distinct is u text h =

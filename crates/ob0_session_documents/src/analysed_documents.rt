@@ -103,7 +103,8 @@ impl<T: TextStore> AnalysedDocuments<T> {
         self.documents.did_close(uri)
     }
 
-    /// Makes a request of a document that is in step. The analysis of its text is kept for what comes next.
+    /// Makes a request of a document that is in step. The analysis of its text that is kept is read where it is; where
+    /// none is, one is made, and kept for what comes next.
     pub fn ask<Q: DocumentRequest<T>>(
         &mut self,
         uri: &str,
@@ -114,8 +115,12 @@ impl<T: TextStore> AnalysedDocuments<T> {
     {
         match self.documents.get(uri) {
             Some(Held::InStep { version, text }) => {
-                let kept = self.analyses.take(uri);
-                let analysis = analysis_of(self.alloc, kept, text)?;
+                self.analyses.promote(uri);
+                if let Some(analysis) = self.analyses.get(uri) {
+                    let message = request.answer(self.alloc, version, text, analysis)?;
+                    return Ok(RequestOutcome::Answered(message));
+                }
+                let analysis = Analysis::of(self.alloc, text.as_str())?;
                 let answer = request.answer(self.alloc, version, text, &analysis);
                 self.analyses.put(uri, analysis)?;
                 Ok(RequestOutcome::Answered(answer?))
@@ -150,20 +155,5 @@ fn analysis_after(
     match before {
         None => Analysis::of(alloc, text),
         Some(before) => before.after(alloc, text),
-    }
-}
-
-/// The analysis of a stored text: the one that was kept of it, or one from nothing.
-fn analysis_of<T: TextStore>(
-    alloc: Global,
-    kept: Option<Analysis>,
-    store: &T,
-) -> Result<Analysis, AllocError>
-    requires { IfSome kept (λ a. T.content store.now ≡ chars a) }
-    ensures { IfOk result (λ a. T.content store.now ≡ chars a) }
-{
-    match kept {
-        None => Analysis::of(alloc, store.as_str()),
-        Some(kept) => Ok(kept),
     }
 }

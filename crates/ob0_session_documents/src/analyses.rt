@@ -7,11 +7,12 @@ use lru::LruCache;
 use ob0_analysis::Analysis;
 use std::alloc::{AllocError, Global};
 
-/// How many bytes the analyses that are kept count for together, at most, where there are several: those of two of the
+/// How many bytes the analyses that are kept count for together, at most, where there are several: those of four of the
 /// longest texts.
-const MAX_BYTES: usize = 2_099_200;
+const MAX_BYTES: usize = 4_198_400;
 
-/// What an analysis counts for beside the bytes of what it keeps, so that those of empty texts are bounded too.
+/// What an analysis counts for beside the bytes of its uri and of what it keeps, so that those of empty texts are bounded
+/// too.
 const BYTES_PER_ANALYSIS: usize = 1_024;
 
 /// Analyses of texts by the uris of their documents. What is put in may be dropped at any time.
@@ -45,8 +46,25 @@ impl Analyses {
         // For the proof: what the contract of this call says.
         let _count = by_uri.len();
         let analysis = by_uri.pop(uri)?;
-        self.bytes = self.bytes.saturating_sub(bytes_of(&analysis));
+        self.bytes = self.bytes.saturating_sub(bytes_of(uri, &analysis));
         Some(analysis)
+    }
+
+    /// The analysis of a document, where one is kept.
+    pub fn get(&self, uri: &str) -> Option<&Analysis>
+        ensures { IfSome result (λ a. KeepsAnalysis self.now uri.now a.now) }
+    {
+        let by_uri = self.by_uri.as_ref()?;
+        by_uri.peek(uri)
+    }
+
+    /// Takes the analysis of a document, where one is kept, for the one that was used last.
+    pub fn promote(&mut self, uri: &str)
+        ensures { KeepsOnly self.old self.new }
+    {
+        if let Some(by_uri) = &mut self.by_uri {
+            by_uri.promote(uri);
+        }
     }
 
     /// Keeps the analysis of a document, and drops those that weren't used for longest where there is too much in all.
@@ -54,7 +72,7 @@ impl Analyses {
     pub fn put(&mut self, uri: &str, analysis: Analysis) -> Result<(), AllocError>
         ensures { KeepsAlso self.old uri.now analysis self.new }
     {
-        self.free(bytes_of(&analysis));
+        self.free(bytes_of(uri, &analysis));
         self.insert(uri, analysis)
     }
 
@@ -77,28 +95,30 @@ impl Analyses {
     {
         let mut counted = self.bytes.saturating_add(bytes);
         while counted > MAX_BYTES {
-            let Some(oldest) = self.remove_oldest() else {
+            let Some((oldest, analysis)) = self.remove_oldest() else {
                 break;
             };
-            counted = counted.saturating_sub(bytes_of(&oldest));
+            counted = counted.saturating_sub(bytes_of(oldest.as_str(), &analysis));
         }
         self.bytes = counted;
     }
 
-    fn remove_oldest(&mut self) -> Option<Analysis>
+    fn remove_oldest(&mut self) -> Option<(String, Analysis)>
         ensures { KeepsOnly self.old self.new }
     {
         let by_uri = self.by_uri.as_mut()?;
-        let (_, oldest) = by_uri.pop_lru()?;
-        Some(oldest)
+        by_uri.pop_lru()
     }
 }
 
-/// What an analysis counts for.
-fn bytes_of(analysis: &Analysis) -> usize
+/// What an analysis counts for under its uri, which the cache has beside the documents.
+fn bytes_of(uri: &str, analysis: &Analysis) -> usize
     ensures { BYTES_PER_ANALYSIS ≤ result }
 {
-    analysis.bytes().saturating_add(BYTES_PER_ANALYSIS)
+    analysis
+        .bytes()
+        .saturating_add(uri.len())
+        .saturating_add(BYTES_PER_ANALYSIS)
 }
 
 /// A cache with one analysis.
