@@ -78,6 +78,14 @@ def refused_by_answer():
     same(judged(error + "record `View` has no field `len_utf16`\n" + end), mutants.ELSEWHERE, "a name that is gone")
 
 
+@test("mutants: the proof of methods that call each other is below their type")
+def proof_of_cycle():
+    errors = [f"./proofs/{at}/+blocks/Answers.antt:9:3: error: `block-returns`: a type" for at in ("low/Visit", "low", "other/Visit")]
+    said = Said("\n".join(errors), 1)
+    same(said.proof_errors("ob0_text::low::Visit::block", "low::+blocks"), errors[:1], "of methods")
+    same(said.proof_errors("ob0_text::low::block", "low::+blocks"), errors[1:2], "of functions")
+
+
 @test("mutants: one that is made right again fails")
 def made_right():
     said = "fn ob0_text::passes::width: proved\nonly=1 proved=1\n"

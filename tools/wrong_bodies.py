@@ -120,8 +120,10 @@ class Said:
 
     def proof_errors(self, symbol, proof):
         """The errors in the files of a function's proof."""
-        at = proof if "+" in proof else symbol.partition("::")[2]
-        start = "proofs/" + at.replace("::", "/") + "/"
+        # (that of a cycle is where the prover has its functions: of methods that is below their type)
+        *above, name = symbol.partition("::")[2].split("::")
+        cycle = re.search(r"\+\w+$", proof)
+        start = "/".join(["proofs", *above, cycle[0] if cycle else name]) + "/"
         return [it for it in self.text.split("\n") if ERROR.match(it) and ERROR.match(it)[1].startswith(start)]
 
     def why(self, symbol, proof):
