@@ -185,6 +185,12 @@ def emacs_scanning():
     same(in_emacs("scanning", GOOD), [("opened", []), ("typed", bad), ("mended", []), ("ended", 0)])
 
 
+@test("Emacs: a diagnostic of an older text, at a place that is inside a character now, is shown")
+def emacs_outdated():
+    text = "MODULE M; (* \U0001f600 *)\nBEGIN\n  WriteLn\nEND M.\n"
+    same(in_emacs("outdated", text), [("opened", []), ("outdated", 1), ("ended", 0)])
+
+
 PLACES = ["1:10-1:11", "2:30-2:31", "2:47-2:48", "3:6-3:7"]
 HOVER = {"contents": {"kind": "plaintext", "value": "PROCEDURE F(n: INTEGER)"}, "range": extent("3:6-3:7")}
 DEFINITION = {"range": extent("1:10-1:11"), "uri": "file:///m.mod"}
