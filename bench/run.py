@@ -589,7 +589,7 @@ def renamed_to_a_long_name() -> None:
 
 
 def cost_of_changes(changes: int, lines: int, line_of: Callable[[int], int], program: str = BINARY) -> Cost:
-    """What one notification takes beside an open alone: change number `at` is in line `line_of(at)` of so many lines."""
+    """What one notification takes beside an open alone: change number `at` is in line `line_of(at)` of this many."""
     text = "MODULE M; VAR x: INTEGER; BEGIN\n" + "x:=x+1;\n" * lines + "END M.\n"
     replaced = [{"range": extent(f"{1 + line_of(at)}:0-{1 + line_of(at)}:1"), "text": "x"} for at in range(changes)]
     start = [initialize(), did_open(text)]

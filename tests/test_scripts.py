@@ -6,11 +6,11 @@ import os
 import re
 import shutil
 import subprocess
+import sys
 import tempfile
 from collections.abc import Callable, Iterable
 from typing import Any, TypeVar
 
-import common
 import harness
 from harness import Content, Message, TOP, examples, frames, holds, need_program, published, same, test, text_of
 from homes import write
@@ -90,9 +90,8 @@ def format_statuses() -> None:
         for words in lines:
             same(ran(["ob0-format", *words], work, own)[:2], (2, ""), f"the status of {words}")
         same(ran(["ob0-format", "--help"], work, own)[::2], (0, ""), "help")
-        path = {**own, "PATH": os.path.dirname(common.need("python3"))}
         said = "ob0-format: ob0 is neither beside this program nor on PATH\n"
-        same(ran(["python3", FORMAT, "good.mod"], work, path), (4, "", said), "without ob0")
+        same(ran([sys.executable, FORMAT, "good.mod"], work, {**own, "PATH": work}), (4, "", said), "without ob0")
 
     in_folder(MODULES, trial)
 

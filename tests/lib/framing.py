@@ -37,6 +37,11 @@ class Incoming:
 
     def take(self) -> bytes | None:
         """Takes the content of the first message; None while that isn't whole."""
+        taken = self.take_framed()
+        return taken[1] if taken else None
+
+    def take_framed(self) -> tuple[bytes, bytes] | None:
+        """Takes the first message as it came, and its content."""
         end_of_head = self.held.find(b"\r\n\r\n")
         if end_of_head < 0:
             return None
@@ -45,9 +50,10 @@ class Incoming:
         end = start + next(int(value) for name, _, value in fields if name.lower() == b"content-length")
         if len(self.held) < end:
             return None
-        content = bytes(self.held[start:end])
+        with memoryview(self.held) as held:
+            framed, content = bytes(held[:end]), bytes(held[start:end])
         del self.held[:end]
-        return content
+        return framed, content
 
     def messages(self) -> Iterator[Message]:
         """Takes the whole messages, as values."""

@@ -1,4 +1,12 @@
 //! Asking the module that a text is.
+//!
+//! `ask` joins the kept tree, bindings and types to the tokens, and passes a well-typed module to the question; it is
+//! the one function that holds the chain of views. A question is a struct with `impl Question`: `type Answer`, `ghost
+//! answers = { λ question names answer. .. }`, and `answer`, whose contract is `answers`. What an answer says of the
+//! text's characters is written as an implication from `IsModuleIn (utf8 content) names` and `content ≡ chars
+//! names.module_read.source.text`. For a text that isn't well-typed `ask` gives None, and `diagnoses` of the same
+//! analysis says why. A question that has to know the text says so by the ghost member `is_about`, which `ask` requires
+//! and every other question leaves out.
 
 ghost use Rattle.std.specs.Prelude.{⊤, ℕ, List, IfOk};
 ghost use Rattle.std.specs.Str.{IsUtf8};

@@ -1,4 +1,8 @@
 //! A text that is a module.
+//!
+//! A *view* joins each part to the layer before it by a reference (`Module`, `Resolved`, `Checked`), and its invariant
+//! says that the part is that layer's. A view has two constructors, which require its invariant: `new` owns the part,
+//! `from_parts` borrows it and doesn't allocate. The value of `ModuleParts` is that of `Resolved`.
 
 ghost use Rattle.std.specs.Prelude.{◌≡◌, IfOk};
 ghost use Rattle.ob0_tree.specs.Parsed.{IsParsed, parsed_by};

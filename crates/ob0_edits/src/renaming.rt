@@ -1,4 +1,9 @@
 //! Renaming in a text, by its analysis.
+//!
+//! What is renamed, a declaration or a field, is a case of `AreEdits` and `IsRefused` of `ob0_rename`; both have
+//! `WritesName`, so `renames_in` of `proofs/Renamings` is one lemma for both. `RenamesIn` and `IsRefusedIn` speak of
+//! the module with its names bound (`IsModuleIn`), since fields are found by what names are bound to. `new_name_found`
+//! goes from what `ask` says of the bytes to `RenamesIn` of the characters.
 
 ghost use Rattle.std.specs.Prelude.{◌≡◌, IfOk};
 ghost use Rattle.std.specs.Str.{chars};

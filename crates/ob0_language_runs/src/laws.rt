@@ -1,4 +1,8 @@
 //! The laws. Each function does nothing: its contract is the law.
+//!
+//! A run keeps every variable; what drops a call's variables at its return is against `run_freeing` (`specs/Freed`),
+//! and `freeing_keeps_runs` joins the two. What it means that a value, a store, a place or an environment fits the
+//! types of a checked module is in `specs/Fitting`; the law that no run gets stuck keeps that.
 
 ghost use Rattle.ob0_language_runs.specs.Laws.{RunsByOrdinal, RunsByShape, FreeKeepsRuns, FreeingKeepsRuns, NeverStuck, InliningKeepsExecution};
 ghost use Rattle.ob0_language_runs.specs.EditLaws.{FreeKeepsModules, InliningKeepsModules, LeavingOutKeepsModules, InliningEverywhereKeepsModules};

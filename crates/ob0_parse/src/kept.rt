@@ -1,4 +1,17 @@
 //! Procedures that earlier parses made, and where their tokens are in another text.
+//!
+//! What is kept (`Kept`) are trees with the places of their tokens: those that the last parse made, and those to which
+//! it didn't come. `IsThere` says of one that its tokens are of the kinds that it spells, counted from its own first
+//! token, so it is carried to another text by kinds alone (`Kept::after`), whatever else is in either text. A text with
+//! a syntax fault keeps what its parser made up to the fault and what waits after it. That such a tree may be taken
+//! over needs nothing of the parse that made it: a procedure ends in a semicolon, so what follows can't go on it
+//! (`only_zero`), and the descent reads every tree that is spelled (`finishes`); so `Taken` follows from the spelling
+//! (`taken_there`).
+//!
+//! A procedure waits while the parser stops before it, with its leaves as they were. When the parser comes to it, a
+//! walk in place moves its leaves where its tokens have moved (`put_in_place`, `moving.rt`), so each procedure before
+//! or after the change is taken over. The moved tree is `mapped` from the old one, so it spells the tokens that are
+//! there now (`moved_there`); no index grows past the largest, since `next` is an index itself.
 
 ghost use Rattle.std.specs.Prelude.{◌≡◌, ◌+◌, ◌≤◌, ◌++◌, [], List, IfOk, OnOk, IfSome};
 ghost use Rattle.std.specs.Option.{option_to_list};

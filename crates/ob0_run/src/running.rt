@@ -1,4 +1,13 @@
 //! Runs of well-typed modules.
+//!
+//! `lower` puts two facts together: the program means the module (`MeansModule`: no activation has more cells than it
+//! says, and no lower number would do), and the run of a program that means a well-typed module is the module's run
+//! (`runs_lowered`). What is promised of a program is `RunsAs`, which `execute` uses for any module; `run` is both.
+//!
+//! The law requires addresses for the cells of all activations that may be open: `execute` tests that
+//! (`have_addresses`). It requires that the input has numbers of 32 bits. A slice of `i32` has no such fact by itself:
+//! `have_numbers` reads each number once, and each value that is read has its range (`let f : SFits w32 .. = search
+//! rules`).
 
 ghost use Rattle.std.specs.Prelude.{◌≡◌, ◌*◌, ◌^◌, IfOk, nat_lt, suc};
 ghost use Rattle.ob0_tree.specs.Parsed.{named_tree_of};

@@ -1,4 +1,6 @@
 -- Calls of lowered procedures do what calls of the module's do, by induction on how many may be open.
+-- What `SoundCalls` of `ob0_language_runs` gives by its `.. -run` lemmas hides the environments in between; where a
+-- relation names them, take the equations from it and use the lemmas of constants, types and environments alone.
 use Rattle.std.proofs.Common.{◌≡◌, ℕ, zero, suc, ◌+◌, ◌*◌, ◌^◌, ◌<◌, true, List, [], ◌∷◌, ◌++◌, drop, length, map, replicate, take, pos, slice_get, Some, option_and_then, unwrap_or, sym, refl, ap, ◌∙◌, subst, arith, append_assoc}
 use Rattle.ob0_tree.specs.Tree.{Tree, begins, body, declares_procedure, item, maybe, none, one, procedure}
 use Rattle.ob0_language_names.specs.Parts.{block_statements, formal_sections, procedure_formals}

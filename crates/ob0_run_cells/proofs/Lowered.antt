@@ -1,4 +1,6 @@
 -- The proofs of the laws of lowering.
+-- Chains are read from the beginning: `Leads` says "what was found so far, and what is left of the chain, come to the
+-- whole". A loop over selectors, factors or addends keeps that one fact; `SelectorsEnd`, `OperatorsEnd` close it.
 use Rattle.std.proofs.Common.{refl}
 use Rattle.ob0_tree.specs.declared.tree.AddOperator.TheVariants as add_operator
 use Rattle.ob0_tree.specs.declared.tree.MultiplyOperator.TheVariants as multiply_operator

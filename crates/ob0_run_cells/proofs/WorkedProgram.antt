@@ -1,4 +1,5 @@
 -- A worked program: a module with a procedure, a VAR parameter among its two, and the program that means it.
+-- It shows that the definitions can be met, and how the laws are put together.
 use Rattle.std.proofs.Common.{◌≡◌, ℕ, List, [], ◌∷◌, Some, None, pos, refl, arith}
 use Rattle.ob0_tree.specs.Tree.{Tree, assigns, begins, calls, compares, declares, declares_procedure, declares_variable, declares_variables, designator, end, expression, has_body, integer, is_module, item, listed, module_text, more, named_type, none, one, procedure, product, runs, some_arguments, some_formals, sum, then_argument, then_section, then_statement, value_section, variable_section}
 use Rattle.ob0_language_names.specs.Names.{Label, as_labels, as_written, declared}

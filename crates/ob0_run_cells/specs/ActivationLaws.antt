@@ -1,5 +1,11 @@
 -- Calls of lowered procedures do what calls of the module's do that drop their variables;
 -- runs are the same runs.
+-- Of the machine it is required that its run is `execution.run`; then `RunsLowered` makes it the module's run by names.
+-- `forward` wraps at 2^64 and the definition's store has no bound, so the law requires that the cells of the module and
+-- of all calls that may be open have addresses: `suc c * most < 2 ^ 64`, where no activation has more than `most` cells
+-- (those of its parameters with it). Cells against a store are cells against one whose calls drop their variables at
+-- their return (`call_freeing`): `CallsLowered` and `run-freed` speak of that. `RunsLowered` speaks of the run that
+-- keeps every variable, by the law that both are equal (`freeing-keeps` of `ob0_language_runs`).
 -- Rule: none; laws of lowered programs.
 use Rattle.std.specs.Prelude.{◌≡◌, ℕ, suc, ◌+◌, ◌*◌, ◌<◌, ◌^◌, List, map, ℤ}
 use Rattle.ob0_tree.specs.Tree.{Tree, module_text}

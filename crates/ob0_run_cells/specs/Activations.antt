@@ -1,5 +1,14 @@
 -- Where lowered code finds what names mean, and what it means that a table
 -- of procedures is lowered from a module's blocks.
+-- A placing says of what an environment binds where it is: a variable in a slot, a procedure at a target. What a block
+-- means is the record `BlockIsPlaced`, a procedure `HasRoutine`; the recursive part of each is a parameter. A
+-- procedure's binding keeps the placing of what is after it as it was at the declaration (`IsPlaced`), and
+-- `PlacingFits` recurses on the activation's bindings with that in place of its own. So nothing is turned back from
+-- further in to further out. Of the code that lowers it is required that what it makes meets `ProgramMeans most
+-- as_labels (numbered m) program`, by the laws of productions and by the recursion of `BlockMeans` over declarations.
+-- Indexes of procedures are free: any entry of the table whose code means the procedure's block. Variables of the
+-- module are `of_module` at offsets that begin with 0, those of a procedure `held 0` after its parameters by value; VAR
+-- parameters are `by_reference 0` by their index among these.
 -- Rule: none; for contracts of lowering, against docs/LANGUAGE.md, Runs 6.
 use Rattle.std.specs.Prelude.{◌≡◌, ℕ, suc, ◌+◌, ◌≤◌, true, false, List, [], ◌∷◌, drop, slice_get, Some, Option, option_and_then}
 use Rattle.ob0_tree.specs.Tree.{Tree, begins, block, body, declares, declares_procedure, declares_variable, end, has_body, item, items, maybe, module_text, more, none, one, procedure, variable}

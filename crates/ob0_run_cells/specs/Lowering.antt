@@ -1,5 +1,11 @@
 -- What lowered code means: its places, numbers and truths against the designators
 -- and expressions of a module, at the moments of a run.
+-- Meanings are relations over functions of the moment (`Evaluated`), not over trees: operators need no typing then,
+-- since what a number means is a number. Types are required of places alone, and of variables. An array or a record is
+-- `ValueAt` a place: its expression evaluates to what the place holds, in parentheses or not; only a VAR argument has
+-- to be a designator alone (`IsAt`). While arguments are passed, cells follow those of the store: `passed` in a moment,
+-- so that what means something means it there too. A sign `+` leaves a number as it is, since numbers of lowered code
+-- have 32 bits at every moment (`Has32Bits`): literals by a premise, cells by `has_numbers`, operations by themselves.
 -- Rule: none; for contracts of lowering, against docs/LANGUAGE.md, Runs 2 to 4.
 use Rattle.std.specs.Prelude.{◌≡◌, ℕ, zero, suc, ◌+◌, ◌^◌, ◌<◌, true, List, ◌++◌, ℤ, slice_index_or, Some}
 use Rattle.ob0_tree.specs.declared.tree.Relation.{Relation}

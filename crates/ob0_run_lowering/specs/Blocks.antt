@@ -1,4 +1,10 @@
 -- What the code of procedures and blocks means, wherever they are in a well-typed module.
+-- A procedure's index is given at its heading, with a placeholder in the table of procedures; its code is kept there at
+-- its end. Clauses speak of any later table that has the code from an index on (`Later`), so that what was lowered
+-- first still means what it does: no clause names the last table. `Goes` is over any statements and any procedures
+-- after: a procedure's clause is one for each rest, and the loop of a block composes them (`goes_then`). The most cells
+-- of an activation so far are kept as soon as a block's variables are placed; clauses speak of any number that is as
+-- large or larger.
 -- Rule: none; for contracts of lowering.
 use Rattle.std.specs.Prelude.{◌≡◌, ℕ, ◌≤◌, true, List, length, Some, slice_get}
 use Rattle.ob0_tree.specs.Tree.{Tree, block, body, items, maybe, procedure}

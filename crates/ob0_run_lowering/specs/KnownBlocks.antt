@@ -1,4 +1,8 @@
 -- What a module's declarations bind, and what its table of declarations has, by ordinal.
+-- `BlockDeclared`, by recursion over the tree: wherever procedures and statements of a block are checked, each binding
+-- is of an ordinal and binds it to what its declaration is. A well-typed module is so (`module-declared`): in its
+-- numbered tree ordinals descend in each environment, so each binding is the one that is found. Nothing else of the
+-- order of ordinals is used.
 -- Rule: none; for contracts of lowering.
 use Rattle.std.specs.Prelude.{◌≡◌, ℕ, ◌+◌, List, [], ◌∷◌, Some, Option}
 use Rattle.ob0_tree.specs.Tree.{Tree, block, declares, declares_procedure, end, has_body, item, items, more, procedure}

@@ -1,5 +1,10 @@
 -- What the lowered code of statements means in a scene: for whatever is checked, and whatever slots
 -- and targets, the scene sees, the code of statements that fit does what they do.
+-- `InScene` is the form of every clause on statements but `body`'s: for whatever is checked, and whatever slots and
+-- targets, that the scene sees, what fits is meant. Laws of `ob0_run_cells` are lifted to it once each
+-- (`proofs/InScene`): the whole fits, so its parts fit. The clause of `body` says the meaning where a body is
+-- (`BodyMeans` of `ob0_run_cells`): in each environment and at each placing that the scene sees, where the body fits. A
+-- tree that occurs in no well-typed module doesn't fit, so its clause holds of any code.
 -- Rule: none; for contracts of lowering.
 use Rattle.std.specs.Prelude.{◌≡◌, ◌&&◌, Bool, List, [], IsTrue, Option, Some, None}
 use Rattle.std.specs.declared.alloc.Global.{Global}

@@ -1,4 +1,8 @@
 -- What it means that a module is lowered to a program and a number of cells.
+-- That no lower number of cells is enough (`least` of `MeansModule`, `Reaches` and `MeansBlock`) is said of whatever
+-- code means the module: its indexes of procedures may be others, so its placings are. Environments are functions of
+-- the tree, so they are the same, and how many cells an activation has doesn't depend on where they are
+-- (`groups_cells`, `parameters_cells`).
 -- Rule: none; for contracts of lowering, against docs/LANGUAGE.md, Runs 6.
 use Rattle.std.specs.Prelude.{ℕ, ◌≤◌}
 use Rattle.ob0_tree.specs.Tree.{Tree, module_text}

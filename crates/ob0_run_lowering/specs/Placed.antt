@@ -1,5 +1,10 @@
 -- Where the code's table has what is placed, and how the names of a block and
 -- of a heading are placed one by one.
+-- Constants and types need no code: they are placed nowhere, and of what is nowhere `LocatesAll` says nothing. What is
+-- placed is reported by a function of the names alone (`place_groups`, `place_sections`), so loops over names know
+-- nothing of types or environments; that these are the sizes of the declared types is one lemma each (`groups_placed`,
+-- `sections_placed`), where the declarations fit. The order of steps is the definition's, so a frame (`Frame`: depth,
+-- cells, VAR parameters) is what is placed so far without its names (`IsFrame`).
 -- Rule: none; for contracts of lowering.
 use Rattle.std.specs.Prelude.{◌≡◌, ℕ, zero, suc, ◌+◌, ◌≤◌, List, [], ◌∷◌, ◌++◌, length, if◌then◌else◌, ◌==◌, Some, None, Option}
 use Rattle.ob0_tree.specs.Tree.{Tree, declares_variable, end, further_section, items, more, then_section, variable}

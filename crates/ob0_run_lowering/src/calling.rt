@@ -1,5 +1,9 @@
 //! Calls of procedures and of the standard procedures. Calls that no well-typed module has, as of a variable or of Read
 //! without an argument, are lowered to `WriteLine`: some instruction has to be returned, and none of these is executed.
+//!
+//! Arguments and parameters are walked side by side, and no length is compared: where one is left alone, they don't
+//! fit, and nothing is claimed. Read needs the place of its argument (`locate_argument`), Write the number of its
+//! argument (`number`).
 
 ghost use Rattle.std.specs.Prelude.{◌≡◌, IfOk, Some, map, option_map, slice_get};
 ghost use Rattle.ob0_tree.specs.View.{arguments_of, call_of};

@@ -1,4 +1,12 @@
 //! Operations in a row, in a list from the second on. Two truths that are joined are a pair, more of them a list.
+//!
+//! The second operation in a row begins a `Chain`, the second `&` or OR an `All` or an `Any`; in `v + i * j` the sum
+//! goes to the end of the row of its right operand. By `View` they mean the same nested code, so nothing else knows of
+//! it; nor of the forms of places, negations and assignments that the machine evaluates in fewer steps. Since the
+//! meaning is the same, the depth of a row is a clause of its own (`specs/Rows`): one more operand makes a conjunction
+//! no deeper on the left than it was, or than once (`GoesOnFlat`), and so the first operand of a conjunction isn't one
+//! (`IsFlat`). `both` and `either` name each case of the left operand, since a wildcard arm would leave nothing known
+//! of it.
 
 ghost use Rattle.std.specs.Prelude.{◌≡◌, ◌≤◌, IfOk, IfSome, max, suc};
 ghost use Rattle.ob0_run_machine.specs.Lowered as machine;

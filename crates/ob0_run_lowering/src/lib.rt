@@ -1,5 +1,12 @@
 //! Lowering: designators, expressions and arguments, the statements of a body, and declarations, blocks and procedures.
 //! A well-typed module becomes a program of the machine that means it.
+//!
+//! Three layers: designators, expressions and arguments; the statements of a body; declarations, blocks and procedures.
+//! Every promise of the first two is over any `checked`, `slots` and `targets` for which the scene is right (`Sees`):
+//! what is bound there is what its declaration is, and is where the scene has it. So they speak of no environments,
+//! placings or blocks; who lowers blocks shows `Sees` at each body. A code means its expression where that has a type
+//! (`Lowers`): the premise is `type_of`, and where it fails nothing is said. So no tree is refused, and no code is
+//! missing.
 #![tactic(auto)]
 
 mod assigning;

@@ -1,4 +1,10 @@
 //! Lowering of designators and expressions, at a body. Chains are walked by loops, nestings by calls.
+//!
+//! Code and meaning are two steps. `specs/Codes` and `specs/Trees` say which code a tree has (`expression_code`), as
+//! functions that compute; this walk is proved equal to them, an equation each. That this code means the tree is an
+//! induction over trees alone (`proofs/TreesMean`), by the laws of `ob0_run_cells`. No function's proof speaks of
+//! moments or cells. The types that the walk finds by the way are those of the table; only `bound` of `Sees` ties them
+//! to what is checked. A variable that isn't in scope has a type too, and nothing is claimed of it.
 
 ghost use Rattle.std.specs.Prelude.{◌≡◌, IfOk, Some, option_and_then, option_map, pos};
 ghost use Rattle.ob0_tree.specs.Places.{value_at};

@@ -1,4 +1,8 @@
 //! Statements, their branches and their loops.
+//!
+//! A loop keeps "with the code of what is left, the code made so far is the code of the whole" (`SequenceMade`,
+//! `BranchesMade`, `ArgumentsMade`): it takes the code of what is left as an argument, and in the end that is none. An
+//! empty statement has no code, so what was made needn't be as long as what was read.
 
 ghost use Rattle.std.specs.Prelude.{◌≡◌, ◌++◌, IfOk, OnOk, option_map, option_to_list};
 ghost use Rattle.ob0_tree.specs.View as view;

@@ -1,4 +1,10 @@
 //! The types of a module, with how many cells they have.
+//!
+//! Sizes are found once, for each entry of the checker's table over those before it (`LayOut` goes along
+//! `shapes_from`), with the offsets of a record's fields. So an offset is a look-up, by the field's place. `HasSmall`:
+//! numbers of the text and constants have 32 bits. Of the text that is in the scan's promise; of constants it is
+//! learned by reading each once (`constants_are_small`), since a number that is in a table has no range before it is
+//! read.
 
 ghost use Rattle.std.specs.Prelude.{◌≡◌, ◌≤◌, ◌+◌, ◌*◌, ◌^◌, ℕ, ℤ, Some, true, IfOk, List, MatchResult, slice_index_or};
 ghost use Rattle.ob0_run_cells.specs.Cells.{field_offset, size, step_offset};

@@ -1,4 +1,7 @@
 //! Where declarations in scope are, and how the names of a block or of a heading are placed.
+//!
+//! What a binding hides is kept, and put back at the end of a procedure; so a table by ordinal is enough, and a
+//! procedure costs what it declares.
 
 ghost use Rattle.std.specs.Prelude.{◌≡◌, ◌≤◌, ◌+◌, ◌^◌, ℕ, suc, IfOk, OnOk, MatchOption, length, slice_set};
 ghost use Rattle.ob0_run_lowering.specs.Scenes.{site_at};

@@ -1,5 +1,10 @@
 -- Lowered code: a module whose variables are offsets of cells, whose designators are bases, bounds
 -- and offsets, and whose calls name their procedure by its index.
+-- No definition has a premise on the code or a case that is stuck. A cell that isn't there is 0, and writing it changes
+-- nothing; a block of cells is copied where both places have it whole, and as an argument it is zeros where it isn't
+-- there; a procedure that isn't there does nothing; an activation further out than there are has base 0 and no
+-- addresses. Addresses wrap at 64 bits. So no index is tested twice, and no lowered code needs a premise. Arguments are
+-- put at the end of the cells one by one, and the next is evaluated over what is there then (`pass_all`).
 -- Rule: none; for contracts of the machine: lowered code.
 use Rattle.std.specs.Prelude.{ℕ, Bool, List, ℤ}
 

@@ -1,4 +1,9 @@
 -- What the machine means, and what a step of it says of the run.
+-- Iterations are a parameter, so that the machine is the state alone (cells, input, output) and a step says nothing of
+-- what stays the same. Contracts of steps without memory are equations (`after_step`, `executed`); those that take
+-- memory are by cases (`MachineSteps`, `Passes`). `MachineDoes` and what the loops keep are records (`InSequence`,
+-- `InBranches`, `InWhile`, `InRepeat`): their lemmas take all else as implicit arguments, so an answer is one line.
+-- There is one fact for each loop, indexed by how far it has come, with one lemma for each way to go on or to end.
 -- Rule: none; for contracts of the machine.
 use Rattle.std.specs.Prelude.{◌≡◌, ℕ, ℤ, List, map, Ok, Err, None, Option, Some, Result, true}
 use denote.MutBor.{MutBor}

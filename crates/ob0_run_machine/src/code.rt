@@ -1,5 +1,18 @@
 //! Lowered code: variables are offsets of cells, designators are bases, bounds and offsets, and a call names its
 //! procedure by its index.
+//!
+//! Fewer steps, the same definitions: more nodes have the same view. A variable of the module or of the running
+//! activation, or what a VAR parameter of that leads to, is one tag (`Variable`), as a number, as the target of an
+//! assignment, and as array and index of a `Row`; the operations of a row are links on an accumulator, with the
+//! operator and a literal or variable in one tag (`Link`), any other right operand in one called function
+//! (`apply_other`); `v + i * j` is a row too (`VariableSum`), since a variable that is read after the row is the same;
+//! `x := x + k` is an `Update`; a variable compared with a literal or a variable is one node (`ComparedToLiteral`,
+//! `ComparedToVariable`), and so is `~flag` (`Unset`). Conditions that are such a comparison are evaluated where they
+//! are used, a flag by a small function (`flag`), all others in a large one (`flat_truth`).
+//!
+//! Long sums and long conjunctions are `Chain`, `All` and `Any`, in a loop; they mean pairs that are nested to the
+//! left. So no stack is needed for a long operator chain. What operations begin with is a `FirstOperand`, which is no
+//! operation: so a row isn't nested in the left operand of another, by its type.
 
 /// The operators between two numbers.
 #[derive(Clone, Copy, PartialEq, Eq, Debug)]

@@ -1,4 +1,10 @@
 //! What evaluations give.
+//!
+//! Results are flat where they are returned. A `Result` of a number or an address is returned through memory, an enum
+//! with one payload in registers. So a function that is called (`operation`, `chain`, `element`, `flat_truth`, ..)
+//! returns an `Evaluated`, and one that is inlined a `Result`, with `?`; `flat` and `into_result` join both. The steps
+//! of statements return `Result<(), Stop>`, with a `Stop` of one tag (no enum in it), so that this too is in registers:
+//! `end_at` says which end it is, and none where an allocation failed.
 
 ghost use Rattle.std.specs.Prelude.{◌≡◌};
 ghost use Rattle.ob0_run_machine.specs.Answers.{outcome_of, outcome_of_result};

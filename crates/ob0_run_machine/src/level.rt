@@ -1,4 +1,9 @@
 //! Activations.
+//!
+//! The static chain is a linked list on the machine's own stack: a `Level` has its base, the addresses of its VAR
+//! parameters and a reference to the level in which its procedure is declared, and `levels_of` reads it by structural
+//! recursion. No invariant ties frames to a table. One or two addresses of VAR parameters are in the call's own
+//! `Addresses`, more in a `Vec`; nothing else is allocated but for cells and output.
 
 ghost use Rattle.std.specs.Prelude.{◌≡◌, drop, slice_index_or};
 ghost use Rattle.ob0_run_machine.specs.Evaluation.{innermost, level_at};

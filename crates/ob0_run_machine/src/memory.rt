@@ -1,4 +1,7 @@
 //! Memory of a run: its lists grow here alone, so that it is known whether an allocation has failed.
+//!
+//! A step is out of memory only where an allocation has failed (`MachineSteps`, `Passes`): so a bound or a rule that is
+//! broken can't be reported as out of memory. More cells than there are addresses count as a failed allocation.
 
 ghost use Rattle.std.specs.Prelude.{◌≡◌, ◌++◌, ◌∷◌, ◌≤◌, [], OnErr, OnOk, false, true, vec_capacity, vec_len};
 ghost use Rattle.ob0_run_machine.specs.Execution.{block_at, zeros};

@@ -1,4 +1,37 @@
 //! Scans a text that was changed at one place, and takes over what an older scan found before the change and after it.
+//!
+//! `rescan_in_place` takes the tokens of the text before a change and makes those of the text after it in their place;
+//! a text with faults gets the old ones back. `rescan` is that of a copy. What it returns is what `scan` of the new
+//! text returns, and `Reuses` (`specs/Reused`) says which tokens and comments are the old ones: before the change each
+//! that ends before it (one that ends right at it may go on with what was put in); after it, moved by `added` less
+//! `removed`, each from the first place on that the two texts have in common as a beginning. That place can't be chosen
+//! later than it has to be (`IsNew`). `alike` says that the tokens are of the kinds that they were, `same_names` that
+//! the identifiers are written as they were.
+//!
+//! The tokens and comments before the change are found by halving (`Pieces::ending_before`), and a scanner goes on after
+//! the last of them (white space isn't kept, so it is read again). Before each step after the change it tests whether
+//! an old token or comment begins here: the first after the change are found by halving too (`beginning_from`), and
+//! `onward_to` passes those that lie before each step, so all of these questions together pass over the old ones that
+//! are read again once. A scan is in order (`AreInOrder`), so halving finds what the definition counts
+//! (`proofs/Halved`). What is read lies between (`IsBetween`); only then are the old ones after moved where they lie, and
+//! what was read is put between (`splice_tokens`, `splice_comments`). So the tokens of one text alone are in memory:
+//! those of both would leave the heap with holes of their size. Of the text the changed bytes alone are replaced, and
+//! those after them move (`ReplacedRange::replace`); where a change begins or ends inside a character, the new text is
+//! written over the old one.
+//!
+//! The change needn't begin and end between characters: a lexeme's last byte is ASCII, so the scan begins and stops at
+//! borders anyway. A fault ends the search for a common place, so the faults are those of `scan`, reported once. That
+//! spans fit in 32 bits comes from the text's length: `ScanProgress` has it (`short`) for what a scanner makes,
+//! `IsMovable` for spans that are moved. To call it, show `IsReplaced`: the law `middle_is_replaced` has it for texts
+//! that are put together from parts, and `Difference::between` of `ob0_analysis` for any two texts.
+//!
+//! The proof: `proofs/AtLexemes` says once for tokens and comments where those of a list of lexemes are; `Fronts` parts
+//! the old lexemes before the change; `Reusing` has the two seams (a lexeme depends on its bytes and the one byte
+//! after; equal rests have equal lexemes); `Between` collects what was read; `Kept` has the old ones that stay, by
+//! their numbers; `Named` that what is before and after is written as before. That the old tokens were not scanned
+//! again is read only: no clause counts steps. A part of a `Vec` is changed by index (`for index in
+//! first..items.len()`), under "those up to here are changed, the rest is as it was" (`ChangedTo`); after a call on
+//! `&mut items[first..]` the list is a term without a name.
 
 ghost use Rattle.std.specs.Prelude.{◌≡◌, ℕ, List, [], false, ◌+◌, ◌-◌, ◌<◌, ◌≤◌, ◌^◌, ◌||◌, ◌++◌, true, IfOk, IfErr, OnOk, length, map, take, drop, nat_lt, option_copied, string_bytes};
 ghost use Rattle.std.specs.List.{All, prefix_len};

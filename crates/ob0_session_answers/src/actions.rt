@@ -1,4 +1,10 @@
 //! Code actions on request: a constant is inlined, here or everywhere.
+//!
+//! One question (`InlinedAt`) makes both lists of edits. `offered_edits` takes the case of no memory out of an
+//! inliner's answer; `place_of` compares offsets, so that a swapped range needs no law on the order of positions
+//! (`actions_offset` is the lesser of two offsets). An action is made of an `Inlining` (`Here`, `Everywhere`), so that
+//! title, relation and edits go by one argument. A further action: a variant, a line in `AnswersInlining` and `title`,
+//! a field in `Inlinings`, and its case in `inlines_in` of `proofs/Inlined`.
 
 ghost use Rattle.std.specs.Prelude.{◌≡◌, IfOk, map, string_bytes};
 ghost use Rattle.std.specs.List.{list_any};

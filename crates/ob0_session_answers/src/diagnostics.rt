@@ -1,4 +1,8 @@
 //! The diagnostics of a text.
+//!
+//! The offsets of all starts and ends are sorted, and their positions found in one pass (`TextStore::positions`); each
+//! is then looked up by halving. That the look-up finds it isn't needed: where it doesn't, the store gives the one
+//! position.
 
 ghost use Rattle.std.specs.Prelude.{◌≡◌, List, IfOk, map};
 ghost use Rattle.std.specs.Str.{chars};

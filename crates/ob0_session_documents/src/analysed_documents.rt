@@ -1,4 +1,10 @@
 //! The open documents, with the analyses of those that were reported or queried last.
+//!
+//! The value is that of the documents, so `ServerState` and all promises are as without analyses. The invariant says
+//! that each analysis that is kept is of the text that its document has now (`AreOfTheirTexts` of
+//! `specs/KeptAnalyses`): what changes a document takes its analysis out before (`still_theirs` of
+//! `proofs/OtherDocuments`), and puts in that of the new text. No text is compared. One notification makes one
+//! analysis, however many changes it has.
 
 ghost use Rattle.std.specs.Prelude.{◌≡◌, ◌⊎◌, IfSome, IfOk, OnOk, OnErr, is_some, map, string_bytes};
 ghost use Rattle.std.specs.Str.{chars};

@@ -1,4 +1,8 @@
 //! The analyses of the documents that were reported or queried last.
+//!
+//! The contracts say one thing, from one side: what is kept after a call was kept before (`KeepsOnly`), for another
+//! document (`KeepsOthers`), or was put in (`KeepsAlso`). So what drops more meets them too. `put` drops those that
+//! weren't used for longest where there is too much in all.
 
 ghost use Rattle.std.specs.Prelude.{◌≡◌, ◌∷◌, ◌≤◌, [], IfSome, IfOk};
 ghost use Rattle.ob0_session_documents.specs.KeptAnalyses.{KeepsAnalysis, KeepsAlso, KeepsOnly, KeepsOthers};

@@ -1,4 +1,9 @@
 -- What a session promises, in the words of the two ends.
+-- `served` is the one lemma. A request with edits is an arm of `request_served` that goes through `about_document`,
+-- with a lemma for a text in step (`formatted`, `renamed`, `inlined`). What is answered is stated in the session's own
+-- words (`GivesEdits`, `Refuses` by cases of the ask), so it is passed on as it is. Both asks to inline send the same
+-- request: of the list of actions that one is read whose title was requested (`actions_read_back`), which is none where
+-- it isn't offered.
 use Rattle.std.proofs.Common.{◌≡◌, ◌∙◌, ℕ, Bool, true, false, cond, List, [], ◌∷◌, length, refl, sym, ap, subst, inl, inr, arith, ◌<◌}
 use Rattle.std.specs.Prelude.{◌⊎◌, ◌&&◌, min, ℤ, Vec, All, Option, Some, None, is_some, map, fold, filter_map, option_map, option_and_then, unwrap_or, codes, Ok}
 use Rattle.std.specs.List.{cons_option}

@@ -1,4 +1,7 @@
 -- How a course goes on, and what follows of it for what has come of it and for the session.
+-- That the contents returned are a `Conversation` is a lemma over the course (`course_conversed`), by cases of the
+-- event; `serve` has the same relation (`Served`). Where memory runs out (`PlaysBefore`) nothing is said of the
+-- contents.
 use Rattle.std.proofs.Common.{◌≡◌, ◌∙◌, ℕ, ◌+◌, ◌<◌, List, [], ◌∷◌, ◌++◌, length, take, get_or, map, refl, sym, ap, subst, inl}
 use Rattle.std.specs.Prelude.{◌⊎◌, All}
 use Rattle.std.proofs.lemmas.List.{map-append, take_more, append-nil, append_assoc}

@@ -1,6 +1,11 @@
 -- What the code stores of client and server, and what it means: the view of the code, what it keeps
 -- from step to step, and the clauses of private functions.
 -- No promise of a public function names these.
+-- A queue of contents is a function of it (`all_heard`, `all_understood`); the invariant says that each content says
+-- something. A content keeps its meaning when more is requested (`Waiting`). `IsRunning` says of the session's state
+-- that it serves this editor: its client takes edits of versioned documents, and code actions as literals, as the
+-- editor's `initialize` says. So a WorkspaceEdit is always written as `documentChanges`, and the editor reads that form
+-- alone.
 -- Rule: none; for contracts: contents that wait, and what they say.
 use Rattle.std.specs.Prelude.{◌≡◌, ◌≤◌, ⊤, ℕ, ℤ, List, [], ◌∷◌, ◌++◌, map, length, All, Bool, true, Option, Some, None, Vec, option_and_then, filter_map}
 use Rattle.std.specs.declared.alloc.Global.{Global}

@@ -1,4 +1,12 @@
 //! Client and server, and whole lists of events.
+//!
+//! The model of `Ends` is `Both`: the messages and documents of both, and the `Wire`: the session, and all contents,
+//! those that were taken and those that wait, in each direction. So `MovesWire` speaks of the session's own step and of
+//! what each event does to the contents, and `IsTied` joins the two views (`Ends::is_tied` is called for its contract
+//! alone). The promise of a step is by cases of the world before it (`WorldSteps`, `WorldFails`). `Plays` has the
+//! headline and, beside it, the course of both (`BothCourse`) from a begun session on (`Begins`), with the contents
+//! that passed returned by the code: so a body without a session would have to return the contents of a conversation
+//! all the same.
 ghost use Rattle.std.specs.Prelude.{◌≡◌, ◌<◌, ◌-◌, ◌^◌, [], length, IfOk, OnOk, IfErr};
 ghost use Rattle.ob0_text.specs.declared.position_types.Unit.TheVariants.{Utf16};
 ghost use Rattle.ob0_world_rules.specs.Headline.{Holds};

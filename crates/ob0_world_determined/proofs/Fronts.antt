@@ -1,4 +1,8 @@
 -- The first bytes of a stream have contents of their own, with which those of all begin.
+-- An input may be cut into other pieces, so that more of it is read after an `exit` or a bad head. The contents of the
+-- first bytes begin those of all, after a bad head too (`fed_front`). Where memory ran out, what was answered begins
+-- each list of contents of the bytes read; that there is one follows from the list of all (`framed_first`, which
+-- decides whether what is left of the first bytes is bad).
 use Rattle.std.proofs.Common.{◌≡◌, ◌∙◌, ◌⊎◌, ◌<◌, ◌≤◌, ℕ, arith, List, [], ◌∷◌, ◌++◌, length, take, drop, refl, sym, ap, subst, inl, inr}
 use Rattle.std.proofs.lemmas.List.{append_assoc, append_cancel_left, length-append, take_all, take_at, take-append-drop, take-append-le, take-take}
 use Rattle.std.proofs.lemmas.Bool.{cases_lt}

@@ -1,4 +1,5 @@
 -- What `serve` writes and returns is determined by its input, however that is cut.
+-- Where one call ended at an `exit`, no other went on: after its end a server sends nothing and stays as it is.
 use Rattle.std.proofs.Common.{◌≡◌, ◌≢◌, ◌≤◌, ◌∙◌, ℕ, ◌⊎◌, List, [], ◌∷◌, ◌++◌, length, Result, Ok, Err, refl, sym, ap, subst, inl, inr, append_assoc, append-nil}
 use Rattle.std.specs.Prelude.{⊤, All}
 use Rattle.std.specs.List.{flat_map}

@@ -1,4 +1,6 @@
 -- Two tables of ordinals of one module agree at each token.
+-- A table may go on past a module's tokens, so two tables of one module need not be equal as lists; they have the same
+-- ordinal at each token: at an identifier by `IsBinding`, elsewhere none, by `NamesAlone`.
 use Rattle.std.proofs.Common.{◌≡◌, ◌∙◌, ◌==◌, ◌||◌, ℕ, Bool, true, false, Option, List, [], ◌∷◌, map, refl, sym, ap, subst, eqb-true}
 use Rattle.std.specs.List.{list_any}
 use Rattle.ob0_scan.specs.Scanned.{Scanned}

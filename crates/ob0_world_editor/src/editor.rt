@@ -1,4 +1,9 @@
 //! What an editor keeps, and what it does.
+//!
+//! What fails in the editor leaves it as it was: contents and copies are made before anything is changed, the entry of
+//! the map is the last that can fail, and the count of openings rises after it. `apply` drops its answer first, and an
+//! error leaves the editor without it and otherwise the same. The text is a `String`; a store is made for a change or
+//! an edit, so no invariant on units is needed.
 ghost use Rattle.std.specs.Prelude.{◌≡◌, IfOk, OnOk, OnErr, map, option_map, is_some, ◌<◌, ◌-◌, ◌^◌, string_bytes};
 ghost use Rattle.std.specs.Str.{chars};
 ghost use Rattle.ob0_text.specs.OpenDocuments.{reported_change};

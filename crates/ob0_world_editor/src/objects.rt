@@ -1,4 +1,8 @@
 //! Objects of two and three members. A name is written as it is, so it is one that needs no escape.
+//!
+//! The editor's messages are types that write themselves: an object of one member is a `OneMember`, one of two or three
+//! is written by one call of a function here, and the proof is `object_of` of that call's clause. So no `write` but
+//! those of four members and of the list of changes has a `?`, which costs most of a check.
 ghost use Rattle.std.specs.Prelude.{OnOk};
 ghost use Rattle.serde_json.specs.Data.{member, no_members};
 ghost use Rattle.ob0_rpc.specs.Appending.{AppendsMembers};

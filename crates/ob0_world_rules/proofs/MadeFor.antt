@@ -1,5 +1,7 @@
 -- Each publication was made for a text that the editor's document had at that version: what the server holds, now and after each message
 -- that waits for it, the editor had before.
+-- A message that the editor sends adds what the mirror says at that moment; a server's turn publishes what it then
+-- holds.
 use Rattle.std.proofs.Common.{◌≡◌, ◌∙◌, ℕ, List, [], ◌∷◌, ◌++◌, append-nil, append_assoc, refl, sym, ap, subst}
 use Rattle.std.specs.Prelude.{ℤ, pos, fold, All, Option, Some, None, option_map}
 use Rattle.std.proofs.lemmas.Option.{same_Some, none-some}

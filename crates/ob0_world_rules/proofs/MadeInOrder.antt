@@ -1,5 +1,8 @@
 -- The n-th publication was made for the n-th document that the editor announced: for each message that announces a document, the
 -- server will hold, once it has taken it, the document as it was in the editor when the message was sent.
+-- Each message names the uri and the version of the document that it announces (`Names`), so those that wait
+-- (`Pending`) are distinguished from those that were taken. What is said so pins the list: which documents are sent is
+-- one by `one_course`, how many wait is known, so the publications are those for the rest, one for each.
 use Rattle.std.proofs.Common.{◌≡◌, ◌∙◌, ℕ, ◌+◌, cond, List, [], ◌∷◌, ◌++◌, map, append-nil, append_assoc, refl, sym, ap, subst}
 use Rattle.std.specs.Prelude.{⊤, pos, fold, Option, Some, None, option_map}
 use Rattle.std.specs.FinMap as map_of

@@ -1,4 +1,5 @@
 -- An ask about a text has one answer.
+-- By cases of the ask: two answers to one ask are both edits, both none, or one of each.
 use Rattle.std.proofs.Common.{◌≡◌, ◌∙◌, ℕ, List, sym, ap, inl, inr}
 use Rattle.ob0_text.specs.declared.edits.Edit.{Edit}
 use Rattle.ob0_text.specs.declared.position_types.Position.{Position}

@@ -1,4 +1,7 @@
 -- The fields of a module's text are one list, whichever table of ordinals its names were read with.
+-- Two tables of ordinals agree at identifiers alone, so nothing is said of the tables. Where each field's name is
+-- written longer by the ordinal of its record, the module so written is the same for both (`AreOwners`), and the record
+-- of each identifier is read off it.
 use Rattle.std.proofs.Common.{◌≡◌, ◌≢◌, ◌∙◌, ℕ, suc, ◌+◌, ◌<◌, ◌≤◌, Option, Some, None, List, [], ◌∷◌, map, length, replicate, set, refl, sym, ap, subst, arith, le_refl, get_or-set_other, get_or-set_same}
 use Rattle.std.proofs.Math.ListN.{length-set}
 use Rattle.std.proofs.lemmas.List.{get_or-replicate, length-replicate}

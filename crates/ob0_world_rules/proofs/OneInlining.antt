@@ -1,4 +1,6 @@
 -- A constant is inlined in one way at a place: the edits are one list, and there are none where it is refused.
+-- Token, constant and value are one by what is at the place; the occurrence since tokens of occurrences ascend
+-- (`one_place`). So the first refusal and the parts of the edits are equal.
 use Rattle.std.proofs.Common.{◌≡◌, ◌∙◌, ℕ, nat_lt, Option, Some, None, List, [], ◌∷◌, map, length, drop, slice_get, sym, ap, inl, inr, eq-eqb, eqb-true}
 use Rattle.std.specs.Prelude.{Ok, Err, Vec, if◌then◌else◌}
 use Rattle.std.specs.List.{filter, list_any, position_from, zip}

@@ -1,5 +1,8 @@
 -- A text is read as one module: two readings have the same tokens, and the same tree over them. What is said of a module by
 -- these two is the same of both.
+-- Two readings needn't be one `Parsed`: the code's tree keeps tokens of statements that no definition reads. So each
+-- definition over a `Parsed` is a path along its tokens and its tree, and what it says is written once more with these
+-- two in place of the `Parsed` (`name_in`, `refused_at`, `uses_in`, `tokens_in`).
 use Rattle.std.proofs.Common.{◌≡◌, ◌∙◌, ℕ, Option, List, [], ◌∷◌, map, sym, ap, arith}
 use Rattle.std.specs.Prelude.{option_and_then}
 use Rattle.std.specs.List.{find, zip}
