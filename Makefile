@@ -7,7 +7,7 @@
 #   make uninstall PREFIX=.. removes what was installed there
 #   make test              the gate (every proof; the kit keeps what passed before on this machine), its mutants and the end-to-end tests
 #   make test ANEW=1       the same, and every proof from nothing
-#   make help              prints these lines
+#   make help              prints these lines, as `make` alone does
 # (where bin/ob0 is there and up to date, build, package, install and demo need no toolchain)
 # and beside them:
 #   make editors           installs the editors and tools that the end-to-end tests want, by apt-get
@@ -24,13 +24,13 @@
 PREFIX ?= /usr/local
 PYTHON ?= python3
 
-.PHONY: demo help test build check editors try end-to-end faults wrong-bodies surface statement bench package install uninstall python
-
-demo: python
-	@$(PYTHON) tools/demo.py
+.PHONY: help demo test build check editors try end-to-end faults wrong-bodies surface statement bench package install uninstall python
 
 help:
 	@sed -n '/^#/!q; s/^# \{0,1\}//p' Makefile
+
+demo: python
+	@$(PYTHON) tools/demo.py
 
 test: python
 	@$(PYTHON) tools/test.py $(if $(ANEW),--anew)

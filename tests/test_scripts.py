@@ -154,7 +154,7 @@ def check_script() -> None:
         found = ran(["sh", "ob0-check", *MODULES], work, {**own, "GITHUB_ACTIONS": "true"})
         same(found, (1, "\n".join(MARKED) + "\n", ""), "for GitHub")
         same(ran(["sh", "ob0-check", "good.mod", "loose.ob0"], work, own), (0, "", ""), "without faults")
-        same(ran(["sh", "ob0-check", "nowhere.mod", "good.mod"], work, own), (1, "", "fault: File\n"), "a file that isn't there")
+        same(ran(["sh", "ob0-check", "nowhere.mod", "good.mod"], work, own), (1, "", "fault: File\nnowhere.mod can't be checked\n"), "a file that isn't there")
 
     in_folder({**MODULES, "ob0-check": CHECK}, trial)
 

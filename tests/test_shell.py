@@ -170,6 +170,12 @@ def links() -> None:
             holds(os.path.exists(path), f"{page} has a link to {target}")
 
 
+@test("shell: `make` alone says what there is to make")
+def alone():
+    lines = [re.sub("^# ?", "", it) for it in text_of("Makefile").partition("\nPREFIX")[0].splitlines()]
+    same(run_plainly(["make", "--silent"], dict(os.environ), TOP), (0, "\n".join(lines) + "\n"))
+
+
 @test("shell: `make demo` plays its conversation with the proved program")
 def demo() -> None:
     want_proved()

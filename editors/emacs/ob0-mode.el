@@ -293,10 +293,28 @@ A new file has no first word when it is opened."
 
 ;;; The language server
 
+(defun ob0--move-to-column (column)
+  "Go to the UTF-16 COLUMN of this line.
+Where it is inside a character, go before that."
+  (let ((end (line-end-position)))
+    (beginning-of-line)
+    (while (and (> column 0) (< (point) end))
+      (setq column (- column (if (> (char-after) #xffff) 2 1)))
+      (when (>= column 0) (forward-char)))))
+
+(defvar eglot-move-to-column-function)
+(defun ob0--count-columns ()
+  "Have eglot go to columns by `ob0--move-to-column'."
+  (when (derived-mode-p 'ob0-mode)
+    (setq-local eglot-move-to-column-function #'ob0--move-to-column)))
+
 (defvar eglot-server-programs)
 (with-eval-after-load 'eglot
   (add-to-list 'eglot-server-programs
-               (cons 'ob0-mode (lambda (&rest _) (list (ob0--program) "serve")))))
+               (cons 'ob0-mode (lambda (&rest _) (list (ob0--program) "serve"))))
+  ;; (eglot 1.9 looks without end for a column inside a character past U+FFFF, such as a diagnostic of an older text can have)
+  (unless (boundp 'eglot-move-to-linepos-function)
+    (add-hook 'eglot-managed-mode-hook #'ob0--count-columns)))
 
 (defvar lsp-language-id-configuration)
 (defvar lsp--formatting-indent-alist)

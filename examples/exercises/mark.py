@@ -19,6 +19,7 @@ from typing import IO, Any, Dict, Iterator, List, NamedTuple, Optional
 
 HERE = os.path.dirname(os.path.abspath(__file__))
 ENDINGS = (".mod", ".Mod", ".ob0")
+WHERE = " (docs/MESSAGES.md says what that means)"
 MOST_PRINTED = 1 << 20  # bytes
 MOST_MEMORY = 2 << 30  # bytes
 CAUSES = {
@@ -128,9 +129,9 @@ def fault_of(bounds: Bounds, file: str) -> Optional[str]:
         return None
     place = re.match(r"(\d+):(\d+): (?:Syntax: )?(.*)", found.out)
     if place is None:
-        return f"it can't be checked: {found.err.strip()}"
+        return f"it can't be checked: {found.err.strip()}{WHERE}"
     line, column = int(place[1]) + 1, int(place[2]) + 1
-    return f"line {line}, column {column}: {place[3]} (docs/MESSAGES.md says what that means)"
+    return f"line {line}, column {column}: {place[3]}{WHERE}"
 
 
 def why_wrong(bounds: Bounds, file: str, case: Case) -> Optional[str]:
@@ -184,6 +185,11 @@ def mark(bounds: Bounds, path: str) -> Optional[bool]:
         results[exercise] = why is None and results.get(exercise, True)
         print(f"  {exercise:8} {'right' if why is None else f'wrong: {why}'}", flush=True)
     if os.path.isdir(path):
+        for file in sorted(os.listdir(path)):
+            stem, ending = os.path.splitext(file)
+            meant = next((it for it in names if it.lower() == stem.lower() and it != stem and ending in ENDINGS), None)
+            if meant:
+                print(f"  {file} is not marked: is it {meant}{ending}? Upper and lower case differ")
         missing = [it for it in names if it not in results]
         print(f"  {sum(results.values())} of {len(names)} right" + (f"; not there: {', '.join(missing)}" if missing else ""))
     return all(results.values()) if results else None

@@ -109,6 +109,15 @@
   "The index of procedures, while the server runs."
   (ob0-report "index" (vconcat (mapcar #'car (imenu--make-index-alist t)))))
 
+(defun ob0-outdated ()
+  "A diagnostic of an older text names a place that is inside a character now."
+  (eglot-handle-notification
+   (eglot--current-server-or-lose) 'textDocument/publishDiagnostics
+   :uri (plist-get (eglot--TextDocumentIdentifier) :uri)
+   :diagnostics (vector '(:range (:start (:line 0 :character 14) :end (:line 0 :character 15))
+                          :severity 1 :code "BadChar" :message "bad character")))
+  (ob0-report "outdated" (length (ob0-shown))))
+
 (defun ob0-text ()
   "The text of the buffer."
   (buffer-substring-no-properties (point-min) (point-max)))

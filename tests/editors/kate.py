@@ -149,7 +149,7 @@ def line_above() -> None:
 
 
 def late() -> None:
-    """An answer is held while a line is typed above, and while the file is closed, has another text and is opened again."""
+    """An answer is held while a line is typed above."""
     for what, method, ask in (("renamed", RENAME, lambda: rename("tot")), ("laid out", LAYOUT, lambda: command("Format", WIRE.is_held))):
         before = WIRE.text()
         WIRE.hold(method)
@@ -158,23 +158,6 @@ def late() -> None:
         waited("the line above", lambda text=f"{LINE}\n{before}": WIRE.text() == text)
         after(what, WIRE.release)
         say(what, saving())
-    # (the variable is in line 6 now; Home goes to the first letter of a line)
-    keys("ctrl+Home", *["Down"] * 6, "Home")
-    WIRE.hold(RENAME)
-    rename("n")
-    keys("ctrl+w")
-    waited("the closed file", lambda: WIRE.text() is None)
-    other = f"{LINE}\n{saved()}"
-    with open(FILE, "w", encoding="utf-8") as file:
-        file.write(other)
-    subprocess.run(["kate", FILE], check=True, timeout=60, stdout=subprocess.DEVNULL, stderr=subprocess.DEVNULL)
-    waited("the file opened again", lambda: WIRE.text() == other)
-    WIRE.release()
-    waited("the answer", lambda: answers(RENAME)[1:])
-    time.sleep(1)
-    line_above()
-    waited("the line above", lambda: WIRE.text() not in (None, other))
-    say("opened again", saving())
 
 
 def main() -> None:

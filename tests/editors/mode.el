@@ -70,6 +70,11 @@
     (let ((inhibit-message t)) (save-buffer))
     (should (derived-mode-p 'ob0-mode))))
 
+(ert-deftest columns ()
+  (with-text "MODULE\na\U0001f600b\nEND"
+    (let ((at (lambda (column) (goto-char 9) (ob0--move-to-column column) (- (point) 8))))
+      (should (equal (mapcar at '(0 1 2 3 4 5 99)) '(0 1 1 2 3 3 3))))))
+
 (ert-deftest comments ()
   (with-text "x := 1"
     (comment-region (point-min) (point-max))

@@ -15,20 +15,27 @@ import threading
 import time
 
 LINE_END = re.compile("\r\n|\n|\r")
+FOLLOWED = ("textDocument/didOpen", "textDocument/didChange", "textDocument/didClose")
 
 
 class Wire:
-    """The record of a conversation, from the folder that it is kept in."""
+    """The record of a conversation, from the folder that it is kept in. (What was read of it is kept: it is asked often.)"""
 
     def __init__(self, folder):
         self.folder, self.hold_file = folder, os.path.join(folder, "hold")
+        self.read, self.known = 0, []  # the bytes that were read, and their events
+        self.followed, self.document = 0, (None, None)  # the events that are in the document: its URI and its text
 
     def events(self):
         try:
-            with open(os.path.join(self.folder, "wire"), encoding="utf-8") as file:
-                return [json.loads(line) for line in file if line.endswith("\n")]
+            with open(os.path.join(self.folder, "wire"), "rb") as file:
+                file.seek(self.read)
+                lines = file.read().rpartition(b"\n")[0].splitlines(keepends=True)
         except FileNotFoundError:
             return []
+        self.known += map(json.loads, lines)
+        self.read += sum(map(len, lines)) + (1 if lines else 0)
+        return self.known
 
     def sent(self, *methods):
         return [it["sent"] for it in self.events() if "sent" in it and it["sent"].get("method") in methods]
@@ -59,8 +66,9 @@ class Wire:
 
     def text(self):
         """The text of the document that was opened last, as it is after all changes by LSP 3.17; None where it is closed."""
-        uri, text, encoding = None, None, self.encoding()
-        for it in self.sent("textDocument/didOpen", "textDocument/didChange", "textDocument/didClose"):
+        encoding, (uri, text) = self.encoding(), self.document
+        events = self.events()
+        for it in (it["sent"] for it in events[self.followed :] if it.get("sent", {}).get("method") in FOLLOWED):
             document = it["params"]["textDocument"]
             if it["method"] == "textDocument/didOpen":
                 uri, text = document["uri"], document["text"]
@@ -69,6 +77,7 @@ class Wire:
             elif document["uri"] == uri and text is not None:
                 for change in it["params"]["contentChanges"]:
                     text = patched(text, [{"range": change["range"], "newText": change["text"]}], encoding) if "range" in change else change["text"]
+        self.followed, self.document = len(events), (uri, text)
         return text
 
 
