@@ -3,12 +3,14 @@ import contextlib
 import io
 import os
 import shutil
+import tempfile
 from typing import List, Tuple
 
 import common
 import edits
 import mutants
 import reading
+import wrong_bodies
 from harness import TOP, holds, same, test
 from wrong_bodies import Said
 
@@ -64,6 +66,24 @@ def refused():
     loop = mutants.claim_of("# Wrong: refused by the loop of `width`.\n")
     same(judged(REFUSED.replace("returns-in-Utf16", "loop-c-preserved"), claim=loop), mutants.REFUSED, "a goal of a loop")
     same(total(mutants.REFUSED, mutants.REFUSED, wanted=2), ((2, 0), ""), "two of two")
+
+
+@test("mutants: one counts as refused by an answer that doesn't prove a goal of the clause, unless the answer names what is gone")
+def refused_by_answer():
+    error = "./proofs/passes/width/Answers.antt:9:3: error: `returns-in-Utf16`: "
+    end = "fn ob0_text::passes::width: not proved\nonly=1 proved=0\n"
+    differ = "as printed, the two types differ only where one has `c.end` (expected)\n"
+    same(judged(error + differ + end), mutants.REFUSED, "types that differ")
+    same(judged(error.replace("returns-in-Utf16", "loop-c-preserved") + differ + end), mutants.ELSEWHERE, "another goal's answer")
+    same(judged(error + "record `View` has no field `len_utf16`\n" + end), mutants.ELSEWHERE, "a name that is gone")
+
+
+@test("mutants: the proof of methods that call each other is below their type")
+def proof_of_cycle():
+    errors = [f"./proofs/{at}/+blocks/Answers.antt:9:3: error: `block-returns`: a type" for at in ("low/Visit", "low", "other/Visit")]
+    said = Said("\n".join(errors), 1)
+    same(said.proof_errors("ob0_text::low::Visit::block", "low::+blocks"), errors[:1], "of methods")
+    same(said.proof_errors("ob0_text::low::block", "low::+blocks"), errors[1:2], "of functions")
 
 
 @test("mutants: one that is made right again fails")
@@ -125,6 +145,27 @@ def claims():
     same(mutants.claim_of("file: src/lib.rt\n"), None, "no first line")
     same(CLAIM, mutants.Claim("width", ("the clause",)), "a clause without a name")
     holds(CLAIM.is_of(WIDTH) and not mutants.Claim("idth", ()).is_of(WIDTH), "a function by the end of its path")
+
+
+@test("mutants: what was refused is tried again where the mutant or its crate changed, and what wasn't refused always")
+def judged_before():
+    edit, room = edits.edits_of("ob0_frame")[0], tempfile.mkdtemp()
+    path, copy = os.path.join(room, "judged.json"), os.path.join(room, "mutant.edit")
+    shutil.copy2(edit.file, copy)
+    edit.file, kept = copy, wrong_bodies.Judged(path)
+    holds(not kept.has(edit), "one that wasn't tried")
+    kept.keep(edit, wrong_bodies.REFUSED, "a goal")
+    kept.write()
+    again = wrong_bodies.Judged(path)
+    holds(again.has(edit) and again.why(edit) == "a goal", "one that was refused")
+    again.crates[edit.crate] = "other sources"
+    holds(not again.has(edit), "one of a crate that changed")
+    with open(copy, "a", encoding="utf-8") as file:
+        file.write("\n")
+    holds(not wrong_bodies.Judged(path).has(edit), "one that changed")
+    kept.keep(edit, wrong_bodies.PROVED, "proved")
+    holds(not kept.has(edit), "one that was proved later")
+    shutil.rmtree(room)
 
 
 @test("mutants: the libraries are those of which `rt ci` says that they are proved")

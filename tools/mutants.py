@@ -88,12 +88,24 @@ def judge(edit: edits.Edit, claim: Claim, said: Said, functions: Iterable[readin
     if not refused or not said.ended:
         return Outcome(edit, NOT_TRIED, f"the check doesn't judge `{claim.function}`: {said.text[-300:].strip()}")
     goals = [goal for it in refused for goal in said.goals(it)]
-    named = [it for it in goals if claim.is_goal(it.partition(" ")[0])]
+    errors = [it for name in refused for it in said.proof_errors(name, symbols[name])]
+    named = [it for it in goals if claim.is_goal(it.partition(" ")[0])] + unproved_by_answer(claim, errors)
     if named:
         return Outcome(edit, REFUSED, f"`{claim.function}`, {named[0]}")
-    errors = [it for name in refused for it in said.proof_errors(name, symbols[name])]
     others = "; ".join(goals or errors or [said.verdicts[it] for it in refused])
     return Outcome(edit, ELSEWHERE, f"`{claim.function}` is refused, but not by {' or '.join(claim.clauses)}: {others[:300]}")
+
+
+def unproved_by_answer(claim: Claim, errors: Iterable[str]) -> list:
+    """The goals of a claim's clauses that the answers in the function's proof don't prove any more, though all that they name is
+    there."""
+    found = []
+    for line in errors:
+        at = wrong_bodies.ERROR.match(line)
+        goal = (at[3] or "").strip("`") if at else ""
+        if goal and claim.is_goal(goal) and not wrong_bodies.NAMES_LOST.search(at[4]):
+            found.append(f"{goal}, by its answer at {at[1]}:{at[2]}")
+    return found
 
 
 class Libraries:

@@ -123,7 +123,8 @@ def main(flags):
     line = f"{passed} passed, {failed} failed"
     with open(RESULTS, "w", encoding="utf-8") as file:
         file.write(line + "\n")
-    print(f"== all of it took {timer}, of the processors {common.clock(spent())}\n{line}", flush=True)
+    # (beside other work the times say little: how many processes wanted a processor, in the last 15 minutes)
+    print(f"== all of it took {timer}, of the processors {common.clock(spent())}, load {os.getloadavg()[2]:.1f}\n{line}", flush=True)
     return 1 if failed else 0
 
 

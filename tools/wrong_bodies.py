@@ -3,18 +3,30 @@
 
   tools/wrong_bodies.py [--jobs N] [--quiet] [CRATE..]   all crates where none is named; with --quiet no refused one is listed
   tools/wrong_bodies.py CRATE/WORD..                     those of a crate with this word in their path
+  tools/wrong_bodies.py --resume [CRATE..]               those alone that weren't refused yet in their present form
+  tools/wrong_bodies.py --left [CRATE..]                 lists these, and tries none
 
 `make test` tries those of the gate one by one (tools/mutants.py). Here as many of a crate as can be are in one check over what
 is kept of its proofs: the checker judges each function for itself. A function that only calls one that isn't proved is judged in a later
 check, and so is the second of two mutants of one function. What isn't refused among others is tried alone.
 
-It works on a copy of the crate, in bin/rooms. The status is 1 where a mutant isn't refused, or could not be tried."""
+What was refused is kept in bin/judged.json (or in the file after --kept), after each check: so a run that is ended can be
+resumed, on another day and another machine. A mutant is in its present form where the toolchain, its own text and its crate's
+sources, definitions and proofs are those with which it was refused. What changed in crates below isn't looked at, so before a
+release all are tried.
+
+It works on a copy of the crate, in bin/rooms. The status is 1 where a mutant isn't refused, or could not be tried; with --left,
+where there are any."""
+import argparse
+import hashlib
+import json
 import os
 import re
 import shutil
 import subprocess
 import sys
 import time
+from typing import Dict, List
 
 import build
 import common
@@ -31,6 +43,46 @@ OF_ANOTHER = re.compile(r"it calls |it passes |a call of |it is in a cycle of ca
 UNREAD = re.compile(r"is not in scope|has no field|is no name|operand is missing|expected the end|cannot continue")
 NAMES_LOST = re.compile(r"has no field|is not in scope|has no `|was not admitted|that can be named from here")
 REFUSED, PROVED, NOT_JUDGED = "refused", "PROVED", "not judged"
+
+
+class Judged:
+    """The mutants that were refused, each with the sum of what it was tried on."""
+
+    def __init__(self, path: str):
+        self.path, self.kit = path, common.kit() or ""
+        self.crates: Dict[str, str] = {}
+        self.found: Dict[str, Dict[str, str]] = {}
+        if os.path.exists(path):
+            with open(path, encoding="utf-8") as file:
+                self.found = json.load(file)
+
+    def sum_of(self, edit: edits.Edit) -> str:
+        """A sum over the toolchain's line, the crate's files and the mutant."""
+        if edit.crate not in self.crates:
+            folder = os.path.join(TOP, "crates", edit.crate) + os.sep
+            files = [it for it in common.sources([edit.crate]) if it.startswith(folder)]
+            self.crates[edit.crate] = common.sum_of(files)
+        with open(edit.file, "rb") as file:
+            return hashlib.sha256(f"{self.kit}\n{self.crates[edit.crate]}\n".encode() + file.read()).hexdigest()
+
+    def has(self, edit: edits.Edit) -> bool:
+        """Whether a mutant was refused in its present form."""
+        return self.found.get(edit.path, {}).get("sum") == self.sum_of(edit)
+
+    def why(self, edit: edits.Edit) -> str:
+        return self.found[edit.path]["why"]
+
+    def keep(self, edit: edits.Edit, verdict: str, why: str) -> None:
+        """Keeps that a mutant was refused, and of another that it wasn't."""
+        self.found.pop(edit.path, None)
+        if verdict == REFUSED:
+            self.found[edit.path] = {"sum": self.sum_of(edit), "why": why}
+
+    def write(self) -> None:
+        os.makedirs(os.path.dirname(os.path.abspath(self.path)), exist_ok=True)
+        with open(self.path + ".new", "w", encoding="utf-8") as file:
+            json.dump(self.found, file, indent=1, sort_keys=True)
+        os.replace(self.path + ".new", self.path)
 
 
 class Said:
@@ -68,8 +120,10 @@ class Said:
 
     def proof_errors(self, symbol, proof):
         """The errors in the files of a function's proof."""
-        at = proof if "+" in proof else symbol.partition("::")[2]
-        start = "proofs/" + at.replace("::", "/") + "/"
+        # (that of a cycle is where the prover has its functions: of methods that is below their type)
+        *above, name = symbol.partition("::")[2].split("::")
+        cycle = re.search(r"\+\w+$", proof)
+        start = "/".join(["proofs", *above, cycle[0] if cycle else name]) + "/"
         return [it for it in self.text.split("\n") if ERROR.match(it) and ERROR.match(it)[1].startswith(start)]
 
     def why(self, symbol, proof):
@@ -201,8 +255,9 @@ def refusal(said, refused):
     return REFUSED, f"{named[0].partition('::')[2]}: {said.why(*named)}"
 
 
-def try_all(room, left, source, say):
-    """Tries mutants, many in one check, and returns a word and a reason for each."""
+def try_all(room, left, source, say, keep):
+    """Tries mutants, many in one check, and returns a word and a reason for each. After each check `keep` gets what is known by
+    then."""
     found, groups = {}, []
     while left or groups:
         chosen = groups.pop() if groups else together(left)
@@ -210,7 +265,9 @@ def try_all(room, left, source, say):
         say(f"check {room.checks + 1}: {len(chosen)} at once, {len(left) + sum(map(len, groups))} left")
         said = room.check(chosen)
         judged = {it: judge(it, said, source, len(chosen) == 1) for it in chosen}
-        found.update({it: verdict for it, verdict in judged.items() if verdict})
+        settled = {it: verdict for it, verdict in judged.items() if verdict}
+        found.update(settled)
+        keep(settled)
         again = [it for it, verdict in judged.items() if not verdict]
         if not said.reached:
             # (where the compiler doesn't say which of them it can't read, each half is tried)
@@ -229,25 +286,27 @@ def is_held(edit, said, source):
     return any(said.verdicts[it] != "proved" for it in verdicts_of(edit, said, source))
 
 
-def try_crate(name, wanted, named, jobs, is_quiet):
-    """Tries a crate's mutants, prints a line for each and one for all, and returns their counts."""
+def try_crate(name, chosen, source, named, jobs, is_quiet, judged):
+    """Tries mutants of a crate, prints a line for each and one for all, and returns their counts."""
     timer = time.monotonic()
-    source = reading.Source(name)
-    all_edits = [it for it in edits.edits_of(name, source) if any(word in it.name for word in wanted)]
-    if not all_edits:
-        return 0, 0, 0
-    found = {it: (NOT_JUDGED, it.why) for it in all_edits if it.why}
-    left, checks = [it for it in all_edits if not it.why], 0
+    found = {it: (NOT_JUDGED, it.why) for it in chosen if it.why}
+    left, checks = [it for it in chosen if not it.why], 0
+
+    def keep(settled):
+        for edit, verdict in settled.items():
+            judged.keep(edit, *verdict)
+        judged.write()
+
     if left and not prove(name, jobs):
         found.update({it: (NOT_JUDGED, "the crate itself isn't proved") for it in left})
     elif left:
         room = Room(name, named, jobs)
         try:
-            found.update(try_all(room, left, source, lambda text: print(f"{name}: {text}", flush=True)))
+            found.update(try_all(room, left, source, lambda text: print(f"{name}: {text}", flush=True), keep))
         finally:
             checks = room.checks
             room.leave()
-    for edit in all_edits:
+    for edit in chosen:
         verdict, why = found[edit]
         if not is_quiet or verdict != REFUSED:
             print(f"  {verdict:<10}  {name}/{edit.name}: {why}")
@@ -258,30 +317,57 @@ def try_crate(name, wanted, named, jobs, is_quiet):
     return counts
 
 
-def main(words):
-    common.need("rt")
-    is_quiet, jobs = "--quiet" in words, max(1, build.processors() // 2)
-    words = [it for it in words if it != "--quiet"]
-    if "--jobs" in words:
-        at = words.index("--jobs")
-        jobs = int(words[at + 1])
-        del words[at : at + 2]
-    named = common.libraries()
-    chosen = {}
-    for it in words or named:
+def try_crates(chosen: Dict[str, List[str]], options, judged: Judged) -> int:
+    """Tries the mutants of some crates that have one of some words in their path."""
+    named, total, resumed = common.libraries(), [0, 0, 0], 0
+    for name, wanted in chosen.items():
+        source = reading.Source(name)
+        all_edits = [it for it in edits.edits_of(name, source) if any(word in it.name for word in wanted)]
+        left = [it for it in all_edits if not (options.resume and judged.has(it))]
+        resumed += len(all_edits) - len(left)
+        if left:
+            counts = try_crate(name, left, source, named, options.jobs, options.quiet, judged)
+            total = [a + b for a, b in zip(total, counts)]
+    if resumed:
+        print(f"{resumed} more were refused before, in their present form")
+    print(f"{total[0] + resumed} refused, {total[1]} proved, {total[2]} not judged")
+    return 1 if total[1] or total[2] else 0
+
+
+def list_left(chosen: Dict[str, List[str]], judged: Judged) -> int:
+    """Lists the mutants that weren't refused yet in their present form."""
+    all_edits = [it for name, wanted in chosen.items() for it in edits.edits_of(name) if any(word in it.name for word in wanted)]
+    left = [it for it in all_edits if not judged.has(it)]
+    for edit in left:
+        print(f"{edit.path}{': refused in another form' if edit.path in judged.found else ''}")
+    print(f"{len(left)} of {len(all_edits)} mutants weren't refused yet in their present form")
+    return 1 if left else 0
+
+
+def main(given: List[str]) -> int:
+    words = argparse.ArgumentParser(description="Tries the mutants of crates: the prover has to refuse each.")
+    words.add_argument("--jobs", type=int, default=max(1, build.processors() // 2), metavar="N")
+    words.add_argument("--quiet", action="store_true")
+    words.add_argument("--resume", action="store_true")
+    words.add_argument("--left", action="store_true")
+    words.add_argument("--kept", default=os.path.join(TOP, "bin", "judged.json"), metavar="FILE")
+    words.add_argument("crates", nargs="*", metavar="CRATE[/WORD]")
+    options = words.parse_args(given)
+    chosen: Dict[str, List[str]] = {}
+    for it in options.crates or common.libraries():
         name, _, word = it.partition("/")
         chosen.setdefault(name, []).append(word)
-    unknown = [it for it in chosen if it not in named]
+    unknown = [it for it in chosen if it not in common.libraries()]
     if unknown:
         common.stop(f"crates.txt names no crate {', '.join(unknown)}")
-    total = [0, 0, 0]
+    judged = Judged(options.kept)
+    if options.left:
+        return list_left(chosen, judged)
+    common.need("rt")
     try:
-        for name, wanted in chosen.items():
-            total = [a + b for a, b in zip(total, try_crate(name, wanted, named, jobs, is_quiet))]
+        return try_crates(chosen, options, judged)
     except KeyboardInterrupt:
         return 130
-    print(f"{total[0]} refused, {total[1]} proved, {total[2]} not judged")
-    return 1 if total[1] or total[2] else 0
 
 
 if __name__ == "__main__":

@@ -147,9 +147,21 @@ pub fn command<'a>(alloc: Global, words: &'a [&'a str]) -> Result<CommandLine<'a
     ensures gives { IfOk result (Gives (map (λ w. w.now) words.entry.now)) }
     ensures refuses { IfErr result (RefusesWords (map (λ w. w.now) words.entry.now)) }
 {
-    let Ok(definition) = definition(alloc) else {
-        return Err(CommandFault::Memory);
-    };
+    match definition(alloc) {
+        Ok(definition) => requested(definition, words),
+        Err(AllocError) => Err(CommandFault::Memory),
+    }
+}
+
+/// What words request, by the definition of the command line.
+fn requested<'a>(
+    definition: Command<'a>,
+    words: &'a [&'a str],
+) -> Result<CommandLine<'a>, CommandFault>
+    requires { app_of definition ≡ ob0_app }
+    ensures gives { IfOk result (Gives (map (λ w. w.now) words.entry.now)) }
+    ensures refuses { IfErr result (RefusesWords (map (λ w. w.now) words.entry.now)) }
+{
     match definition.try_get_matches_from(words) {
         Ok(matches) => Ok(line_of(&matches)),
         Err(error) => if error.kind() == ErrorKind::OutOfMemory {

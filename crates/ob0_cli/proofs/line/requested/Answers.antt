@@ -4,23 +4,23 @@ use Rattle.clap.specs.Words.{App, Text, fault_of}
 use Rattle.ob0_cli.specs.Given.{FoundCommand, IsReadFrom}
 use Rattle.ob0_cli.specs.Lines.{ob0_app}
 use Rattle.ob0_cli.proofs.Named.{parsed, simple_and_free}
-use Rattle.ob0_cli.proofs.line.command.Goals as goal
+use Rattle.ob0_cli.proofs.line.requested.Goals as goal
 
 pub line_of-requires : goal.line_of-requires
 line_of-requires c =
     let words : List Text = map (λ w. w.now) c.args.words.now in
-    let is = c.in-Ok.ensures in
-    let matches = c.in-Ok-try_get_matches_from in
+    let is = c.requires in
+    let matches = c.in-Ok in
     let none : fault_of ob0_app words ≡ [] = ap (λ (a : App). fault_of a words) (sym is) ∙ matches.ensures.kinds (ap is_simple_and_free is ∙ simple_and_free) in
-    (parsed c.in-Ok.definition words matches.matches is none matches.ensures.parsed matches.ensures.matches).1
+    (parsed c.args.definition words matches.matches is none matches.ensures.parsed matches.ensures.matches).1
 
-pub returns-in-Ok-try_get_matches_from : goal.returns-in-Ok-try_get_matches_from
-returns-in-Ok-try_get_matches_from c =
+pub returns-in-Ok : goal.returns-in-Ok
+returns-in-Ok c =
     let words : List Text = map (λ w. w.now) c.args.words.now in
-    let is = c.in-Ok.ensures in
-    let matches = c.in-Ok-try_get_matches_from in
+    let is = c.requires in
+    let matches = c.in-Ok in
     let none : fault_of ob0_app words ≡ [] = ap (λ (a : App). fault_of a words) (sym is) ∙ matches.ensures.kinds (ap is_simple_and_free is ∙ simple_and_free) in
-    let same = (parsed c.in-Ok.definition words matches.matches is none matches.ensures.parsed matches.ensures.matches).0 in
+    let same = (parsed c.args.definition words matches.matches is none matches.ensures.parsed matches.ensures.matches).0 in
     record {
       gives = record { fine = none; read = subst (λ (f : FoundCommand). IsReadFrom f c.line_of.result) same c.line_of.ensures };
       refuses = tt;

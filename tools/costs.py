@@ -1,0 +1,108 @@
+#!/usr/bin/env python3
+"""Says where the time of a crate's proof goes, by what its last check from nothing kept in crates/NAME/out/incremental.
+
+  tools/costs.py [--least SECONDS] CRATE..   the modules that took at least so long are listed: 2 seconds where none is given
+
+A check of one job writes a file when a module is proved: the time since the file before is what the module cost. So the figures
+mean nothing of a crate that was checked in parts or by several jobs, and beside other work they are too high; which module costs
+most is seen all the same. (`make build` and `make check` keep it so that one crate has one job while all lanes are used.)"""
+import argparse
+import collections
+import glob
+import os
+import re
+import sys
+from typing import Dict, Iterator, List, NamedTuple
+
+import common
+
+# Between two checks nothing is written: a time without any file that is longer is none of a module.
+PAUSE = 120.0
+# (what rattle makes for a function, by the last part of its module's name; all else of it is 'other modules')
+OF_FUNCTIONS = ("Lts", "Proof", "Tie", "Answers", "Invariants")
+
+
+class Module(NamedTuple):
+    """A module that was proved, and the seconds that it took."""
+
+    name: str
+    seconds: float
+
+    def kind(self, lemmas: List[str]) -> str:
+        """What a module is: one of our own files of definitions or lemmas, or one that rattle makes for a function."""
+        part, _, inside = self.name.partition(".")
+        if part == "specs" and "." not in inside:
+            return "definitions"
+        if inside in lemmas:
+            return "lemmas"
+        last = re.match(r"[A-Za-z]*", inside.rpartition(".")[2])
+        return last[0] if last and last[0] in OF_FUNCTIONS else "other modules"
+
+    @property
+    def function(self) -> str:
+        """The function that it belongs to: its path up to what rattle makes."""
+        part, _, inside = self.name.partition(".")
+        path = inside.split(".")
+        if part != "proofs" or len(path) < 2:
+            return self.name
+        # (a type's name is part of a function's path, what comes after the function isn't)
+        end = len(path)
+        while end > 1 and re.match(r"[A-Z]\w*(?:-[\w-]+)?$", path[end - 1]):
+            end -= 1
+        return ".".join(path[:end])
+
+
+def modules_of(crate: str) -> List[Module]:
+    """The modules of a crate in the order in which they were proved."""
+    kept = os.path.join(common.TOP, "crates", crate, "out", "incremental", "*", f"Rattle-{crate}[-.]*.oantt")
+    files = sorted((os.stat(it).st_mtime, it) for it in glob.glob(kept))
+    found = []
+    for (before, _), (now, path) in zip(files, files[1:]):
+        name = os.path.basename(path)[len(f"Rattle-{crate}") + 1 : -len(".oantt")]
+        if now - before < PAUSE:
+            found.append(Module(name, now - before))
+    return found
+
+
+def lemmas_of(crate: str) -> List[str]:
+    """The files of a crate's own lemmas, which are directly in proofs/."""
+    return [os.path.basename(it)[: -len(".antt")] for it in glob.glob(os.path.join(common.TOP, "crates", crate, "proofs", "*.antt"))]
+
+
+def rows(sums: Dict[str, float], least: float, whole: float) -> Iterator[str]:
+    for name, seconds in sorted(sums.items(), key=lambda it: -it[1]):
+        if seconds >= least:
+            yield f"  {seconds:7.1f} s  {100 * seconds / whole:3.0f} %  {name}"
+
+
+def show(crate: str, least: float) -> bool:
+    """Prints where the time of one crate goes, and says whether anything of it is kept."""
+    modules, lemmas = modules_of(crate), lemmas_of(crate)
+    whole = sum(it.seconds for it in modules)
+    if not modules:
+        print(f"{crate}: nothing is kept of a check of it")
+        return False
+    kinds: Dict[str, float] = collections.Counter()
+    functions: Dict[str, float] = collections.Counter()
+    for it in modules:
+        kinds[it.kind(lemmas)] += it.seconds
+        functions[it.function] += it.seconds
+    print(f"{crate}: {len(modules)} modules, {whole:.0f} s", *rows(kinds, 0, whole), sep="\n")
+    print(f"modules of at least {least:g} s:", *rows({it.name: it.seconds for it in modules}, least, whole), sep="\n")
+    print(f"functions of at least {2 * least:g} s:", *rows(functions, 2 * least, whole), sep="\n")
+    return True
+
+
+def main() -> int:
+    words = argparse.ArgumentParser(description="Says where the time of a crate's proof goes.")
+    words.add_argument("--least", type=float, default=2.0, metavar="SECONDS")
+    words.add_argument("crates", nargs="+", metavar="CRATE")
+    chosen = words.parse_args()
+    unknown = [it for it in chosen.crates if it not in common.listed()]
+    if unknown:
+        common.stop(f"crates.txt names no crate {', '.join(unknown)}")
+    return 0 if all([show(it, chosen.least) for it in chosen.crates]) else 1
+
+
+if __name__ == "__main__":
+    sys.exit(main())
