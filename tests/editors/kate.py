@@ -6,6 +6,7 @@ of steps below), OB0_GIVEN (a place in the file, as JSON), OB0_WIRE (the folder 
 the server). What is reported is what went over the wire, and what Kate saved."""
 from __future__ import annotations
 
+import functools
 import json
 import os
 import subprocess
@@ -148,14 +149,22 @@ def line_above() -> None:
     keys("Return")
 
 
+def has_text(text: str) -> bool:
+    return WIRE.text() == text
+
+
 def late() -> None:
     """An answer is held while a line is typed above."""
-    for what, method, ask in (("renamed", RENAME, lambda: rename("tot")), ("laid out", LAYOUT, lambda: command("Format", WIRE.is_held))):
+    asks: list[tuple[str, str, Callable[[], object]]] = [
+        ("renamed", RENAME, lambda: rename("tot")),
+        ("laid out", LAYOUT, lambda: command("Format", WIRE.is_held)),
+    ]
+    for what, method, ask in asks:
         before = WIRE.text()
         WIRE.hold(method)
         ask()
         line_above()
-        waited("the line above", lambda text=f"{LINE}\n{before}": WIRE.text() == text)
+        waited("the line above", functools.partial(has_text, f"{LINE}\n{before}"))
         after(what, WIRE.release)
         say(what, saving())
 
