@@ -76,7 +76,8 @@ PREMISES = (
     "It holds with any editor that sends every change, makes the edits of an answer at once and as the protocol says, and drops an "
     "answer whose document was changed, or closed and opened again, since it asked. The editor of part 1 does; it also counts "
     "versions from 1 in steps of 1, and sends the whole text after an edit.",
-    "Nothing is lost, added or reordered between the two, and no content is longer than a frame may be. A text is a list of "
+    "Nothing is lost, added or reordered between the two. The model has contents and no frames: no content is longer than a frame "
+    "may be (16,777,216 bytes; at a longer one `serve` ends). A text is a list of "
     "Unicode scalar values: half a surrogate pair is none.",
     "Where memory runs out the server ends, and what it sent before stands (`PlaysBefore`).",
     "`serve` promises its bytes of a reader and a writer that tell theirs. The standard streams don't: there the same code is tested. "
@@ -109,6 +110,8 @@ READING = (
     "result is an `Ok`. What `requires` says is for the caller to see to.",
 )
 LINES_A_MINUTE = 10
+# (how long a line of code may be)
+WIDTH = 100
 
 
 # ---- contracts
@@ -289,14 +292,20 @@ class Page:
         return word if own is None or own == first and "." not in word else own + (f".{rest}" if rest else "")
 
     def code_of(self, block):
-        """The lines of a definition with the names of the page."""
+        """The lines of a definition with the names of the page; a field keeps its own."""
         found = []
         for line in block.code:
             code, dashes, comment = line.partition("--")
-            parts = re.split(r'("[^"]*")', code)
-            code = "".join(part if part.startswith('"') else self.in_words(block.file, part) for part in parts)
+            field = re.match(r"^\s+(?:pub )?[\w-]+(?= :)", code) if " record " in f" {block.code[0]}" else None
+            own = field[0] if field else ""
+            parts = re.split(r'("[^"]*")', code[len(own) :])
+            code = own + "".join(part if part.startswith('"') else self.in_words(block.file, part) for part in parts)
             found.append(code + dashes + comment)
-        return found
+        return filled(found)
+
+    def lines_of(self, item):
+        """The lines of a definition as the page has them."""
+        return self.code_of(item) if isinstance(item, Block) else side_by_side(item.code)
 
     def in_words(self, file, code):
         """Some code with the names of the page. An operator that has the name of another has a stroke."""
@@ -311,14 +320,14 @@ class Page:
 
     def counts(self, items):
         """How many definitions there are, and how many lines they have without comments."""
-        lines = [line.lstrip() for item in items for line in item.code]
+        lines = [line.lstrip() for item in items for line in self.lines_of(item)]
         return len(items), sum(bool(line) and not line.startswith(("--", "//")) for line in lines)
 
     def group_lines(self, group, by_rule):
         heading = group.heading(by_rule)
         out = [f"### {heading}", ""]
         if group.file is None:
-            code = [line for i, item in enumerate(group.items) for line in ([""] if i else []) + item.code]
+            code = [line for i, item in enumerate(group.items) for line in ([""] if i else []) + self.lines_of(item)]
             return [*out, "```rust", *code, "```", ""]
         out += [*wrapped(re.sub(r"\s*Rule: none.*$", "", group.file.title)), ""]
         out += self.fenced(group.items)
@@ -372,7 +381,8 @@ class Page:
         out += wrapped(
             "Whoever believes that these definitions say what they are meant to say knows what is proved; proofs and code needn't be "
             "read. That the page leaves none out is this page's own script's work (`tools/statement.py`), and a test counts them in "
-            "another way."
+            "another way. The page has a long type in as few lines as hold it, and cases without values beside one another; else the "
+            "lines are those of the sources."
         )
         out += ["", *self.table(), "", "## The notation", ""]
         out += [line for item in READING for line in wrapped(f"- {item}", "  ")] + [""]
@@ -385,6 +395,33 @@ class Page:
         for module in sorted(by_module):
             out += wrapped(f"- `{module}`: {', '.join(f'`{name}`' for name in sorted(by_module[module]))}", "  ")
         return "\n".join(out).rstrip() + "\n"
+
+
+def filled(lines):
+    """A type that the sources have one part to a line, in as few lines as hold it."""
+    found = []
+    for line in lines:
+        part = re.match(r"^\s+→ .*", line)
+        head = found[-1] if found else ""
+        joins = part and "--" not in head and (re.match(r"^\s+→ ", head) or " : " in head) and not head.rstrip().endswith("=")
+        if joins and len(head) + 1 + len(line.strip()) <= WIDTH:
+            found[-1] = f"{head} {line.strip()}"
+        else:
+            found.append(line)
+    return found
+
+
+def side_by_side(lines):
+    """A type of the code, with cases that are names alone beside one another."""
+    found = []
+    for line in lines:
+        name = re.match(r"^    [A-Z]\w*,$", line)
+        head = found[-1] if found else ""
+        if name and re.match(r"^    (?:[A-Z]\w*, ?)+$", head) and len(head) + 1 + len(line.strip()) <= WIDTH:
+            found[-1] = f"{head} {line.strip()}"
+        else:
+            found.append(line)
+    return found
 
 
 def minutes(lines):
