@@ -115,7 +115,7 @@ class Libraries:
     """The libraries that `rt ci` proves: hard links to them, made as it says that each is proved. (At its end it puts back what
     was in the crates' folders before.)"""
 
-    def __init__(self, folder: str):
+    def __init__(self, folder: str) -> None:
         self.folder = folder
         self.proved: set[str] = set()
         shutil.rmtree(folder, ignore_errors=True)
@@ -156,7 +156,7 @@ class Libraries:
 class Mutant:
     """A mutant of the gate, with what its first line says and the functions that it turns."""
 
-    def __init__(self, edit: edits.Edit, source: reading.Source):
+    def __init__(self, edit: edits.Edit, source: reading.Source) -> None:
         self.edit, self.source = edit, source
         with open(edit.file, encoding="utf-8") as file:
             self.claim = claim_of(file.readline())
