@@ -130,7 +130,7 @@ def only_a_limit() -> None:
     same(total(mutants.LIMIT, wanted=1)[0], (0, 1), "none of one")
 
 
-@test("mutants: one that is refused by another clause, a `requires` of a callee or lost names is told")
+@test("mutants: one that is refused by another clause, a `requires` of a callee or lost names is reported")
 def elsewhere() -> None:
     for goal in ("returns-clause-ok", "loop-c-preserved", "count-requires-clause-few", "count-requires-returns"):
         same(judged(REFUSED.replace("returns-in-Utf16", goal)), mutants.ELSEWHERE, goal)

@@ -27,7 +27,7 @@ from wrong_bodies import Said
 # What a try comes to. Only after the last another try can say more.
 REFUSED, ELSEWHERE, PROVED = "refused", "refused elsewhere", "NOT REFUSED"
 BAD, LIMIT, NOT_TRIED = "BAD EDIT", "ONLY A LIMIT", "NOT TRIED"
-# What counts: that the function is refused. One that is refused elsewhere than its first line says is told and counted.
+# What counts: that the function is refused. One that is refused elsewhere than its first line says is reported and counted.
 COUNTED = (REFUSED, ELSEWHERE)
 README = os.path.join(TOP, "README.md")
 COUNT = re.compile(r"every proof, (\d+) wrong versions")
@@ -227,7 +227,7 @@ def say(outcome: Outcome) -> Outcome:
 
 
 def try_side_by_side(chosen: list[Mutant], libraries: Libraries, lanes: int) -> list[Outcome]:
-    """Tries mutants, so many side by side, and says what each came to, but for those that can be tried in another way."""
+    """Tries mutants, some side by side, and says what each came to, but for those that can be tried in another way."""
     os.makedirs(build.ROOMS, exist_ok=True)
 
     def one(mutant: Mutant) -> Outcome:
