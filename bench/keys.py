@@ -8,9 +8,9 @@ from collections.abc import Callable, Iterator
 from typing import List, Tuple
 
 import corpus
+from harness import did_change, did_open, extent, initialize, place, request
 from common import match_of
 from framing import Message
-from harness import did_change, did_open, extent, initialize, place, request
 
 Longer = Tuple[List[Message], List[Message], int]  # two conversations, and how many things the second is longer by
 URI = "file:///m"

@@ -1,6 +1,8 @@
 """Programs that do the same in Oberon-0, Lua and Python: for each a name and three texts.
 
 A run allows 64 open calls and 100,000 iterations of each execution of a loop, so the work is in nested loops."""
+from __future__ import annotations
+
 
 PROGRAMS = {
     "nested loops, 2,000,000 turns": (
@@ -624,7 +626,7 @@ main()
 }
 
 
-def calls(count):
+def calls(count: int) -> str:
     """A program of Oberon-0 that makes this many calls (a multiple of 1,000), one after the other, and writes how many."""
     return f"""MODULE Many;
 VAR i, j, made: INTEGER;
@@ -643,7 +645,7 @@ END Many.
 """
 
 
-def open_calls(depth, turns):
+def open_calls(depth: int, turns: int) -> str:
     """A program that has this many calls open at a time, this often, each with 16,384 cells of its own, and writes how many it made."""
     return f"""MODULE Deep;
 VAR i, made: INTEGER;
@@ -658,7 +660,7 @@ END Deep.
 """
 
 
-def numbers_out(count):
+def numbers_out(count: int) -> str:
     """A program of Oberon-0 that writes this many numbers (a multiple of 1,000), of one digit each."""
     return f"""MODULE Out;
 VAR i, j: INTEGER;

@@ -26,9 +26,9 @@ sys.dont_write_bytecode = True
 sys.path[:0] = [HERE, os.path.join(os.path.dirname(HERE), "tests", "lib")]
 
 import corpus  # noqa: E402
+from harness import BINARY, EXIT, SHUTDOWN, did_change, did_open, extent, frame, frames, initialize, place, request  # noqa: E402
 from common import match_of  # noqa: E402
 from framing import Incoming, Message  # noqa: E402
-from harness import BINARY, EXIT, SHUTDOWN, did_change, did_open, extent, frame, frames, initialize, place, request  # noqa: E402
 
 MIB = 1 << 20
 Cost = Tuple[float, int]  # seconds on a processor, and the peak memory

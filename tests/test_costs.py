@@ -1,4 +1,6 @@
 """Where the time of a crate's proof goes: tools/costs.py on a folder of kept files."""
+from __future__ import annotations
+
 import contextlib
 import io
 import os
@@ -24,7 +26,7 @@ KEPT = (
 
 
 @test("costs: a module costs the time before its file; kinds, modules and functions are summed, and what is older isn't counted")
-def summed():
+def summed() -> None:
     top, common.TOP = common.TOP, tempfile.mkdtemp()
     try:
         folder = os.path.join(common.TOP, "crates", "low")

@@ -4,6 +4,8 @@ Neovim is driven by its own client, Emacs by eglot and by lsp-mode, Vim by ALE a
 that nobody sees). Kakoune, which has no client, is in test_syntax_files.py.
 
 A test of an editor that isn't here is left out, by name; `make editors` installs them all."""
+from __future__ import annotations
+
 import functools
 import json
 import os
@@ -12,21 +14,38 @@ import re
 import shutil
 import sys
 import tempfile
+from collections.abc import Iterator
+from typing import Any, Callable, Dict, List, Tuple, Type, TypeVar
 
 import harness
 import holding
 import keyed
-from harness import Failed, TOP, edited, ends, extent, holds, on_file, same, test, text_of, want
+from harness import Failed, Message, TOP, edited, ends, extent, holds, on_file, same, test, text_of, want
 from holding import edits_of, patched
 from homes import at_home, put_between, run_in_terminal, run_plainly, write
 from modules import CALLS, FAULTY, LEAST, NESTED, RECORDS, WRITES_A_GLOBAL
 from snippets import snippets
 
+T = TypeVar("T")
+Steps = List[Tuple[str, Any]]  # pairs of a step and what was found
+Client = Callable[..., Steps]  # drives an editor through some steps
+Seen = Tuple[List[int], str, List[List[int]], List[int]]
+Which = Type[keyed.Keyed]
+
 EDITORS = os.path.join(TOP, "tests", "editors")
 ENDED = {"code": 0, "signal": 0}
 
 
-def play(editor, words, steps, text, given, set_up=lambda room: None, in_terminal=False, more=None):
+def play(
+    editor: str,
+    words: list[str],
+    steps: str,
+    text: str,
+    given: Any,
+    set_up: Callable[[str], object] = lambda room: None,
+    in_terminal: bool = False,
+    more: dict[str, str] | None = None,
+) -> Steps:
     """What an editor found in these steps on a file with this text, with what else is given to it: pairs of a step and
     what was found."""
     harness.need_program()
@@ -46,14 +65,14 @@ def play(editor, words, steps, text, given, set_up=lambda room: None, in_termina
     return [(it["step"], it["found"]) for it in found]
 
 
-def in_neovim(steps, text, **given):
+def in_neovim(steps: str, text: str, **given: Any) -> Steps:
     want("Neovim")
     words = ["nvim", "--headless", "-n", "-i", "NONE", "-S", os.path.join(EDITORS, "neovim.lua")]
     set_up = lambda room: write(os.path.join(room, ".config", "nvim", "init.lua"), "\n".join(snippets("neovim", "lua")))
     return play("neovim", words, steps, text, given, set_up)
 
 
-def in_emacs_by(client, steps, text, given):
+def in_emacs_by(client: str, steps: str, text: str, given: dict[str, Any]) -> Steps:
     """In Emacs: the page has the lines for eglot first, and then those for lsp-mode."""
     want("Emacs", client)
     lines = snippets("emacs", "elisp")["eglot lsp-mode".split().index(client)]
@@ -62,15 +81,15 @@ def in_emacs_by(client, steps, text, given):
     return play("emacs", words, steps, text, given, lambda room: write(os.path.join(room, init), lines))
 
 
-def in_emacs(steps, text, **given):
+def in_emacs(steps: str, text: str, **given: Any) -> Steps:
     return in_emacs_by("eglot", steps, text, given)
 
 
-def in_lsp_mode(steps, text, **given):
+def in_lsp_mode(steps: str, text: str, **given: Any) -> Steps:
     return in_emacs_by("lsp-mode", steps, text, given)
 
 
-def in_vim(steps, text, **given):
+def in_vim(steps: str, text: str, **given: Any) -> Steps:
     want("Vim", "ALE")
     words = ["vim.nox", "-n", "-i", "NONE", "-S", os.path.join(EDITORS, "vim.vim")]
     set_up = lambda room: write(os.path.join(room, ".vimrc"), "\n".join(snippets("vim", "vim")))
@@ -78,7 +97,7 @@ def in_vim(steps, text, **given):
 
 
 @test("editors: each page says whether the proved property holds in its editor, in the words of the table")
-def held_here():
+def held_here() -> None:
     rows = re.findall(r"^\| \[[\w ]+\]\((\w+)/README\.md\)[^|]*\| \*\*([^|]+?)\*\*", text_of("editors", "README.md"), re.M)
     holds(len(rows) > 9, f"the table of editors/README.md has {rows}")
     for folder, verdict in rows:
@@ -91,18 +110,18 @@ TYPED = "MODULE M; VAR x: INTEGER; BEGIN WriteLn END M.\n"
 
 
 @test("Neovim: a bad character comes and goes, and the server ends cleanly")
-def neovim_scanning():
+def neovim_scanning() -> None:
     bad = [[0, 16, 0, 17, "BadChar", "bad character"]]
     wanted_steps = [("opened", []), ("typed", bad), ("mended", []), ("undone", bad), ("redone", []), ("ended", ENDED)]
     same(in_neovim("scanning", GOOD), wanted_steps)
 
 
-def while_typing():
+def while_typing() -> Steps:
     """What is displayed after each letter of `; x := 1`."""
     typed, at = "; x := 1", TYPED.index(" END")
-    wanted_steps = [("opened", [])]
+    wanted_steps: Steps = [("opened", [])]
     for count, letter in enumerate(typed, 1):
-        found = []
+        found: list[Any] = []
         name, end = at + 2, at + count + 1
         if letter == ":":
             found = [[0, at + 4, 0, at + 5, "Syntax", "expected END"]]
@@ -115,11 +134,11 @@ def while_typing():
 
 
 @test("Neovim: a syntax fault comes and goes while a statement is typed")
-def neovim_typing():
+def neovim_typing() -> None:
     same(in_neovim("typing", TYPED), while_typing())
 
 
-FAULTY_TOLD = [
+FAULTS_REPORTED = [
     "1:10-1:17 ConstFault: constant has a fault",
     "3:46-3:47 EndName: wrong closing name",
     "4:11-4:12 TypeMismatch: wrong type",
@@ -139,54 +158,54 @@ BEGIN i := 0; P(i); b := m = 1; Write(k) END M.
 """
 
 
-def as_neovim_shows():
+def as_neovim_shows() -> list[Any]:
     found = []
-    for it in FAULTY_TOLD:
-        where, code, message = it.split(" ", 2)
+    for line in FAULTS_REPORTED:
+        where, code, message = line.split(" ", 2)
         place = extent(where)
         ends = [place[end][part] for end in ("start", "end") for part in ("line", "character")]
         found.append([*ends, code[:-1], message])
     return found
 
 
-def as_emacs_shows():
+def as_emacs_shows() -> list[Any]:
     lines = FAULTY.split("\n")
-    offset = lambda at: sum(len(it) + 1 for it in lines[: at["line"]]) + at["character"]
+    offset: Callable[[Message], int] = lambda at: sum(len(it) + 1 for it in lines[: at["line"]]) + int(at["character"])
     found = []
-    for it in FAULTY_TOLD:
+    for it in FAULTS_REPORTED:
         where, code, message = it.split(" ", 2)
         found.append([offset(extent(where)["start"]), offset(extent(where)["end"]), f" [{code[:-1]}]: {message}"])
     return found
 
 
 @test("Neovim: the diagnostics of a faulty module, and none of the mended one")
-def neovim_types():
+def neovim_types() -> None:
     same(in_neovim("mending", FAULTY, mended=MENDED), [("opened", as_neovim_shows()), ("mended", []), ("ended", ENDED)])
 
 
 @test("Emacs: the diagnostics of a faulty module, and none of the mended one")
-def emacs_types():
+def emacs_types() -> None:
     same(in_emacs("mending", FAULTY, mended=MENDED), [("opened", as_emacs_shows()), ("mended", []), ("ended", 0)])
 
 
 @test("lsp-mode: the diagnostics of a faulty module, and none of the mended one")
-def lsp_mode_types():
+def lsp_mode_types() -> None:
     same(in_lsp_mode("mending", FAULTY, mended=MENDED), [("opened", as_neovim_shows()), ("mended", [])])
 
 
 @test("Vim: the diagnostics of a faulty module, and none of the mended one")
-def vim_types():
+def vim_types() -> None:
     same(in_vim("mending", FAULTY, mended=MENDED), [("opened", as_neovim_shows()), ("mended", [])])
 
 
 @test("Emacs: a bad character comes and goes, and the server ends cleanly")
-def emacs_scanning():
+def emacs_scanning() -> None:
     bad = [[16, 17, " [BadChar]: bad character"]]
     same(in_emacs("scanning", GOOD), [("opened", []), ("typed", bad), ("mended", []), ("ended", 0)])
 
 
 @test("Emacs: a diagnostic of an older text, at a place that is inside a character now, is shown")
-def emacs_outdated():
+def emacs_outdated() -> None:
     text = "MODULE M; (* \U0001f600 *)\nBEGIN\n  WriteLn\nEND M.\n"
     same(in_emacs("outdated", text), [("opened", []), ("outdated", 1), ("ended", 0)])
 
@@ -199,12 +218,12 @@ ANSWERED = [("opened", []), ("hover", HOVER), ("definition", DEFINITION), ("refe
 
 
 @test("Neovim: hover, definition and references, as the server answers them")
-def neovim_questions():
+def neovim_questions() -> None:
     same(in_neovim("questions", CALLS), [*ANSWERED, ("ended", ENDED)])
 
 
 @test("Emacs: hover, definition and references, as the server answers them")
-def emacs_questions():
+def emacs_questions() -> None:
     same(in_emacs("questions", CALLS), [*ANSWERED, ("ended", 0)])
 
 
@@ -220,26 +239,26 @@ RECORDS_SEEN = [
 ]
 
 
-def looked(seen):
-    found = [("opened", [])]
+def looked(seen: list[Seen]) -> Steps:
+    found: Steps = [("opened", [])]
     for _, shown, listed, declared in seen:
         found += [("shown", shown), ("listed", listed), ("jumped", declared)]
     return found
 
 
-def without_declarations(seen):
+def without_declarations(seen: list[Seen]) -> list[Seen]:
     """The same for a client that requests references without the declaration."""
     return [(place, shown, [it for it in listed if it != declared], declared) for place, shown, listed, declared in seen]
 
 
 @test("Neovim: what its own hover, list of references and go to definition show")
-def neovim_looking():
+def neovim_looking() -> None:
     for text, seen in ((CALLS, CALLS_SEEN), (RECORDS, RECORDS_SEEN)):
         same(in_neovim("looking", text, places=[it[0] for it in seen]), [*looked(seen), ("ended", ENDED)])
 
 
 @test("Neovim: a program that isn't there is said in one line")
-def neovim_without():
+def neovim_without() -> None:
     want("Neovim")
     with tempfile.TemporaryDirectory() as room:
         own, file = at_home(room, "neovim"), os.path.join(room, "m.ob0")
@@ -250,18 +269,18 @@ def neovim_without():
 
 
 @test("Emacs: the index of procedures, while eglot is on")
-def emacs_index():
+def emacs_index() -> None:
     same(in_emacs("index", CALLS), [("opened", []), ("index", ["*Rescan*", "F"]), ("ended", 0)])
 
 
 @test("Emacs: what its own hover, list of references and go to definition show")
-def emacs_looking():
+def emacs_looking() -> None:
     for text, seen in ((CALLS, CALLS_SEEN), (RECORDS, RECORDS_SEEN)):
         same(in_emacs("looking", text, places=[it[0] for it in seen]), [*looked(seen), ("ended", 0)])
 
 
 @test("lsp-mode: what its own hover, list of references and go to definition show")
-def lsp_mode_looking():
+def lsp_mode_looking() -> None:
     for text, seen in ((CALLS, CALLS_SEEN), (RECORDS, RECORDS_SEEN)):
         found = in_lsp_mode("looking", text, places=[it[0] for it in seen])
         # (version 8 requests references without the declaration, version 9 with it)
@@ -269,18 +288,18 @@ def lsp_mode_looking():
 
 
 @test("Vim: what ALE's hover, list of references and go to definition show")
-def vim_looking():
+def vim_looking() -> None:
     for text, seen in ((CALLS, CALLS_SEEN), (RECORDS, RECORDS_SEEN)):
         same(in_vim("looking", text, places=[it[0] for it in seen]), looked(without_declarations(seen)))
 
 
-def keeps_the_run(before, after, out, given=b""):
+def keeps_the_run(before: str, after: str, out: str, given: bytes = b"") -> None:
     """Holds a text, and what an editor made of it, to one run: on this input each prints this and ends with status 0."""
     for text in (before, after):
         ends(on_file("run", text, given=given), out, 0)
 
 
-def example(name):
+def example(name: str) -> tuple[str, str]:
     """An example and what it prints."""
     with open(os.path.join(TOP, "examples", f"{name}.mod"), encoding="utf-8") as text, open(os.path.join(TOP, "examples", f"{name}.out"), encoding="utf-8") as out:
         return text.read(), out.read()
@@ -288,10 +307,10 @@ def example(name):
 
 NESTED_EXAMPLE, NESTED_PRINTS = example("Nested")
 INNER = [
-    f"{line}:{it.start()}-{line}:{it.end()}"
+    f"{line}:{found.start()}-{line}:{found.end()}"
     for line, text in enumerate(NESTED_EXAMPLE.split("\n"))
     if "(*" not in text
-    for it in re.finditer(r"\bInner\b", text)
+    for found in re.finditer(r"\bInner\b", text)
 ]
 COLLATZ, COLLATZ_PRINTS = example("Collatz")
 
@@ -309,7 +328,7 @@ FIELDS_RENAMED = [
 ]
 
 
-def renames(editor, end, rows):
+def renames(editor: Client, end: Steps, rows: list[tuple[str, list[int], str, list[str], str]]) -> None:
     for text, place, new, places, out in rows:
         found = editor("rename", text, place=place, name=new)
         steps = [("opened", []), ("renamed", []), ("text", edited(text, places, new)), *end]
@@ -318,7 +337,7 @@ def renames(editor, end, rows):
 
 
 # the editors that rename, what they are started by, and what they say at last
-CLIENTS = [
+CLIENTS: List[Tuple[str, Client, Steps]] = [
     ("Neovim", in_neovim, [("ended", ENDED)]),
     ("Emacs", in_emacs, [("ended", 0)]),
     ("lsp-mode", in_lsp_mode, []),
@@ -326,7 +345,7 @@ CLIENTS = [
 ]
 
 
-def in_each(what, clients, function, *more):
+def in_each(what: str, clients: list[tuple[str, Client, Steps]], function: Callable[..., None], *more: object) -> None:
     """A test of this name for each of these editors."""
     for name, editor, end in clients:
         test(f"{name}: {what}")(functools.partial(function, editor, end, *more))
@@ -350,7 +369,7 @@ ACTED = [
 ]
 
 
-def inlines(editor, end):
+def inlines(editor: Client, end: Steps) -> None:
     for text, place, title, count, wanted_text, out in ACTED:
         found = editor("acting", text, place=place, title=title)
         offered = ["Inline here", "Inline everywhere"][2 - count :]
@@ -395,7 +414,7 @@ FORMATTED = [
 ]
 
 
-def formats(editor, end):
+def formats(editor: Client, end: Steps) -> None:
     for size, spaces, text, wanted, given, out in FORMATTED:
         found = editor("format", text, size=size, spaces=spaces)
         once = [("opened", []), ("formatted", []), ("text", wanted)]
@@ -407,7 +426,7 @@ in_each("a text is laid out, once more changes nothing, and the run is kept", CL
 
 
 @test("lsp-mode: a text is laid out, and the run is kept")
-def lsp_mode_format():
+def lsp_mode_format() -> None:
     for size, spaces, text, wanted, given, out in FORMATTED:
         if (size, spaces) == (2, True):  # (what ob0-mode requests)
             found = in_lsp_mode("format", text)
@@ -431,13 +450,13 @@ MADE_LATE = {
 CLIENT = "vscode-languageclient"
 
 
-def real_client():
+def real_client() -> str | None:
     """The folder of the packages of Node that has the real client, or None."""
     folders = [os.path.join(TOP, "editors", "vscode", "node_modules"), "/usr/share/nodejs", "/usr/local/lib/node_modules"]
     return next((it for it in folders if os.path.isdir(os.path.join(it, CLIENT))), None)
 
 
-def in_vscode(*kind):
+def in_vscode(*kind: str) -> tuple[str, Any, list[Message], list[Message]]:
     """What VS Code's extension did under Node, and the record of what its client and the server said."""
     with tempfile.TemporaryDirectory() as room:
         own = at_home(room, "vscode")
@@ -452,7 +471,7 @@ def in_vscode(*kind):
         return file, json.loads(said.splitlines()[-1]), wire.sent("initialize"), wire.answers("textDocument/rename")
 
 
-def in_vscode_by(*kind):
+def in_vscode_by(*kind: str) -> None:
     file, found, started, renamed = in_vscode(*kind)
     nothing = {"ended": "activated", "stopped": "deactivated", "said": ["There is no program no-such-program; the setting ob0.path names another."]}
     same(found["without"], nothing, "what is said where there is no program")
@@ -472,14 +491,14 @@ def in_vscode_by(*kind):
 
 
 @test("VS Code: the extension, with stand-ins for the editor and its client, starts the server, drops late answers, checks and runs")
-def vscode():
+def vscode() -> None:
     want("Node")
     harness.need_program()
     in_vscode_by()
 
 
 @test("VS Code: the extension, with the real vscode-languageclient and a stand-in for the editor, does the same")
-def vscode_client():
+def vscode_client() -> None:
     want("Node")
     harness.need_program()
     if not real_client():
@@ -487,7 +506,7 @@ def vscode_client():
     in_vscode_by("real")
 
 
-def in_vim_by_ycm(steps, text, **given):
+def in_vim_by_ycm(steps: str, text: str, **given: Any) -> Steps:
     want("Vim", "YouCompleteMe")
     words = ["vim.nox", "-n", "-i", "NONE", "-S", os.path.join(EDITORS, "ycm.vim")]
     # (its server wants the system's Python, whichever one is first on PATH)
@@ -511,7 +530,7 @@ YCM_TYPED = [("typed", ["bad character [BadChar]"]), ("mended", [])]
 
 
 @test("Vim by YouCompleteMe: diagnostics, what is known of a name, a rename and a layout")
-def ycm_names():
+def ycm_names() -> None:
     steps = [("shown", "PROCEDURE F(n: INTEGER)"), ("listed", [[1, 10], [2, 30], [2, 47], [3, 6]]), ("jumped", [1, 10])]
     steps += [("renamed", edited(CALLS, PLACES, "G")), ("laid out", LAID_OUT)]
     same(in_vim_by_ycm("names", CALLS, place=[3, 6], name="G"), [*YCM_TYPED, *steps])
@@ -519,7 +538,7 @@ def ycm_names():
 
 
 @test("Vim by YouCompleteMe: a constant is inlined after an emoji")
-def ycm_inline():
+def ycm_inline() -> None:
     text = "MODULE M;\nCONST k = 7;\nBEGIN (* \U0001f600 *) Write(k) END M.\n"
     wanted = text.replace("Write(k)", "Write(7)")
     found = in_vim_by_ycm("inlining", text, place=[2, len("BEGIN (* \U0001f600 *) Write(".encode())])
@@ -527,16 +546,16 @@ def ycm_inline():
     keeps_the_run(text, wanted, " 7")
 
 
-def in_kate(steps, text, **given):
+def in_kate(steps: str, text: str, **given: Any) -> Steps:
     want("Kate", "Xvfb", "xauth", "openbox", "xdotool", "D-Bus")
 
-    def set_up(room):
+    def set_up(room: str) -> None:
         """The server with what holds answers, and Kate's plugin switched on and allowed to start it, as its user would do once."""
         program = put_between(room)
         write(os.path.join(room, ".config", "katerc"), f"[Kate Plugins]\nlspclientplugin=true\n\n[lspclient]\nAllowedServerCommandLines={program} serve\n")
         own["OB0_WIRE"] = room
 
-    own = {}
+    own: dict[str, str] = {}
     words = ["xvfb-run", "-a", "dbus-run-session", "--", "python3", os.path.join(EDITORS, "kate.py")]
     # (keys can come before a window takes them, where the machine has much else to do, and what Kate has started can still write
     # into the room when it is taken away: then all is done once more)
@@ -549,7 +568,7 @@ def in_kate(steps, text, **given):
 
 
 @test("Kate: diagnostics, what is known of a name, a rename and a layout, by its keys")
-def kate_names():
+def kate_names() -> None:
     steps = [("opened", []), ("typed", ["BadChar"]), ("undone", []), ("shown", "PROCEDURE F(n: INTEGER)")]
     steps += [("listed", [[1, 10], [2, 30], [2, 47], [3, 6]]), ("jumped", [1, 10])]
     steps += [("renamed", []), ("text", edited(CALLS, PLACES, "G")), ("laid out", []), ("text", LAID_OUT)]
@@ -558,7 +577,7 @@ def kate_names():
 
 
 @test("Kate: a constant is inlined, by its keys")
-def kate_inline():
+def kate_inline() -> None:
     text = "MODULE M;\nCONST k = 7;\nBEGIN Write(k) END M.\n"
     wanted = text.replace("Write(k)", "Write(7)")
     steps = [("opened", []), ("offered", ["Inline here", "Inline everywhere"]), ("acted", []), ("text", wanted)]
@@ -567,7 +586,7 @@ def kate_inline():
 
 
 @test("Kate: a late answer is made at places that move along, as its page says")
-def kate_late():
+def kate_late() -> None:
     renamed = NEW_LINE + re.sub(r"\bn\b", "tot", LATE)
     laid_out = f"{2 * NEW_LINE}MODULE M;\nCONST\n  k = 7;\nVAR\n  tot: INTEGER;\nBEGIN\n  tot := 1;\n  Write(tot);\n  Write(k);\n"
     laid_out += "  tot := tot + 1;\n  Write(tot)\nEND M.\n"
@@ -591,7 +610,7 @@ HELD = 0.4  # how many seconds an answer is held at least before an editor that 
 WHEN = ["in the first version", "in a later version", "closed and opened again"]
 
 
-def is_late(editor, asked, when):
+def is_late(editor: keyed.Keyed, asked: str, when: str) -> None:
     """An answer comes after a line was typed above, or after the file was closed, has another text, and was opened again: nothing
     comes of it. An editor that waits for the answer makes its edits first."""
     keys, method, waits = editor.asks[asked]
@@ -609,11 +628,11 @@ def is_late(editor, asked, when):
     if when == WHEN[2] and not waits:
         write(editor.file, wanted)
     editor.keys(editor.reopening() if when == WHEN[2] else editor.line_above)
-    text = editor.asked_for_text()
+    asked_for = editor.asked_for_text()
     if waits:
-        holds(not editor.waits(lambda: text() is not None, HELD), f"it takes keys while it waits for the {asked}")
+        holds(not editor.waits(lambda: asked_for() is not None, HELD), f"it takes keys while it waits for the {asked}")
     else:
-        editor.await_("the line above", lambda: text() is not None)
+        editor.await_("the line above", lambda: asked_for() is not None)
     editor.wire.release()
     edits = edits_of(editor.wire.answers(method)[-1].get("result"))
     holds(edits, f"the {asked} had edits")
@@ -622,7 +641,7 @@ def is_late(editor, asked, when):
     same(editor.text(comes_last=True), wanted, f"the text after the {asked}, {when}")
 
 
-def by_keys(does, which, text, *names):
+def by_keys(does: Callable[[Any], T], which: Which, text: str, *names: str) -> T:
     """Does something with an editor, in a folder of its own, on a file with this text. Where the editor was lost (it took no key, or
     its server said nothing in time), once more."""
     want(*names)
@@ -636,8 +655,8 @@ def by_keys(does, which, text, *names):
         return does(editor)
 
 
-def late_answers(which, *names):
-    def each(editor):
+def late_answers(which: Which, *names: str) -> None:
+    def each(editor: keyed.Keyed) -> None:
         for asked in editor.asks:
             for when in WHEN:
                 is_late(editor, asked, when)
@@ -645,7 +664,7 @@ def late_answers(which, *names):
     by_keys(each, which, LATE, *names)
 
 
-KEYED = {
+KEYED: Dict[str, Any] = {
     "Neovim": (keyed.Neovim, "Neovim"),
     "Vim by ALE": (keyed.Ale, "Vim", "ALE"),
     "Vim by YouCompleteMe": (keyed.Ycm, "Vim", "YouCompleteMe"),
@@ -659,16 +678,16 @@ for name, which in KEYED.items():
 CHANGED = LATE.replace("VAR", "VAR (* N and n *)").rstrip("\n").replace("\n", "\r\n")  # (with CR LF, and none after the last line)
 
 
-def lines_of(text):
+def lines_of(text: str | None) -> str:
     """A text with LF at the end of each line, and of the last one."""
     plain = (text or "").replace("\r\n", "\n")
     return plain if plain.endswith("\n") else plain + "\n"
 
 
-def every_change(which, count, seed, text, *names):
+def every_change(which: Which, count: int, seed: int, text: str, *names: str) -> str:
     """After each ten of many changes by chance the server has the editor's text."""
 
-    def compared(editor):
+    def compared(editor: keyed.Keyed) -> str:
         chance, made = random.Random(seed), []
         for _ in range(count // 10):
             for _ in range(10):
@@ -686,17 +705,17 @@ for name, which in KEYED.items():
     test(f"{name}: the server has the text after 40 changes")(functools.partial(every_change, which[0], 40, 3, CHANGED, *which[1:]))
 
 
-def changes_by_keys():
+def changes_by_keys() -> Iterator[tuple[Any, str, str]]:
     """What `make faults` tries besides: an editor, a text and a name for each editor and kind of file."""
     for name, which in KEYED.items():
         for kind, text in (("LF", LATE), ("CR LF", LATE.replace("\n", "\r\n")), ("no end of the last line", LATE.rstrip("\n"))):
             yield which, text, f"changes by keys: {name}, {kind}"
 
 
-def replaced_in_other_cases(which, *names):
+def replaced_in_other_cases(which: Which, *names: str) -> None:
     """The server has the editor's text after a name was replaced in a text that has it in the other case too."""
 
-    def replaced(editor):
+    def replaced(editor: keyed.Keyed) -> None:
         new = editor.letters[-1]
         editor.keys(f'\x1b:(progn (goto-char 1) (replace-string "n" "{new}"))\r')
         found = editor.text()
@@ -712,8 +731,8 @@ for name in ("Emacs by eglot", "Emacs by lsp-mode"):
 
 
 @test("Neovim: an action that is chosen after the text has changed does nothing")
-def neovim_chosen_late():
-    def chosen(editor):
+def neovim_chosen_late() -> None:
+    def chosen(editor: keyed.Neovim) -> None:
         editor.keys(":let g:chooses_later = 1\r")
         for change, wanted in ((editor.line_above, NEW_LINE + LATE), (editor.reopening(), LATE), ("", LATE.replace("Write(k)", "Write(7)"))):
             write(editor.file, LATE)
@@ -726,7 +745,7 @@ def neovim_chosen_late():
 
 
 @test("Neovim: two copies of the files start one server")
-def neovim_copied_twice():
+def neovim_copied_twice() -> None:
     class Twice(keyed.Neovim):
         # (Neovim 0.8 and later have `vim.lsp.start`, which starts none for a second time)
         lines = keyed.Neovim.lines + """
@@ -738,12 +757,12 @@ vim.lsp.start_client = function(...)
 end
 """
 
-        def settings(self):
+        def settings(self) -> dict[str, str]:
             start = os.path.join(self.folder, ".local", "share", "nvim", "site", "pack")
             shutil.copytree(os.path.join(start, "ob0"), os.path.join(start, "another"))
             return super().settings()
 
-    def counted(editor):
+    def counted(editor: keyed.Keyed) -> None:
         editor.keys(f"{keyed.NORMAL}:call setline(1, luaeval('started'))\r")
         started = int(editor.text().split("\n")[0])
         holds(started <= 1, f"{started} servers were started")

@@ -1,4 +1,6 @@
 """How `make test` reads what the prover says of a mutant, on recorded lines: what counts as refused, and what fails the run."""
+from __future__ import annotations
+
 import contextlib
 import io
 import os
@@ -25,7 +27,7 @@ REFUSED = GOAL + (
 class Turned(reading.Function):
     """A function, by its path and the name that the prover has for it."""
 
-    def __init__(self, crate: str, path: str):  # pylint: disable=super-init-not-called
+    def __init__(self, crate: str, path: str) -> None:  # pylint: disable=super-init-not-called
         *module, self.name = path.split("::")
         self.crate, self.module, self.owner, self.trait, self.proof = crate, tuple(module), "", "", path
 
@@ -33,13 +35,22 @@ class Turned(reading.Function):
 class Text(edits.Edit):
     """A mutant that changes one line."""
 
-    def __init__(self, path: str, number: int):  # pylint: disable=super-init-not-called
+    def __init__(self, path: str, number: int) -> None:  # pylint: disable=super-init-not-called
         self.crate, self.name, self.file = "ob0_text", f"{edits.OF_GATE}/{MUTANT}.edit", ""
         self.lines, self.turned, self.why = {(path, number): ""}, None, None
 
 
 EDIT = Text("src/passes.rt", 122)
-CLAIM = mutants.claim_of("# Offsets count characters: refused by the clause of `width`, the units of a character.\nfile: src/passes.rt\n")
+
+
+def claim_of(text: str) -> mutants.Claim:
+    """The claim of a mutant that has one."""
+    found = mutants.claim_of(text)
+    assert found
+    return found
+
+
+CLAIM = claim_of("# Offsets count characters: refused by the clause of `width`, the units of a character.\nfile: src/passes.rt\n")
 WIDTH = Turned("ob0_text", "passes::width")
 
 
@@ -59,17 +70,17 @@ def total(*words: str, wanted: int) -> Tuple[Tuple[int, int], str]:
 
 
 @test("mutants: one counts as refused by a goal of the clause of the function that its first line names")
-def refused():
+def refused() -> None:
     same(judged(REFUSED), mutants.REFUSED, "a goal of the clause")
-    named = mutants.claim_of("# Wrong: refused by `ok` and `reused` of `width`, since.\n")
+    named = claim_of("# Wrong: refused by `ok` and `reused` of `width`, since.\n")
     same(judged(REFUSED.replace("returns-in-Utf16", "returns-clause-reused"), claim=named), mutants.REFUSED, "a goal of a named clause")
-    loop = mutants.claim_of("# Wrong: refused by the loop of `width`.\n")
+    loop = claim_of("# Wrong: refused by the loop of `width`.\n")
     same(judged(REFUSED.replace("returns-in-Utf16", "loop-c-preserved"), claim=loop), mutants.REFUSED, "a goal of a loop")
     same(total(mutants.REFUSED, mutants.REFUSED, wanted=2), ((2, 0), ""), "two of two")
 
 
 @test("mutants: one counts as refused by an answer that doesn't prove a goal of the clause, unless the answer names what is gone")
-def refused_by_answer():
+def refused_by_answer() -> None:
     error = "./proofs/passes/width/Answers.antt:9:3: error: `returns-in-Utf16`: "
     end = "fn ob0_text::passes::width: not proved\nonly=1 proved=0\n"
     differ = "as printed, the two types differ only where one has `c.end` (expected)\n"
@@ -79,7 +90,7 @@ def refused_by_answer():
 
 
 @test("mutants: the proof of methods that call each other is below their type")
-def proof_of_cycle():
+def proof_of_cycle() -> None:
     errors = [f"./proofs/{at}/+blocks/Answers.antt:9:3: error: `block-returns`: a type" for at in ("low/Visit", "low", "other/Visit")]
     said = Said("\n".join(errors), 1)
     same(said.proof_errors("ob0_text::low::Visit::block", "low::+blocks"), errors[:1], "of methods")
@@ -87,14 +98,14 @@ def proof_of_cycle():
 
 
 @test("mutants: one that is made right again fails")
-def made_right():
+def made_right() -> None:
     said = "fn ob0_text::passes::width: proved\nonly=1 proved=1\n"
     same(judged(said, 0), mutants.PROVED, "a function that is proved")
     same(total(mutants.REFUSED, mutants.PROVED, wanted=2)[0], (1, 1), "one of two")
 
 
 @test("mutants: one that doesn't compile, or can't be read, fails")
-def bad_edit():
+def bad_edit() -> None:
     said = "src/passes.rt:122:9: error[unresolved-name]: cannot find `units` in this scope\n"
     same(judged(said), mutants.BAD, "an error of the compiler")
     said = "src/passes.rt:122:9: error: `returns-in-Utf16`: `c.len` is not in scope\n" + REFUSED
@@ -103,7 +114,7 @@ def bad_edit():
 
 
 @test("mutants: one that wasn't tried fails, and so does one whose function the check doesn't judge")
-def not_tried():
+def not_tried() -> None:
     same(judged("", -9), mutants.NOT_TRIED, "a check that was killed")
     same(judged(GOAL, -9), mutants.NOT_TRIED, "a check that was killed on the way")
     same(judged("rattle: an unknown flag\n", 2), mutants.NOT_TRIED, "a check that didn't begin")
@@ -113,14 +124,14 @@ def not_tried():
 
 
 @test("mutants: one that is refused only by a limit of the prover fails")
-def only_a_limit():
+def only_a_limit() -> None:
     said = "fn ob0_text::passes::width: could not tell\nrattle: no verdict: antt ran out of the steps that the check of one declaration may take\n"
     same(judged(said, 3), mutants.LIMIT, "a limit")
     same(total(mutants.LIMIT, wanted=1)[0], (0, 1), "none of one")
 
 
-@test("mutants: one that is refused by another clause, a `requires` of a callee or lost names is told")
-def elsewhere():
+@test("mutants: one that is refused by another clause, a `requires` of a callee or lost names is reported")
+def elsewhere() -> None:
     for goal in ("returns-clause-ok", "loop-c-preserved", "count-requires-clause-few", "count-requires-returns"):
         same(judged(REFUSED.replace("returns-in-Utf16", goal)), mutants.ELSEWHERE, goal)
     lost = "proofs/passes/width/Answers.antt:9:3: error: `returns-in-Utf16`: `len_utf16` has no field\n"
@@ -130,7 +141,7 @@ def elsewhere():
 
 
 @test("mutants: as many are tried as README says, each once; one that isn't found fails")
-def counts():
+def counts() -> None:
     found, said = total(mutants.REFUSED, wanted=2)
     same(found, (1, 1), "one where README has two")
     holds("README says that 2 wrong versions are tried, and these were 1" in said, said)
@@ -140,7 +151,7 @@ def counts():
 
 
 @test("mutants: a first line that names no clause, and one that names a function that isn't turned, are no claims")
-def claims():
+def claims() -> None:
     same(mutants.claim_of("# Wrong: refused.\n"), None, "no clause")
     same(mutants.claim_of("file: src/lib.rt\n"), None, "no first line")
     same(CLAIM, mutants.Claim("width", ("the clause",)), "a clause without a name")
@@ -148,7 +159,7 @@ def claims():
 
 
 @test("mutants: what was refused is tried again where the mutant or its crate changed, and what wasn't refused always")
-def judged_before():
+def judged_before() -> None:
     edit, room = edits.edits_of("ob0_frame")[0], tempfile.mkdtemp()
     path, copy = os.path.join(room, "judged.json"), os.path.join(room, "mutant.edit")
     shutil.copy2(edit.file, copy)
@@ -169,7 +180,7 @@ def judged_before():
 
 
 @test("mutants: the libraries are those of which `rt ci` says that they are proved")
-def libraries():
+def libraries() -> None:
     taken = mutants.Libraries(os.path.join(TOP, "bin", "rooms", "libraries-of-a-test"))
     for line in ("rt: ob0_text proved\n", "rt: ob0_scan is kept: an earlier run on this machine proved the same files\n"):
         taken.take(line)

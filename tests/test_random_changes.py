@@ -1,5 +1,7 @@
 """The analysis after a change is that of the new text: random changes, each compared with a server that reads the text
 for the first time. `make faults` does the same 20,000 times."""
+from __future__ import annotations
+
 import os
 
 import random_changes
@@ -8,9 +10,9 @@ from harness import test
 COUNT, SEED = int(os.environ.get("OB0_RANDOM", "300")), int(os.environ.get("OB0_SEED", "0"))
 
 
-def make(part):
+def make(part: int) -> None:
     @test(f"changes: what is said after each is what a new server says, part {part + 1}")
-    def changed():
+    def changed() -> None:
         print(f"    {random_changes.some_changes(COUNT, SEED + 1000 * part)}")
 
 

@@ -171,7 +171,7 @@ def links() -> None:
 
 
 @test("shell: `make` alone says what there is to make")
-def alone():
+def alone() -> None:
     lines = [re.sub("^# ?", "", it) for it in text_of("Makefile").partition("\nPREFIX")[0].splitlines()]
     same(run_plainly(["make", "--silent"], dict(os.environ), TOP), (0, "\n".join(lines) + "\n"))
 

@@ -1,20 +1,27 @@
 """The statement: the page of all definitions that the headline is made of is of the sources that are here, and leaves none
 of them out. The second is counted here without the script that writes the page."""
+from __future__ import annotations
+
 import glob
 import os
 import re
 import subprocess
 import sys
+from collections.abc import Iterable
+from typing import Any, Tuple
 
 from harness import TOP, Failed, holds, same, test, text_of
 
 PAGE = os.path.join("docs", "STATEMENT.md")
+Place = Tuple[str, str, str]  # a crate, a file and a name
 WORDS_BEFORE = r"(?:(?:abbrev|unfoldable|pub) +)*(?:record +|data +)?"
 
 
-def fenced(language):
+def fenced(language: str) -> list[tuple[str | None, str]]:
     """The text of the page's blocks of this language, with the part that each is in."""
-    part, found, inside = None, [], None
+    part: str | None = None
+    found: list[tuple[str | None, str]] = []
+    inside: list[str] | bool | None = None
     for line in text_of(PAGE).splitlines():
         if line.startswith("## ") and inside is None:
             part = line[3:]
@@ -24,7 +31,7 @@ def fenced(language):
                 if inside is None and line != "```":
                     inside = False
             else:
-                if inside is not False:
+                if isinstance(inside, list):
                     found.append((part, "\n".join(inside)))
                 inside = None
         elif isinstance(inside, list):
@@ -32,10 +39,10 @@ def fenced(language):
     return found
 
 
-def definitions(text):
+def definitions(text: str) -> dict[str, str]:
     """The definitions of some text by name, of `data` by its cases too: definitions have an empty line between them."""
     text = re.sub(r"^ *--.*\n", "", text, flags=re.M)
-    found = {}
+    found: dict[str, str] = {}
     for piece in re.split(r"\n\n+(?=\S)", text):
         indent = "  " if re.match(r"(?:\w+ )*mutual", piece) else ""
         names = re.findall(rf"^{indent}{WORDS_BEFORE}(\S+) [^=\n]*?:(?: |$)", piece, re.M)
@@ -46,9 +53,9 @@ def definitions(text):
     return found
 
 
-def imported(text):
+def imported(text: str) -> dict[str, Place]:
     """The names that the `use` lines of a file bring in from definitions of this repository: (crate, file, name) by name."""
-    found = {}
+    found: dict[str, Place] = {}
     for crate, file, names in re.findall(r"^(?:pub )?use Rattle\.(ob0_\w+)\.specs\.(\w+)\.\{(.*)\}$", text, re.M):
         for one in re.split(r",\s*", names):
             was, _, new = one.partition(" as ")
@@ -59,21 +66,22 @@ def imported(text):
 class Counted:
     """The definitions that are needed, looked for from one to the next by the words between blanks."""
 
-    def __init__(self):
-        self.files = {}
+    def __init__(self) -> None:
+        self.files: dict[tuple[str, str], tuple[dict[str, str], dict[str, Place]]] = {}
         for path in glob.glob(os.path.join(TOP, "crates", "*", "specs", "*.antt")):
             crate, file = path.split(os.sep)[-3], os.path.basename(path)[:-5]
             text = text_of(os.path.relpath(path, TOP))
             body = re.sub(r"^(?:pub )?(?:use|mod) .*\n", "", text, flags=re.M)
             self.files[crate, file] = (definitions(body), imported(text))
 
-    def home(self, crate, file, name):
+    def home(self, crate: str, file: str, name: str) -> Place | None:
         """Where a name is defined that a file has or passes on."""
         own, others = self.files.get((crate, file), ({}, {}))
         return (crate, file, name) if name in own else others.get(name)
 
-    def needed(self, roots, closed):
-        found, left = set(), [self.home(*root) for root in roots]
+    def needed(self, roots: Iterable[Place], closed: Iterable[Place | None]) -> set[Place]:
+        found: set[Place] = set()
+        left = [self.home(*root) for root in roots]
         while left:
             at = left.pop()
             if at is None or at in found or at in closed:
@@ -90,16 +98,16 @@ class Counted:
 
 
 @test("statement: docs/STATEMENT.md is of these sources")
-def statement():
+def statement() -> None:
     script = os.path.join(TOP, "tools", "statement.py")
-    how = {"stdin": subprocess.DEVNULL, "stdout": subprocess.PIPE, "stderr": subprocess.STDOUT, "text": True}
+    how: dict[str, Any] = {"stdin": subprocess.DEVNULL, "stdout": subprocess.PIPE, "stderr": subprocess.STDOUT, "text": True}
     ran = subprocess.run([sys.executable, script, "--check"], **how)
     if ran.returncode:
         raise Failed(ran.stdout[-3000:])
 
 
 @test("statement: no name stands twice on the page, and the headline is on its first screen")
-def names_once():
+def names_once() -> None:
     names = [name for _, text in fenced("agda") for name in re.findall(rf"^(?!--){WORDS_BEFORE}(\S+) [^=\n]*?:(?: |$)", text, re.M)]
     holds(len(names) > 500, "the page has hardly any definition")
     same(sorted({name for name in names if names.count(name) > 1}), [], "names that stand twice")
@@ -108,7 +116,7 @@ def names_once():
 
 
 @test("statement: no definition that the headline needs is left out of the page, counted in another way")
-def closed_page():
+def closed_page() -> None:
     counted = Counted()
     rows = re.findall(r"^\| `([^`|]+)` \| .* \| `(\w+)` of `(\w+)` \|$", text_of(PAGE), re.M)
     closed = {counted.home(crate, file, name.split(".")[-1]) for name, file, crate in rows}

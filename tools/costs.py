@@ -82,8 +82,8 @@ def show(crate: str, least: float) -> bool:
     if not modules:
         print(f"{crate}: nothing is kept of a check of it")
         return False
-    kinds: Dict[str, float] = collections.Counter()
-    functions: Dict[str, float] = collections.Counter()
+    kinds: Dict[str, float] = collections.defaultdict(float)
+    functions: Dict[str, float] = collections.defaultdict(float)
     for it in modules:
         kinds[it.kind(lemmas)] += it.seconds
         functions[it.function] += it.seconds

@@ -1,11 +1,17 @@
 """The definitions of the crates and the types of the code: where each is, with its comment, and which others it names.
 
 A name is looked up by the `use` lines of its file. Definitions of the standard library are not followed."""
+from __future__ import annotations
+
 import os
 import re
+from collections.abc import Iterable, Iterator
+from typing import Optional, Tuple, Union
 
 import common
 from common import TOP
+
+
 
 CRATES = os.path.join(TOP, "crates")
 WORD = re.compile(r"[^\W\d][\w'-]*(?:\.[^\W\d][\w'-]*)*")
@@ -15,7 +21,10 @@ OPERATOR = re.compile(r"[^\w\s(){}\[\];,.\"◌]+")
 # ---- sources
 
 
-def lines_of(path):
+Used = Tuple[str, Optional[str]]  # a module, and a name of it; or the module itself, by an alias
+
+
+def lines_of(path: str) -> list[str]:
     with open(path, encoding="utf-8") as file:
         return file.read().splitlines()
 
@@ -23,13 +32,13 @@ def lines_of(path):
 class Block:
     """One definition, or some that name one another, with the comment over it."""
 
-    def __init__(self, file, comment, code):
+    def __init__(self, file: File, comment: list[str], code: list[str]) -> None:
         self.file, self.comment, self.code = file, comment, code
         self.names = list(names_in(code))
-        self.needs = None
+        self.needs: list[Item] | None = None
 
 
-def names_in(code):
+def names_in(code: list[str]) -> Iterator[str]:
     """The names that a block defines: of `data` its constructors too."""
     first = code[0]
     if not re.match(r"^(?:\w+ )*mutual\b", first):
@@ -51,9 +60,12 @@ def names_in(code):
 class File:
     """A file of definitions: its blocks, and what its `use` lines bring in, by name."""
 
-    def __init__(self, crate, name, path):
+    def __init__(self, crate: str, name: str, path: str) -> None:
         self.crate, self.name = crate, name
-        self.title, self.blocks, self.uses, self.passed_on = "", [], {}, {}
+        self.title = ""
+        self.blocks: list[Block] = []
+        self.uses: dict[str, Used] = {}
+        self.passed_on: dict[str, Used] = {}
         text = lines_of(path)
         while text and text[0].startswith("--"):
             self.title = (self.title + " " + text.pop(0).lstrip("- ")).strip()
@@ -62,8 +74,8 @@ class File:
         self.cut([it for it in text if not re.match(r"^(pub )?(use|mod) ", it)])
         self.named = {name: block for block in self.blocks for name in block.names}
 
-    def take_use(self, line):
-        found = re.match(r"^(pub )?use ([\w.'-]+?)(?:\.\{(.*)\}| as (.*))?$", line)
+    def take_use(self, line: str) -> None:
+        found = common.match_of(r"^(pub )?use ([\w.'-]+?)(?:\.\{(.*)\}| as (.*))?$", line)
         passes_on, module, names, alias = found[1], found[2], found[3], found[4]
         if names is None:
             self.uses[alias or module.rpartition(".")[2]] = (module, None)
@@ -74,11 +86,12 @@ class File:
             if passes_on:
                 self.passed_on[new or was] = (module, was)
 
-    def cut(self, text):
+    def cut(self, text: list[str]) -> None:
         """Cuts the text into blocks. Comments stay with what is below, but for a line of dashes over a part."""
-        comment, code = [], []
+        comment: list[str] = []
+        code: list[str] = []
 
-        def end():
+        def end() -> None:
             nonlocal comment, code
             if code:
                 block = Block(self, comment, code)
@@ -113,12 +126,12 @@ class File:
                 block.code.pop()
 
 
-def is_open(code):
+def is_open(code: list[str]) -> bool:
     """Whether what comes after an empty line may belong to the same block."""
     return bool(code) and bool(re.match(r"^(?:\w+ )*mutual\b|^module ", code[0]))
 
 
-def begins_as(code, line):
+def begins_as(code: list[str], line: str) -> bool:
     """Whether a line is an equation of the definition above it."""
     if code[-1].startswith("unfolding"):
         return True
@@ -127,7 +140,7 @@ def begins_as(code, line):
     return not re.match(r"^(abbrev|unfoldable|pub|module|mutual)\b", line)
 
 
-def all_files():
+def all_files() -> dict[tuple[str, str], File]:
     found = {}
     for crate in common.listed():
         folder = os.path.join(CRATES, crate, "specs")
@@ -143,7 +156,7 @@ def all_files():
 class Declared:
     """A type of the code, as it is declared there."""
 
-    def __init__(self, crate, module, name):
+    def __init__(self, crate: str, module: list[str], name: str) -> None:
         self.crate, self.module, self.name = crate, module, name
         text = lines_of(os.path.join(CRATES, crate, "src", *module) + ".rt")
         at = next(i for i, it in enumerate(text) if re.match(rf"^(pub(\(crate\))? )?(struct|enum) {name}\b", it))
@@ -155,14 +168,14 @@ class Declared:
             last += 1
         self.code = [it for it in text[first : last + 1] if not it.lstrip().startswith("#[")]
 
-    def named_types(self):
+    def named_types(self) -> list[str]:
         """The names of the types of its fields."""
         text = "\n".join(re.sub(r"//.*$", "", it) for it in self.code[1:])
         fields = re.findall(r":\s*([^,{}]+)|\(([^()]*)\)", text)
         return re.findall(r"\b[A-Z]\w*", " ".join(a or b for a, b in fields))
 
 
-def module_with(crate, name):
+def module_with(crate: str, name: str) -> list[str] | None:
     """The module of a crate that declares a public type, if it has one of this name."""
     folder = os.path.join(CRATES, crate, "src")
     for at, _, files in os.walk(folder):
@@ -173,16 +186,19 @@ def module_with(crate, name):
     return None
 
 
+Item = Union[Block, Declared]
+
+
 # ---- looking up
 
 
 class Sources:
-    def __init__(self):
+    def __init__(self) -> None:
         self.files = all_files()
-        self.std = set()
-        self.declared = {}
+        self.std: set[tuple[str, str]] = set()
+        self.declared: dict[tuple[str, str], Declared] = {}
 
-    def resolve(self, module, name):
+    def resolve(self, module: str, name: str | None) -> Item | None:
         """What a name of a module is: a block, a declared type, or a name of the library."""
         parts = module.split(".")
         if parts[0] != "Rattle" or not parts[1].startswith("ob0_"):
@@ -203,7 +219,7 @@ class Sources:
             return self.resolve(*file.passed_on[head])
         common.stop(f"{module} has no {name}")
 
-    def file_of(self, crate, rest):
+    def file_of(self, crate: str, rest: list[str]) -> File | None:
         found = self.files.get((crate, rest[0])) if rest else None
         if found is None and rest:
             lib = self.files.get((crate, "Lib"))
@@ -213,29 +229,29 @@ class Sources:
                 return self.file_of(parts[1], parts[3:])
         return found
 
-    def type_of(self, crate, module, name):
+    def type_of(self, crate: str, module: list[str], name: str) -> Declared:
         key = crate, name
         if key not in self.declared:
             self.declared[key] = Declared(crate, module, name)
         return self.declared[key]
 
-    def needs(self, block):
+    def needs(self, block: Block) -> list[Item]:
         """What a block names, in order."""
         if block.needs is None:
-            found = []
+            found: list[Item] = []
             for word in words_of(block.code):
-                it = self.look_up(block.file, word)
-                if it is not None and it is not block and it not in found:
-                    found.append(it)
+                item = self.look_up(block.file, word)
+                if item is not None and item is not block and item not in found:
+                    found.append(item)
             block.needs = found
         return block.needs
 
-    def types_in(self, declared):
+    def types_in(self, declared: Declared) -> list[Declared]:
         """The types of the same crate that are in the fields of one."""
         modules = [(module_with(declared.crate, name), name) for name in declared.named_types() if name != declared.name]
         return [self.type_of(declared.crate, module, name) for module, name in modules if module]
 
-    def look_up(self, file, word):
+    def look_up(self, file: File, word: str) -> Item | None:
         if word in file.named:
             return file.named[word]
         head, _, rest = word.partition(".")
@@ -248,29 +264,31 @@ class Sources:
                 return self.resolve_in(module, rest)
         return None
 
-    def resolve_in(self, module, rest):
+    def resolve_in(self, module: str, rest: str) -> Item | None:
         if ".declared." in module or not module.startswith("Rattle.ob0_"):
             return self.resolve(module, rest)
         return self.resolve(module, rest.split(".")[0])
 
-    def closure(self, roots, without=()):
+    def closure(self, roots: Iterable[Item], without: Iterable[Item] = ()) -> list[Item]:
         """All that these need, what is needed before what needs it."""
-        done, order = set(), []
+        done: set[int] = set()
+        order: list[Item] = []
 
-        def go(it):
-            if id(it) in done or it in without:
+        def go(item: Item) -> None:
+            if id(item) in done or item in without:
                 return
-            done.add(id(it))
-            for other in self.needs(it) if isinstance(it, Block) else self.types_in(it):
+            done.add(id(item))
+            below: list[Item] = self.needs(item) if isinstance(item, Block) else [*self.types_in(item)]
+            for other in below:
                 go(other)
-            order.append(it)
+            order.append(item)
 
         for root in roots:
             go(root)
         return order
 
 
-def words_of(code):
+def words_of(code: list[str]) -> Iterator[str]:
     """The names in some lines, without comments and texts; an operator stands for its name with a place on each side."""
     for line in code:
         line = re.sub(r'"[^"]*"', '""', re.sub(r"--.*$", "", line))

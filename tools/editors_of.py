@@ -6,11 +6,14 @@
 The root is made by debootstrap where it isn't there (some 2 GB, from Debian's mirror), and what the tests want is installed in
 it. The program is bin/ob0, or the one that the variable OB0 names. It wants to be root; nothing stays mounted when it ends.
 It says at last which versions were driven."""
+from __future__ import annotations
+
 import json
 import os
 import shutil
 import subprocess
 import sys
+from typing import Any
 
 import common
 
@@ -47,12 +50,12 @@ NODE_PATH=/usr/share/nodejs node /repository/tests/editors/languageclient.js nod
 """
 
 
-def inside(room, *words, **how):
+def inside(room: str, *words: str, **how: Any) -> subprocess.CompletedProcess[bytes]:
     """Runs a command in the root, in the folder of this repository."""
     return subprocess.run(["unshare", "--mount", "--pid", "--fork", "sh", "-e", "-c", ENTER, "sh", room, common.TOP, *words], check=False, **how)
 
 
-def make_root(release, room):
+def make_root(release: str, room: str) -> None:
     """The root with Debian's least system, and with Python. (debootstrap takes its own folder away when it has ended.)"""
     if not os.path.exists(os.path.join(room, "usr", "bin", "apt-get")) or os.path.exists(os.path.join(room, "debootstrap")):
         os.makedirs(ROOTS, exist_ok=True)
@@ -62,7 +65,7 @@ def make_root(release, room):
         common.stop(f"Python could not be installed in {room}", 1)
 
 
-def install(release, room):
+def install(release: str, room: str) -> None:
     """What the tests want, as far as the release has it."""
     inside(room, "python3", "tools/editors.py")
     for package in MORE:
@@ -73,7 +76,7 @@ def install(release, room):
     inside(room, "apt-get", "clean")
 
 
-def versions(room):
+def versions(room: str) -> list[str]:
     """The version of each editor that is in the root."""
     found = inside(room, "dpkg-query", "-W", "-f", "${Package} ${Version}\n", *EDITORS, stdout=subprocess.PIPE, stderr=subprocess.DEVNULL)
     lines = [it for it in found.stdout.decode().splitlines() if len(it.split()) == 2]
@@ -84,7 +87,7 @@ def versions(room):
     return lines
 
 
-def main(release, *words):
+def main(release: str, *words: str) -> int:
     common.need("debootstrap")
     common.need("unshare")
     if os.geteuid():

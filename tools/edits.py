@@ -1,10 +1,16 @@
 """The mutants of the crates: files of lines 'file: PATH', 'old: TEXT' and 'new: TEXT', in gate-mutants/ (`make test` tries
 those) and in wrong-bodies/ (`make wrong-bodies` tries both)."""
+from __future__ import annotations
+
 import os
 import re
+from collections.abc import Callable, Iterable
+from typing import Dict, Tuple
 
 import common
+import reading
 
+Lines = Dict[Tuple[str, int], str]  # the lines that an edit changes, by path and number
 OF_GATE, OTHERS = "gate-mutants", "wrong-bodies"
 PLACES = (OF_GATE, OTHERS)
 
@@ -12,12 +18,12 @@ PLACES = (OF_GATE, OTHERS)
 class Edit:
     """One mutant: the lines that it changes, and the functions that these belong to."""
 
-    def __init__(self, crate, place, name):
+    def __init__(self, crate: str, place: str, name: str) -> None:
         self.crate, self.name = crate, f"{place}/{name}"
         self.file = os.path.join(common.TOP, "crates", crate, place, name)
         self.lines, self.why = changed_lines(self.file, os.path.join(common.TOP, "crates", crate))
         self.adds_loop = loops_added(self.file) > 0
-        self.turned = None
+        self.turned: set[reading.Function] | None = None
 
     @property
     def is_of_gate(self) -> bool:
@@ -27,28 +33,31 @@ class Edit:
     def path(self) -> str:
         return f"{self.crate}/{self.name}"
 
-    def find_turned(self, source):
+    def find_turned(self, source: reading.Source) -> None:
         """Finds the functions that it turns: None where a line belongs to none, as a type's does."""
         self.turned = turned_by(source, self.lines)
 
 
-def edits_of(crate, source=None):
+def edits_of(crate: str, source: reading.Source | None = None) -> list[Edit]:
     """A crate's mutants, of both places."""
     found = []
     for place in PLACES:
         folder = os.path.join(common.TOP, "crates", crate, place)
         names = sorted(os.listdir(folder)) if os.path.isdir(folder) else []
         found += [Edit(crate, place, it) for it in names if it.endswith(".edit")]
-    for it in found if source else []:
-        it.find_turned(source)
+    if source:
+        for edit in found:
+            edit.find_turned(source)
     return found
 
 
-def changed_lines(file, folder):
+def changed_lines(file: str, folder: str) -> tuple[Lines, str | None]:
     """The lines that an edit changes, as {(path, number): text}, or why it can't be applied."""
     with open(file, encoding="utf-8") as it:
         rows = it.read().split("\n")
-    path, old, texts, before = "", None, {}, {}
+    path, old = "", ""
+    texts: dict[str, str] = {}
+    before: dict[str, str] = {}
     for row in rows:
         if row.startswith("file: "):
             path = row[len("file: ") :].strip()
@@ -67,10 +76,10 @@ def changed_lines(file, folder):
             if count != 1:
                 return {}, f"an 'old:' text is in {path} {count} times, and not once"
             texts[path] = texts[path].replace(old, re.sub(r"\A ", "", row[len("new:") :]))
-            old = None
+            old = ""
     if not texts:
         return {}, "it has no 'old:' and 'new:' pair"
-    found = {}
+    found: Lines = {}
     for path, text in texts.items():
         for number, (was, now) in enumerate(zip(before[path].split("\n"), text.split("\n")), 1):
             if was != now:
@@ -82,13 +91,13 @@ def loops_added(file: str) -> int:
     """How many loops more an edit's new texts have than its old ones."""
     with open(file, encoding="utf-8") as it:
         rows = [re.sub(r'"[^"]*"', "", row) for row in it.read().split("\n")]
-    count = lambda start: sum(len(re.findall(r"\b(?:for|while|loop)\b", row)) for row in rows if row.startswith(start))
+    count: Callable[[str], int] = lambda start: sum(len(re.findall(r"\b(?:for|while|loop)\b", row)) for row in rows if row.startswith(start))
     return count("new:") - count("old: ")
 
 
-def turned_by(source, lines):
+def turned_by(source: reading.Source, lines: Iterable[tuple[str, int]]) -> set[reading.Function] | None:
     """The functions that are on some lines, or None where one of the lines belongs to no function."""
-    found = set()
+    found: set[reading.Function] = set()
     for path, number in lines:
         here = [it for it in source.functions if it.file == path and it.first <= number <= it.last]
         here = here or users_of_constant(source, path, number)
@@ -98,7 +107,7 @@ def turned_by(source, lines):
     return found
 
 
-def users_of_constant(source, path, number):
+def users_of_constant(source: reading.Source, path: str, number: int) -> list[reading.Function]:
     """The functions that name the constant on a line; none where something else than functions does."""
     for name, (file, first, last) in source.constants.items():
         if file == path and first <= number <= last:

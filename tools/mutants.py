@@ -5,13 +5,16 @@ first line names.
 the function that it turns and of what that calls (`rattle check --only`), as many side by side as processors and memory allow.
 Where such a check ends without a verdict it is made once more, alone; and where that has none either, all crates are proved as
 `make check` does, and the mutant is tried over what that keeps."""
+from __future__ import annotations
+
 import os
 import re
 import shutil
 import subprocess
 import tempfile
 from concurrent.futures import ThreadPoolExecutor
-from typing import Iterable, NamedTuple, Optional
+from collections.abc import Callable
+from typing import Any, Iterable, NamedTuple, Optional, Tuple
 
 import build
 import common
@@ -24,7 +27,7 @@ from wrong_bodies import Said
 # What a try comes to. Only after the last another try can say more.
 REFUSED, ELSEWHERE, PROVED = "refused", "refused elsewhere", "NOT REFUSED"
 BAD, LIMIT, NOT_TRIED = "BAD EDIT", "ONLY A LIMIT", "NOT TRIED"
-# What counts: that the function is refused. One that is refused elsewhere than its first line says is told and counted.
+# What counts: that the function is refused. One that is refused elsewhere than its first line says is reported and counted.
 COUNTED = (REFUSED, ELSEWHERE)
 README = os.path.join(TOP, "README.md")
 COUNT = re.compile(r"every proof, (\d+) wrong versions")
@@ -40,19 +43,19 @@ class Claim(NamedTuple):
     loop' where they have no name)."""
 
     function: str
-    clauses: tuple
+    clauses: Tuple[str, ...]
 
     def is_of(self, function: reading.Function) -> bool:
         return f"::{function.path}".endswith(f"::{self.function}")
 
     def is_goal(self, goal: str) -> bool:
         """Whether a goal, by the prover's name for it, is one of these clauses."""
-        for it in self.clauses:
-            if it == "the loop" and goal.startswith("loop-") and "-requires" not in goal:
+        for clause in self.clauses:
+            if clause == "the loop" and goal.startswith("loop-") and "-requires" not in goal:
                 return True
-            if it == "the clause" and "returns" in goal and "-clause-" not in goal and "-requires" not in goal:
+            if clause == "the clause" and "returns" in goal and "-clause-" not in goal and "-requires" not in goal:
                 return True
-            if re.search(rf"(?:^|-)clause-{it}(?:-|$)", goal) and "-requires" not in goal:
+            if re.search(rf"(?:^|-)clause-{clause}(?:-|$)", goal) and "-requires" not in goal:
                 return True
         return False
 
@@ -96,14 +99,14 @@ def judge(edit: edits.Edit, claim: Claim, said: Said, functions: Iterable[readin
     return Outcome(edit, ELSEWHERE, f"`{claim.function}` is refused, but not by {' or '.join(claim.clauses)}: {others[:300]}")
 
 
-def unproved_by_answer(claim: Claim, errors: Iterable[str]) -> list:
+def unproved_by_answer(claim: Claim, errors: Iterable[str]) -> list[str]:
     """The goals of a claim's clauses that the answers in the function's proof don't prove any more, though all that they name is
     there."""
     found = []
     for line in errors:
         at = wrong_bodies.ERROR.match(line)
         goal = (at[3] or "").strip("`") if at else ""
-        if goal and claim.is_goal(goal) and not wrong_bodies.NAMES_LOST.search(at[4]):
+        if at and goal and claim.is_goal(goal) and not wrong_bodies.NAMES_LOST.search(at[4]):
             found.append(f"{goal}, by its answer at {at[1]}:{at[2]}")
     return found
 
@@ -112,9 +115,9 @@ class Libraries:
     """The libraries that `rt ci` proves: hard links to them, made as it says that each is proved. (At its end it puts back what
     was in the crates' folders before.)"""
 
-    def __init__(self, folder: str):
+    def __init__(self, folder: str) -> None:
         self.folder = folder
-        self.proved = set()
+        self.proved: set[str] = set()
         shutil.rmtree(folder, ignore_errors=True)
 
     def take(self, line: str) -> None:
@@ -133,14 +136,14 @@ class Libraries:
     def place(self, crate: str) -> str:
         return os.path.join(self.folder, f"{crate}.rlib")
 
-    def words(self, crate: str, only: Iterable[str]) -> Optional[list]:
+    def words(self, crate: str, only: Iterable[str]) -> Optional[list[str]]:
         """The command that checks some functions of a crate from nothing over these libraries, or None where one lacks."""
         lines = common.listed()
         below = [it for it in common.below(crate) if it != crate]
         if not all(os.path.isdir(self.place(it)) for it in below):
             return None
         kit = os.path.dirname(os.path.dirname(reading.rattle()))
-        of_kit = lambda it: os.path.join(kit, "rlibs", f"{it}.rlib")
+        of_kit: Callable[[str], str] = lambda it: os.path.join(kit, "rlibs", f"{it}.rlib")
         used = {it: self.place(it) if it in lines else of_kit(it) for it in ["std", *lines[crate]]}
         words = [reading.rattle(), "check", "--crate-name", crate, "src/lib.rt", "--links", f"{crate}=", "--jobs", "1"]
         words += [word for name, place in used.items() for word in ("--extern", f"{name}={place}")]
@@ -153,7 +156,7 @@ class Libraries:
 class Mutant:
     """A mutant of the gate, with what its first line says and the functions that it turns."""
 
-    def __init__(self, edit: edits.Edit, source: reading.Source):
+    def __init__(self, edit: edits.Edit, source: reading.Source) -> None:
         self.edit, self.source = edit, source
         with open(edit.file, encoding="utf-8") as file:
             self.claim = claim_of(file.readline())
@@ -172,20 +175,20 @@ class Mutant:
         return None if self.named else f"it doesn't turn `{self.claim.function}`, which its first line names"
 
     @property
-    def asked(self) -> list:
+    def asked(self) -> list[str]:
         """The paths under which its functions are asked for: of a method of a trait its type's, which stands for all of it."""
         return sorted({"::".join([*it.module, it.owner]) if it.trait else it.path for it in self.named})
 
     def try_over(self, libraries: Libraries) -> Outcome:
         """Tries it by a check of its functions alone."""
-        if self.fault:
-            return Outcome(self.edit, BAD, self.fault)
+        if self.fault or not self.claim:
+            return Outcome(self.edit, BAD, self.fault or "")
         words = libraries.words(self.edit.crate, self.asked) if self.edit.crate in libraries.proved else None
         if not words:
             return Outcome(self.edit, NOT_TRIED, "`rt ci` left no library of it, or of a crate below")
         with tempfile.TemporaryDirectory(dir=build.ROOMS) as room:
             self.furnish(room)
-            how = {"stdin": subprocess.DEVNULL, "stdout": subprocess.PIPE, "stderr": subprocess.STDOUT}
+            how: dict[str, Any] = {"stdin": subprocess.DEVNULL, "stdout": subprocess.PIPE, "stderr": subprocess.STDOUT}
             ran = subprocess.run(words, cwd=room, check=False, **how)
         return judge(self.edit, self.claim, Said(ran.stdout.decode(errors="replace"), ran.returncode), self.functions)
 
@@ -203,10 +206,12 @@ class Mutant:
 
     def try_over_kept(self, room: wrong_bodies.Room) -> Outcome:
         """Tries it by a check of the whole crate, over what a check of it has kept."""
+        if not self.claim:
+            return Outcome(self.edit, BAD, self.fault or "")
         return judge(self.edit, self.claim, room.check([self.edit]), self.functions)
 
 
-def mutants_of_gate() -> list:
+def mutants_of_gate() -> list[Mutant]:
     """The mutants of the gate, those of large crates first, whose checks take longest."""
     found = []
     for crate in common.listed():
@@ -221,8 +226,8 @@ def say(outcome: Outcome) -> Outcome:
     return outcome
 
 
-def try_side_by_side(chosen: list, libraries: Libraries, lanes: int) -> list:
-    """Tries mutants, so many side by side, and says what each came to, but for those that can be tried in another way."""
+def try_side_by_side(chosen: list[Mutant], libraries: Libraries, lanes: int) -> list[Outcome]:
+    """Tries mutants, some side by side, and says what each came to, but for those that can be tried in another way."""
     os.makedirs(build.ROOMS, exist_ok=True)
 
     def one(mutant: Mutant) -> Outcome:
@@ -233,7 +238,7 @@ def try_side_by_side(chosen: list, libraries: Libraries, lanes: int) -> list:
         return list(pool.map(one, chosen))
 
 
-def try_over_all(left: list) -> list:
+def try_over_all(left: list[Mutant]) -> list[Outcome]:
     """Tries mutants of which nothing is known, one by one, over what a check of all crates keeps."""
     if build.main(["--check"]):
         return [say(Outcome(it.edit, NOT_TRIED, "not all crates are proved")) for it in left]
@@ -258,7 +263,7 @@ def count_of_readme() -> int:
     return int(found[1]) if found else 0
 
 
-def counted(outcomes: list, wanted: int) -> tuple:
+def counted(outcomes: list[Outcome], wanted: int) -> tuple[int, int]:
     """How many mutants were refused, and how many were not or are more or fewer than README says."""
     refused = sum(it.word in COUNTED for it in outcomes)
     failed = len(outcomes) - refused
@@ -271,7 +276,7 @@ def counted(outcomes: list, wanted: int) -> tuple:
     return refused, failed
 
 
-def try_all(libraries: Libraries, lanes: int, is_gate_passed: bool) -> tuple:
+def try_all(libraries: Libraries, lanes: int, is_gate_passed: bool) -> tuple[int, int]:
     """Tries all mutants of the gate, and returns how many were refused, and how many were not. Those of crates that the gate didn't
     prove are not tried."""
     left, settled = mutants_of_gate(), []

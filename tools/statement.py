@@ -5,16 +5,23 @@ there once, with its comment, and before what it is made of.
 A definition is needed where a contract of the page names it, or a needed definition does (tools/definitions.py). Some are
 named and not unfolded (`CLOSED`); what is needed only for the edits that answer a request, and for their refusals, is the
 last part. With --check the page isn't written: it fails where the page isn't of these sources."""
+from __future__ import annotations
+
 import os
 import re
 import sys
 import textwrap
+from collections.abc import Callable, Iterable, Sequence
+from typing import Any, Tuple
 
 import common
 from common import TOP
-from definitions import OPERATOR, WORD, Block, Declared, File, Sources, lines_of, words_of
+from definitions import OPERATOR, WORD, Block, Declared, File, Item, Sources, lines_of, words_of
 
 PAGE = os.path.join(TOP, "docs", "STATEMENT.md")
+
+Key = Tuple[str, str, str]  # a crate, a file and a name
+
 
 # ---- what is on the page
 
@@ -117,11 +124,11 @@ WIDTH = 100
 # ---- contracts
 
 
-def source(crate, module):
+def source(crate: str, module: str) -> list[str]:
     return lines_of(os.path.join(TOP, "crates", crate, "src", module + ".rt"))
 
 
-def contract(crate, module, name):
+def contract(crate: str, module: str, name: str) -> list[str]:
     """The contract of a function, with what is said over it, without indent."""
     text = source(crate, module)
     at = next(i for i, line in enumerate(text) if re.search(rf"\bfn {name}\b[(<]", line))
@@ -132,9 +139,9 @@ def contract(crate, module, name):
     return textwrap.dedent("\n".join(text[first:last])).splitlines()
 
 
-def roots(sources, functions):
+def roots(sources: Sources, functions: Iterable[tuple[str, str, str]]) -> list[Item]:
     """What the clauses of these functions name."""
-    found = []
+    found: list[Item] = []
     for crate, module, name in functions:
         uses = File.__new__(File)
         uses.crate, uses.name, uses.uses, uses.passed_on, uses.named = crate, module, {}, {}, {}
@@ -154,32 +161,33 @@ def roots(sources, functions):
 class Group:
     """Definitions of one file, or types of the code of one crate, from the top down."""
 
-    def __init__(self, crate, file, items):
+    def __init__(self, crate: str, file: File | None, items: list[Any]) -> None:
         self.crate, self.file, self.items = crate, file, items
 
-    def rule(self):
+    def rule(self) -> str | None:
         """The rules of docs/LANGUAGE.md that the file states, as its first lines have them."""
         found = re.search(r"Rule: (?:.*; )?docs/LANGUAGE\.md, ([^;]*?)\.?$", self.file.title) if self.file else None
         return found[1] if found else None
 
-    def heading(self, by_rule):
+    def heading(self, by_rule: bool) -> str:
         if self.file is None:
             return f"Types of the code of `{self.crate}`"
         name = f"`{self.file.name}` of `{self.crate}`"
         return f"{self.rule()}: {name}" if by_rule and self.rule() else name
 
-    def section(self):
+    def section(self) -> int:
         """The place of its section of docs/LANGUAGE.md in the order of the page; what is of none comes first."""
         if self.file is None:
             return len(SECTIONS)
         if not self.crate.startswith(("ob0_language", "ob0_scan", "ob0_tree")):
             return -1
-        rule = self.rule() or {"Parts": "Scopes", "EditLaws": "Runs"}.get(self.file.name, "")
+        others = {"Parts": "Scopes", "EditLaws": "Runs"}
+        rule: str = self.rule() or others.get(self.file.name) or ""
         found = [(rule.find(name), at) for at, name in enumerate(SECTIONS) if name in rule]
         return min(found)[1] if found else -1
 
 
-def part_of(item):
+def part_of(item: Item) -> int:
     """Which part an item is in that the headline and its tie need, but for those of part 0."""
     crate, file = (item.crate, None) if isinstance(item, Declared) else (item.file.crate, item.file.name)
     if crate == "ob0_text" or (crate, file) == ("ob0_world_rules", "Edited"):
@@ -189,17 +197,19 @@ def part_of(item):
     return 3 if crate.startswith(("ob0_world", "ob0_session", "ob0_rpc", "ob0_frame")) and file != "Language" else 4
 
 
-def by_file(items, needs):
+def by_file(items: Iterable[Item], needs: Callable[[Block], list[Item]]) -> list[Group]:
     """Items, which come in an order in which what is needed comes first, as groups from the top down."""
-    files, types = {}, {}
+    files: dict[File, list[Block]] = {}
+    types: dict[str, list[Declared]] = {}
     for item in items:
         if isinstance(item, Declared):
             types.setdefault(item.crate, []).append(item)
         else:
             files.setdefault(item.file, []).append(item)
-    order = []
+    order: list[File | None] = []
+    started: set[File] = set()
 
-    def go(file):
+    def go(file: File) -> None:
         if file not in order:
             order.append(None)
             for other in {need.file: 0 for item in files[file] for need in needs(item) if isinstance(need, Block)}:
@@ -208,7 +218,6 @@ def by_file(items, needs):
                     go(other)
             order.append(file)
 
-    started = set()
     for file in files:
         if file not in started:
             started.add(file)
@@ -218,13 +227,13 @@ def by_file(items, needs):
 
 
 class Page:
-    def __init__(self):
+    def __init__(self) -> None:
         self.sources = Sources()
-        named = lambda key: self.sources.files[key[0], key[1]].named[key[2]]
+        named: Callable[[Key], Block] = lambda key: self.sources.files[key[0], key[1]].named[key[2]]
         self.closed = {named(key): (key, says) for key, says in CLOSED.items()}
         edits, self.first = [named(key) for key in EDITS], [named(key) for key in FIRST]
         main = self.sources.closure(roots(self.sources, HEADLINE) + [named(key) for key in TIE], [*edits, *self.closed])
-        parts = [[] for _ in PARTS]
+        parts: list[list[Item]] = [[] for _ in PARTS]
         for item in main:
             if item not in self.first:
                 parts[part_of(item)].append(item)
@@ -233,65 +242,67 @@ class Page:
         parts[6] = [item for item in steps if item not in main + parts[5]]
         self.groups = [by_file(items, self.sources.needs) for items in parts]
         self.groups[4].sort(key=Group.section)
-        self.homes, self.names = {}, {}
+        self.homes: dict[Item, str] = {}  # the heading that an item is under
+        self.names: dict[tuple[Item, str], str] = {}  # the name that it has on the page
         self.give_names()
 
-    def give_names(self):
+    def give_names(self) -> None:
         """Each item's heading, and the name of each definition on the page: no name stands twice."""
-        taken = set()
-        for item in self.first:
-            self.homes[item] = PARTS[0][0]
-            self.take_names(item, taken)
+        taken: set[str] = set()
+        for block in self.first:
+            self.homes[block] = PARTS[0][0]
+            self.take_names(block, taken)
         for part, groups in enumerate(self.groups):
             for group in groups:
                 for item in group.items:
                     self.homes[item] = group.heading(part == 4)
                     if isinstance(item, Block):
                         self.take_names(item, taken)
-        for item in self.closed:
-            self.homes[item] = "Named and not unfolded"
-            self.take_names(item, taken)
+        for block in self.closed:
+            self.homes[block] = "Named and not unfolded"
+            self.take_names(block, taken)
         for item in self.homes:
             if isinstance(item, Declared):
                 self.names[item, item.name] = f"code.{item.name}" if item.name in taken else item.name
 
-    def take_names(self, block, taken):
+    def take_names(self, block: Block, taken: set[str]) -> None:
         for name in block.names:
             shown = name if name not in taken else f"{block.file.name}.{name}"
             if shown in taken:
-                shown = f"{block.file.crate.removeprefix('ob0_')}.{name}"
+                shown = f"{block.file.crate[len('ob0_') :]}.{name}"
             taken.add(shown)
             self.names[block, name] = shown
 
     # ---- names
 
-    def shown(self, file, word):
+    def shown(self, file: File, word: str) -> str:
         """A word of a definition as the page has it."""
         head, _, rest = word.partition(".")
         if word in file.named:
             return self.names.get((file.named[word], word), word)
-        if word in file.uses and file.uses[word][1]:
-            return self.imported(*file.uses[word], word)
+        module, name = file.uses.get(word, ("", None))
+        if name:
+            return self.imported(module, name, word)
         if head in file.uses and rest and file.uses[head][1] is None:
             module = file.uses[head][0]
             if ".specs.declared." in module:
-                return self.imported(module, rest.removeprefix("TheVariants."), word) if rest[0].isupper() else word
+                return self.imported(module, re.sub(r"^TheVariants\.", "", rest), word) if rest[0].isupper() else word
             if module.startswith("Rattle.ob0_"):
                 return self.imported(module, rest, word)
             return f"{module.rpartition('.')[2]}.{rest}"
         return word
 
-    def imported(self, module, name, word):
+    def imported(self, module: str, name: str, word: str) -> str:
         """A name of a module as the page has it."""
         item = self.sources.resolve(module, name) if ".declared." in module else self.sources.resolve(module, name.split(".")[0])
         if isinstance(item, Declared):
-            own = self.names.get((item, item.name), item.name)
-            return own if name == item.name else f"{item.name}.{name}"
+            shown = self.names.get((item, item.name), item.name)
+            return shown if name == item.name else f"{item.name}.{name}"
         first, _, rest = name.partition(".")
-        own = self.names.get((item, first))
+        own = self.names.get((item, first)) if item else None
         return word if own is None or own == first and "." not in word else own + (f".{rest}" if rest else "")
 
-    def code_of(self, block):
+    def code_of(self, block: Block) -> list[str]:
         """The lines of a definition with the names of the page; a field keeps its own."""
         found = []
         for line in block.code:
@@ -303,11 +314,11 @@ class Page:
             found.append(code + dashes + comment)
         return filled(found)
 
-    def lines_of(self, item):
+    def lines_of(self, item: Item) -> list[str]:
         """The lines of a definition as the page has them."""
         return self.code_of(item) if isinstance(item, Block) else side_by_side(item.code)
 
-    def in_words(self, file, code):
+    def in_words(self, file: File, code: str) -> str:
         """Some code with the names of the page. An operator that has the name of another has a stroke."""
         code = WORD.sub(lambda at: self.shown(file, at[0]), code)
         for name in {f"◌{sign}◌" for sign in OPERATOR.findall(code)}:
@@ -318,12 +329,12 @@ class Page:
 
     # ---- writing
 
-    def counts(self, items):
+    def counts(self, items: Sequence[Item]) -> tuple[int, int]:
         """How many definitions there are, and how many lines they have without comments."""
         lines = [line.lstrip() for item in items for line in self.lines_of(item)]
         return len(items), sum(bool(line) and not line.startswith(("--", "//")) for line in lines)
 
-    def group_lines(self, group, by_rule):
+    def group_lines(self, group: Group, by_rule: bool) -> list[str]:
         heading = group.heading(by_rule)
         out = [f"### {heading}", ""]
         if group.file is None:
@@ -333,11 +344,11 @@ class Page:
         out += self.fenced(group.items)
         return out + self.elsewhere(group.items, heading)
 
-    def fenced(self, items):
+    def fenced(self, items: Iterable[Block]) -> list[str]:
         code = [line for i, item in enumerate(items) for line in ([""] if i else []) + item.comment + self.code_of(item)]
         return ["```agda", *code, "```", ""]
 
-    def elsewhere(self, items, heading):
+    def elsewhere(self, items: Iterable[Block], heading: str) -> list[str]:
         """Where the names are defined that these use, those of other groups."""
         found = {need: 0 for item in items for need in self.sources.needs(item) if self.homes.get(need, heading) != heading}
         links = []
@@ -346,7 +357,7 @@ class Page:
             links.append(f"[`{self.names[need, name].strip('◌')}`](#{slug(self.homes[need])})")
         return [*wrapped("Elsewhere: " + ", ".join(links) + "."), ""] if links else []
 
-    def part_lines(self, part):
+    def part_lines(self, part: int) -> list[str]:
         title, believe = PARTS[part]
         items = [item for group in self.groups[part] for item in group.items]
         many, lines = self.counts(items)
@@ -357,11 +368,11 @@ class Page:
             out += self.group_lines(group, part == 4)
         return out + (self.closed_lines() if part == 3 else [])
 
-    def closed_lines(self):
+    def closed_lines(self) -> list[str]:
         rows = [f"| `{self.names[block, key[2]]}` | {says} | `{key[1]}` of `{key[0]}` |" for block, (key, says) in self.closed.items()]
         return ["### Named and not unfolded", "", "| Name | What it says | Where it is defined |", "|---|---|---|", *rows, ""]
 
-    def table(self):
+    def table(self) -> list[str]:
         rows = ["| Part | Definitions | Lines without comments | Careful reading |", "|---|---|---|---|"]
         for part, (title, _) in enumerate(PARTS):
             items = self.first if part == 0 else [item for group in self.groups[part] for item in group.items]
@@ -369,14 +380,14 @@ class Page:
             rows.append(f"| [{title}](#{slug(title)}) | {many} | {lines:,} | {minutes(lines)} |")
         return rows
 
-    def first_lines(self):
+    def first_lines(self) -> list[str]:
         out = ["# The statement", "", f"<!-- Made by `make statement` of the sources. -->", "", f"## {PARTS[0][0]}", ""]
         out += [*quoted(SENTENCE), ""]
         out += [line for item in PREMISES for line in wrapped(f"- {item}", "  ")]
         out += ["", "```rust", *between(contract(*name) for name in HEADLINE), "```", ""]
         return out + self.fenced(self.first) + self.elsewhere(self.first, PARTS[0][0])
 
-    def text(self):
+    def text(self) -> str:
         out = self.first_lines() + ["## How to read it", ""]
         out += wrapped(
             "Whoever believes that these definitions say what they are meant to say knows what is proved; proofs and code needn't be "
@@ -389,7 +400,7 @@ class Page:
         for part in range(1, len(PARTS)):
             out += self.part_lines(part)
         out += ["## Names of the standard library", ""]
-        by_module = {}
+        by_module: dict[str, set[str]] = {}
         for module, name in self.sources.std:
             by_module.setdefault(module, set()).add(name)
         for module in sorted(by_module):
@@ -397,9 +408,9 @@ class Page:
         return "\n".join(out).rstrip() + "\n"
 
 
-def filled(lines):
+def filled(lines: list[str]) -> list[str]:
     """A type that the sources have one part to a line, in as few lines as hold it."""
-    found = []
+    found: list[str] = []
     for line in lines:
         part = re.match(r"^\s+→ .*", line)
         head = found[-1] if found else ""
@@ -411,9 +422,9 @@ def filled(lines):
     return found
 
 
-def side_by_side(lines):
+def side_by_side(lines: list[str]) -> list[str]:
     """A type of the code, with cases that are names alone beside one another."""
-    found = []
+    found: list[str] = []
     for line in lines:
         name = re.match(r"^    [A-Z]\w*,$", line)
         head = found[-1] if found else ""
@@ -424,37 +435,37 @@ def side_by_side(lines):
     return found
 
 
-def minutes(lines):
+def minutes(lines: int) -> str:
     """About how long a careful reading of these lines takes."""
     about = max(5, round(lines / LINES_A_MINUTE / 5) * 5)
     return f"about {about} minutes" if about < 60 else f"about {round(about / 30) / 2:g} hours"
 
 
-def between(contracts):
+def between(contracts: Iterable[list[str]]) -> list[str]:
     """Contracts one after another, with an empty line between."""
-    found = []
+    found: list[str] = []
     for lines in contracts:
         found += ([""] if found else []) + lines
     return found
 
 
-def slug(heading):
+def slug(heading: str) -> str:
     """The anchor of a heading."""
     return re.sub(r"[^\w\- ]", "", heading.lower()).replace(" ", "-")
 
 
-def wrapped(text, indent=""):
+def wrapped(text: str, indent: str = "") -> list[str]:
     """The lines of a text; what is between backquotes stays in one line, and so does a link."""
     kept = re.sub(r"\[?`[^`]*`(?:\]\([^)]*\))?", lambda at: at[0].replace(" ", "\N{NO-BREAK SPACE}"), text)
     lines = textwrap.wrap(kept, 120, subsequent_indent=indent, break_on_hyphens=False, break_long_words=False)
     return [line.replace("\N{NO-BREAK SPACE}", " ") for line in lines]
 
 
-def quoted(text):
+def quoted(text: str) -> list[str]:
     return wrapped(text, "> ")
 
 
-def main(words):
+def main(words: list[str]) -> None:
     page = Page()
     made = page.text()
     if "--check" in words:

@@ -5,11 +5,15 @@
 
 The gate is every proof, the tests, and the program as two compilers build it; each mutant has to be refused
 (tools/mutants.py). The last line is 'N passed, M failed' over all three; it also goes into bin/results."""
+from __future__ import annotations
+
 import os
 import re
 import shutil
 import subprocess
 import sys
+from collections.abc import Callable
+from typing import Any
 
 import build
 import common
@@ -21,13 +25,16 @@ LINE = re.compile(r"^(\d+) passed, (\d+) failed$")
 RESULTS = os.path.join(TOP, "bin", "results")
 
 
-def stream(words, timer, take=None, **named):
+def stream(
+    words: list[str], timer: common.Timer, take: Callable[[str], object] | None = None, **named: str
+) -> tuple[int, int]:
     """Runs a command, prints what it says, and returns the counts of its last line that has them. What `rt` says of a crate has
     the time before it. Each line is given to `take`."""
     counts = None
-    how = {"cwd": TOP, "stdin": subprocess.DEVNULL, "stdout": subprocess.PIPE, "stderr": subprocess.STDOUT}
+    how: dict[str, Any] = {"cwd": TOP, "stdin": subprocess.DEVNULL, "stdout": subprocess.PIPE, "stderr": subprocess.STDOUT}
     how["env"] = {**os.environ, **named}
     with subprocess.Popen(words, **how) as process:
+        assert process.stdout
         for line in process.stdout:
             text = line.decode(errors="replace")
             if take:
@@ -52,7 +59,7 @@ def lanes() -> int:
     return max(1, min(build.processors(), memory // 3_500_000_000))
 
 
-def jobs():
+def jobs() -> dict[str, str]:
     """RT_JOBS for the gate, by which it makes that many checks side by side (left to itself `rt ci` reserves up to 5 GB for one).
     With more than four processors it is left unset, since `rt ci` then gives what is idle to the checks that run."""
     if "RT_JOBS" in os.environ or build.processors() > 4:
@@ -60,7 +67,7 @@ def jobs():
     return {"RT_JOBS": str(lanes())}
 
 
-def gate(timer, flags, libraries):
+def gate(timer: common.Timer, flags: list[str], libraries: mutants.Libraries) -> tuple[int, int]:
     """The gate's counts. The program that it builds becomes bin/ob0: it is not proved a second time."""
     linked = os.path.join(TOP, "crates", "ob0", "out", "ob0")
     for old in (linked, common.BINARY):
@@ -72,13 +79,13 @@ def gate(timer, flags, libraries):
     return counts
 
 
-def spent():
+def spent() -> float:
     """The processors' time, in seconds, that what was run so far took."""
     times = os.times()
     return times.children_user + times.children_system
 
 
-def say_missing():
+def say_missing() -> None:
     """Says at once what is missing, how to get it, and which tests fail or are left out without it."""
     missing = [it for it in editors.TOOLS if not editors.is_here(it)]
     required = [it for it in missing if it in editors.REQUIRED]
@@ -89,13 +96,13 @@ def say_missing():
         print(f"missing: {', '.join(others)}. `make editors` installs them; without, the tests that want them are left out, by name", flush=True)
 
 
-def known(flags):
+def known(flags: list[str]) -> list[str]:
     """The flags that this kit has. One that has no `--anew` keeps nothing, and proves all from nothing each time."""
     said = subprocess.run(["rt", "help"], stdout=subprocess.PIPE, stderr=subprocess.STDOUT, check=False).stdout
     return [it for it in flags if it.encode() in said]
 
 
-def main(flags):
+def main(flags: list[str]) -> int:
     timer = common.Timer()
     os.makedirs(os.path.dirname(RESULTS), exist_ok=True)
     if os.path.exists(RESULTS):

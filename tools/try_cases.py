@@ -99,7 +99,7 @@ class Cases:
             raise Unknown("what an earlier run printed")
         return self.found[case]
 
-    def note(self, name: str, function: Callable[[], None]) -> tuple[str, Exception | None]:
+    def note(self, name: str, function: harness.Test) -> tuple[str, Exception | None]:
         """Notes what a test runs. Where it wants what can't be had, nothing of it is run, and the reason is given with its name."""
         before = dict(self.wanted)
         why = play(function)
@@ -259,7 +259,7 @@ class Try:
         return len(re.findall(rb"^case=", self.said()[1], re.M))
 
 
-def play(function: Callable[[], None]) -> Exception | None:
+def play(function: harness.Test) -> Exception | None:
     """Plays a test: None where it passed, else why it didn't."""
     try:
         function()
@@ -309,7 +309,7 @@ class Conversation:
         raise Unknown("a conversation")
 
 
-def judge(chosen: list[tuple[str, Callable[[], None]]], left_out: dict[str, Exception]) -> int:
+def judge(chosen: list[tuple[str, harness.Test]], left_out: dict[str, Exception]) -> int:
     passed, failed = 0, 0
     for name, function in chosen:
         why = left_out.get(name) or play(function)

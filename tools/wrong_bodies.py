@@ -17,6 +17,8 @@ release all are tried.
 
 It works on a copy of the crate, in bin/rooms. The status is 1 where a mutant isn't refused, or could not be tried; with --left,
 where there are any."""
+from __future__ import annotations
+
 import argparse
 import hashlib
 import json
@@ -26,13 +28,15 @@ import shutil
 import subprocess
 import sys
 import time
-from typing import Dict, List
+from typing import Any, Dict, List, Tuple
+from collections.abc import Callable
 
 import build
 import common
 import edits
 import reading
 from common import TOP
+from edits import Edit
 
 KEPT = os.path.join("out", "incremental")
 VERDICT = re.compile(r"^(?:fn|impl|struct|enum|trait|const|static) (\S+): (proved|not proved|no proof.*)", re.M)
@@ -42,13 +46,14 @@ OF_ANOTHER = re.compile(r"it calls |it passes |a call of |it is in a cycle of ca
 # (an error by which a text can't be read, so that no contract was tried)
 UNREAD = re.compile(r"is not in scope|has no field|is no name|operand is missing|expected the end|cannot continue")
 NAMES_LOST = re.compile(r"has no field|is not in scope|has no `|was not admitted|that can be named from here")
+Verdict = Tuple[str, str]  # a word, and why
 REFUSED, PROVED, NOT_JUDGED = "refused", "PROVED", "not judged"
 
 
 class Judged:
     """The mutants that were refused, each with the sum of what it was tried on."""
 
-    def __init__(self, path: str):
+    def __init__(self, path: str) -> None:
         self.path, self.kit = path, common.kit() or ""
         self.crates: Dict[str, str] = {}
         self.found: Dict[str, Dict[str, str]] = {}
@@ -88,17 +93,17 @@ class Judged:
 class Said:
     """What a check printed."""
 
-    def __init__(self, text, status):
+    def __init__(self, text: str, status: int) -> None:
         self.text, self.status = text, status
-        self.verdicts = dict(VERDICT.findall(text))
+        self.verdicts: dict[str, str] = dict(VERDICT.findall(text))
         self.reached = "logic=proved" in text or "logic=not-proved" in text
         # (with --only the last line is another)
         self.ended = self.reached or bool(re.search(r"^only=\d+ proved=\d+", text, re.M))
 
-    def is_proved(self):
+    def is_proved(self) -> bool:
         return self.status == 0 and "\nlogic=proved " in self.text
 
-    def own(self, symbol):
+    def own(self, symbol: str) -> bool:
         """Whether a function is refused for what it does itself."""
         said = self.verdicts[symbol]
         if said.startswith("no proof"):
@@ -106,7 +111,7 @@ class Said:
             return any(not OF_ANOTHER.match(it.strip()) for it in reasons)
         return said.startswith("not proved")
 
-    def goals(self, symbol):
+    def goals(self, symbol: str) -> list[str]:
         """The goals of a function that were not proved, with their places."""
         lines = self.text.split("\n")
         end = next((i for i, it in enumerate(lines) if it.startswith(f"fn {symbol}: ")), 0)
@@ -118,15 +123,16 @@ class Said:
             found += [f"{goal[2]} at {goal[1]}"] if goal else []
         return found[::-1]
 
-    def proof_errors(self, symbol, proof):
+    def proof_errors(self, symbol: str, proof: str) -> list[str]:
         """The errors in the files of a function's proof."""
         # (that of a cycle is where the prover has its functions: of methods that is below their type)
         *above, name = symbol.partition("::")[2].split("::")
         cycle = re.search(r"\+\w+$", proof)
         start = "/".join(["proofs", *above, cycle[0] if cycle else name]) + "/"
-        return [it for it in self.text.split("\n") if ERROR.match(it) and ERROR.match(it)[1].startswith(start)]
+        errors = ((it, ERROR.match(it)) for it in self.text.split("\n"))
+        return [line for line, at in errors if at and at[1].startswith(start)]
 
-    def why(self, symbol, proof):
+    def why(self, symbol: str, proof: str) -> str:
         """What refused a function: a goal, or an error in its proof."""
         goals, errors = self.goals(symbol), self.proof_errors(symbol, proof)
         if goals:
@@ -139,7 +145,7 @@ class Said:
 class Room:
     """A copy of a crate with its kept proofs, in which mutants are checked."""
 
-    def __init__(self, name, named, jobs):
+    def __init__(self, name: str, named: dict[str, list[str]], jobs: int) -> None:
         self.name, self.jobs, self.checks = name, jobs, 0
         self.room = os.path.join(build.ROOMS, f"wrong-{name}")
         self.folder = os.path.join(self.room, "crates", name)
@@ -148,32 +154,32 @@ class Room:
         whole = os.path.join(TOP, "crates", name, KEPT)
         shutil.copytree(whole, os.path.join(self.folder, KEPT), copy_function=build.link)
 
-    def check(self, chosen):
+    def check(self, chosen: list[Edit]) -> Said:
         """Checks the crate with some mutants, and leaves its sources as they were."""
         self.checks += 1
         paths = {path for edit in chosen for path, _ in edit.lines}
         before = {it: self.text(it) for it in paths}
         for path, text in before.items():
             self.write(path, with_bodies(text, path, chosen))
-        how = {"cwd": self.folder, "stdin": subprocess.DEVNULL, "stdout": subprocess.PIPE, "stderr": subprocess.STDOUT}
+        how: dict[str, Any] = {"cwd": self.folder, "stdin": subprocess.DEVNULL, "stdout": subprocess.PIPE, "stderr": subprocess.STDOUT}
         ran = subprocess.run(["rt", "check", "--jobs", str(self.jobs)], **how)
         for path, text in before.items():
             self.write(path, text)
         return Said(ran.stdout.decode("utf-8", errors="replace"), ran.returncode)
 
-    def text(self, path):
+    def text(self, path: str) -> str:
         with open(os.path.join(self.folder, path), encoding="utf-8") as file:
             return file.read()
 
-    def write(self, path, text):
+    def write(self, path: str, text: str) -> None:
         with open(os.path.join(self.folder, path), "w", encoding="utf-8") as file:
             file.write(text)
 
-    def leave(self):
+    def leave(self) -> None:
         shutil.rmtree(self.room, ignore_errors=True)
 
 
-def with_bodies(text, path, chosen):
+def with_bodies(text: str, path: str, chosen: list[Edit]) -> str:
     """A file's text with the lines that some mutants change in it."""
     lines = text.split("\n")
     for edit in chosen:
@@ -183,22 +189,23 @@ def with_bodies(text, path, chosen):
     return "\n".join(lines)
 
 
-def prove(name, jobs):
+def prove(name: str, jobs: int) -> bool:
     """Proves a crate where it isn't yet, with the libraries below, and says whether that went well."""
     folder = os.path.join(TOP, "crates", name)
     is_kept = os.path.isdir(os.path.join(folder, KEPT)) and not os.path.isfile(os.path.join(folder, "src", "main.rt"))
     # (where the library is up to date `rt lib` proves nothing)
     words = ["rt", "lib" if is_kept else "check", "--jobs", str(jobs)]
-    how = {"cwd": folder, "stdin": subprocess.DEVNULL, "stdout": subprocess.PIPE, "stderr": subprocess.STDOUT}
+    how: dict[str, Any] = {"cwd": folder, "stdin": subprocess.DEVNULL, "stdout": subprocess.PIPE, "stderr": subprocess.STDOUT}
     ran = subprocess.run(words, **how)
     if ran.returncode:
         print(ran.stdout.decode("utf-8", errors="replace")[-3000:], file=sys.stderr)
     return ran.returncode == 0
 
 
-def together(left):
+def together(left: list[Edit]) -> list[Edit]:
     """Mutants of different functions, of which no two have one proof: as many as can be in one check."""
-    chosen, taken = [], set()
+    chosen: list[Edit] = []
+    taken: set[str] = set()
     for edit in left:
         proofs = {it.proof for it in edit.turned or ()}
         if proofs and not proofs & taken:
@@ -207,7 +214,7 @@ def together(left):
     return chosen or left[:1]
 
 
-def unreadable(said, edit):
+def unreadable(said: Said, edit: Edit) -> str | None:
     """The error by which the compiler or antt could not read a mutant, if one is in what it turns."""
     for line in said.text.split("\n"):
         at = ERROR.match(line)
@@ -222,13 +229,13 @@ def unreadable(said, edit):
     return None
 
 
-def verdicts_of(edit, said, source):
+def verdicts_of(edit: Edit, said: Said, source: reading.Source) -> dict[str, str]:
     """The names under which the check judged what a mutant turns, each with the proof that it belongs to."""
     turned = source.proved_with(edit.turned or ())
     return {it: f.proof for it in said.verdicts for f in turned if f.is_named(it)}
 
 
-def judge(edit, said, source, alone):
+def judge(edit: Edit, said: Said, source: reading.Source, alone: bool) -> Verdict | None:
     """What a check says of one mutant: a word and why, or None where it has to be tried again."""
     error = unreadable(said, edit)
     if error:
@@ -246,7 +253,7 @@ def judge(edit, said, source, alone):
     return refusal(said, others) if others else (NOT_JUDGED, f"no function was judged: {said.text[-300:]}")
 
 
-def refusal(said, refused):
+def refusal(said: Said, refused: list[tuple[str, str]]) -> Verdict:
     """What to say of functions that are refused for what they do themselves."""
     uncovered = [it for it, _ in refused if "does not cover" in said.verdicts[it]]
     if len(uncovered) == len(refused):
@@ -255,10 +262,17 @@ def refusal(said, refused):
     return REFUSED, f"{named[0].partition('::')[2]}: {said.why(*named)}"
 
 
-def try_all(room, left, source, say, keep):
+def try_all(
+    room: Room,
+    left: list[Edit],
+    source: reading.Source,
+    say: Callable[[str], None],
+    keep: Callable[[dict[Edit, Verdict]], None],
+) -> dict[Edit, Verdict]:
     """Tries mutants, many in one check, and returns a word and a reason for each. After each check `keep` gets what is known by
     then."""
-    found, groups = {}, []
+    found: dict[Edit, Verdict] = {}
+    groups: list[list[Edit]] = []
     while left or groups:
         chosen = groups.pop() if groups else together(left)
         left = [it for it in left if it not in chosen]
@@ -281,18 +295,26 @@ def try_all(room, left, source, say, keep):
     return found
 
 
-def is_held(edit, said, source):
+def is_held(edit: Edit, said: Said, source: reading.Source) -> bool:
     """Whether a mutant was not judged since its function calls one that isn't proved."""
     return any(said.verdicts[it] != "proved" for it in verdicts_of(edit, said, source))
 
 
-def try_crate(name, chosen, source, named, jobs, is_quiet, judged):
+def try_crate(
+    name: str,
+    chosen: list[Edit],
+    source: reading.Source,
+    named: dict[str, list[str]],
+    jobs: int,
+    is_quiet: bool,
+    judged: Judged,
+) -> list[int]:
     """Tries mutants of a crate, prints a line for each and one for all, and returns their counts."""
     timer = time.monotonic()
     found = {it: (NOT_JUDGED, it.why) for it in chosen if it.why}
     left, checks = [it for it in chosen if not it.why], 0
 
-    def keep(settled):
+    def keep(settled: dict[Edit, Verdict]) -> None:
         for edit, verdict in settled.items():
             judged.keep(edit, *verdict)
         judged.write()
@@ -317,7 +339,7 @@ def try_crate(name, chosen, source, named, jobs, is_quiet, judged):
     return counts
 
 
-def try_crates(chosen: Dict[str, List[str]], options, judged: Judged) -> int:
+def try_crates(chosen: Dict[str, List[str]], options: argparse.Namespace, judged: Judged) -> int:
     """Tries the mutants of some crates that have one of some words in their path."""
     named, total, resumed = common.libraries(), [0, 0, 0], 0
     for name, wanted in chosen.items():

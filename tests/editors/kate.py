@@ -6,6 +6,7 @@ of steps below), OB0_GIVEN (a place in the file, as JSON), OB0_WIRE (the folder 
 the server). What is reported is what went over the wire, and what Kate saved."""
 from __future__ import annotations
 
+import functools
 import json
 import os
 import subprocess
@@ -155,7 +156,7 @@ def late() -> None:
         WIRE.hold(method)
         ask()
         line_above()
-        waited("the line above", lambda text=f"{LINE}\n{before}": WIRE.text() == text)
+        waited("the line above", functools.partial(has_text, f"{LINE}\n{before}"))
         after(what, WIRE.release)
         say(what, saving())
 

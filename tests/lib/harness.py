@@ -28,7 +28,7 @@ from framing import Incoming  # noqa: E402
 BINARY = os.environ.get("OB0") or os.path.join(TOP, "bin", "ob0")
 SECONDS = 60  # the longest that one conversation may take
 
-Test = Callable[[], None]
+Test = Callable[[], object]  # (what it returns isn't looked at)
 Ident = Union[int, str, None]  # the id of a request
 TESTS: List[Tuple[str, Test]] = []
 

@@ -6,6 +6,8 @@
 FOLDER/wire has a line of JSON for each event: {"sent": MESSAGE} by the editor, {"answered": MESSAGE} by the server,
 {"held": ID}, {"released": ID}. While a file FOLDER/hold has the name of a method, the answer to such a request is held until
 that file is gone, and with it all that the server sends after it. `Wire` reads the record, and holds and releases."""
+from __future__ import annotations
+
 import json
 import os
 import re
@@ -13,6 +15,10 @@ import subprocess
 import sys
 import threading
 import time
+from collections.abc import Iterator
+from typing import Any, IO
+
+from framing import Incoming, Message
 
 LINE_END = re.compile("\r\n|\n|\r")
 FOLLOWED = ("textDocument/didOpen", "textDocument/didChange", "textDocument/didClose")
@@ -21,12 +27,14 @@ FOLLOWED = ("textDocument/didOpen", "textDocument/didChange", "textDocument/didC
 class Wire:
     """The record of a conversation, from the folder that it is kept in. (What was read of it is kept: it is asked often.)"""
 
-    def __init__(self, folder):
+    def __init__(self, folder: str) -> None:
         self.folder, self.hold_file = folder, os.path.join(folder, "hold")
-        self.read, self.known = 0, []  # the bytes that were read, and their events
-        self.followed, self.document = 0, (None, None)  # the events that are in the document: its URI and its text
+        self.read = 0  # the bytes that were read
+        self.known: list[Message] = []  # and their events
+        self.followed = 0  # the events that are in the document
+        self.document: tuple[str | None, str | None] = (None, None)  # its URI and its text
 
-    def events(self):
+    def events(self) -> list[Message]:
         try:
             with open(os.path.join(self.folder, "wire"), "rb") as file:
                 file.seek(self.read)
@@ -37,69 +45,69 @@ class Wire:
         self.read += sum(map(len, lines)) + (1 if lines else 0)
         return self.known
 
-    def sent(self, *methods):
+    def sent(self, *methods: str) -> list[Message]:
         return [it["sent"] for it in self.events() if "sent" in it and it["sent"].get("method") in methods]
 
-    def answers(self, method):
+    def answers(self, method: str) -> list[Message]:
         idents = [it["id"] for it in self.sent(method)]
         return [it["answered"] for it in self.events() if it.get("answered", {}).get("id") in idents]
 
-    def published(self):
+    def published(self) -> list[Message]:
         return [it["answered"]["params"] for it in self.events() if it.get("answered", {}).get("method") == "textDocument/publishDiagnostics"]
 
-    def hold(self, method):
+    def hold(self, method: str) -> None:
         with open(self.hold_file, "w", encoding="utf-8") as file:
             file.write(method)
 
-    def release(self):
+    def release(self) -> None:
         if os.path.exists(self.hold_file):
             os.remove(self.hold_file)
 
-    def is_held(self):
+    def is_held(self) -> bool:
         events = self.events()
         return sum("held" in it for it in events) > sum("released" in it for it in events)
 
-    def encoding(self):
+    def encoding(self) -> str:
         """The unit of a character's number."""
         found = [it["result"]["capabilities"].get("positionEncoding") for it in self.answers("initialize") if "result" in it]
-        return found[-1] if found and found[-1] else "utf-16"
+        return str(found[-1]) if found and found[-1] else "utf-16"
 
-    def text(self):
+    def text(self) -> str | None:
         """The text of the document that was opened last, as it is after all changes by LSP 3.17; None where it is closed."""
         encoding, (uri, text) = self.encoding(), self.document
         events = self.events()
-        for it in (it["sent"] for it in events[self.followed :] if it.get("sent", {}).get("method") in FOLLOWED):
-            document = it["params"]["textDocument"]
-            if it["method"] == "textDocument/didOpen":
+        for sent in (it["sent"] for it in events[self.followed :] if it.get("sent", {}).get("method") in FOLLOWED):
+            document = sent["params"]["textDocument"]
+            if sent["method"] == "textDocument/didOpen":
                 uri, text = document["uri"], document["text"]
-            elif document["uri"] == uri and it["method"] == "textDocument/didClose":
+            elif document["uri"] == uri and sent["method"] == "textDocument/didClose":
                 text = None
             elif document["uri"] == uri and text is not None:
-                for change in it["params"]["contentChanges"]:
+                for change in sent["params"]["contentChanges"]:
                     text = patched(text, [{"range": change["range"], "newText": change["text"]}], encoding) if "range" in change else change["text"]
         self.followed, self.document = len(events), (uri, text)
         return text
 
 
-def units(letter, encoding):
+def units(letter: str, encoding: str) -> int:
     return len(letter.encode("utf-8" if encoding == "utf-8" else "utf-16-le")) // (1 if encoding == "utf-8" else 2)
 
 
-def offset(text, position, encoding):
+def offset(text: str, position: Message, encoding: str) -> int:
     """Where a position is in a text: at the end of a line or of the text where there is no such one."""
     ends = list(LINE_END.finditer(text))
     if position["line"] > len(ends):
         return len(text)
-    at = ends[position["line"] - 1].end() if position["line"] else 0
-    end = ends[position["line"]].start() if position["line"] < len(ends) else len(text)
-    left = position["character"]
+    line, left = int(position["line"]), int(position["character"])
+    at = ends[line - 1].end() if line else 0
+    end = ends[line].start() if line < len(ends) else len(text)
     while at < end and units(text[at], encoding) <= left:
         left -= units(text[at], encoding)
         at += 1
     return at
 
 
-def patched(text, edits, encoding):
+def patched(text: str, edits: list[Message], encoding: str) -> str:
     """A text with these edits, whose places are of the text as it is."""
     places = [(offset(text, it["range"]["start"], encoding), offset(text, it["range"]["end"], encoding), it["newText"]) for it in edits]
     for start, end, new in sorted(places, key=lambda it: it[:2], reverse=True):
@@ -107,7 +115,7 @@ def patched(text, edits, encoding):
     return text
 
 
-def edits_of(result):
+def edits_of(result: Any) -> list[Message]:
     """The edits of an answer to a rename, a code action (the first one) or a layout."""
     if isinstance(result, list) and result and "edit" in result[0]:
         result = result[0]["edit"]
@@ -118,44 +126,41 @@ def edits_of(result):
     return result or []
 
 
-def messages(stream):
-    """The messages of a stream, each as it was written and as a value."""
-    while True:
-        head = b""
-        while not head.endswith(b"\r\n\r\n"):
-            line = stream.readline()
-            if not line:
-                return
-            head += line
-        length = next(int(it.split(b":")[1]) for it in head.split(b"\r\n") if it.lower().startswith(b"content-length"))
-        content = stream.read(length)
-        if len(content) < length:
-            return
-        yield head + content, json.loads(content)
+def messages(stream: IO[bytes]) -> Iterator[tuple[bytes, Message]]:
+    """The messages of a stream, each as it came and as a value."""
+    incoming = Incoming()
+    while came := os.read(stream.fileno(), 1 << 16):
+        incoming.add(came)
+        while taken := incoming.take_framed():
+            framed, content = taken
+            yield framed, json.loads(content)
 
 
-def main(folder, *words):
-    wire, methods, lock = Wire(folder), {}, threading.Lock()
+def main(folder: str, *words: str) -> None:
+    wire, lock = Wire(folder), threading.Lock()
+    methods: dict[Any, str | None] = {}
     with open(os.path.join(folder, "wire"), "a", encoding="utf-8") as record, subprocess.Popen(words, stdin=subprocess.PIPE, stdout=subprocess.PIPE) as server:
+        assert server.stdin and server.stdout
+        given, out = server.stdin, server.stdout
 
-        def note(name, value):
+        def note(name: str, value: object) -> None:
             with lock:
                 record.write(json.dumps({name: value}) + "\n")
                 record.flush()
 
-        def forward():
+        def forward() -> None:
             try:
                 for written, message in messages(sys.stdin.buffer):
                     if "id" in message:
                         methods[message["id"]] = message.get("method")
                     note("sent", message)
-                    server.stdin.write(written)
-                    server.stdin.flush()
-                server.stdin.close()
+                    given.write(written)
+                    given.flush()
+                given.close()
             except (BrokenPipeError, ValueError):
                 pass  # (the server has ended)
 
-        def held():
+        def held() -> str:
             try:
                 with open(wire.hold_file, encoding="utf-8") as file:
                     return file.read()
@@ -163,7 +168,7 @@ def main(folder, *words):
                 return ""
 
         threading.Thread(target=forward, daemon=True).start()
-        for written, message in messages(server.stdout):
+        for written, message in messages(out):
             note("answered", message)
             if "method" not in message and methods.get(message.get("id")) and methods[message["id"]] == held():
                 note("held", message["id"])

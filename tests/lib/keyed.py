@@ -1,8 +1,13 @@
 """Editors in a terminal, each set up by its page and driven by keys as its user presses them, with tests/lib/holding.py between
 editor and server. Keys don't wait for one another: an editor takes them in order, and that it has taken them is seen by a file
 which it writes."""
+from __future__ import annotations
+
 import os
 import time
+import random
+from collections.abc import Callable
+from typing import Dict, Tuple, TypeVar
 
 from harness import Failed
 from holding import Wire
@@ -19,15 +24,18 @@ class Lost(Failed):
     """Something was waited for in vain: the editor has taken no more keys, or its server says nothing."""
 
 
+K = TypeVar("K", bound="Keyed")
+
+
 class Keyed:
     """An editor on a file with a text, in a folder of its own."""
 
     page = ""  # the folder of its page
-    asks = {}  # of each edit that it can ask for: the keys, the method, and whether it takes no other key until the answer is there
+    asks: Dict[str, Tuple[str, str, bool]] = {}  # of each edit that it can ask for: the keys, the method, and whether it takes no other key until the answer is there
     line_above = line_removed = ""  # the keys that put the line `(* new *)` above the text, and take it away
     letters = "é☺𝒳😀"  # what is typed beside ASCII
 
-    def __init__(self, folder, text):
+    def __init__(self, folder: str, text: str) -> None:
         self.folder, self.wire, self.count = folder, Wire(folder), 0
         self.file = os.path.join(folder, "work", "m.mod")
         write(self.file, text)
@@ -37,7 +45,7 @@ class Keyed:
             write(os.path.join(folder, path), lines)
         self.screen = Screen(self.words(), own, os.path.dirname(self.file), (40, 120))
 
-    def __enter__(self):
+    def __enter__(self: K) -> K:
         try:
             self.await_("the first diagnostics", self.wire.published)
             self.text(comes_last=True)
@@ -46,36 +54,36 @@ class Keyed:
             self.__exit__(why)
             raise
 
-    def __exit__(self, *why):
+    def __exit__(self, *why: object) -> None:
         self.wire.release()
         self.screen.__exit__(*why)
 
-    def settings(self):
+    def settings(self) -> dict[str, str]:
         """The files of its settings, by their paths in its home."""
         raise NotImplementedError
 
-    def words(self):
+    def words(self) -> list[str]:
         """The words that it is started by."""
         raise NotImplementedError
 
-    def going(self, line, character):
+    def going(self, line: int, character: int) -> str:
         """The keys that go to a place, counted from 0, in a line of ASCII."""
         raise NotImplementedError
 
-    def reopening(self):
+    def reopening(self) -> str:
         """The keys that close the file, without saving, and open it again."""
         raise NotImplementedError
 
-    def writing(self, path, comes_last):
+    def writing(self, path: str, comes_last: bool) -> str:
         """The keys that have it write its text to a path: where `comes_last`, once a server is there for it, and all that this
         has sent is handled."""
         raise NotImplementedError
 
-    def change(self, chance):
+    def change(self, chance: random.Random) -> str:
         """The keys of a change by chance."""
         raise NotImplementedError
 
-    def waits(self, holds, seconds=SECONDS):
+    def waits(self, holds: Callable[[], object], seconds: float = SECONDS) -> bool:
         """Whether something holds in time; what the editor draws is read meanwhile."""
         end = time.monotonic() + seconds
         while not holds():
@@ -84,20 +92,20 @@ class Keyed:
             self.screen.read(0.01)
         return True
 
-    def await_(self, what, holds):
+    def await_(self, what: str, holds: Callable[[], object]) -> None:
         if not self.waits(holds):
             raise Lost(f"waited in vain for {what}: {self.screen.drawn[-1500:]!r}")
 
-    def keys(self, typed):
+    def keys(self, typed: str) -> None:
         self.screen.keys(typed.encode())
 
-    def asked_for_text(self, comes_last=False):
+    def asked_for_text(self, comes_last: bool = False) -> Callable[[], str | None]:
         """Has it write its text, and gives what gives that once it is there, and None before."""
         self.count += 1
         path = os.path.join(self.folder, f"text{self.count}")
         self.keys(self.writing(path, comes_last))
 
-        def text():
+        def text() -> str | None:
             if not os.path.exists(path):
                 return None
             with open(path, encoding="utf-8", newline="") as file:
@@ -105,14 +113,14 @@ class Keyed:
 
         return text
 
-    def reports(self, text):
+    def reports(self, text: str) -> None:
         """Waits until the server has this text of the file."""
         self.await_(f"the text that the server has: {text!r}", lambda: self.wire.text() == text)
 
-    def text(self, comes_last=False):
+    def text(self, comes_last: bool = False) -> str:
         text = self.asked_for_text(comes_last)
         self.await_("the editor's text", lambda: text() is not None)
-        return text()
+        return text() or ""
 
 
 NORMAL = "\x1c\x0e"  # to normal mode, from every mode
@@ -125,7 +133,7 @@ endfunction
 """
 
 
-def vim_change(chance, letters):
+def vim_change(chance: random.Random, letters: str) -> str:
     """The keys of a change in Vim, from normal mode to normal mode."""
     word = chance.choice(["x", "yy", "n := 1;", "\t", *letters, f"(* {letters} *)"])
     line = f":{chance.randint(1, 12)}\r"
@@ -146,16 +154,16 @@ def vim_change(chance, letters):
 class Vimish(Keyed):
     line_above, line_removed = f"ggO(* new *){NORMAL}", "ggdd"
 
-    def going(self, line, character):
+    def going(self, line: int, character: int) -> str:
         return f"{NORMAL}:call cursor({line + 1}, {character + 1})\r"
 
-    def reopening(self):
+    def reopening(self) -> str:
         return f"{NORMAL}:silent bdelete! {self.file}\r:silent edit {self.file}\r"
 
-    def writing(self, path, comes_last):
+    def writing(self, path: str, comes_last: bool) -> str:
         return f"{NORMAL}:call {'Last' if comes_last else 'Written'}('{path}')\r"
 
-    def change(self, chance):
+    def change(self, chance: random.Random) -> str:
         return NORMAL + vim_change(chance, self.letters)
 
 
@@ -186,11 +194,11 @@ vim.ui.select = function(items, _, choose)
 end
 """
 
-    def settings(self):
+    def settings(self) -> dict[str, str]:
         lines = self.lines.format(settings=VIM_SETTINGS, milliseconds=1000 * SECONDS)
         return {".config/nvim/init.lua": "\n".join([*snippets("neovim", "lua"), lines])}
 
-    def words(self):
+    def words(self) -> list[str]:
         return ["nvim", "-n", "-i", "NONE", self.file]
 
 
@@ -208,10 +216,10 @@ function! Last(path) abort
 endfunction
 """
 
-    def settings(self):
+    def settings(self) -> dict[str, str]:
         return {".vimrc": "\n".join([*snippets("vim", "vim"), VIM_SETTINGS]), "keyed.vim": self.lines}
 
-    def words(self):
+    def words(self) -> list[str]:
         return ["vim.nox", "-n", "-i", "NONE", "-S", os.path.join(self.folder, "keyed.vim"), self.file]
 
 
@@ -232,7 +240,7 @@ function! Last(path) abort
 endfunction
 """
 
-    def __exit__(self, *why):
+    def __exit__(self, *why: object) -> None:
         # (what it has started would go on for half an hour)
         self.wire.release()
         self.keys(f"{NORMAL}:silent! py3 ycm_state.OnVimLeave()\r")
@@ -240,12 +248,12 @@ endfunction
         self.waits(lambda: text() is not None, 10)
         super().__exit__(*why)
 
-    def settings(self):
+    def settings(self) -> dict[str, str]:
         # (its server wants the system's Python, whichever one is first on PATH)
         python = "let g:ycm_server_python_interpreter = '/usr/bin/python3'\nlet g:ycm_auto_hover = ''"
         return {".vimrc": "\n".join([*snippets("vim", "viml"), python, VIM_SETTINGS]), "keyed.vim": self.lines}
 
-    def words(self):
+    def words(self) -> list[str]:
         return ["vim.nox", "-n", "-i", "NONE", "-S", os.path.join(self.folder, "keyed.vim"), self.file]
 
 
@@ -276,7 +284,7 @@ EMACS_SETTINGS = """
 """
 
 
-def emacs_change(chance, letters):
+def emacs_change(chance: random.Random, letters: str) -> str:
     """The keys of a change in Emacs. (An error would throw away the keys after it.)"""
     word = chance.choice(["x", "yy", "n := 1;", *letters, f"(* {letters} *)"])
     place = f"\x1b:(go {chance.randint(0, 11)} {chance.choice([0, 0, 3, 99])})\r"
@@ -289,32 +297,33 @@ def emacs_change(chance, letters):
         f'(atomic-change-group (insert "ab") (goto-char 1) (insert "{letters[-1]}\\n"))',
         f'(execute-kbd-macro "\\C-e{letters[-1]}\\C-a" 2)',
     ]
-    return place + chance.choice([word, word, word + "\r", "\r", *(f"\x1b:(ignore-errors {it})\r" for it in forms)])
+    keys: str = chance.choice([word, word, word + "\r", "\r", *(f"\x1b:(ignore-errors {it})\r" for it in forms)])
+    return place + keys
 
 
 class Emacs(Keyed):
     page, block, managed = "emacs", 0, ""
     line_above, line_removed = "\x1b<(* new *)\r", "\x1b<\x0b\x0b"
 
-    def settings(self):
+    def settings(self) -> dict[str, str]:
         more = "(advice-add 'completing-read :override (lambda (&rest _) \"Inline here\"))"
         return {".emacs.d/init.el": "\n".join([EMACS_SETTINGS, snippets("emacs", "elisp")[self.block], more])}
 
-    def words(self):
+    def words(self) -> list[str]:
         return ["emacs", "-nw", self.file]
 
-    def going(self, line, character):
+    def going(self, line: int, character: int) -> str:
         return f"\x1b:(go {line} {character})\r"
 
-    def reopening(self):
+    def reopening(self) -> str:
         return f'\x1b:(reopened "{self.file}")\r'
 
-    def writing(self, path, comes_last):
+    def writing(self, path: str, comes_last: bool) -> str:
         # (such an editor handles an answer before it takes the next key)
         first = f"(while (not {self.managed}) (accept-process-output nil 0.01))" if comes_last else ""
         return f'\x1b:(progn {first} (written "{path}"))\r'
 
-    def change(self, chance):
+    def change(self, chance: random.Random) -> str:
         return emacs_change(chance, self.letters)
 
 
