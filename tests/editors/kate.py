@@ -149,9 +149,17 @@ def line_above() -> None:
     keys("Return")
 
 
+def has_text(text: str) -> bool:
+    return WIRE.text() == text
+
+
 def late() -> None:
     """An answer is held while a line is typed above."""
-    for what, method, ask in (("renamed", RENAME, lambda: rename("tot")), ("laid out", LAYOUT, lambda: command("Format", WIRE.is_held))):
+    asks: list[tuple[str, str, Callable[[], object]]] = [
+        ("renamed", RENAME, lambda: rename("tot")),
+        ("laid out", LAYOUT, lambda: command("Format", WIRE.is_held)),
+    ]
+    for what, method, ask in asks:
         before = WIRE.text()
         WIRE.hold(method)
         ask()
