@@ -514,7 +514,7 @@ def many_documents() -> None:
 
 
 @measure("questions: a hover in each of some documents of 1 MB in turn")
-def questions_in_turn():
+def questions_in_turn() -> None:
     """Four of the longest are kept: with one more each question reads a whole text again."""
     text = corpus.module(MIB - 1000)
     here = place_of(text, middle_name(text))
