@@ -45,6 +45,7 @@ ghost use Rattle.ob0_scan.specs.Refused.{IsRightRefusal, IsRightRefusalOver};
 ghost use Rattle.ob0_scan.specs.UnderWay.{IsUnderWay};
 ghost use Rattle.ob0_scan.specs.Reused.{IsReplaced, Reuses, kinds, move_span, moved_token, tokens_before_change, comments_before_change, back_tokens, back_comments, valueless, name_of, names_in, words_in};
 ghost use Rattle.ob0_scan.specs.SameKinds.{HasSameTokens};
+ghost use Rattle.ob0_scan.specs.Rescanned.{IsRescanOf};
 ghost use Rattle.ob0_scan.specs.Rescanning.{token_end, comment_end, last_end, token_begins, comment_begins, AreInOrder, IsMovable, ReadsOn, IsMet, IsBetween};
 
 use crate::fault::{Fault, ScanRefusal};
@@ -537,10 +538,25 @@ pub fn rescan_in_place(
                 same_words,
             })
         }
-        Err(refusal) => match refusal {
-            ScanRefusal::Faults(faults) => Err(NotRescanned::Faults(faults, old)),
-            ScanRefusal::Memory => Err(NotRescanned::Memory),
-        },
+        Err(refusal) => refuse(old, new_text, change, refusal),
+    }
+}
+
+/// Why a changed text has no tokens: one with faults gives the old ones back.
+fn refuse(
+    old: Tokens,
+    new_text: &str,
+    change: ReplacedRange,
+    refusal: ScanRefusal,
+) -> Result<RescanInPlace, NotRescanned>
+    requires { IsRightRefusal new_text.now refusal }
+    ensures ok { IfOk result
+        (IsRescanOf old new_text.now change.from change.removed change.added) }
+    ensures err { IfErr result (IsRightRefusalOver old new_text.now) }
+{
+    match refusal {
+        ScanRefusal::Faults(faults) => Err(NotRescanned::Faults(faults, old)),
+        ScanRefusal::Memory => Err(NotRescanned::Memory),
     }
 }
 

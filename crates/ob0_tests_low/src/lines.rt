@@ -174,6 +174,67 @@ fn places_are_counted_alike_in_long_lines(rt: HostRuntime) {
     }
 }
 
+/// Columns at which lines are changed one after the other: onward, back, to and fro.
+static COLUMNS: &[&[u64]] = &[
+    &[0, 3, 70, 71, 130, 140],
+    &[150, 140, 100, 99, 66, 30, 2, 0],
+    &[10, 120, 60, 64, 128, 1, 90, 89],
+];
+
+/// Whether a change gives the same text in both stores, and replaces the same bytes.
+fn change_both(
+    lines: &mut Lines,
+    whole: &mut Whole,
+    place: Position,
+) -> Result<bool, AllocError> {
+    let end = at(place.line, place.character + 2);
+    let bytes = lines.replace_at(range_of(place, end), "é-")?;
+    let others = whole.replace_at(range_of(place, end), "é-")?;
+    Ok(bytes == others && lines.as_str() == whole.as_str())
+}
+
+/// Whether both stores stay alike while the lines are changed at these columns.
+fn stay_alike(
+    lines: &mut Lines,
+    whole: &mut Whole,
+    columns: &[u64],
+) -> Result<bool, AllocError> {
+    for line in 0..3 {
+        for column in columns {
+            if !change_both(lines, whole, at(line, *column))? {
+                return Ok(false);
+            }
+        }
+    }
+    Ok(true)
+}
+
+fn are_changed_alike(alloc: Global, text: &str, unit: Unit, columns: &[u64]) -> bool {
+    let Ok(mut lines) = Lines::from_str_in(alloc, text, unit) else {
+        return false;
+    };
+    let Ok(mut whole) = Whole::from_str_in(alloc, text, unit) else {
+        return false;
+    };
+    match stay_alike(&mut lines, &mut whole, columns) {
+        Ok(alike) => alike,
+        Err(AllocError) => false,
+    }
+}
+
+#[test]
+fn long_lines_are_changed_in_any_order(rt: HostRuntime) {
+    for text in LONG {
+        for columns in COLUMNS {
+            assert!(rt;
+                are_changed_alike(rt.alloc(), text, Unit::Utf16, columns)
+                    && are_changed_alike(rt.alloc(), text, Unit::Utf8, columns),
+                "{text:?}"
+            );
+        }
+    }
+}
+
 /// Texts, and their lines with the endings.
 static LINES: &[(&str, &[&str])] = &[
     ("a\r\nb\nd", &["a\r\n", "b\n", "d"]),

@@ -51,7 +51,7 @@ fn opens(documents: &mut Documents<Lines>, uri: &str) -> bool {
 /// Changes a document by a note: it is in step where the note was taken, and else out of step.
 fn changes(documents: &mut Documents<Lines>, uri: &str, note: &[Change]) -> bool {
     match documents.did_change(uri, 2, note) {
-        Ok(()) => is_in_step(documents, uri, (2, CHANGED)),
+        Ok(_bytes) => is_in_step(documents, uri, (2, CHANGED)),
         Err(AllocError) => is_out_of_step(documents, uri),
     }
 }

@@ -13,7 +13,7 @@ use Rattle.ob0_text.specs.declared.position_types.Position.{Position}
 use Rattle.ob0_text.specs.declared.passes.PassState.{PassState}
 use Rattle.ob0_text.specs.declared.stretches.Stretch.{Stretch}
 use Rattle.ob0_text.specs.Texts.{CR, byte_len}
-use Rattle.ob0_text.specs.Stretches.{EndsNoLine, IsStretch}
+use Rattle.ob0_text.specs.Stretches.{EndsNoLine, IsPieceOfLine}
 use Rattle.ob0_text.specs.Places.{IsSought, IsPlaceBefore, IsCounted, IsPlace}
 use Rattle.ob0_text.proofs.LineLaws.{no_line_end}
 use Rattle.ob0_text.proofs.PositionSteps.{counted_past_char}
@@ -24,7 +24,7 @@ no_cr c h e = grind (arith, nat_tests)
 
 module _ (width : ℕ → ℕ) (text : List ℕ) where
   -- what is split at a stretch's end
-  module _ (from : ℕ) (s : Stretch) (is : IsStretch width text from s) where
+  module _ (from : ℕ) (s : Stretch) (is : IsPieceOfLine width text from s) where
     piece : List ℕ
     piece = take (s.end - from) (drop from text)
 
@@ -38,7 +38,7 @@ module _ (width : ℕ → ℕ) (text : List ℕ) where
         sym (take-append-drop (s.end - from) (drop from text)) ∙ (λ i. sym (encodes-chars piece is.whole) i ++ rest i)
       where
         rest : drop (s.end - from) (drop from text) ≡ drop s.end text
-        rest = drop-drop (s.end - from) from text ∙ ap (λ n. drop n text) (omega (arith, is.further))
+        rest = drop-drop (s.end - from) from text ∙ ap (λ n. drop n text) (omega (arith, is.ordered))
 
     bytes : byte_len (chars piece) ≡ s.end - from
     unfolding piece
@@ -56,11 +56,11 @@ module _ (width : ℕ → ℕ) (text : List ℕ) where
         subst (λ n. IsSought width text p rest n line (character + sum_by width (c ∷ cs))) (omega (arith, byte_len-cons c cs))
         (subst (λ n. IsSought width text p rest (offset + len_utf8 c + byte_len cs) line n) (omega (arith, wide)) last)
 
-    pub sought_past_stretch : (place : PassState) (s : Stretch) → IsPlaceBefore width text p place → IsStretch width text place.offset s → place.line ≡ p.line → place.character + s.units ≤ p.character → IsSought width text p (drop s.end text) s.end place.line (place.character + s.units)
+    pub sought_past_stretch : (place : PassState) (s : Stretch) → IsPlaceBefore width text p place → IsPieceOfLine width text place.offset s → place.line ≡ p.line → place.character + s.units ≤ p.character → IsSought width text p (drop s.end text) s.end place.line (place.character + s.units)
     unfolding piece
     sought_past_stretch place s h is here room =
         let passed = sought_past (chars (piece place.offset s is)) (drop s.end text) place.offset place.line place.character is.of_a_line.of_one (subst (λ r. IsSought width text p r place.offset place.line place.character) (split place.offset s is) h) here (omega (arith, is.of_a_line.counted, room)) in
-        subst (λ n. IsSought width text p (drop s.end text) n place.line (place.character + s.units)) (omega (arith, bytes place.offset s is, is.further))
+        subst (λ n. IsSought width text p (drop s.end text) n place.line (place.character + s.units)) (omega (arith, bytes place.offset s is, is.ordered))
         (subst (λ n. IsSought width text p (drop s.end text) (place.offset + byte_len (chars (piece place.offset s is))) place.line (place.character + n)) is.of_a_line.counted passed)
 
   -- the pass that counts
@@ -76,11 +76,11 @@ module _ (width : ℕ → ℕ) (text : List ℕ) where
         subst (λ n. IsCounted width text rest n line (character + sum_by width (c ∷ cs))) (omega (arith, byte_len-cons c cs))
         (subst (λ n. IsCounted width text rest (offset + len_utf8 c + byte_len cs) line n) (omega (arith, wide)) last)
 
-    pub counted_past_stretch : (place : PassState) (s : Stretch) → IsPlace width text place → IsStretch width text place.offset s → IsCounted width text (drop s.end text) s.end place.line (place.character + s.units)
+    pub counted_past_stretch : (place : PassState) (s : Stretch) → IsPlace width text place → IsPieceOfLine width text place.offset s → IsCounted width text (drop s.end text) s.end place.line (place.character + s.units)
     unfolding piece
     counted_past_stretch place s h is =
         let passed = counted_past (chars (piece place.offset s is)) (drop s.end text) place.offset place.line place.character is.of_a_line.of_one (subst (λ r. IsCounted width text r place.offset place.line place.character) (split place.offset s is) h) in
-        subst (λ n. IsCounted width text (drop s.end text) n place.line (place.character + s.units)) (omega (arith, bytes place.offset s is, is.further))
+        subst (λ n. IsCounted width text (drop s.end text) n place.line (place.character + s.units)) (omega (arith, bytes place.offset s is, is.ordered))
         (subst (λ n. IsCounted width text (drop s.end text) (place.offset + byte_len (chars (piece place.offset s is))) place.line (place.character + n)) is.of_a_line.counted passed)
 
 -- a stretch has at most as many units as bytes
@@ -89,6 +89,6 @@ module _ (width : ℕ → ℕ) (narrow : (c : ℕ) → width c ≤ len_utf8 c) w
   few_units [] = omega arith
   few_units (c ∷ cs) = omega (arith, narrow c, few_units cs, sum_by-cons width c cs, byte_len-cons c cs)
 
-  pub units_fit : (text : List ℕ) (from : ℕ) (s : Stretch) → IsStretch width text from s → s.units ≤ s.end - from
+  pub units_fit : (text : List ℕ) (from : ℕ) (s : Stretch) → IsPieceOfLine width text from s → s.units ≤ s.end - from
   unfolding piece
   units_fit text from s is = omega (arith, few_units (chars (piece width text from s is)), bytes width text from s is, is.of_a_line.counted)

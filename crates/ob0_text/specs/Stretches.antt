@@ -21,6 +21,13 @@ pub record AreOfALine (width : ℕ → ℕ) (cs : List ℕ) (units : ℕ) : Type
   pub of_one : All EndsNoLine cs
   pub counted : sum_by width cs ≡ units
 
+-- from an offset of a text on are characters of a line, or none
+pub record IsPieceOfLine (width : ℕ → ℕ) (text : List ℕ) (from : ℕ) (s : Stretch) : Type 0 where
+  pub ordered : from ≤ s.end
+  pub inside : s.end ≤ length text
+  pub whole : IsUtf8 (take (s.end - from) (drop from text))
+  pub of_a_line : AreOfALine width (chars (take (s.end - from) (drop from text))) s.units
+
 -- after an offset of a text are characters of a line
 pub record IsStretch (width : ℕ → ℕ) (text : List ℕ) (from : ℕ) (s : Stretch) : Type 0 where
   pub further : from < s.end

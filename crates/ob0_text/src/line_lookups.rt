@@ -19,7 +19,9 @@ ghost use Rattle.ob0_text.specs.Units.{width_of};
 ghost use Rattle.ob0_text.specs.Places.{IsPlace, IsPlaceBefore};
 ghost use Rattle.ob0_text.specs.declared.position_types.Unit.{Unit};
 ghost use Rattle.ob0_text.specs.LineStarts.{HasLines, with_ending};
+ghost use Rattle.ob0_text.specs.Stretches.{IsPieceOfLine};
 
+use crate::counted_pieces::{CountedPiece, counted_to};
 use crate::line_table::LineTable;
 use crate::passes::{PassState, START, is_from, onward_to_offset, onward_to_position, position_at};
 use crate::position_types::{Position, Range, Unit};
@@ -36,20 +38,92 @@ pub fn offset_in(text: &str, table: &LineTable, unit: Unit, position: Position) 
     place_in(text, table, unit, position).offset
 }
 
-/// Where a range starts and ends, in bytes. Where it ends in the line in which it starts, the end is looked for from
-/// the start on.
-pub fn bounds_in(text: &str, table: &LineTable, unit: Unit, range: Range) -> (usize, usize)
-    requires { HasLines text.now table.now }
-    ensures start { result.0 ≡ offset_of (width_of unit) (chars text.now) range.start }
-    ensures end { result.1 ≡ offset_of (width_of unit) (chars text.now) range.end }
+/// Where a range starts and ends, in bytes, and what was counted of the line in which it starts.
+#[derive(Clone, Copy, Drop)]
+pub struct Bounds {
+    pub start: usize,
+    pub end: usize,
+    pub counted: CountedPiece,
+}
+
+/// Where a range starts and ends, in bytes. The start is looked for from what was counted last; where the range ends in
+/// the line in which it starts, the end is looked for from the start on.
+pub fn bounds_in(
+    text: &str,
+    table: &LineTable,
+    unit: Unit,
+    last: CountedPiece,
+    range: Range,
+) -> Bounds
+    requires lines { HasLines text.now table.now }
+    requires last { IsPieceOfLine (width_of unit) text.now last.start last.counted }
+    ensures start { result.start ≡ offset_of (width_of unit) (chars text.now) range.start }
+    ensures end { result.end ≡ offset_of (width_of unit) (chars text.now) range.end }
+    ensures counted { IsPieceOfLine (width_of unit) text.now result.counted.start
+        result.counted.counted }
 {
-    let start = place_in(text, table, unit, range.start);
+    let counted = counted_before(text, table, unit, last, range.start);
+    let start = place_after_counted(text, table, unit, counted, range.start);
     let end = if range.start.line == range.end.line && is_from(range.start, range.end) {
         onward_to_position(text, unit, start, range.end)
     } else {
         place_in(text, table, unit, range.end)
     };
-    (start.offset, end.offset)
+    Bounds {
+        start: start.offset,
+        end: end.offset,
+        counted,
+    }
+}
+
+/// What is counted of a position's line: nearly all before it, from what was counted last.
+fn counted_before(
+    text: &str,
+    table: &LineTable,
+    unit: Unit,
+    last: CountedPiece,
+    position: Position,
+) -> CountedPiece
+    requires lines { HasLines text.now table.now }
+    requires last { IsPieceOfLine (width_of unit) text.now last.start last.counted }
+    ensures { IsPieceOfLine (width_of unit) text.now result.start result.counted }
+{
+    let start = line_place(table, position.line);
+    if start.offset > text.len() {
+        return last;
+    }
+    CountedPiece {
+        start: start.offset,
+        counted: counted_to(text, unit, start.offset, last, position.character),
+    }
+}
+
+/// The place of a position, from what was counted of its line on.
+fn place_after_counted(
+    text: &str,
+    table: &LineTable,
+    unit: Unit,
+    counted: CountedPiece,
+    position: Position,
+) -> PassState
+    requires lines { HasLines text.now table.now }
+    requires counted { IsPieceOfLine (width_of unit) text.now counted.start counted.counted }
+    ensures place { IsPlaceBefore (width_of unit) text.now position result }
+    ensures offset { result.offset ≡ offset_of (width_of unit) (chars text.now) position }
+{
+    let start = line_place(table, position.line);
+    if start.line != position.line
+        || start.offset != counted.start
+        || counted.counted.units > position.character
+    {
+        return place_in(text, table, unit, position);
+    }
+    let near = PassState {
+        offset: counted.counted.end,
+        line: start.line,
+        character: counted.counted.units,
+    };
+    onward_to_position(text, unit, near, position)
 }
 
 /// The place of a position: the line is looked up, and its characters are counted.

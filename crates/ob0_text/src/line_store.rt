@@ -11,6 +11,7 @@ ghost use Rattle.ob0_text.specs.Texts.{lines, offset_of};
 ghost use Rattle.ob0_text.specs.Units.{width_of};
 ghost use Rattle.ob0_text.specs.LineStarts.{with_ending};
 
+use crate::counted_pieces::{CountedPiece, nothing_counted};
 use crate::line_lookups::{bounds_in, line_in, offset_in, offsets_in, position_in, positions_in};
 use crate::line_table::LineTable;
 use crate::position_types::{Position, Range, Unit};
@@ -19,18 +20,21 @@ use crate::stores::TextStore;
 use std::alloc::{AllocError, Global};
 use std::marker::Model;
 
-/// A text with the table of its lines. A look-up costs what its line does.
+/// A text with the table of its lines. A look-up costs what its line does; a change costs what lies between it and the
+/// one before, where both are in one line.
 #[derive(Drop)]
 pub struct Lines {
     text: String,
     table: LineTable,
     unit: Unit,
+    counted: CountedPiece,
 }
 
 impl Model for Lines {
     ghost use Rattle.std.specs.Prelude.{string_bytes};
     ghost use Rattle.std.specs.Str.{chars};
-    ghost use Rattle.ob0_text.specs.LineStarts.{HasLines, TextInUnit, text_code};
+    ghost use Rattle.ob0_text.specs.CountedLines.{AreLinesOf};
+    ghost use Rattle.ob0_text.specs.LineStarts.{TextInUnit, text_code};
 
     ghost Value = { TextInUnit };
 
@@ -38,7 +42,8 @@ impl Model for Lines {
 
     ghost view = { λ lines. record { text = chars (string_bytes lines.text); unit = lines.unit } };
 
-    ghost invariant = { λ lines. HasLines (string_bytes lines.text) lines.table };
+    ghost invariant = { λ lines. AreLinesOf (string_bytes lines.text) lines.unit lines.table
+        lines.counted };
 }
 
 impl Lines {
@@ -48,14 +53,6 @@ impl Lines {
             ≡ option_map with_ending (slice_get (lines self.now.text) k) }
     {
         line_in(self.text.as_str(), &self.table, k)
-    }
-
-    /// Where a range starts and ends, in bytes.
-    fn bounds(&self, range: Range) -> (usize, usize)
-        ensures start { result.0 ≡ offset_of (width_of self.now.unit) self.now.text range.start }
-        ensures end { result.1 ≡ offset_of (width_of self.now.unit) self.now.text range.end }
-    {
-        bounds_in(self.text.as_str(), &self.table, self.unit, range)
     }
 }
 
@@ -67,7 +64,12 @@ impl TextStore for Lines {
     fn from_str_in(alloc: Global, text: &str, unit: Unit) -> Result<Lines, AllocError> {
         let table = LineTable::of(alloc, text)?;
         let text = String::from_str(alloc, text)?;
-        Ok(Lines { text, table, unit })
+        Ok(Lines {
+            text,
+            table,
+            unit,
+            counted: nothing_counted(),
+        })
     }
 
     fn unit(&self) -> Unit {
@@ -95,9 +97,16 @@ impl TextStore for Lines {
     }
 
     fn replace_at(&mut self, range: Range, text: &str) -> Result<ReplacedBytes, AllocError> {
-        let (start, end) = self.bounds(range);
-        let (from, to) = (start.min(end), start.max(end));
+        let found = bounds_in(
+            self.text.as_str(),
+            &self.table,
+            self.unit,
+            self.counted,
+            range,
+        );
+        let (from, to) = (found.start.min(found.end), found.start.max(found.end));
         self.table.replace(&mut self.text, from, to, text)?;
+        self.counted = found.counted.up_to(from);
         Ok(ReplacedBytes {
             from,
             removed: to - from,

@@ -1,4 +1,10 @@
 //! Where a text was changed, in bytes.
+//!
+//! Before and after the bytes around all changes of a notification the text is as it was, byte by byte (`Covers`,
+//! `IsChangedAt`), which is what `IsReplaced` of `ob0_scan` requires. `replace_at` of a store returns those of one change,
+//! and two are joined by `around`: what lies after both is after the later end, in the text between the two. A change of
+//! the whole text replaces all bytes. Wider bytes than necessary meet the contract: that they are few is for cost alone.
+//! Where the text wasn't known nothing is returned, since there is no text that stayed.
 
 ghost use Rattle.std.specs.Prelude.{◌≡◌, ℕ, List, Option, is_some};
 ghost use Rattle.ob0_text.specs.ChangedBytes.{Covers, IsChangedAt};

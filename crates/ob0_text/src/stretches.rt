@@ -22,7 +22,7 @@ pub struct Stretch {
 }
 
 /// How many bytes are looked at together.
-const BYTES: usize = 64;
+pub(crate) const BYTES: usize = 64;
 
 /// The stretch after an offset that takes the next bytes, where these are at most `room`, and none of them ends a line.
 pub fn next_stretch(text: &str, unit: Unit, from: usize, room: u64) -> Option<Stretch>
@@ -42,7 +42,7 @@ pub fn next_stretch(text: &str, unit: Unit, from: usize, room: u64) -> Option<St
 }
 
 /// How many units the characters of a piece have, where none of them ends a line.
-fn units_of(piece: &str, unit: Unit) -> Option<u64>
+pub(crate) fn units_of(piece: &str, unit: Unit) -> Option<u64>
     requires { length piece.now ≤ 64 }
     ensures { IfSome result (λ units. AreOfALine (width_of unit) (chars piece.now) units) }
 {

@@ -2,6 +2,7 @@ use Rattle.std.proofs.Common.{arith}
 use Rattle.ob0_text.specs.Units.{width_of}
 use Rattle.ob0_text.proofs.Widths.{narrow}
 use Rattle.ob0_text.proofs.PositionSteps.{rest_border}
+use Rattle.ob0_text.proofs.CountedPieces.{as_piece}
 use Rattle.ob0_text.proofs.StretchSteps.{counted_past_stretch}
 use Rattle.ob0_text.proofs.passes.past_stretches_to.Goals as goal
 
@@ -10,11 +11,11 @@ next_stretch-requires c = rest_border c.args.text.now _ c.loop-stretch.place.off
 
 pub overflow_add-place : goal.overflow_add-place
 overflow_add-place c =
-    let after = counted_past_stretch (width_of c.args.unit) c.args.text.now (narrow c.args.unit) c.loop-stretch.place c.in-Some.stretch c.loop-stretch.invariant.place c.in-Some.ensures.is in
+    let after = counted_past_stretch (width_of c.args.unit) c.args.text.now (narrow c.args.unit) c.loop-stretch.place c.in-Some.stretch c.loop-stretch.invariant.place (as_piece (width_of c.args.unit) c.args.text.now c.loop-stretch.place.offset c.in-Some.stretch c.in-Some.ensures.is) in
     omega (arith, after.characters_fit)
 
 pub loop-stretch-preserved : goal.loop-stretch-preserved
 loop-stretch-preserved c = record {
-  place = counted_past_stretch (width_of c.args.unit) c.args.text.now (narrow c.args.unit) c.loop-stretch.place c.in-Some.stretch c.loop-stretch.invariant.place c.in-Some.ensures.is;
+  place = counted_past_stretch (width_of c.args.unit) c.args.text.now (narrow c.args.unit) c.loop-stretch.place c.in-Some.stretch c.loop-stretch.invariant.place (as_piece (width_of c.args.unit) c.args.text.now c.loop-stretch.place.offset c.in-Some.stretch c.in-Some.ensures.is);
   within = omega (arith, c.in-Some.ensures.fits, c.loop-stretch.invariant.within);
 }

@@ -1,0 +1,17 @@
+-- What a changed text has that was scanned again in place of the tokens before.
+-- Rule: none; for contracts of `rescan_in_place`.
+use Rattle.std.specs.Prelude.{◌≡◌, ℕ, List, true}
+use Rattle.ob0_scan.specs.declared.tokens.RescanInPlace.{RescanInPlace}
+use Rattle.ob0_scan.specs.Scanned.{Scanned, IsScanOf}
+use Rattle.ob0_scan.specs.Reused.{Reuses, kinds, names_in}
+use Rattle.ob0_scan.specs.SameKinds.{HasSameTokens}
+
+-- the scan of the new text, of which is said what the old one had
+pub record IsRescanOf (old : Scanned) (new : List ℕ) (from removed added : ℕ) (r : RescanInPlace)
+    : Type 0 where
+  pub scan : IsScanOf new r.rescan.tokens
+  pub reused : Reuses old r.rescan.tokens from removed added r.rescan.read
+  pub alike : r.alike ≡ true → kinds r.rescan.tokens.tokens ≡ kinds old.tokens
+  pub same_names : r.same_names ≡ true
+      → names_in r.rescan.tokens.text r.rescan.tokens.tokens ≡ names_in old.text old.tokens
+  pub same : HasSameTokens r.same old.tokens r.rescan.tokens.tokens

@@ -1,0 +1,92 @@
+-- Pieces of a line that are cut and joined.
+use Rattle.std.proofs.Common.{◌≡◌, ℕ, ◌+◌, ◌-◌, ◌≤◌, ◌++◌, List, [], length, take, drop, sym, ap, ◌∙◌, subst, arith, drop-drop, length-append, length-take-le, take-append-drop}
+use Rattle.std.specs.List.{All}
+use Rattle.std.specs.Str.{IsUtf8, chars}
+use Rattle.std.proofs.Math.Seq.{take-add, take-append_seam}
+use Rattle.std.proofs.lemmas.List.{take-append-le, drop-take}
+use Rattle.std.proofs.lemmas.List.Elements.{All-nil, All-append, All-take}
+use Rattle.std.proofs.lemmas.List.Sums.{sum_by-append}
+use Rattle.std.proofs.lemmas.Str.{chars-append, chars-nil, IsUtf8-append, IsUtf8-nil}
+use Rattle.ob0_text.specs.declared.stretches.Stretch.{Stretch}
+use Rattle.ob0_text.specs.Stretches.{EndsNoLine, AreOfALine, IsPieceOfLine, IsStretch}
+
+-- the bytes from one place up to another
+abbrev pub cut : List ℕ → ℕ → ℕ → List ℕ
+cut text from to = take (to - from) (drop from text)
+
+joined_cut : (text : List ℕ) (from middle to : ℕ) → from ≤ middle → middle ≤ to → cut text from to ≡ cut text from middle ++ cut text middle to
+joined_cut text from middle to low high =
+    let n : ℕ = middle - from in
+    let m : ℕ = to - middle in
+    let whole : to - from ≡ n + m = omega (arith, low, high) in
+    let here : from + n ≡ middle = omega (arith, low) in
+    ap (λ k. take k (drop from text)) whole ∙ take-add n m (drop from text)
+    ∙ ap (λ t. take n (drop from text) ++ take m t) (drop-drop n from text ∙ ap (λ k. drop k text) here)
+
+pub as_piece : (width : ℕ → ℕ) (text : List ℕ) (from : ℕ) (s : Stretch) → IsStretch width text from s → IsPieceOfLine width text from s
+as_piece width text from s is = record { ordered = omega (arith, is.further); inside = is.inside; whole = is.whole; of_a_line = is.of_a_line }
+
+pub empty_piece : (width : ℕ → ℕ) (text : List ℕ) (start : ℕ) (s : Stretch) → start ≤ length text → s.end ≡ start → s.units ≡ 0 → IsPieceOfLine width text start s
+empty_piece width text start s inside here none =
+    let none_long : s.end - start ≡ 0 = omega (arith, here) in
+    let nothing : cut text start s.end ≡ [] = ap (λ n. take n (drop start text)) none_long in
+    record {
+      ordered = omega (arith, here);
+      inside = omega (arith, here, inside);
+      whole = subst IsUtf8 (sym nothing) IsUtf8-nil;
+      of_a_line = subst (λ t. AreOfALine width (chars t) s.units) (sym nothing)
+          (subst (λ t. AreOfALine width t s.units) (sym chars-nil) (record { of_one = All-nil EndsNoLine; counted = sym none }));
+    }
+
+pub piece_joined : (width : ℕ → ℕ) (text : List ℕ) (start : ℕ) (s next whole : Stretch) → IsPieceOfLine width text start s → IsStretch width text s.end next → whole.end ≡ next.end → whole.units ≡ s.units + next.units → IsPieceOfLine width text start whole
+piece_joined width text start s next whole is more end units =
+    let parts : cut text start whole.end ≡ cut text start s.end ++ cut text s.end next.end = ap (cut text start) end ∙ joined_cut text start s.end next.end is.ordered (omega (arith, more.further)) in
+    let both = chars-append (cut text start s.end) (cut text s.end next.end) is.whole in
+    record {
+      ordered = omega (arith, is.ordered, more.further, end);
+      inside = omega (arith, more.inside, end);
+      whole = subst IsUtf8 (sym parts) (IsUtf8-append (cut text start s.end) (cut text s.end next.end) is.whole more.whole);
+      of_a_line = subst (λ t. AreOfALine width (chars t) whole.units) (sym parts)
+          (subst (λ t. AreOfALine width t whole.units) (sym both) (record {
+            of_one = All-append EndsNoLine (chars (cut text start s.end)) (chars (cut text s.end next.end)) is.of_a_line.of_one more.of_a_line.of_one;
+            counted = omega (arith, sum_by-append width (chars (cut text start s.end)) (chars (cut text s.end next.end)), is.of_a_line.counted, more.of_a_line.counted, units);
+          }));
+    }
+
+pub piece_cut : (width : ℕ → ℕ) (text : List ℕ) (start : ℕ) (s less : Stretch) (last : ℕ) → IsPieceOfLine width text start s → start ≤ less.end → less.end ≤ s.end → IsUtf8 (cut text start less.end) → AreOfALine width (chars (cut text less.end s.end)) last → less.units ≡ s.units - last → IsPieceOfLine width text start less
+piece_cut width text start s less last is low high whole gone units =
+    let parts = joined_cut text start less.end s.end low high in
+    let front = chars (cut text start less.end) in
+    let back = chars (cut text less.end s.end) in
+    let both : chars (cut text start s.end) ≡ front ++ back = ap chars parts ∙ chars-append (cut text start less.end) (cut text less.end s.end) whole in
+    let all : AreOfALine width (front ++ back) s.units = subst (λ t. AreOfALine width t s.units) both is.of_a_line in
+    record {
+      ordered = low;
+      inside = omega (arith, high, is.inside);
+      whole = whole;
+      of_a_line = record {
+        of_one = subst (All EndsNoLine) (take-append_seam front back) (All-take EndsNoLine (length front) (front ++ back) all.of_one);
+        counted = omega (arith, sum_by-append width front back, all.counted, gone.counted, units);
+      };
+    }
+
+shorter : (n m : ℕ) (xs : List ℕ) → n ≤ m → m ≤ length xs → take n (take m xs) ≡ take n xs
+shorter n m xs less hx = sym (take-append-le n (take m xs) (drop m xs) (omega (arith, length-take-le m xs hx, less))) ∙ ap (take n) (take-append-drop m xs)
+
+-- what lies before an offset at which the text is changed stays
+pub piece_stays : (width : ℕ → ℕ) (text rest : List ℕ) (start offset : ℕ) (s : Stretch) → IsPieceOfLine width text start s → s.end ≤ offset → offset ≤ length text → IsPieceOfLine width (take offset text ++ rest) start s
+piece_stays width text rest start offset s is before inside =
+    let new = take offset text ++ rest in
+    let n : ℕ = s.end - start in
+    let here : start + n ≡ s.end = omega (arith, is.ordered) in
+    let long : length (take offset text) ≡ offset = length-take-le offset text inside in
+    let up_to : take s.end new ≡ take s.end text =
+    take-append-le s.end (take offset text) rest (omega (arith, long, before)) ∙ shorter s.end offset text before inside in
+    let same : cut new start s.end ≡ cut text start s.end =
+    sym (drop-take start n new) ∙ ap (λ k. drop start (take k new)) here ∙ ap (drop start) up_to ∙ ap (λ k. drop start (take k text)) (sym here) ∙ drop-take start n text in
+    record {
+      ordered = is.ordered;
+      inside = omega (arith, long, before, length-append (take offset text) rest);
+      whole = subst IsUtf8 (sym same) is.whole;
+      of_a_line = subst (λ t. AreOfALine width (chars t) s.units) (sym same) is.of_a_line;
+    }
