@@ -24,6 +24,9 @@ PIECES = [
     *["PROCEDURE", "PROCEDURE P;", "END P;", "CONST c = 1;"],
 ]
 
+# What is put between two lexemes, or before the first: after it each is written as before.
+BLANKS = [" ", "  ", "\n", "\t", "(* x *)", " (* é *)\n"]
+
 BORDERS = {"PROCEDURE", "BEGIN", "END"}  # words at which a procedure begins or ends, or its statements do
 
 
@@ -62,6 +65,15 @@ def at_random(text: str, chance: random.Random) -> tuple[int, int]:
     return lexeme.start(), later.end()
 
 
+def blank_at(text: str, chance: random.Random) -> tuple[int, int, str]:
+    """A place at a border of lexemes, or the text's start, and a blank, a line end or a comment."""
+    found = list(LEXEME.finditer(text))
+    place = 0
+    if found and chance.random() < 0.9:
+        place = chance.choice(chance.choice(found).span())
+    return place, place, chance.choice(BLANKS)
+
+
 def replacement(text: str, chance: random.Random) -> str:
     """What is put in: nothing, a piece, or a lexeme or a part of the text."""
     way = chance.random()
@@ -96,8 +108,11 @@ class Edited:
         if self.undo and (self.chance.random() < 0.57 or len(self.text) > 6000):
             start, new, old = self.undo.pop()
             return self.put(start, start + len(new), old)
-        start, end = at_random(self.text, self.chance)
-        new = replacement(self.text, self.chance)
+        if self.chance.random() < 0.2:
+            start, end, new = blank_at(self.text, self.chance)
+        else:
+            start, end = at_random(self.text, self.chance)
+            new = replacement(self.text, self.chance)
         old = self.text[start:end]
         whole = self.text[:start] + new + self.text[end:]
         # (no position is between CR and LF, before the change or when it is taken back)

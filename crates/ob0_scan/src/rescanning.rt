@@ -6,7 +6,7 @@
 //! that ends before it (one that ends right at it may go on with what was put in); after it, moved by `added` less
 //! `removed`, each from the first place on that the two texts have in common as a beginning. That place can't be chosen
 //! later than it has to be (`IsNew`). `alike` says that the tokens are of the kinds that they were, `same_names` that
-//! the identifiers are written as they were.
+//! the identifiers are written as they were, `same_words` that all tokens are.
 //!
 //! The tokens and comments before the change are found by halving (`Pieces::ending_before`), and a scanner goes on after
 //! the last of them (white space isn't kept, so it is read again). Before each step after the change it tests whether
