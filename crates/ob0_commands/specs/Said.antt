@@ -4,9 +4,6 @@ use Rattle.std.specs.Prelude.{◌≡◌, ◌++◌, ℕ, List, Option, Some, None
 use Rattle.std.specs.Io.KnownBytes.{Appends}
 use Rattle.ob0_text.specs.RefusalTexts.{refusal_text}
 use Rattle.ob0_text.specs.declared.refusals.EditRefusal.{EditRefusal}
-use Rattle.ob0_commands.specs.Printed.{fault_line}
-use Rattle.ob0_commands.specs.Statuses.{status_of}
-use Rattle.ob0_commands.specs.declared.faults.FileFault.{FileFault}
 
 -- nothing is printed, or a line is printed and flushed, unless the output has failed
 abbrev pub Says : {E : Type 0}
@@ -23,11 +20,3 @@ Says contents is_flushed has_failed before after (Some line) =
 -- the line that names a refusal
 abbrev pub refused_line : EditRefusal → List ℕ
 refused_line refusal = codes "refused: " ++ (refusal_text refusal ++ codes "\n")
-
--- a fault for which a command ends with this status is named
-pub record NamesFault (status : ℕ) (Stops : FileFault → Type 0)
-    (Said : Option (List ℕ) → Type 0) : Type 0 where
-  pub why : FileFault
-  pub stops : Stops why
-  pub is : status ≡ status_of why
-  pub said : Said (Some (fault_line why))
