@@ -617,15 +617,15 @@ def changed_at_both_ends() -> None:
 
 
 @measure("serve: a replace-all in one long line in one note, beside half of the changes and half of the line")
-def replaced_in_one_line():
+def replaced_in_one_line() -> None:
     """Each place is counted from the one before it, in either order."""
 
-    def cost(changes, statements, turned):
+    def cost(changes: int, statements: int, turned: bool) -> Cost:
         text = "MODULE M; VAR x: INTEGER; BEGIN\n" + "x:=x+1;" * statements + "\nEND M.\n"
         places = [7 * at for at in range(changes)][:: -1 if turned else 1]
         replaced = [{"range": extent(f"1:{at}-1:{at + 1}"), "text": "x"} for at in places]
-        talk = lambda more: frames([initialize(), did_open(text), *more, SHUTDOWN, EXIT])
-        found, opening = (best(3, lambda more=more: Timed([BINARY, "serve"], talk(more))) for more in ([did_change(replaced, version=2)], []))
+        start = [initialize(), did_open(text)]
+        found, opening = conversed([*start, did_change(replaced, version=2)]), conversed(start)
         return max(found.processor - opening.processor, 1e-4), found.memory
 
     halves("changes from the first on, and the line", lambda changes, size: cost(changes, size, False), 64_000, 128_000)
