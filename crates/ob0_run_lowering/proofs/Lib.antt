@@ -1,3 +1,5 @@
+pub mod KnownOffsets
+pub mod PartsFound
 pub mod CodesMean
 pub mod TreesMean
 pub mod LaidOut

@@ -1,6 +1,6 @@
 -- The code of values by their types: of what is at a place, of an operation on two, of a part.
 -- Rule: none; for contracts of lowering.
-use Rattle.std.specs.Prelude.{◌≡◌, ℕ, Some, None, Option, option_map}
+use Rattle.std.specs.Prelude.{◌≡◌, ℕ, ◌*◌, ◌%◌, ◌^◌, pos, negsuc, Some, None, Option, option_map, if◌then◌else◌, nat_lt}
 use Rattle.ob0_tree.specs.declared.tree.Relation.{Relation}
 use Rattle.ob0_tree.specs.declared.tree.Relation.TheVariants as relation
 use Rattle.ob0_tree.specs.declared.tree.Sign.{Sign}
@@ -13,6 +13,7 @@ use Rattle.ob0_language_names.specs.Names.{Label, Name}
 use Rattle.ob0_language_types.specs.Typing.{field_type}
 use Rattle.ob0_language_types.specs.WellTyped.{Typed}
 use Rattle.ob0_language_values.specs.Values.{Shape, Value, array_shape, at_field, boolean_shape, elements, integer_shape, members, number, record_shape, truth}
+use Rattle.ob0_run_machine.specs.Evaluation as machine
 use Rattle.ob0_run_machine.specs.Lowered as lowered
 use Rattle.ob0_run_cells.specs.Cells.{size, step_offset}
 use Rattle.ob0_run_cells.specs.Lowering.{Evaluated, NumberMeans, Slot, TruthMeans, ValueAt, relation_of}
@@ -111,17 +112,62 @@ related relation.Equal (a_truth t) (a_truth u) = a_truth (lowered.same t u)
 related relation.NotEqual (a_truth t) (a_truth u) = a_truth (lowered.different t u)
 related _ _ _ = no_code
 
--- a field is a part at its offset
+-- a part at an offset of an element of the array at a place: where the array's own place has an
+-- offset, it is the element of a part
+abbrev pub part_of_element : lowered.Place → lowered.Number → (length stride offset : ℕ)
+    → lowered.Place
+part_of_element (lowered.in_module at) i n s k =
+    lowered.element (lowered.in_module (machine.forward at k)) i n s
+part_of_element (lowered.here at) i n s k =
+    lowered.element (lowered.here (machine.forward at k)) i n s
+part_of_element (lowered.outside up at) i n s k =
+    lowered.element (lowered.outside up (machine.forward at k)) i n s
+part_of_element (lowered.part q at) i n s k =
+    lowered.element (lowered.part q (machine.forward at k)) i n s
+part_of_element (lowered.passed up index) i n s k =
+    lowered.part (lowered.element (lowered.passed up index) i n s) k
+part_of_element (lowered.element q j m t) i n s k =
+    lowered.part (lowered.element (lowered.element q j m t) i n s) k
+
+-- a part at an offset of what is at a place: offsets are added up
+abbrev pub part_at : lowered.Place → ℕ → lowered.Place
+part_at (lowered.in_module at) k = lowered.in_module (machine.forward at k)
+part_at (lowered.here at) k = lowered.here (machine.forward at k)
+part_at (lowered.outside up at) k = lowered.outside up (machine.forward at k)
+part_at (lowered.part q at) k = lowered.part q (machine.forward at k)
+part_at (lowered.passed up index) k = lowered.part (lowered.passed up index) k
+part_at (lowered.element q i n s) k = part_of_element q i n s k
+
+-- where an element at a literal index begins in its array, if the index is there
+abbrev pub known_offset : lowered.Number → (length stride : ℕ) → Option ℕ
+known_offset (lowered.literal (pos i)) n s =
+    if nat_lt i n then Some ((i * s) % 2 ^ 64) else None
+known_offset (lowered.literal (negsuc i)) n s = None
+known_offset (lowered.cell q) n s = None
+known_offset (lowered.negative m) n s = None
+known_offset (lowered.operation o l m) n s = None
+
+-- an element that begins at a known offset is a part of its array
+abbrev pub element_from : Option ℕ → lowered.Place → lowered.Number → (length stride : ℕ)
+    → lowered.Place
+element_from None q i n s = lowered.element q i n s
+element_from (Some k) q i n s = part_at q k
+
+-- an element of the array at a place
+abbrev pub element_at_place : lowered.Place → lowered.Number → (length stride : ℕ) → lowered.Place
+element_at_place q i n s = element_from (known_offset i n s) q i n s
+
+-- a field is the part at its offset
 abbrev pub field_found : Name → FoundPlace → Option FoundPlace
 field_found x f =
     option_map
-    (λ t. record { place = lowered.part f.place (step_offset f.shape (at_field x)); shape = t })
+    (λ t. record { place = part_at f.place (step_offset f.shape (at_field x)); shape = t })
     (field_type f.shape x)
 
 -- an element of an array: one of n, each with the cells of its type
 abbrev pub element_found : ExpressionCode → lowered.Place → Shape → Option FoundPlace
 element_found (a_number i) q (array_shape k n s) =
-    Some (record { place = lowered.element q i n (size s); shape = s })
+    Some (record { place = element_at_place q i n (size s); shape = s })
 element_found _ _ _ = None
 
 -- an element of the array that was found

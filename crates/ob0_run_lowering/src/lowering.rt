@@ -22,10 +22,10 @@ use crate::lowered::{Lowered, TypedPlace};
 use crate::operators::{
     lower_addend, lower_multiplier, lower_negation, lower_relation, lower_sign,
 };
-use crate::places::{content, element};
+use crate::places::{content, element, part};
 use crate::scene::Scene;
 use ob0_language_values::Scalar;
-use ob0_run_machine::code::{Number, Place, Truth};
+use ob0_run_machine::code::{Number, Truth};
 use ob0_tree::{
     Comparison, Compound, Designator, Expression, Factor, Selector, Simple, Term, text_at,
 };
@@ -145,7 +145,7 @@ impl<'s, 'k, 't> Scene<'s, 'k, 't> {
             None => Ok(None),
             Some(field) => {
                 let offset = self.types.offset(of, name);
-                let place = Place::Part(Box::new(alloc, place)?, offset);
+                let place = part(alloc, place, offset)?;
                 Ok(Some(TypedPlace { place, of: field }))
             }
         }

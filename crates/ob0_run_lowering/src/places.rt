@@ -1,10 +1,12 @@
 //! The code of places, and of what is at them, in the form that is evaluated in the fewest steps.
 
-ghost use Rattle.std.specs.Prelude.{◌≡◌, IfOk};
+ghost use Rattle.std.specs.Prelude.{◌≡◌, IfOk, length};
 ghost use Rattle.ob0_run_machine.specs.Lowered as machine;
-ghost use Rattle.ob0_run_machine.specs.View.{number_of, place_of, variable_of};
+ghost use Rattle.ob0_run_machine.specs.View.{chained_in, element_of, first_of, number_of, place_of, row_of, variable_of};
+ghost use Rattle.ob0_run_machine.specs.declared.code.Chain.{out-Chain};
+ghost use Rattle.ob0_run_lowering.specs.Codes.{element_at_place, known_offset, part_at};
 
-use ob0_run_machine::code::{Element, Number, Place, Row, Variable};
+use ob0_run_machine::code::{Chain, Element, FirstOperand, Number, Place, Row, Variable};
 use std::alloc::{AllocError, Global};
 
 /// The number that is stored at a place.
@@ -17,8 +19,227 @@ pub(crate) fn content(place: Place) -> Number
     }
 }
 
-/// An element of the array at a place.
+/// A part at an offset of what is at a place: where that has an offset itself, the two are added up.
+pub(crate) fn part(alloc: Global, whole: Place, offset: usize) -> Result<Place, AllocError>
+    ensures { IfOk result (λ p. place_of p ≡ part_at (place_of whole) offset) }
+{
+    match whole {
+        Place::Variable(variable) => part_of_variable(alloc, variable, offset),
+        Place::Outside(up, at) => Ok(Place::Outside(up, at.wrapping_add(offset))),
+        Place::Passed(up, index) => separate_part(alloc, Place::Passed(up, index), offset),
+        Place::Row(row) => part_of_row(alloc, *row, offset),
+        Place::Element(element) => part_of_element(alloc, Box::into_inner(element), offset),
+        Place::Part(place, at) => Ok(Place::Part(place, at.wrapping_add(offset))),
+    }
+}
+
+fn separate_part(alloc: Global, whole: Place, offset: usize) -> Result<Place, AllocError>
+    ensures { IfOk result (λ p. place_of p ≡ machine.part (place_of whole) offset) }
+{
+    Ok(Place::Part(Box::new(alloc, whole)?, offset))
+}
+
+fn part_of_variable(alloc: Global, variable: Variable, offset: usize) -> Result<Place, AllocError>
+    ensures { IfOk result (λ p. place_of p ≡ part_at (variable_of variable) offset) }
+{
+    match variable {
+        Variable::Module(at) => Ok(Place::Variable(Variable::Module(at.wrapping_add(offset)))),
+        Variable::Here(at) => Ok(Place::Variable(Variable::Here(at.wrapping_add(offset)))),
+        Variable::ByReference(index) => {
+            let whole = Place::Variable(Variable::ByReference(index));
+            separate_part(alloc, whole, offset)
+        }
+    }
+}
+
+/// A part of an element of an array that is a variable, at an index that is one.
+fn part_of_row(alloc: Global, row: Row, offset: usize) -> Result<Place, AllocError>
+    ensures { IfOk result (λ p. place_of p ≡ part_at (row_of row) offset) }
+{
+    let Row {
+        array,
+        index,
+        length,
+        stride,
+    } = row;
+    match array {
+        Variable::Module(at) => {
+            let array = Variable::Module(at.wrapping_add(offset));
+            row_in(alloc, array, index, length, stride)
+        }
+        Variable::Here(at) => {
+            let array = Variable::Here(at.wrapping_add(offset));
+            row_in(alloc, array, index, length, stride)
+        }
+        Variable::ByReference(reference) => {
+            let array = Variable::ByReference(reference);
+            let whole = row_in(alloc, array, index, length, stride)?;
+            separate_part(alloc, whole, offset)
+        }
+    }
+}
+
+fn row_in(
+    alloc: Global,
+    array: Variable,
+    index: Variable,
+    length: usize,
+    stride: usize,
+) -> Result<Place, AllocError>
+    ensures { IfOk result (λ p. place_of p ≡ machine.element (variable_of array)
+        (machine.cell (variable_of index)) length stride) }
+{
+    let row = Row {
+        array,
+        index,
+        length,
+        stride,
+    };
+    Ok(Place::Row(Box::new(alloc, row)?))
+}
+
+/// A part of an element.
+fn part_of_element(alloc: Global, element: Element, offset: usize) -> Result<Place, AllocError>
+    ensures { IfOk result (λ p. place_of p ≡ part_at (element_of element) offset) }
+{
+    let Element {
+        array,
+        index,
+        length,
+        stride,
+    } = element;
+    match array {
+        Place::Variable(array) => { part_in_variable(alloc, array, index, length, stride, offset) }
+        Place::Outside(up, at) => {
+            let array = Place::Outside(up, at.wrapping_add(offset));
+            any_element(alloc, array, index, length, stride)
+        }
+        Place::Part(whole, at) => {
+            let array = Place::Part(whole, at.wrapping_add(offset));
+            any_element(alloc, array, index, length, stride)
+        }
+        Place::Passed(up, reference) => {
+            let array = Place::Passed(up, reference);
+            let whole = any_element(alloc, array, index, length, stride)?;
+            separate_part(alloc, whole, offset)
+        }
+        Place::Row(row) => {
+            let whole = any_element(alloc, Place::Row(row), index, length, stride)?;
+            separate_part(alloc, whole, offset)
+        }
+        Place::Element(element) => {
+            let whole = any_element(alloc, Place::Element(element), index, length, stride)?;
+            separate_part(alloc, whole, offset)
+        }
+    }
+}
+
+/// A part of an element of an array that is a variable.
+fn part_in_variable(
+    alloc: Global,
+    array: Variable,
+    index: Number,
+    length: usize,
+    stride: usize,
+    offset: usize,
+) -> Result<Place, AllocError>
+    ensures { IfOk result (λ p. place_of p ≡ part_at
+        (machine.element (variable_of array) (number_of index) length stride) offset) }
+{
+    match array {
+        Variable::Module(at) => {
+            let array = Place::Variable(Variable::Module(at.wrapping_add(offset)));
+            any_element(alloc, array, index, length, stride)
+        }
+        Variable::Here(at) => {
+            let array = Place::Variable(Variable::Here(at.wrapping_add(offset)));
+            any_element(alloc, array, index, length, stride)
+        }
+        Variable::ByReference(reference) => {
+            let array = Place::Variable(Variable::ByReference(reference));
+            let whole = any_element(alloc, array, index, length, stride)?;
+            separate_part(alloc, whole, offset)
+        }
+    }
+}
+
+/// Where the element at a literal index begins in its array, if it is there.
+fn literal_offset(index: i32, length: usize, stride: usize) -> Option<usize>
+    ensures { result ≡ known_offset (machine.literal index) length stride }
+{
+    if index < 0 {
+        return None;
+    }
+    let index = index as usize;
+    if index < length {
+        Some(index.wrapping_mul(stride))
+    } else {
+        None
+    }
+}
+
+fn first_offset(first: &FirstOperand, length: usize, stride: usize) -> Option<usize>
+    ensures { result ≡ known_offset (first_of first.now) length stride }
+{
+    match first {
+        FirstOperand::Literal(index) => literal_offset(*index, length, stride),
+        FirstOperand::Variable(_variable) => None,
+        FirstOperand::Cell(_place) => None,
+        FirstOperand::Negative(_number) => None,
+    }
+}
+
+/// How many operations are in a row.
+fn count_links(chain: &Chain) -> usize
+    ensures { result ≡ length (out-Chain chain.now).rest.items }
+{
+    chain.rest.len()
+}
+
+/// The same by a row of operations, which is a literal where it has none.
+fn chain_offset(chain: &Chain, length: usize, stride: usize) -> Option<usize>
+    ensures { result ≡ known_offset (chained_in chain.now) length stride }
+{
+    let count = count_links(chain);
+    if count == 0 {
+        return first_offset(&chain.first, length, stride);
+    }
+    None
+}
+
+/// Where an element begins in its array, where its index is a literal and it is there.
+fn known_offset(index: &Number, length: usize, stride: usize) -> Option<usize>
+    ensures { result ≡ known_offset (number_of index.now) length stride }
+{
+    match index {
+        Number::Literal(index) => literal_offset(*index, length, stride),
+        Number::Variable(_variable) => None,
+        Number::Cell(_place) => None,
+        Number::Negative(_number) => None,
+        Number::Operation(_operation) => None,
+        Number::Chain(chain) => chain_offset(chain, length, stride),
+    }
+}
+
+/// An element of the array at a place: at a literal index it is a part of the array.
 pub(crate) fn element(
+    alloc: Global,
+    array: Place,
+    index: Number,
+    length: usize,
+    stride: usize,
+) -> Result<Place, AllocError>
+    ensures { IfOk result (λ p. place_of p
+        ≡ element_at_place (place_of array) (number_of index) length stride) }
+{
+    match known_offset(&index, length, stride) {
+        Some(offset) => part(alloc, array, offset),
+        None => computed_element(alloc, array, index, length, stride),
+    }
+}
+
+/// An element at an index that is found in the run.
+fn computed_element(
     alloc: Global,
     array: Place,
     index: Number,

@@ -1,0 +1,35 @@
+-- A number that is an operation, or a row of them, is no literal.
+use Rattle.std.proofs.Common.{◌≡◌, ◌≢◌, ℕ, List, [], ◌∷◌, length, None, refl}
+use Rattle.ob0_run_machine.specs.declared.code.Link.{Link}
+use Rattle.ob0_run_machine.specs.declared.code.Link as link
+use Rattle.ob0_run_machine.specs.Lowered as machine
+use Rattle.ob0_run_machine.specs.View.{applied, chained_from}
+use Rattle.ob0_run_lowering.specs.Codes.{known_offset}
+
+pub applied-unknown : (l : Link) (left : machine.Number) (k s : ℕ) → known_offset (applied l left) k s ≡ None
+applied-unknown (link.SumLiteral n) left k s = refl
+applied-unknown (link.SumVariable v) left k s = refl
+applied-unknown (link.DifferenceLiteral n) left k s = refl
+applied-unknown (link.DifferenceVariable v) left k s = refl
+applied-unknown (link.ProductLiteral n) left k s = refl
+applied-unknown (link.ProductVariable v) left k s = refl
+applied-unknown (link.QuotientLiteral n) left k s = refl
+applied-unknown (link.QuotientVariable v) left k s = refl
+applied-unknown (link.RemainderLiteral n) left k s = refl
+applied-unknown (link.RemainderVariable v) left k s = refl
+applied-unknown (link.VariableSum v) left k s = refl
+applied-unknown (link.VariableDifference v) left k s = refl
+applied-unknown (link.VariableProduct v) left k s = refl
+applied-unknown (link.Other o n) left k s = refl
+
+from-unknown : (left : machine.Number) (l : Link) (ls : List Link) (k s : ℕ) → known_offset (chained_from left (l ∷ ls)) k s ≡ None
+from-unknown left l [] k s = applied-unknown l left k s
+from-unknown left l (m ∷ ls) k s = from-unknown (applied l left) m ls k s
+
+pub chain-unknown : (left : machine.Number) (ls : List Link) (k s : ℕ) → length ls ≢ 0 → known_offset (chained_from left ls) k s ≡ None
+chain-unknown left [] k s h = absurd (h refl)
+chain-unknown left (l ∷ ls) k s h = from-unknown left l ls k s
+
+pub first-alone : (left : machine.Number) (ls : List Link) (k s : ℕ) → length ls ≡ 0 → known_offset (chained_from left ls) k s ≡ known_offset left k s
+first-alone left [] k s h = refl
+first-alone left (l ∷ ls) k s h = absurd (cc)
