@@ -4,7 +4,7 @@ use Rattle.std.proofs.Math.Nat.{add_comm, add-mod-mod, add_assoc, mod-add-mod}
 use Rattle.ob0_tree.specs.Tree.{Tree, items, selector}
 use Rattle.ob0_language_names.specs.Names.{Label}
 use Rattle.ob0_language_types.specs.WellTyped.{Typed}
-use Rattle.ob0_language_values.specs.Values.{Shape}
+use Rattle.ob0_language_values.specs.Values.{Place, Shape}
 use Rattle.ob0_run_machine.specs.Evaluation as machine
 use Rattle.ob0_run_machine.specs.Evaluation.{Levels}
 use Rattle.ob0_run_machine.specs.Lowered as lowered
