@@ -147,12 +147,14 @@ def line_above():
 def late():
     """An answer is held while a line is typed above."""
     for what, method, ask in (("renamed", RENAME, lambda: rename("tot")), ("laid out", LAYOUT, lambda: command("Format", WIRE.is_held))):
-        before = WIRE.text()
+        changed = f"{LINE}\n{WIRE.text()}"
         WIRE.hold(method)
         ask()
         line_above()
-        waited("the line above", lambda text=f"{LINE}\n{before}": WIRE.text() == text)
-        after(what, WIRE.release)
+        waited("the line above", lambda text=changed: WIRE.text() == text)
+        WIRE.release()
+        waited(what, lambda text=changed: WIRE.text() != text)
+        time.sleep(1)
         say(what, saving())
 
 
