@@ -19,10 +19,10 @@ import common
 
 ROOTS = os.path.join(common.TOP, "bin", "roots")
 # the tests of editors, by words in their names
-WORDS = ["Neovim", "Emacs", "lsp-mode", "Vim", "Kakoune", "Kate", "Helix", "VS Code", "nano", "GtkSourceView"]
+WORDS = ["Neovim", "Emacs", "lsp-mode", "Vim", "Kakoune", "Kate", "Helix", "VS Code", "nano", "GtkSourceView", "tree-sitter"]
 # packages of editors, whose versions are said; and what else is installed, since Debian 12 doesn't have it
 EDITORS = ["neovim", "vim-nox", "vim-ale", "vim-youcompleteme", "emacs-nox", "elpa-lsp-mode", "kate", "hx", "kakoune", "nano", "nodejs"]
-MORE = ["hx", "node-typescript", "node-semver", "node-minimatch", "node-vscode-languageserver-protocol"]
+MORE = ["hx", "tree-sitter-cli", "node-typescript", "node-semver", "node-minimatch", "node-vscode-languageserver-protocol"]
 CLIENT = "/usr/local/lib/node_modules/vscode-languageclient"
 
 # (the mounts are those of a name space of this command alone; a mirror's release file may be an old one)

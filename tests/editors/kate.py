@@ -153,6 +153,10 @@ def has_text(text: str) -> bool:
     return WIRE.text() == text
 
 
+def has_other_text(text: str) -> bool:
+    return not has_text(text)
+
+
 def late() -> None:
     """An answer is held while a line is typed above."""
     asks: list[tuple[str, str, Callable[[], object]]] = [
@@ -160,12 +164,15 @@ def late() -> None:
         ("laid out", LAYOUT, lambda: command("Format", WIRE.is_held)),
     ]
     for what, method, ask in asks:
-        before = WIRE.text()
+        changed = f"{LINE}
+{WIRE.text()}"
         WIRE.hold(method)
         ask()
         line_above()
-        waited("the line above", functools.partial(has_text, f"{LINE}\n{before}"))
-        after(what, WIRE.release)
+        waited("the line above", functools.partial(has_text, changed))
+        WIRE.release()
+        waited(what, functools.partial(has_other_text, changed))
+        time.sleep(1)
         say(what, saving())
 
 
