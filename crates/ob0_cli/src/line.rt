@@ -110,7 +110,7 @@ Exit status:
   5  out of memory";
 
 /// What a command line requests.
-#[derive(Clone, Copy, Debug, Drop, PartialEq, Eq)]
+#[derive(Clone, Copy, Drop, PartialEq, Eq)]
 pub enum CommandLine<'a> {
     /// One conversation over standard input and output.
     Serve,

@@ -1,5 +1,6 @@
 -- Lines gathered from positions and from what is reported there, side by side.
-use Rattle.std.proofs.Common.{◌≡◌, ℕ, ◌<◌, zero, suc, min, List, [], ◌∷◌, ◌++◌, length, drop, map, get_or, refl, ap, ap₂, sym, ◌∙◌, arith, append_assoc, append-nil}
+use Rattle.std.proofs.Common.{◌≡◌, ℕ, ◌<◌, zero, suc, min, List, [], ◌∷◌, ◌++◌, codes, length, drop, map, get_or, refl, ap, ap₂, sym, ◌∙◌, arith, append_assoc, append-nil}
+use Rattle.std.specs.Fmt.{digits}
 use Rattle.std.specs.Str.{chars}
 use Rattle.ob0_text.specs.Texts.{position_of}
 use Rattle.ob0_text.specs.Units.{width_of}
@@ -7,7 +8,12 @@ use Rattle.ob0_text.specs.declared.position_types.Position.{Position}
 use Rattle.ob0_text.specs.declared.position_types.Unit.TheVariants.{Utf16}
 use Rattle.ob0_analysis.specs.Diagnosed.{complaint_in}
 use Rattle.ob0_analysis.specs.declared.diagnoses.Diagnosis.{Diagnosis}
-use Rattle.ob0_commands.specs.Printed.{complaint_lines, line_at, lines_at}
+use Rattle.ob0_commands.specs.Printed.{complaint_lines, line_at, lines_at, too_long_line}
+
+-- what the code writes of a text that is too long
+pub too_long_text : too_long_line ≡ codes "0:0: TooLong: text too long\n"
+unfolding digits
+too_long_text = refl
 
 -- the lines so far and those that are left are all
 abbrev pub Gathered : List Diagnosis → List Position → ℕ → List ℕ → Type 0

@@ -68,12 +68,8 @@ stops_reading file text program given failed Otherwise f same lowered readable (
     inl (none.0, (subst IsWellTypedModule same module_there, none.1))
 stops_reading file text program given failed Otherwise f same lowered readable (inr memory) = inr (inr (inr memory.0, readable))
 
--- what follows from three facts of a value
-pub from_all : {X E A B : Type 0} {P Q : X → Type 0} (r : Result X E) → ((x : X) → P x → A → B → Q x) → IfOk r P → OnOk r A → OnOk r B → IfOk r Q
-from_all (Ok x) f p a b = f x p a b
-from_all (Err e) f p a b = tt
-
--- what follows from two facts of a value
-pub from_both : {X E A : Type 0} {P Q : X → Type 0} (r : Result X E) → ((x : X) → P x → A → Q x) → IfOk r P → OnOk r A → IfOk r Q
-from_both (Ok x) f p a = f x p a
-from_both (Err e) f p a = tt
+-- what follows from what is known of a status, and of a value
+pub from_all : {X E A B C D : Type 0} {P Q R S : X → Type 0} (r : Result X E) → ((x : X) → P x → Q x → R x → A → B → C → D → S x)
+    → IfOk r P → IfOk r Q → IfOk r R → OnOk r A → OnOk r B → OnOk r C → OnOk r D → IfOk r S
+from_all (Ok x) f p q s a b c d = f x p q s a b c d
+from_all (Err e) f p q s a b c d = tt

@@ -1,3 +1,4 @@
+pub mod Endings
 pub mod Inputs
 pub mod Numbers
 pub mod Outputs

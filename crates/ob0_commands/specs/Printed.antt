@@ -8,7 +8,8 @@ use Rattle.ob0_language_runs.specs.Runs.{Written, line_out, number_out}
 use Rattle.ob0_run.specs.declared.running.End.{End}
 use Rattle.ob0_run.specs.declared.running.End.TheVariants as end
 use Rattle.ob0_scan.specs.Scanned.{max_text}
-use Rattle.ob0_analysis.specs.Diagnosed.{Complaint, IsWellTypedModule, ReportsFaults}
+use Rattle.ob0_scan.specs.declared.fault.Code.TheVariants.{TooLong}
+use Rattle.ob0_analysis.specs.Diagnosed.{Complaint, IsWellTypedModule, ReportsFaults, complaint_of}
 use Rattle.ob0_text.specs.Texts.{position_of}
 use Rattle.ob0_text.specs.Units.{width_of}
 use Rattle.ob0_text.specs.declared.position_types.Position.{Position}
@@ -50,11 +51,19 @@ abbrev pub complaint_lines : List ℕ → List Complaint → List ℕ
 complaint_lines text [] = []
 complaint_lines text (c ∷ cs) = complaint_line text c ++ complaint_lines text cs
 
+-- what is reported of a text that is too long
+abbrev pub too_long : Complaint
+too_long = complaint_of (record { code = TooLong; span = record { start = 0; end = 0 } })
+
+-- the line of it
+abbrev pub too_long_line : List ℕ
+too_long_line = line_at (record { line = 0; character = 0 }) too_long
+
 -- Known bytes grow by what is wrong with a file: one line where it has more bytes than a text may
 -- have, else a line for each thing that is reported of its text, which isn't a well-typed module.
 abbrev pub PrintsFaults : List ℕ → Option (List ℕ) → Option (List ℕ) → Type 0
 PrintsFaults file before after =
-    ((max_text < length file) × Appends before after (codes "0:0: TooLong: text too long\n"))
+    ((max_text < length file) × Appends before after too_long_line)
     ⊎ ((reported : List Complaint)
     × (¬ IsWellTypedModule file)
     × ReportsFaults file reported

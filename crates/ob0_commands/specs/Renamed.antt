@@ -1,6 +1,6 @@
 -- What is printed of a file's text with another name.
 -- Rule: docs/PROTOCOL.md, The program 3.
-use Rattle.std.specs.Prelude.{◌≡◌, ◌⊎◌, ℕ, List, Option, Some, None, Result, Ok, Err, Vec}
+use Rattle.std.specs.Prelude.{◌≡◌, ◌⊎◌, ℕ, List, Option, Some, None, Result, Ok, Err, Vec, Bool, true}
 use Rattle.std.specs.declared.alloc.Global.{Global}
 use Rattle.std.specs.Io.KnownBytes.{Appends}
 use Rattle.std.specs.Str.{chars}
@@ -12,6 +12,8 @@ use Rattle.ob0_text.specs.declared.position_types.Unit.{Unit}
 use Rattle.ob0_text.specs.declared.position_types.Unit.TheVariants.{Utf16}
 use Rattle.ob0_text.specs.declared.refusals.EditRefusal.{EditRefusal}
 use Rattle.ob0_edits.specs.Renamings.{IsRefusedIn, RenamesIn}
+use Rattle.ob0_commands.specs.Endings.{EndsWell}
+use Rattle.ob0_commands.specs.Outputs.{IsHandedOn}
 use Rattle.ob0_commands.specs.Printed.{PrintsFaults}
 use Rattle.ob0_commands.specs.Said.{refused_line}
 
@@ -67,3 +69,24 @@ abbrev pub PrintsNoName : List ℕ
 PrintsNoName file position new before after Said =
     (PrintsFaults file before after × Said None)
     ⊎ RefusesName file position new before after Said
+
+-- a file's text is printed with another name and flushed, and nothing on standard error; or no
+-- text is printed, and what is printed is flushed
+abbrev pub Renames : {O : Type 0}
+    → (contents : O → Option (List ℕ))
+    → (is_flushed : O → Bool)
+    → (before after : O)
+    → (Said : Option (List ℕ) → Type 0)
+    → (file : List ℕ)
+    → Position
+    → (new : List ℕ)
+    → (Both : Type 0)
+    → ℕ
+    → Type 0
+Renames contents is_flushed before after Said file position new =
+    EndsWell
+    (PrintsRenamed file position new (contents before) (contents after)
+    × (is_flushed after ≡ true)
+    × Said None)
+    (PrintsNoName file position new (contents before) (contents after) Said
+    × IsHandedOn (is_flushed after) before after)

@@ -1,16 +1,13 @@
 -- What the commands print on standard error, in bytes of UTF-8.
 -- `Says` is nothing printed (the writer is as it was, not its bytes alone, which may not be known) or a line, which is
 -- flushed, unless the writer failed. What a command says is a function of that line to what has a fault, an end or a
--- refusal (`NamesFault`, `PrintsEnded`, `RefusesName`), so the line is that of the same run and the same refusal as the
+-- refusal (`EndsByFault`, `PrintsEnded`, `RefusesName`), so the line is that of the same run and the same refusal as the
 -- status and the output.
 -- Rule: docs/PROTOCOL.md, The program 2, 3, 5, 6 and 7.
 use Rattle.std.specs.Prelude.{◌≡◌, ◌++◌, ℕ, List, Option, Some, None, Bool, true, false, codes}
 use Rattle.std.specs.Io.KnownBytes.{Appends}
 use Rattle.ob0_text.specs.RefusalTexts.{refusal_text}
 use Rattle.ob0_text.specs.declared.refusals.EditRefusal.{EditRefusal}
-use Rattle.ob0_commands.specs.Printed.{fault_line}
-use Rattle.ob0_commands.specs.Statuses.{status_of}
-use Rattle.ob0_commands.specs.declared.faults.FileFault.{FileFault}
 
 -- nothing is printed, or a line is printed and flushed, unless the output has failed
 abbrev pub Says : {E : Type 0}
@@ -27,11 +24,3 @@ Says contents is_flushed has_failed before after (Some line) =
 -- the line that names a refusal
 abbrev pub refused_line : EditRefusal → List ℕ
 refused_line refusal = codes "refused: " ++ (refusal_text refusal ++ codes "\n")
-
--- a fault for which a command ends with this status is named
-pub record NamesFault (status : ℕ) (Stops : FileFault → Type 0)
-    (Said : Option (List ℕ) → Type 0) : Type 0 where
-  pub why : FileFault
-  pub stops : Stops why
-  pub is : status ≡ status_of why
-  pub said : Said (Some (fault_line why))

@@ -1,10 +1,4 @@
 -- The statuses with which a command on a file ends.
--- Status 4 has two sides. `unreported` says what is wrong where it comes (`CanNotReport`, `CanNotRun`); `readable`,
--- `unfailed` and `read` say that with any other status the file has a text or is too long, and neither output nor input
--- has failed since before. Only of an input that is no list of numbers the other side is weaker: what 0 and 1 mean has
--- such a list (`IsInputOf`), and 5 may come for either. `text_of` can't return `Memory` (it allocates nothing), so 5
--- comes only for a file that isn't too long (`memory`). Each command prints after its last allocation, so a fault other
--- than `Write` leaves the output as it was (`PrintsNothing`), and `unprinted` says so of every status but 0 and 1.
 -- Rule: docs/PROTOCOL.md, The program 8.
 use Rattle.std.specs.Prelude.{◌≡◌, ◌≢◌, ◌≤◌, ◌⊎◌, ℕ, List, Option, Bool, true, length}
 use Rattle.std.specs.Str.{IsUtf8}
@@ -60,14 +54,6 @@ status_at end.InputEnd = 1
 status_at end.CallBound = 1
 status_at end.TurnBound = 1
 
--- a command on a file ends with 0, 1, 4 or 5
-abbrev pub IsStatus : ℕ → Type 0
-IsStatus status = (status ≤ 1) ⊎ ((status ≡ 4) ⊎ (status ≡ 5))
-
--- what is wrong where nothing is reported of a file: it has no text, or the output has failed
-abbrev pub CanNotReport : List ℕ → Bool → Type 0
-CanNotReport file failed = HasNoText file ⊎ (failed ≡ true)
-
 -- the output has failed where the fault says so, and otherwise not since before
 abbrev pub IsOfOutput : (before after : Bool) → FileFault → Type 0
 IsOfOutput before after f =
@@ -87,12 +73,3 @@ IsOfInput before after f = f ≢ fault.Input → after ≡ before
 abbrev pub StopsRunning : List ℕ → Option (List ℕ) → (input_failed : Bool) → FileFault → Type 0
 StopsRunning file given input_failed f =
     ((f ≡ fault.Input) × HasNoInput file given input_failed) ⊎ StopsPrintingFaults file f
-
--- what is wrong where neither a run nor what is wrong with a file is reported: there is no input,
--- or nothing can be reported
-abbrev pub CanNotRun : List ℕ
-    → Option (List ℕ)
-    → (input_failed output_failed : Bool)
-    → Type 0
-CanNotRun file given input_failed output_failed =
-    HasNoInput file given input_failed ⊎ CanNotReport file output_failed

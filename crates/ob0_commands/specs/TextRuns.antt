@@ -1,6 +1,6 @@
 -- The run of the module that a text is, and how it is printed.
 -- Rule: docs/PROTOCOL.md, The program 2.
-use Rattle.std.specs.Prelude.{◌≡◌, ◌≢◌, ◌⊎◌, ℕ, ℤ, List, Option, None, IfSome}
+use Rattle.std.specs.Prelude.{◌≡◌, ◌≢◌, ◌⊎◌, ℕ, ℤ, List, Option, None, IfSome, Bool, true}
 use Rattle.std.specs.Io.KnownBytes.{Appends}
 use Rattle.ob0_tree.specs.Tree.{Tree, module_text}
 use Rattle.ob0_language_names.specs.Names.{Name}
@@ -12,6 +12,7 @@ use Rattle.ob0_run.specs.Programs as lowered
 use Rattle.ob0_run_lowering.specs.declared.programs.Program.{Program}
 use Rattle.ob0_run.specs.declared.running.End.{End}
 use Rattle.ob0_run.specs.declared.running.End.TheVariants as end
+use Rattle.ob0_commands.specs.Endings.{EndsWell}
 use Rattle.ob0_commands.specs.Numbers.{IsInputOf}
 use Rattle.ob0_commands.specs.Printed.{PrintsFaults, end_line, output_text}
 
@@ -72,3 +73,24 @@ abbrev pub PrintsOther : List ℕ
 PrintsOther file given c t before after Said =
     (PrintsFaults file before after × Said None)
     ⊎ PrintsEnded file given c t before after Said
+
+-- the run of a file's module to its end is printed, and nothing on standard error; or a run that
+-- ends otherwise, or what is wrong with the file; all is flushed
+abbrev pub PrintsRuns : {O : Type 0}
+    → (contents : O → Option (List ℕ))
+    → (is_flushed : O → Bool)
+    → (before after : O)
+    → (Said : Option (List ℕ) → Type 0)
+    → (file : List ℕ)
+    → (given : Option (List ℕ))
+    → (c t : ℕ)
+    → (Both : Type 0)
+    → ℕ
+    → Type 0
+PrintsRuns contents is_flushed before after Said file given c t =
+    EndsWell
+    (PrintsDone file given c t (contents before) (contents after)
+    × (is_flushed after ≡ true)
+    × Said None)
+    (PrintsOther file given c t (contents before) (contents after) Said
+    × (is_flushed after ≡ true))

@@ -3,12 +3,13 @@
 //! A file of more bytes than a text may have is too long whatever its bytes, so that is reported before UTF-8 is looked
 //! at. All positions are found in one pass.
 
-ghost use Rattle.std.specs.Prelude.{◌≡◌, ◌≢◌, ◌<◌, ◌≤◌, [], true, false, IfOk, IfNone, IfSome, MatchOption, OnOk, IfErr, codes, length, map, string_bytes};
+ghost use Rattle.std.specs.Prelude.{◌≡◌, ◌≢◌, ◌<◌, ◌≤◌, ◌⊎◌, [], true, IfOk, IfNone, IfSome, MatchOption, OnOk, IfErr, length, map, string_bytes};
 ghost use Rattle.std.specs.Io.KnownBytes.{Appends};
 ghost use Rattle.std.specs.Mem.{manually_drop_value};
-ghost use Rattle.ob0_commands.specs.Printed.{PrintsFaults, complaint_lines, line_at, lines_at};
-ghost use Rattle.ob0_commands.specs.Said.{NamesFault, Says};
-ghost use Rattle.ob0_commands.specs.Statuses.{AllocatesFor, CanNotReport, HasNoText, IsOfOutput, IsStatus, PrintsNothing, StopsPrinting, StopsPrintingFaults};
+ghost use Rattle.ob0_commands.specs.Endings.{EndsByFault, EndsWell};
+ghost use Rattle.ob0_commands.specs.Printed.{PrintsFaults, complaint_lines, line_at, lines_at, too_long_line};
+ghost use Rattle.ob0_commands.specs.Said.{Says};
+ghost use Rattle.ob0_commands.specs.Statuses.{AllocatesFor, HasNoText, IsOfOutput, PrintsNothing, StopsPrinting, StopsPrintingFaults};
 ghost use Rattle.ob0_commands.specs.declared.faults.FileFault.TheVariants as faults;
 ghost use Rattle.ob0_scan.specs.Scanned.{max_text};
 ghost use Rattle.ob0_analysis.specs.Diagnosed.{Reports, complaint_in};
@@ -26,22 +27,13 @@ use std::mem::ManuallyDrop;
 /// the status with which the program ends: 0 for a module with no diagnostic, 1 for diagnostics, 4 for bytes that are
 /// no UTF-8 or a failed write, 5 where memory runs out.
 pub fn check_text<O: Output, E: Output>(alloc: Global, file: &[u8], out: &mut O, err: &mut E) -> u8
-    ensures nothing { result ≡ 0 → Reports file.now [] }
-    ensures quiet { result ≡ 0 → out.new ≡ out.old }
-    ensures reported { result ≡ 1 → PrintsFaults file.now (O.contents out.old)
-        (O.contents out.new) }
-    ensures flushed { result ≡ 1 → O.is_flushed out.new ≡ true }
-    ensures statuses { IsStatus result }
-    ensures readable { result ≢ 4 → ¬ HasNoText file.now }
-    ensures unfailed { result ≢ 4 → O.has_failed out.new ≡ O.has_failed out.old }
-    ensures unreported { result ≡ 4 → CanNotReport file.now (O.has_failed out.new) }
-    ensures memory { result ≡ 5 → length file.now ≤ max_text }
-    ensures unprinted { ¬ (result ≤ 1) → O.has_failed out.new ≡ false → out.new ≡ out.old }
-    ensures silent { result ≤ 1 → err.new ≡ err.old }
-    ensures named { ¬ (result ≤ 1) → NamesFault result
-        (λ fault. StopsPrintingFaults file.now fault
-        × IsOfOutput (O.has_failed out.old) (O.has_failed out.new) fault)
-        (Says E.contents E.is_flushed E.has_failed err.old err.new) }
+    ensures { EndsWell (Reports file.now [] × (out.new ≡ out.old))
+        (PrintsFaults file.now (O.contents out.old) (O.contents out.new)
+        × (O.is_flushed out.new ≡ true))
+        (¬ HasNoText file.now × (O.has_failed out.new ≡ O.has_failed out.old)
+        × (err.new ≡ err.old)) result
+        ⊎ EndsByFault O.has_failed out.old out.new file.now (StopsPrintingFaults file.now)
+        (Says E.contents E.is_flushed E.has_failed err.old err.new) result }
 {
     match check(alloc, file, out) {
         Ok(Some(_text)) => 0,
@@ -100,7 +92,7 @@ pub fn analyse(alloc: Global, text: &str) -> Result<ManuallyDrop<Analysis>, Allo
 /// The text of a file that isn't too long; else that is printed.
 pub fn text_of<'f, O: Output>(file: &'f [u8], out: &mut O) -> Result<Option<&'f str>, FileFault>
     ensures found { IfOk result (λ found. MatchOption found ((max_text < length file.entry.now)
-        × Appends (O.contents out.old) (O.contents out.new) (codes "0:0: TooLong: text too long\n"))
+        × Appends (O.contents out.old) (O.contents out.new) too_long_line)
         (λ text. (text.now ≡ file.entry.now) × (out.new ≡ out.old))) }
     ensures flushed { IfOk result (λ found. IfNone found (O.is_flushed out.new ≡ true)) }
     ensures readable { OnOk result (¬ HasNoText file.entry.now) }

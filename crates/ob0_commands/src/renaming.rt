@@ -6,12 +6,11 @@
 //! the proof needs that its text is a `&str`: `rename_in` speaks of the characters of a text, and `diagnoses` of its
 //! bytes.
 
-ghost use Rattle.std.specs.Prelude.{◌≡◌, ◌≢◌, ◌≤◌, true, false, IfOk, IfErr, OnOk, OnErr, length};
-ghost use Rattle.ob0_commands.specs.Outputs.{IsHandedOn};
-ghost use Rattle.ob0_commands.specs.Renamed.{IsRefusal, PrintsEdited, PrintsNoName, PrintsRenamed};
-ghost use Rattle.ob0_commands.specs.Said.{NamesFault, Says};
-ghost use Rattle.ob0_commands.specs.Statuses.{AllocatesFor, CanNotReport, HasNoText, IsOfOutput, IsStatus, PrintsNothing, StopsPrinting, StopsPrintingFaults};
-ghost use Rattle.ob0_scan.specs.Scanned.{max_text};
+ghost use Rattle.std.specs.Prelude.{◌≡◌, ◌⊎◌, true, IfOk, IfErr, OnErr};
+ghost use Rattle.ob0_commands.specs.Endings.{EndsByFault, EndsWell};
+ghost use Rattle.ob0_commands.specs.Renamed.{IsRefusal, PrintsEdited, Renames};
+ghost use Rattle.ob0_commands.specs.Said.{Says};
+ghost use Rattle.ob0_commands.specs.Statuses.{AllocatesFor, HasNoText, IsOfOutput, PrintsNothing, StopsPrinting, StopsPrintingFaults};
 
 use crate::checking::{analyse, print_diagnoses, text_of};
 use crate::faults::{FileFault, print_fault};
@@ -32,24 +31,11 @@ pub fn rename_text<O: Output, E: Output>(
     out: &mut O,
     err: &mut E,
 ) -> u8
-    ensures renamed { result ≡ 0
-        → PrintsRenamed file.now position new.now (O.contents out.old) (O.contents out.new) }
-    ensures other { result ≡ 1
-        → PrintsNoName file.now position new.now (O.contents out.old) (O.contents out.new)
-        (Says E.contents E.is_flushed E.has_failed err.old err.new) }
-    ensures flushed { result ≡ 0 → O.is_flushed out.new ≡ true }
-    ensures handed_on { result ≡ 1 → IsHandedOn (O.is_flushed out.new) out.old out.new }
-    ensures statuses { IsStatus result }
-    ensures readable { result ≢ 4 → ¬ HasNoText file.now }
-    ensures unfailed { result ≢ 4 → O.has_failed out.new ≡ O.has_failed out.old }
-    ensures unreported { result ≡ 4 → CanNotReport file.now (O.has_failed out.new) }
-    ensures memory { result ≡ 5 → length file.now ≤ max_text }
-    ensures unprinted { ¬ (result ≤ 1) → O.has_failed out.new ≡ false → out.new ≡ out.old }
-    ensures silent { result ≡ 0 → err.new ≡ err.old }
-    ensures named { ¬ (result ≤ 1) → NamesFault result
-        (λ fault. StopsPrintingFaults file.now fault
-        × IsOfOutput (O.has_failed out.old) (O.has_failed out.new) fault)
-        (Says E.contents E.is_flushed E.has_failed err.old err.new) }
+    ensures { Renames O.contents O.is_flushed out.old out.new
+        (Says E.contents E.is_flushed E.has_failed err.old err.new) file.now position new.now
+        (¬ HasNoText file.now × (O.has_failed out.new ≡ O.has_failed out.old)) result
+        ⊎ EndsByFault O.has_failed out.old out.new file.now (StopsPrintingFaults file.now)
+        (Says E.contents E.is_flushed E.has_failed err.old err.new) result }
 {
     match rename_file(alloc, file, position, new, out, err) {
         Ok(status) => status,
@@ -65,23 +51,14 @@ fn rename_file<O: Output, E: Output>(
     out: &mut O,
     err: &mut E,
 ) -> Result<u8, FileFault>
-    ensures renamed { IfOk result (λ status. status ≡ 0
-        → PrintsRenamed file.now position new.now (O.contents out.old) (O.contents out.new)) }
-    ensures other { IfOk result (λ status. status ≡ 1
-        → PrintsNoName file.now position new.now (O.contents out.old) (O.contents out.new)
-        (Says E.contents E.is_flushed E.has_failed err.old err.new)) }
-    ensures flushed { IfOk result (λ status. status ≡ 0 → O.is_flushed out.new ≡ true) }
-    ensures handed_on { IfOk result
-        (λ status. status ≡ 1 → IsHandedOn (O.is_flushed out.new) out.old out.new) }
-    ensures ends { IfOk result (λ status. status ≤ 1) }
-    ensures readable { OnOk result (¬ HasNoText file.now) }
-    ensures unfailed { OnOk result (O.has_failed out.new ≡ O.has_failed out.old) }
+    ensures ends { IfOk result (Renames O.contents O.is_flushed out.old out.new
+        (Says E.contents E.is_flushed E.has_failed err.old err.new) file.now position new.now
+        (¬ HasNoText file.now × (O.has_failed out.new ≡ O.has_failed out.old))) }
     ensures fault { IfErr result (StopsPrintingFaults file.now) }
     ensures failed { IfErr result
         (IsOfOutput (O.has_failed out.old) (O.has_failed out.new)) }
     ensures memory { IfErr result (AllocatesFor file.now) }
     ensures kept { IfErr result (PrintsNothing out.old out.new) }
-    ensures silent { IfOk result (λ status. status ≡ 0 → err.new ≡ err.old) }
     ensures unsaid { OnErr result (err.new ≡ err.old) }
 {
     let Some(text) = text_of(file, out)? else {
@@ -98,21 +75,13 @@ fn rename_in_text<O: Output, E: Output>(
     out: &mut O,
     err: &mut E,
 ) -> Result<u8, FileFault>
-    ensures renamed { IfOk result (λ status. status ≡ 0
-        → PrintsRenamed text.now position new.now (O.contents out.old) (O.contents out.new)) }
-    ensures other { IfOk result (λ status. status ≡ 1
-        → PrintsNoName text.now position new.now (O.contents out.old) (O.contents out.new)
-        (Says E.contents E.is_flushed E.has_failed err.old err.new)) }
-    ensures flushed { IfOk result (λ status. status ≡ 0 → O.is_flushed out.new ≡ true) }
-    ensures handed_on { IfOk result
-        (λ status. status ≡ 1 → IsHandedOn (O.is_flushed out.new) out.old out.new) }
-    ensures ends { IfOk result (λ status. status ≤ 1) }
-    ensures unfailed { OnOk result (O.has_failed out.new ≡ O.has_failed out.old) }
+    ensures ends { IfOk result (Renames O.contents O.is_flushed out.old out.new
+        (Says E.contents E.is_flushed E.has_failed err.old err.new) text.now position new.now
+        (O.has_failed out.new ≡ O.has_failed out.old)) }
     ensures fault { IfErr result StopsPrinting }
     ensures failed { IfErr result
         (IsOfOutput (O.has_failed out.old) (O.has_failed out.new)) }
     ensures kept { IfErr result (PrintsNothing out.old out.new) }
-    ensures silent { IfOk result (λ status. status ≡ 0 → err.new ≡ err.old) }
     ensures unsaid { OnErr result (err.new ≡ err.old) }
 {
     let store = Lines::from_str(alloc, text)?;
@@ -136,20 +105,16 @@ pub fn print_edited<T: TextStore, O: Output, E: Output>(
     out: &mut O,
     err: &mut E,
 ) -> Result<u8, FileFault>
-    ensures edited { IfOk result (λ status. status ≡ 0
-        → PrintsEdited (T.unit_of store.now) (T.content store.now) edits (O.contents out.old)
-        (O.contents out.new)) }
-    ensures refused { IfOk result (λ status. status ≡ 1
-        → IsRefusal edits (Says E.contents E.is_flushed E.has_failed err.old err.new)
-        × (out.new ≡ out.old)) }
-    ensures flushed { IfOk result (λ status. status ≡ 0 → O.is_flushed out.new ≡ true) }
-    ensures ends { IfOk result (λ status. status ≤ 1) }
-    ensures unfailed { OnOk result (O.has_failed out.new ≡ O.has_failed out.old) }
+    ensures ends { IfOk result (EndsWell
+        (PrintsEdited (T.unit_of store.now) (T.content store.now) edits (O.contents out.old)
+        (O.contents out.new) × (O.is_flushed out.new ≡ true) × (err.new ≡ err.old))
+        (IsRefusal edits (Says E.contents E.is_flushed E.has_failed err.old err.new)
+        × (out.new ≡ out.old))
+        (O.has_failed out.new ≡ O.has_failed out.old)) }
     ensures fault { IfErr result StopsPrinting }
     ensures failed { IfErr result
         (IsOfOutput (O.has_failed out.old) (O.has_failed out.new)) }
     ensures kept { IfErr result (PrintsNothing out.old out.new) }
-    ensures silent { IfOk result (λ status. status ≡ 0 → err.new ≡ err.old) }
     ensures unsaid { OnErr result (err.new ≡ err.old) }
 {
     match edits {

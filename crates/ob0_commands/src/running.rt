@@ -10,22 +10,22 @@
 //! stack and doesn't grow; it is written where the next item might not fit. So nothing is allocated once something is
 //! printed (a `String` could allocate between pieces, as far as a contract knows).
 
-ghost use Rattle.std.specs.Prelude.{◌≡◌, ◌≢◌, ◌+◌, ◌≤◌, ◌++◌, true, false, IfOk, IfErr, IfNone, MatchOption, MatchResult, OnOk, OnErr, length, option_map, suc};
+ghost use Rattle.std.specs.Prelude.{◌≡◌, ◌+◌, ◌≤◌, ◌⊎◌, ◌++◌, true, IfOk, IfErr, IfNone, MatchOption, OnOk, OnErr, option_map, suc};
 ghost use Rattle.std.specs.Io.KnownBytes.{Appends};
 ghost use Rattle.arrayvec.specs.ArrayString.{array_string_len};
 ghost use Rattle.ob0_tree.specs.Parsed.{named_tree_of};
-ghost use Rattle.ob0_scan.specs.Scanned.{max_text};
 ghost use Rattle.ob0_analysis.specs.Diagnosed.{IsWellTypedModule};
 ghost use Rattle.ob0_run.specs.Outcomes.{run_of};
 ghost use Rattle.ob0_run.specs.Programs as lowered;
 ghost use Rattle.ob0_run.specs.States.{item_of, items_out};
+ghost use Rattle.ob0_commands.specs.Endings.{EndsByFault};
 ghost use Rattle.ob0_commands.specs.Inputs.{TakesAtMost};
 ghost use Rattle.ob0_commands.specs.Numbers.{max_input};
 ghost use Rattle.ob0_commands.specs.Printed.{IsWrittenBut, PrintsFaults, end_line, output_text, written_text};
-ghost use Rattle.ob0_commands.specs.Said.{NamesFault, Says};
-ghost use Rattle.ob0_commands.specs.Statuses.{AllocatesFor, CanNotRun, HasNoText, IsOfInput, IsOfOutput, IsStatus, PrintsNothing, StopsPrinting, StopsRunning, status_at};
+ghost use Rattle.ob0_commands.specs.Said.{Says};
+ghost use Rattle.ob0_commands.specs.Statuses.{AllocatesFor, HasNoText, IsOfInput, IsOfOutput, PrintsNothing, StopsPrinting, StopsRunning, status_at};
 ghost use Rattle.ob0_commands.specs.declared.faults.FileFault.TheVariants as faults;
-ghost use Rattle.ob0_commands.specs.TextRuns.{IsLoweredTo, PrintsDone, PrintsOther, TextRunsAs};
+ghost use Rattle.ob0_commands.specs.TextRuns.{IsLoweredTo, PrintsRuns, TextRunsAs};
 
 use crate::checking::{print_diagnoses, text_of};
 use crate::faults::{FileFault, print_fault};
@@ -67,28 +67,17 @@ pub fn run_text<R: Input, O: Output, E: Output>(
     out: &mut O,
     err: &mut E,
 ) -> u8
-    ensures done { result ≡ 0
-        → PrintsDone file.now (R.remaining input.old) calls turns (O.contents out.old)
-        (O.contents out.new) }
-    ensures other { result ≡ 1
-        → PrintsOther file.now (R.remaining input.old) calls turns (O.contents out.old)
-        (O.contents out.new) (Says E.contents E.is_flushed E.has_failed err.old err.new) }
-    ensures flushed { result ≤ 1 → O.is_flushed out.new ≡ true }
-    ensures statuses { IsStatus result }
-    ensures readable { result ≢ 4 → ¬ HasNoText file.now }
-    ensures limit { TakesAtMost (suc max_input) (R.remaining input.old) (R.remaining input.new) }
-    ensures read { result ≢ 4 → R.has_failed input.new ≡ R.has_failed input.old }
-    ensures unfailed { result ≢ 4 → O.has_failed out.new ≡ O.has_failed out.old }
-    ensures unreported { result ≡ 4 → CanNotRun file.now (R.remaining input.old)
-        (R.has_failed input.new) (O.has_failed out.new) }
-    ensures memory { result ≡ 5 → length file.now ≤ max_text }
-    ensures unread { ¬ IsWellTypedModule file.now → input.new ≡ input.old }
-    ensures unprinted { ¬ (result ≤ 1) → O.has_failed out.new ≡ false → out.new ≡ out.old }
-    ensures silent { result ≡ 0 → err.new ≡ err.old }
-    ensures named { ¬ (result ≤ 1) → NamesFault result
+    ensures ends { PrintsRuns O.contents O.is_flushed out.old out.new
+        (Says E.contents E.is_flushed E.has_failed err.old err.new) file.now
+        (R.remaining input.old) calls turns
+        (¬ HasNoText file.now × (O.has_failed out.new ≡ O.has_failed out.old)
+        × (R.has_failed input.new ≡ R.has_failed input.old)) result
+        ⊎ EndsByFault O.has_failed out.old out.new file.now
         (λ fault. StopsRunning file.now (R.remaining input.old) (R.has_failed input.new) fault
-        × IsOfOutput (O.has_failed out.old) (O.has_failed out.new) fault)
-        (Says E.contents E.is_flushed E.has_failed err.old err.new) }
+        × IsOfInput (R.has_failed input.old) (R.has_failed input.new) fault)
+        (Says E.contents E.is_flushed E.has_failed err.old err.new) result }
+    ensures limit { TakesAtMost (suc max_input) (R.remaining input.old) (R.remaining input.new) }
+    ensures unread { ¬ IsWellTypedModule file.now → input.new ≡ input.old }
 {
     match run_file(alloc, file, input, calls, turns, out, err) {
         Ok(status) => status,
@@ -105,19 +94,13 @@ fn run_file<R: Input, O: Output, E: Output>(
     out: &mut O,
     err: &mut E,
 ) -> Result<u8, FileFault>
-    ensures done { IfOk result (λ status. status ≡ 0
-        → PrintsDone file.now (R.remaining input.old) calls turns (O.contents out.old)
-        (O.contents out.new)) }
-    ensures other { IfOk result (λ status. status ≡ 1
-        → PrintsOther file.now (R.remaining input.old) calls turns (O.contents out.old)
-        (O.contents out.new) (Says E.contents E.is_flushed E.has_failed err.old err.new)) }
-    ensures flushed { OnOk result (O.is_flushed out.new ≡ true) }
-    ensures ends { IfOk result (λ status. status ≤ 1) }
-    ensures readable { OnOk result (¬ HasNoText file.now) }
+    ensures ends { IfOk result (PrintsRuns O.contents O.is_flushed out.old out.new
+        (Says E.contents E.is_flushed E.has_failed err.old err.new) file.now
+        (R.remaining input.old) calls turns
+        (¬ HasNoText file.now × (O.has_failed out.new ≡ O.has_failed out.old)
+        × (R.has_failed input.new ≡ R.has_failed input.old))) }
     ensures limit { TakesAtMost (suc max_input) (R.remaining input.old) (R.remaining input.new) }
-    ensures read { MatchResult result (λ _. R.has_failed input.new ≡ R.has_failed input.old)
-        (IsOfInput (R.has_failed input.old) (R.has_failed input.new)) }
-    ensures unfailed { OnOk result (O.has_failed out.new ≡ O.has_failed out.old) }
+    ensures read { IfErr result (IsOfInput (R.has_failed input.old) (R.has_failed input.new)) }
     ensures fault { IfErr result
         (StopsRunning file.now (R.remaining input.old) (R.has_failed input.new)) }
     ensures failed { IfErr result
@@ -125,7 +108,6 @@ fn run_file<R: Input, O: Output, E: Output>(
     ensures memory { IfErr result (AllocatesFor file.now) }
     ensures kept { IfErr result (PrintsNothing out.old out.new) }
     ensures unread { ¬ IsWellTypedModule file.now → input.new ≡ input.old }
-    ensures silent { IfOk result (λ status. status ≡ 0 → err.new ≡ err.old) }
     ensures unsaid { OnErr result (err.new ≡ err.old) }
 {
     let Some(text) = text_of(file, out)? else {

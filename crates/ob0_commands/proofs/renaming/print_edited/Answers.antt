@@ -8,14 +8,14 @@ use Rattle.ob0_commands.proofs.renaming.print_edited.Goals as goal
 pub returns : goal.returns
 returns g c =
     record {
-      edited = λ no. absurd (omega (arith, no));
-      refused = λ one. (subst (λ (r : Result (Vec Edit Global) EditRefusal). IsRefusal r (Says g.E.Write.contents g.E.Output.is_flushed g.E.Output.has_failed c.args.err.now c.print-in-Err.new.out)) (sym c.in-Err.is) (search rules), refl);
-      flushed = λ no. absurd (omega (arith, no));
-      ends = omega arith;
-      unfailed = refl;
+      ends = record {
+        low = omega arith;
+        good = λ no. absurd (omega (arith, no));
+        other = λ one. (subst (λ (r : Result (Vec Edit Global) EditRefusal). IsRefusal r (Says g.E.Write.contents g.E.Output.is_flushed g.E.Output.has_failed c.args.err.now c.print-in-Err.new.out)) (sym c.in-Err.is) (search rules), refl);
+        both = refl;
+      };
       fault = tt;
       failed = tt;
       kept = tt;
-      silent = λ no. absurd (omega (arith, no));
       unsaid = tt;
     }

@@ -1,15 +1,31 @@
-use Rattle.std.proofs.Common.{◌∙◌, ap, refl}
+use Rattle.std.proofs.Common.{◌∙◌, ap, refl, inl, arith}
 use Rattle.std.proofs.lemmas.Result.{err_from_is_err_and}
 use Rattle.ob0_commands.specs.Said.{Says}
-use Rattle.ob0_commands.proofs.RunsPrinted.{from_all, from_both, prints_done, prints_other, prints_run, prints_wrong, stops_reading}
+use Rattle.ob0_commands.proofs.RunsPrinted.{from_all, prints_done, prints_other, prints_run, prints_wrong, stops_reading}
 use Rattle.ob0_commands.proofs.running.run_file.Goals as goal
 
-pub returns-in_default-2-clause-other : goal.returns-in_default-2-clause-other
-returns-in_default-2-clause-other g c =
+pub returns-in_default-clause-ends : goal.returns-in_default-clause-ends
+returns-in_default-clause-ends g c = record {
+  low = omega arith;
+  good = λ no. absurd (omega (arith, no));
+  other = λ one. (inl (inl (rw c.in_default.is at c.in_ok-text.ensures.found), refl), rw c.in_default.is at c.in_ok-text.ensures.flushed);
+  both = (c.in_ok-text.ensures.readable, c.in_ok-text.ensures.unfailed, refl);
+}
+
+pub returns-in_default-2-clause-ends : goal.returns-in_default-2-clause-ends
+returns-in_default-2-clause-ends g c =
     let here = rw c.in-Some.is at c.in_ok-text.ensures.found in
     let wrong = rw c.in_default-2.is at c.in_ok-program.ensures.found in
-    λ one. prints_wrong c.args.file.now c.in-Some.text.now (g.R.Read.remaining c.args.input.now) c.args.calls c.args.turns (g.O.Write.contents c.args.out.now) (g.O.Write.contents c.text_of.new.out) (g.O.Write.contents c.lower_text.new.out)
-    here.0 (ap g.O.Write.contents here.1) wrong (Says g.E.Write.contents g.E.Output.is_flushed g.E.Output.has_failed c.args.err.now c.args.err.now) refl
+    record {
+      low = omega arith;
+      good = λ no. absurd (omega (arith, no));
+      other = λ one. (
+        prints_wrong c.args.file.now c.in-Some.text.now (g.R.Read.remaining c.args.input.now) c.args.calls c.args.turns (g.O.Write.contents c.args.out.now) (g.O.Write.contents c.text_of.new.out) (g.O.Write.contents c.lower_text.new.out)
+            here.0 (ap g.O.Write.contents here.1) wrong (Says g.E.Write.contents g.E.Output.is_flushed g.E.Output.has_failed c.args.err.now c.args.err.now) refl,
+        rw c.in_default-2.is at c.in_ok-program.ensures.flushed,
+      );
+      both = (c.in_ok-text.ensures.readable, c.in_ok-program.ensures.unfailed ∙ c.in_ok-text.ensures.unfailed, refl);
+    }
 
 pub returns-in_err-numbers-clause-fault : goal.returns-in_err-numbers-clause-fault
 returns-in_err-numbers-clause-fault g c =
@@ -18,8 +34,8 @@ returns-in_err-numbers-clause-fault g c =
     let p = err_from_is_err_and c.from_residual-in_err-numbers.result c.from_residual-in_err-numbers.ensures.1 in
     rw (p.1, p.2) (stops_reading _ _ _ _ _ _ _ here.0 lowered.0 c.in_ok-text.ensures.readable c.in_err-numbers.ensures.fault)
 
-pub returns-clause-done : goal.returns-clause-done
-returns-clause-done g c =
+pub returns-clause-ends : goal.returns-clause-ends
+returns-clause-ends g c =
     let here = rw c.in-Some.is at c.in_ok-text.ensures.found in
     let lowered = rw c.in-Some-2.is at c.in_ok-program.ensures.found in
     let given = g.R.Read.remaining c.args.input.now in
@@ -27,21 +43,12 @@ returns-clause-done g c =
     let mid = g.O.Write.contents c.lower_text.new.out in
     let after = g.O.Write.contents c.print_outcome.new.out in
     let o = c.in_ok-outcome.outcome in
-    from_both c.print_outcome.result (λ status is printed zero. prints_done c.args.file.now given c.args.calls c.args.turns status before after o
-    (prints_run c.args.file.now c.in-Some.text.now given c.args.calls c.args.turns before mid after c.in_ok-numbers.numbers.items c.as_slice.result.now o c.as_slice-2.result.now
-    here.0 (ap g.O.Write.contents (lowered.1 ∙ here.1)) c.as_slice.ensures.value c.in_ok-numbers.ensures.numbers c.in_ok-outcome.ensures c.as_slice-2.ensures.value printed) is zero)
-    c.print_outcome.ensures.status c.print_outcome.ensures.printed
-
-pub returns-clause-other : goal.returns-clause-other
-returns-clause-other g c =
-    let here = rw c.in-Some.is at c.in_ok-text.ensures.found in
-    let lowered = rw c.in-Some-2.is at c.in_ok-program.ensures.found in
-    let given = g.R.Read.remaining c.args.input.now in
-    let before = g.O.Write.contents c.args.out.now in
-    let mid = g.O.Write.contents c.lower_text.new.out in
-    let after = g.O.Write.contents c.print_outcome.new.out in
-    let o = c.in_ok-outcome.outcome in
-    from_all c.print_outcome.result (λ status is printed says one. prints_other c.args.file.now given c.args.calls c.args.turns status before after o
-    (prints_run c.args.file.now c.in-Some.text.now given c.args.calls c.args.turns before mid after c.in_ok-numbers.numbers.items c.as_slice.result.now o c.as_slice-2.result.now
-    here.0 (ap g.O.Write.contents (lowered.1 ∙ here.1)) c.as_slice.ensures.value c.in_ok-numbers.ensures.numbers c.in_ok-outcome.ensures c.as_slice-2.ensures.value printed) is one (Says g.E.Write.contents g.E.Output.is_flushed g.E.Output.has_failed c.args.err.now c.print_outcome.new.err) says)
-    c.print_outcome.ensures.status c.print_outcome.ensures.printed c.print_outcome.ensures.said
+    let run = prints_run c.args.file.now c.in-Some.text.now given c.args.calls c.args.turns before mid after c.in_ok-numbers.numbers.items c.as_slice.result.now o c.as_slice-2.result.now
+    here.0 (ap g.O.Write.contents (lowered.1 ∙ here.1)) c.as_slice.ensures.value c.in_ok-numbers.ensures.numbers c.in_ok-outcome.ensures c.as_slice-2.ensures.value in
+    from_all c.print_outcome.result (λ status is low silent printed flushed same says. record {
+      low = low;
+      good = λ zero. (prints_done c.args.file.now given c.args.calls c.args.turns status before after o (run printed) is zero, flushed, silent zero);
+      other = λ one. (prints_other c.args.file.now given c.args.calls c.args.turns status before after o (run printed) is one (Says g.E.Write.contents g.E.Output.is_flushed g.E.Output.has_failed c.args.err.now c.print_outcome.new.err) says, flushed);
+      both = (c.in_ok-text.ensures.readable, same ∙ c.in_ok-program.ensures.unfailed ∙ c.in_ok-text.ensures.unfailed, c.in_ok-numbers.ensures.unfailed);
+    })
+    c.print_outcome.ensures.status c.print_outcome.ensures.ends c.print_outcome.ensures.silent c.print_outcome.ensures.printed c.print_outcome.ensures.flushed c.print_outcome.ensures.unfailed c.print_outcome.ensures.said

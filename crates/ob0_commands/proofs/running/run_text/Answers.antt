@@ -1,13 +1,19 @@
-use Rattle.std.proofs.Common.{Some, subst}
+use Rattle.std.proofs.Common.{Some, inl, inr, subst}
 use Rattle.ob0_commands.specs.Printed.{fault_line}
 use Rattle.ob0_commands.specs.Said.{Says}
 use Rattle.ob0_commands.proofs.running.run_text.Goals as goal
 
-pub returns-in-Err-clause-named : goal.returns-in-Err-clause-named
-returns-in-Err-clause-named g c = λ ill. record {
+pub returns-in-Ok-clause-ends : goal.returns-in-Ok-clause-ends
+returns-in-Ok-clause-ends g c = inl c.in-Ok.ensures.ends
+
+pub returns-in-Err-clause-ends : goal.returns-in-Err-clause-ends
+returns-in-Err-clause-ends g c = inr (record {
   why = c.in-Err.fault;
-  stops = (rw c.in-Err.is at c.run_file.ensures.fault, rw c.in-Err.is at c.run_file.ensures.failed);
   is = c.print_fault.ensures.status;
+  stops = (c.in-Err.ensures.fault, c.in-Err.ensures.read);
+  failed = c.in-Err.ensures.failed;
+  kept = c.in-Err.ensures.kept;
+  memory = c.in-Err.ensures.memory;
   said =
-      subst (λ before. Says g.E.Write.contents g.E.Output.is_flushed g.E.Output.has_failed before c.print_fault.new.err (Some (fault_line c.in-Err.fault))) (rw c.in-Err.is at c.run_file.ensures.unsaid) c.print_fault.ensures.said;
-}
+      subst (λ before. Says g.E.Write.contents g.E.Output.is_flushed g.E.Output.has_failed before c.print_fault.new.err (Some (fault_line c.in-Err.fault))) c.in-Err.ensures.unsaid c.print_fault.ensures.said;
+})
