@@ -164,8 +164,7 @@ def late() -> None:
         ("laid out", LAYOUT, lambda: command("Format", WIRE.is_held)),
     ]
     for what, method, ask in asks:
-        changed = f"{LINE}
-{WIRE.text()}"
+        changed = f"{LINE}\n{WIRE.text()}"
         WIRE.hold(method)
         ask()
         line_above()
