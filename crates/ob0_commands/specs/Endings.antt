@@ -1,4 +1,10 @@
 -- How a command on a file ends: by its status, the output and standard error.
+-- With 0 or 1 the file has a text or is too long, and neither output nor input has failed since before; with the status
+-- of a fault there is a reason for it (`StopsPrintingFaults`, `StopsRunning`). Only of an input that is no list of
+-- numbers the other side is weaker: what 0 and 1 mean has such a list (`IsInputOf`), and 5 may come for either.
+-- `text_of` can't return `Memory` (it allocates nothing), so 5 comes only for a file that isn't too long
+-- (`AllocatesFor`). Each command prints after its last allocation, so a fault other than `Write` leaves the output as
+-- it was (`PrintsNothing`), also where a command ends by it.
 -- Rule: docs/PROTOCOL.md, The program 5 to 8.
 use Rattle.std.specs.Prelude.{◌≡◌, ◌≤◌, ℕ, List, Option, Some, Bool}
 use Rattle.ob0_commands.specs.Printed.{fault_line}

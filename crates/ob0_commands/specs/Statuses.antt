@@ -1,10 +1,4 @@
 -- The statuses with which a command on a file ends.
--- A command ends well or by a fault (`Endings`): with 0 or 1, and then the file has a text or is too long and neither
--- output nor input has failed since before; or with the status of a fault, for which there is a reason
--- (`StopsPrintingFaults`, `StopsRunning`). Only of an input that is no list of numbers the other side is weaker: what 0
--- and 1 mean has such a list (`IsInputOf`), and 5 may come for either. `text_of` can't return `Memory` (it allocates
--- nothing), so 5 comes only for a file that isn't too long (`AllocatesFor`). Each command prints after its last
--- allocation, so a fault other than `Write` leaves the output as it was (`PrintsNothing`).
 -- Rule: docs/PROTOCOL.md, The program 8.
 use Rattle.std.specs.Prelude.{◌≡◌, ◌≢◌, ◌≤◌, ◌⊎◌, ℕ, List, Option, Bool, true, length}
 use Rattle.std.specs.Str.{IsUtf8}
