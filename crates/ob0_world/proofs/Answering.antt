@@ -48,6 +48,7 @@ use Rattle.ob0_world_rules.specs.Asks.{Ask, rename, inline_here, inline_all, for
 use Rattle.ob0_world_rules.specs.Answers.{place_at, AnswersFor, IsAnswer, IsEmptyIfCorrect}
 use Rattle.ob0_world_rules.specs.Ends.{SentAsk, request_numbered, ToServer, notifies, requests, ToEditor, publishes, answers, after_message}
 use Rattle.ob0_world_rules.specs.Serving.{Publishes, cleared, Replies}
+use Rattle.ob0_world_rules.proofs.ModuleTexts.{well_typed_text, well_typed_module}
 use Rattle.ob0_world_rules.proofs.UriLaws.{get_put, uri_itself}
 use Rattle.ob0_world.specs.Queues.{IsRunning, made_of_document, made_first}
 
@@ -105,8 +106,8 @@ reports_right unit text ds (reported, reporting, is) =
     subst (λ ds. IsEmptyIfCorrect text (has_none (items_of (map diagnostic_value ds)))) (sym is) (go reporting)
   where
     go : Reports (utf8 text) reported → IsEmptyIfCorrect text (has_none (items_of (map diagnostic_value (map (diagnostic_of unit text) reported))))
-    go (inl (found, none)) = (λ empty. found, λ well_typed. empty_none (diagnostic_of unit text) reported none)
-    go (inr (unfit, faults)) = (λ empty. absurd (some_reported (utf8 text) reported faults (none_empty (diagnostic_of unit text) reported empty)), λ well_typed. absurd (unfit well_typed))
+    go (inl (found, none)) = (λ empty. well_typed_text text found, λ well_typed. empty_none (diagnostic_of unit text) reported none)
+    go (inr (unfit, faults)) = (λ empty. absurd (some_reported (utf8 text) reported faults (none_empty (diagnostic_of unit text) reported empty)), λ well_typed. absurd (unfit (well_typed_module text well_typed)))
 
 -- ---- publications
 
@@ -228,7 +229,7 @@ refused requested k uri ask unit o code why sent of sends none =
 
 -- nothing is returned for a text that isn't a well-typed module
 unfit_answer : (unit : Unit) (text : List ℕ) (ask : Ask) → ¬ IsWellTypedModule (utf8 text) → AnswersFor unit text ask []
-unfit_answer unit text ask unfit = inr (inr unfit, refl)
+unfit_answer unit text ask unfit = inr (inr (λ fits. unfit (well_typed_module text fits)), refl)
 
 formatted : (requested : List SentAsk) (k : ℕ) (uri : List ℕ) (indent : Indent) (unit : Unit) (version : ℤ) (text : List ℕ) (sent : List (List ℕ)) → IsAsk requested k uri (format indent)
     → SaysReply (lays_out unit (number (unsigned k)) (indent_read indent) text) sent → Answered requested k (format indent) unit (Some (InStep version text)) sent

@@ -15,8 +15,7 @@ use Rattle.ob0_world.specs.declared.events.Event as event
 use Rattle.ob0_world.specs.declared.faults.PlayFault.{PlayFault}
 use Rattle.ob0_world.specs.declared.played.Played as played
 use Rattle.ob0_world_rules.specs.Ends.{Ends, start}
-use Rattle.ob0_world_rules.specs.Events.{Event, open_document, change_document, close_document, ask_about, serve, take_message, apply, discard, Seen}
-use Rattle.ob0_world_rules.specs.Happens.{Course}
+use Rattle.ob0_world_rules.specs.Happens.{Event, does, serve, take_message, Course}
 use Rattle.ob0_world_rules.specs.Headline.{Headline, WasMadeFor}
 use Rattle.ob0_world_rules.proofs.Interleavings.{in_every_interleaving}
 use Rattle.ob0_world_rules.proofs.MadeFor.{made_for}
@@ -26,20 +25,20 @@ use Rattle.ob0_world.specs.Worlds.{Wire, Both, Begins, TakesFirst, GetsFirst, Wr
 
 -- ---- one event more
 
-both_push : (begin : Both) (events : List Event) (between : Both) (e : Event) (seen : Seen) (new : Both) → BothCourse begin events between → BothStep between e seen new → BothCourse begin (events ++ e ∷ []) new
-both_push begin [] between e seen new is step = (seen, new, subst (λ (x : Both). BothStep x e seen new) is step, refl)
-both_push begin (first ∷ events) between e seen new (shown, next, made, rest) step = (shown, next, made, both_push next events between e seen new rest step)
+both_push : (begin : Both) (events : List Event) (between : Both) (e : Event) (new : Both) → BothCourse begin events between → BothStep between e new → BothCourse begin (events ++ e ∷ []) new
+both_push begin [] between e new is step = (new, subst (λ (x : Both). BothStep x e new) is step, refl)
+both_push begin (first ∷ events) between e new (next, made, rest) step = (next, made, both_push next events between e new rest step)
 
-pub course_more : (begin : Both) (events : List event.Event) (i : ℕ) (e : event.Event) (between : Both) (seen : Seen) (new : Both) → i < length events → e ≡ get_or events i e → BothCourse begin (map event_of (take i events)) between
-    → BothStep between (event_of e) seen new → BothCourse begin (map event_of (take (i + 1) events)) new
-course_more begin events i e between seen new within is course step =
+pub course_more : (begin : Both) (events : List event.Event) (i : ℕ) (e : event.Event) (between : Both) (new : Both) → i < length events → e ≡ get_or events i e → BothCourse begin (map event_of (take i events)) between
+    → BothStep between (event_of e) new → BothCourse begin (map event_of (take (i + 1) events)) new
+course_more begin events i e between new within is course step =
     subst (λ es. BothCourse begin es new)
     (sym (ap (map event_of) (take_more events i e within) ∙ map-append event_of (take i events) (get_or events i e ∷ [])))
-    (both_push begin (map event_of (take i events)) between (event_of (get_or events i e)) seen new course (subst (λ x. BothStep between (event_of x) seen new) is step))
+    (both_push begin (map event_of (take i events)) between (event_of (get_or events i e)) new course (subst (λ x. BothStep between (event_of x) new) is step))
 
 model_course : (begin : Both) (events : List Event) (end : Both) → BothCourse begin events end → Course begin.ends events end.ends
 model_course begin [] end is = ap (λ (w : Both). w.ends) is
-model_course begin (e ∷ events) end (seen, between, step, rest) = (seen, between.ends, step.happens, model_course between events end rest)
+model_course begin (e ∷ events) end (between, step, rest) = (between.ends, step.happens, model_course between events end rest)
 
 -- ---- the session's conversation
 
@@ -70,14 +69,9 @@ unfolding Conversed
 writes_conversed old new (content, is) h = subst Conversed (sym is) h
 
 moved_conversed : (e : Event) (old new : Wire) → MovesWire e old new → Conversed old → Conversed new
+moved_conversed (does act) old new moves h = writes_conversed old new moves h
 moved_conversed serve old new moves h = takes_conversed old.to_server old new moves h
 moved_conversed take_message old new moves h = gets_conversed old.to_editor old new refl moves h
-moved_conversed (open_document uri text) old new moves h = writes_conversed old new moves h
-moved_conversed (change_document uri how) old new moves h = writes_conversed old new moves h
-moved_conversed (close_document uri) old new moves h = writes_conversed old new moves h
-moved_conversed (ask_about uri ask) old new moves h = writes_conversed old new moves h
-moved_conversed (apply k) old new moves h = writes_conversed old new moves h
-moved_conversed (discard k) old new moves h = writes_conversed old new moves h
 
 begins_conversed : (unit : Unit) (w : Both) → Begins unit w → Conversed w.wire
 unfolding Conversed
@@ -87,7 +81,7 @@ begins_conversed unit w b =
 
 course_conversed : (begin : Both) (events : List Event) (end : Both) → BothCourse begin events end → Conversed begin.wire → Conversed end.wire
 course_conversed begin [] end is h = subst (λ (w : Both). Conversed w.wire) (sym is) h
-course_conversed begin (e ∷ events) end (seen, between, step, rest) h = course_conversed between events end rest (moved_conversed e begin.wire between.wire step.moves h)
+course_conversed begin (e ∷ events) end (between, step, rest) h = course_conversed between events end rest (moved_conversed e begin.wire between.wire step.moves h)
 
 -- ---- what has come of it
 

@@ -1,6 +1,7 @@
 -- What the editor's moves make of both ends.
 use Rattle.std.proofs.Common.{◌≡◌, ◌∙◌, ℕ, Bool, true, false, cond, List, [], ◌∷◌, ◌++◌, Option, Some, None, Result, Ok, Err, refl, sym, ap, subst}
-use Rattle.std.specs.Prelude.{⊤, All, Vec, map, IfOk, OnErr, OnOk, is_some}
+use Rattle.std.specs.Prelude.{⊤, All, Vec, map, IfOk, OnErr, OnOk, is_some, unwrap_or, option_and_then}
+use Rattle.std.specs.Option.{option_to_list}
 use Rattle.std.specs.declared.alloc.Global.{Global}
 use Rattle.std.proofs.lemmas.List.{append-nil, map-append}
 use Rattle.std.proofs.lemmas.List.Elements.{All-head, All-push, All-tail}
@@ -8,61 +9,43 @@ use Rattle.ob0_text.specs.OpenDocuments.{TextChange}
 use Rattle.ob0_session_server.specs.SessionStates.{SessionState}
 use Rattle.ob0_world_editor.specs.Code.{applied_of}
 use Rattle.ob0_world_editor.specs.Heard.{heard, SaysToServer}
-use Rattle.ob0_world_editor.specs.Moves.{Moves, ComesOf}
+use Rattle.ob0_world_editor.specs.Moves.{SaysSent, Acts, IsSilent, ComesOf}
 use Rattle.ob0_world_editor.specs.Understood.{understood}
 use Rattle.ob0_world_editor.specs.declared.applied.Applied as applied
 use Rattle.ob0_world_editor.specs.declared.applied.Applying as applying
 use Rattle.ob0_world_editor.proofs.Hearing.{says_heard}
-use Rattle.ob0_world_editor.proofs.Moving.{none_goes}
-use Rattle.ob0_world_rules.specs.Edited.{Replacement, edited, after_changes}
+use Rattle.ob0_world_rules.specs.Edited.{Replacement, after_changes}
 use Rattle.ob0_world_rules.specs.Asks.{Ask}
-use Rattle.ob0_world_rules.specs.Ends.{Open, SentAsk, Editor, request_numbered, open_at, ToServer, Ends}
-use Rattle.ob0_world_rules.specs.Editing.{Move, idle, sends, opens_document, changes_text, changes_document, closes_document, asks_about, keeps, ApplyOutcome, not_held, drops_answer, makes, kept_answer, without_answer, discards, if_same, applies_text, applies_edits, applies_requested, applies_answer}
-use Rattle.ob0_world_rules.specs.Events.{Is, after_move, comes_of, applies, drops, nothing}
+use Rattle.ob0_world_rules.specs.Ends.{Open, SentAsk, Editor, open_at, ToServer, ToEditor, publishes, answers, Ends}
+use Rattle.ob0_world_rules.specs.Editing.{Act, open_document, change_document, close_document, ask_about, apply, discard, Done, stays, opens, rewrites, closes, asks, kept_answer, without_answer, done_by, reads}
+use Rattle.ob0_world_rules.specs.Happens.{does, take_message, after_act, after_taking, Happens}
+use Rattle.ob0_world_rules.proofs.Acts.{of_each}
 use Rattle.ob0_world.specs.declared.events.Seen as seen
 use Rattle.ob0_world.specs.declared.played.Made as made
-use Rattle.ob0_world.specs.Code.{seen_of}
+use Rattle.ob0_world.specs.Seen.{Seen, nothing, applies, drops, if_any, sent_of, act_seen, taken_seen, seen_of, Shows}
+use Rattle.ob0_world.specs.Seen as seen_as
 use Rattle.ob0_world.specs.Queues.{Contents, bytes, all_heard, all_understood, IsHeard, IsUnderstood, Sound, ends_from, wire_from, IsSent}
 use Rattle.ob0_world.specs.Worlds.{WritesContent}
-use Rattle.ob0_world.proofs.Waiting.{all_heard_still, all_understood_still, heard_still, understood_same, said_push}
+use Rattle.ob0_world.proofs.Waiting.{all_heard_still, all_understood_still, heard_still, understood_same, said_push, said_first}
 
 -- ---- the asks of an editor only grow
 
 abbrev pub Grows : Editor → Editor → Type 0
 Grows e new = (more : List SentAsk) × (new.requested ≡ e.requested ++ more)
 
-abbrev pub Extends : Editor → Move → Type 0
-Extends e idle = ⊤
-Extends e (sends f m) = Grows e f
+pub act_grows : (e : Editor) (act : Act) → Grows e (done_by e act).editor
+act_grows e = of_each e (λ done. Grows e done.editor) (record {
+  still = ([], sym (append-nil e.requested));
+  opened = λ uri text none. ([], sym (append-nil e.requested));
+  changed = λ uri d how text at made. ([], sym (append-nil e.requested));
+  closed = λ uri d at. ([], sym (append-nil e.requested));
+  asked = λ uri ask d at. (_, refl);
+  made = λ k edits a d text held numbered same makes. ([], sym (append-nil e.requested));
+  dropped = λ k. ([], sym (append-nil e.requested));
+})
 
-same_asks : (e f : Editor) → f.requested ≡ e.requested → Grows e f
-same_asks e f is = ([], is ∙ sym (append-nil e.requested))
-
-pub open_extends : (e : Editor) (uri text : List ℕ) (o : Option Open) → Extends e (opens_document e uri text o)
-open_extends e uri text (Some d) = tt
-open_extends e uri text None = ([], sym (append-nil e.requested))
-
-pub change_extends : (e : Editor) (uri : List ℕ) (how : List TextChange) (o : Option Open) → Extends e (changes_document e uri how o)
-change_extends e uri how None = tt
-change_extends e uri how (Some d) = go (after_changes e.unit (Some d.text) how)
-  where
-    go : (t : Option (List ℕ)) → Extends e (changes_text e uri d how t)
-    go (Some text) = ([], sym (append-nil e.requested))
-    go None = tt
-
-pub close_extends : (e : Editor) (uri : List ℕ) (o : Option Open) → Extends e (closes_document e uri o)
-close_extends e uri (Some d) = ([], sym (append-nil e.requested))
-close_extends e uri None = tt
-
-pub ask_extends : (e : Editor) (uri : List ℕ) (ask : Ask) (o : Option Open) → Extends e (asks_about e uri ask o)
-ask_extends e uri ask (Some d) = (_, refl)
-ask_extends e uri ask None = tt
-
-pub moves_grow : (e new : Editor) (m : Move) (content : Option (Vec ℕ Global)) → Extends e m → Moves m e content new → Grows e new
-moves_grow e new idle None extends is = same_asks e new (ap (λ (x : Editor). x.requested) is)
-moves_grow e new idle (Some c) extends is = absurd is
-moves_grow e new (sends f m) None extends is = absurd is
-moves_grow e new (sends f m) (Some c) extends is = (extends.0, ap (λ (x : Editor). x.requested) is.0 ∙ extends.1)
+pub grown : (e new : Editor) (done : Done) → Grows e done.editor → new ≡ done.editor → Grows e new
+grown e new done (more, grows) is = (more, ap (λ (x : Editor). x.requested) is ∙ grows)
 
 -- ---- what waits stays sound
 
@@ -78,103 +61,190 @@ pushed_sound : (requested : List SentAsk) (q r : Contents) (s : SessionState) (c
 pushed_sound requested q r s c m says sound =
     record { heard_all = All-push (IsHeard requested) q c sound.heard_all (m, says); understood_all = sound.understood_all; running = sound.running }
 
--- the editor has moved, and its message, if any, waits
-pub moved_sound : (e new : Editor) (m : Move) (content : Option (Vec ℕ Global)) (q q' r : Contents) (s : SessionState) (shown : seen.Seen) → Extends e m → Moves m e content new → IsSent q content shown q' → Sound e.requested q r s → Sound new.requested q' r s
-moved_sound e new idle None q q' r s shown extends is sent sound =
-    subst (λ x. Sound new.requested x r s) (sym sent.1) (same_sound e new q r s (ap (λ (x : Editor). x.requested) is) sound)
-moved_sound e new idle (Some c) q q' r s shown extends is sent sound = absurd is
-moved_sound e new (sends f m) None q q' r s shown extends is sent sound = absurd is
-moved_sound e new (sends f m) (Some c) q q' r s shown extends is sent sound =
-    subst (λ x. Sound new.requested x r s) (sym sent.1)
-    (pushed_sound new.requested q r s c m (subst (λ (x : Editor). SaysToServer x.requested m c.items) (sym is.0) is.1)
-    (grown_sound e new q r s (moves_grow e new (sends f m) (Some c) extends is) sound))
+-- the editor has acted, and its message, if any, waits
+pub acted_sound : (e new : Editor) (done : Done) (content : Option (Vec ℕ Global)) (q q' r : Contents) (s : SessionState) → Grows e done.editor → Acts done content new → q' ≡ q ++ option_to_list content → Sound e.requested q r s → Sound new.requested q' r s
+acted_sound e new done content q q' r s grows acts is sound =
+    let still : Sound new.requested q r s = grown_sound e new q r s (grown e new done grows acts.0) sound in
+    subst (λ x. Sound new.requested x r s) (sym is) (go done.sent content acts.1 still)
+  where
+    go : (sent : List ToServer) (content : Option (Vec ℕ Global)) → SaysSent new.requested sent content → Sound new.requested q r s → Sound new.requested (q ++ option_to_list content) r s
+    go [] None says still = subst (λ x. Sound new.requested x r s) (sym (append-nil q)) still
+    go [] (Some c) says still = absurd says
+    go (m ∷ more) None says still = absurd says
+    go (m ∷ more) (Some c) says still = pushed_sound new.requested q r s c m says.0 still
 
--- the same queues after further requests
-queues_grown : (e new : Editor) (q r : Contents) (s : SessionState) (ap_list : List applied.Applied) (md : List made.Made) → Grows e new → Sound e.requested q r s
-    → ends_from new q s r ap_list md ≡ record (ends_from e q s r ap_list md) { editor = new }
-queues_grown e new q r s ap_list md (more, is) sound =
-    (λ i. record (ends_from new q s r ap_list md) {
-      to_server = (ap (λ requested. all_heard requested q) is ∙ heard_still e.requested more q sound.heard_all) i;
-      to_editor = (ap (λ requested. all_understood requested r) is ∙ understood_same e.requested more r sound.understood_all) i;
+-- what waits for the session, once an act is done
+heard_acted : (requested : List SentAsk) (sent : List ToServer) (content : Option (Vec ℕ Global)) (q : Contents) → SaysSent requested sent content → all_heard requested (q ++ option_to_list content) ≡ all_heard requested q ++ sent
+heard_acted requested [] None q says = ap (all_heard requested) (append-nil q) ∙ sym (append-nil (all_heard requested q))
+heard_acted requested [] (Some c) q says = absurd says
+heard_acted requested (m ∷ more) None q says = absurd says
+heard_acted requested (m ∷ more) (Some c) q says =
+    said_push (heard requested) q c m (says_heard requested m c.items says.0) ∙ ap (λ ms. all_heard requested q ++ m ∷ ms) (sym says.1)
+
+-- client and server once an act is done
+pub acted : (e new : Editor) (done : Done) (content : Option (Vec ℕ Global)) (q q' r : Contents) (s : SessionState) (ap_list ap_new : List applied.Applied) (md : List made.Made) → Grows e done.editor → Acts done content new → q' ≡ q ++ option_to_list content
+    → map applied_of ap_new ≡ map applied_of ap_list ++ done.applied → Sound e.requested q r s → ends_from new q' s r ap_new md ≡ after_act (ends_from e q s r ap_list md) done
+acted e new done content q q' r s ap_list ap_new md grows acts is more sound =
+    let (since, grew) = grown e new done grows acts.0 in
+    let waits : all_heard new.requested q' ≡ all_heard e.requested q ++ done.sent =
+    ap (all_heard new.requested) is ∙ heard_acted new.requested done.sent content q acts.1
+    ∙ ap (λ ms. ms ++ done.sent) (ap (λ requested. all_heard requested q) grew ∙ heard_still e.requested since q sound.heard_all) in
+    (λ i. record (ends_from e q s r ap_list md) {
+      editor = acts.0 i;
+      to_server = waits i;
+      to_editor = (ap (λ requested. all_understood requested r) grew ∙ understood_same e.requested since r sound.understood_all) i;
+      applied = more i;
     })
 
-pub moved_happens : (e new : Editor) (m : Move) (content : Option (Vec ℕ Global)) (q q' r : Contents) (s : SessionState) (ap_list : List applied.Applied) (md : List made.Made) (shown : seen.Seen) → Extends e m → Moves m e content new → IsSent q content shown q'
-    → Sound e.requested q r s → Is (after_move (ends_from e q s r ap_list md) m) (seen_of shown) (ends_from new q' s r ap_list md)
-moved_happens e new idle None q q' r s ap_list md shown extends is sent sound = (sent.0, (λ i. ends_from (is i) (sent.1 i) s r ap_list md))
-moved_happens e new idle (Some c) q q' r s ap_list md shown extends is sent sound = absurd is
-moved_happens e new (sends f m) None q q' r s ap_list md shown extends is sent sound = absurd is
-moved_happens e new (sends f m) (Some c) q q' r s ap_list md shown extends is sent sound =
-    let says : SaysToServer new.requested m c.items = subst (λ (x : Editor). SaysToServer x.requested m c.items) (sym is.0) is.1 in
-    let pushed : ends_from new (q ++ c ∷ []) s r ap_list md ≡ record (ends_from new q s r ap_list md) { to_server = all_heard new.requested q ++ m ∷ [] } =
-    (λ i. record (ends_from new q s r ap_list md) { to_server = said_push (heard new.requested) q c m (says_heard new.requested m c.items says) i }) in
-    let grown : ends_from new q s r ap_list md ≡ record (ends_from e q s r ap_list md) { editor = new } = queues_grown e new q r s ap_list md (moves_grow e new (sends f m) (Some c) extends is) sound in (
-      sent.0,
-      ap (λ x. ends_from new x s r ap_list md) sent.1 ∙ pushed ∙ ap (λ (w : Ends). record w { to_server = w.to_server ++ m ∷ [] }) grown
-          ∙ ap (λ (x : Editor). record (ends_from e q s r ap_list md) { editor = x; to_server = all_heard e.requested q ++ m ∷ [] }) is.0,
+-- ---- an act that applies nothing
+
+-- a content, if there is one, was put after the others
+pub put : (q q' : Contents) (content : Option (Vec ℕ Global)) (shown : seen.Seen) → IsSent q content shown q' → q' ≡ q ++ option_to_list content
+put q q' None shown sent = sent.1 ∙ sym (append-nil q)
+put q q' (Some c) shown sent = sent.1
+
+seen_sent : (done : Done) (requested : List SentAsk) (q q' : Contents) (content : Option (Vec ℕ Global)) (shown : seen.Seen) → SaysSent requested done.sent content → IsSent q content shown q' → seen_of shown ≡ sent_of done
+seen_sent done requested q q' content shown says sent = go done.sent content says sent
+  where
+    go : (ms : List ToServer) (content : Option (Vec ℕ Global)) → SaysSent requested ms content → IsSent q content shown q' → seen_of shown ≡ if_any ms seen_as.sent seen_as.nothing
+    go [] None says sent = sent.0
+    go [] (Some c) says sent = absurd says
+    go (m ∷ more) None says sent = absurd says
+    go (m ∷ more) (Some c) says sent = sent.0
+
+none_applied : (e : Editor) (o : Option Done) → ((done : Done) → o ≡ Some done → done.applied ≡ []) → (unwrap_or o (stays e)).applied ≡ []
+none_applied e None none = refl
+none_applied e (Some done) none = none done refl
+
+pub open_applies : (e : Editor) (uri text : List ℕ) → (done_by e (open_document uri text)).applied ≡ []
+open_applies e uri text = go (is_some (open_at e uri))
+  where
+    go : (b : Bool) → (cond b (stays e) (opens e uri text)).applied ≡ []
+    go true = refl
+    go false = refl
+
+pub close_applies : (e : Editor) (uri : List ℕ) → (done_by e (close_document uri)).applied ≡ []
+close_applies e uri = go (is_some (open_at e uri))
+  where
+    go : (b : Bool) → (cond b (closes e uri) (stays e)).applied ≡ []
+    go true = refl
+    go false = refl
+
+pub ask_applies : (e : Editor) (uri : List ℕ) (ask : Ask) → (done_by e (ask_about uri ask)).applied ≡ []
+ask_applies e uri ask = go (open_at e uri)
+  where
+    go : (o : Option Open) → (unwrap_or (option_and_then (λ d. Some (asks e uri ask d)) o) (stays e)).applied ≡ []
+    go None = refl
+    go (Some d) = refl
+
+pub change_applies : (e : Editor) (uri : List ℕ) (how : List TextChange) → (done_by e (change_document uri how)).applied ≡ []
+change_applies e uri how = go (open_at e uri)
+  where
+    of_text : (d : Open) (o : Option (List ℕ)) → (unwrap_or (option_and_then (λ text. Some (rewrites e uri d text how [])) o) (stays e)).applied ≡ []
+    of_text d None = refl
+    of_text d (Some text) = refl
+
+    go : (o : Option Open) → (unwrap_or (option_and_then (λ d. option_and_then (λ text. Some (rewrites e uri d text how [])) (after_changes e.unit (Some d.text) how)) o) (stays e)).applied ≡ []
+    go None = refl
+    go (Some d) = of_text d (after_changes e.unit (Some d.text) how)
+
+pub sent_sound : {X : Type 0} (act : Act) (e new : Editor) (content : Option (Vec ℕ Global)) (q q' r : Contents) (s : SessionState) (result : Result seen.Seen X) → Acts (done_by e act) content new
+    → IfOk result (λ shown. IsSent q content shown q') → OnErr result (q' ≡ q) → Sound e.requested q r s → Sound new.requested q' r s
+sent_sound act e new content q q' r s (Ok shown) acts sent none sound = acted_sound e new (done_by e act) content q q' r s (act_grows e act) acts (put q q' content shown sent) sound
+sent_sound act e new content q q' r s (Err x) acts sent none sound =
+    subst (λ x. Sound new.requested x r s) (sym none) (grown_sound e new q r s (grown e new (done_by e act) (act_grows e act) acts.0) sound)
+
+pub sent_shows : {X : Type 0} (act : Act) (old : Ends) (e new : Editor) (content : Option (Vec ℕ Global)) (q q' r : Contents) (s : SessionState) (ap_list : List applied.Applied) (md : List made.Made) (result : Result seen.Seen X)
+    → ends_from e q s r ap_list md ≡ old → (done_by e act).applied ≡ [] → act_seen e act ≡ sent_of (done_by e act) → Acts (done_by e act) content new → IfOk result (λ shown. IsSent q content shown q') → Sound e.requested q r s
+    → IfOk result (λ shown. Shows old (does act) (seen_of shown) (ends_from new q' s r ap_list md))
+sent_shows act old e new content q q' r s ap_list md (Ok shown) was none as_sent acts sent sound =
+    subst (λ (w : Ends). Shows w (does act) (seen_of shown) (ends_from new q' s r ap_list md)) was (
+      acted e new (done_by e act) content q q' r s ap_list ap_list md (act_grows e act) acts (put q q' content shown sent) (sym (append-nil (map applied_of ap_list)) ∙ ap (λ x. map applied_of ap_list ++ x) (sym none)) sound,
+      seen_sent (done_by e act) new.requested q q' content shown acts.1 sent ∙ sym as_sent,
     )
+sent_shows act old e new content q q' r s ap_list md (Err x) was none as_sent acts sent sound = tt
 
 -- ---- answers
 
--- the asks stay
-abbrev pub KeepsAsks : Editor → ApplyOutcome → Type 0
-KeepsAsks e not_held = ⊤
-KeepsAsks e (drops_answer f) = f.requested ≡ e.requested
-KeepsAsks e (makes f a m) = f.requested ≡ e.requested
+-- nothing came of an answer
+pub silent_acts : (done : Done) (new : Editor) → IsSilent done new → Acts done None new
+silent_acts done new (is, nothing_sent, none) = (is, subst (λ ms. SaysSent new.requested ms None) (sym nothing_sent) tt)
 
-pub apply_keeps_asks : (e : Editor) (k : ℕ) (o : Option (List Replacement)) → KeepsAsks e (applies_answer e k o)
-apply_keeps_asks e k None = tt
-apply_keeps_asks e k (Some edits) = of_requested (request_numbered e.requested k)
-  where
-    f : Editor
-    f = without_answer e k
+pub silent_shows : (act : Act) (e new : Editor) (q r : Contents) (s : SessionState) (ap_list : List applied.Applied) (md : List made.Made) → IsSilent (done_by e act) new → Sound e.requested q r s
+    → Happens (ends_from e q s r ap_list md) (does act) (ends_from new q s r ap_list md)
+silent_shows act e new q r s ap_list md silent sound =
+    acted e new (done_by e act) None q q r s ap_list ap_list md (act_grows e act) (silent_acts (done_by e act) new silent) (sym (append-nil q)) (sym (append-nil (map applied_of ap_list)) ∙ ap (λ x. map applied_of ap_list ++ x) (sym silent.2)) sound
 
-    of_text : (uri : List ℕ) (d : Open) (o : Option (List ℕ)) → KeepsAsks e (applies_text f uri d o)
-    of_text uri d None = refl
-    of_text uri d (Some text) = refl
+-- what is seen of an answer that is to be applied
+abbrev pub apply_seen : (e new : Editor) (k : ℕ) (outcome : applying.Applying) → ComesOf (done_by e (apply k)) (is_some (kept_answer k e.answers)) outcome new → Seen
+apply_seen e new k applying.TheVariants.NotHeld comes = nothing
+apply_seen e new k applying.TheVariants.Dropped comes = drops k
+apply_seen e new k (applying.TheVariants.Made a c) comes = applies k
 
-    of_document : (uri : List ℕ) (o : Option Open) → KeepsAsks e (applies_edits f edits uri o)
-    of_document uri None = refl
-    of_document uri (Some d) = of_text uri d (edited f.unit d.text edits)
+pub apply_seen_so : (e new : Editor) (k : ℕ) (outcome : applying.Applying) (comes : ComesOf (done_by e (apply k)) (is_some (kept_answer k e.answers)) outcome new) → apply_seen e new k outcome comes ≡ act_seen e (apply k)
+apply_seen_so e new k applying.TheVariants.NotHeld comes = sym (ap (λ b. cond b (if_any (done_by e (apply k)).applied (applies k) (drops k)) nothing) comes.1)
+apply_seen_so e new k applying.TheVariants.Dropped comes =
+    sym (ap (λ b. cond b (if_any (done_by e (apply k)).applied (applies k) (drops k)) nothing) comes.1 ∙ ap (λ xs. if_any xs (applies k) (drops k)) comes.0.2)
+apply_seen_so e new k (applying.TheVariants.Made a c) comes =
+    sym (ap (λ b. cond b (if_any (done_by e (apply k)).applied (applies k) (drops k)) nothing) comes.2 ∙ ap (λ xs. if_any xs (applies k) (drops k)) comes.1)
 
-    of_requested : (o : Option SentAsk) → KeepsAsks e (applies_requested f edits o)
-    of_requested None = refl
-    of_requested (Some a) = of_document a.uri (if_same a (open_at f a.uri))
+pub apply_requested : (e new : Editor) (k : ℕ) (outcome : applying.Applying) → ComesOf (done_by e (apply k)) (is_some (kept_answer k e.answers)) outcome new → new ≡ (done_by e (apply k)).editor
+apply_requested e new k applying.TheVariants.NotHeld comes = comes.0.0
+apply_requested e new k applying.TheVariants.Dropped comes = comes.0.0
+apply_requested e new k (applying.TheVariants.Made a c) comes = comes.0.0
 
-pub comes_asks : (e new : Editor) (o : ApplyOutcome) (made : applying.Applying) → KeepsAsks e o → ComesOf o e made new → new.requested ≡ e.requested
-comes_asks e new not_held applying.TheVariants.NotHeld keeps is = ap (λ (x : Editor). x.requested) is
-comes_asks e new not_held applying.TheVariants.Dropped keeps is = absurd is
-comes_asks e new not_held (applying.TheVariants.Made a c) keeps is = absurd is
-comes_asks e new (drops_answer f) applying.TheVariants.NotHeld keeps is = absurd is
-comes_asks e new (drops_answer f) applying.TheVariants.Dropped keeps is = ap (λ (x : Editor). x.requested) is ∙ keeps
-comes_asks e new (drops_answer f) (applying.TheVariants.Made a c) keeps is = absurd is
-comes_asks e new (makes f a m) applying.TheVariants.NotHeld keeps is = absurd is
-comes_asks e new (makes f a m) applying.TheVariants.Dropped keeps is = absurd is
-comes_asks e new (makes f a m) (applying.TheVariants.Made b c) keeps is = ap (λ (x : Editor). x.requested) is.0 ∙ keeps
+-- what waits stays sound once an answer was applied or dropped
+pub applied_sound : (e new : Editor) (k : ℕ) (outcome : applying.Applying) (q r : Contents) (s : SessionState) → ComesOf (done_by e (apply k)) (is_some (kept_answer k e.answers)) outcome new → Sound e.requested q r s → Sound new.requested q r s
+applied_sound e new k outcome q r s comes sound = grown_sound e new q r s (grown e new (done_by e (apply k)) (act_grows e (apply k)) (apply_requested e new k outcome comes)) sound
 
 -- the content of what was made says something
-pub made_says : (e new : Editor) (o : ApplyOutcome) (a : applied.Applied) (c : Vec ℕ Global) → ComesOf o e (applying.TheVariants.Made a c) new → IsHeard new.requested c
-made_says e new not_held a c is = absurd is
-made_says e new (drops_answer f) a c is = absurd is
-made_says e new (makes f b m) a c (is_new, is_a, says) = (m, subst (λ (x : Editor). SaysToServer x.requested m c.items) (sym is_new) says)
+pub made_says : (e new : Editor) (k : ℕ) (a : applied.Applied) (c : Vec ℕ Global) → ComesOf (done_by e (apply k)) (is_some (kept_answer k e.answers)) (applying.TheVariants.Made a c) new → IsHeard new.requested c
+made_says e new k a c comes = go (done_by e (apply k)).sent comes.0.1
+  where
+    go : (sent : List ToServer) → SaysSent new.requested sent (Some c) → IsHeard new.requested c
+    go [] says = absurd says
+    go (m ∷ more) says = (m, says.0)
 
-pub made_happens : (e new : Editor) (k : ℕ) (o : ApplyOutcome) (a : applied.Applied) (c : Vec ℕ Global) (q q' r : Contents) (s : SessionState) (ap_list ap_new : List applied.Applied) (md : List made.Made) → KeepsAsks e o → ComesOf o e (applying.TheVariants.Made a c) new
-    → q' ≡ q ++ c ∷ [] → ap_new ≡ ap_list ++ a ∷ [] → Is (comes_of (ends_from e q s r ap_list md) k o) (applies k) (ends_from new q' s r ap_new md)
-made_happens e new k not_held a c q q' r s ap_list ap_new md keeps is is_q is_ap = absurd is
-made_happens e new k (drops_answer f) a c q q' r s ap_list ap_new md keeps is is_q is_ap = absurd is
-made_happens e new k (makes f b m) a c q q' r s ap_list ap_new md keeps (is_new, is_a, says) is_q is_ap =
-    let same : new.requested ≡ e.requested = ap (λ (x : Editor). x.requested) is_new ∙ keeps in
-    let pushed : all_heard new.requested q' ≡ all_heard e.requested q ++ m ∷ [] =
-    ap (all_heard new.requested) is_q
-    ∙ said_push (heard new.requested) q c m (says_heard new.requested m c.items (subst (λ (x : Editor). SaysToServer x.requested m c.items) (sym is_new) says))
-    ∙ ap (λ requested. all_heard requested q ++ m ∷ []) same in
-    let more : map applied_of ap_new ≡ map applied_of ap_list ++ b ∷ [] = ap (map applied_of) is_ap ∙ map-append applied_of ap_list (a ∷ []) ∙ ap (λ x. map applied_of ap_list ++ x ∷ []) is_a in
-    (refl, (λ i. record (ends_from e q s r ap_list md) { editor = is_new i; to_server = pushed i; to_editor = all_understood (same i) r; applied = more i }))
+pub made_happens : (e new : Editor) (k : ℕ) (a : applied.Applied) (c : Vec ℕ Global) (q q' r : Contents) (s : SessionState) (ap_list ap_new : List applied.Applied) (md : List made.Made) → ComesOf (done_by e (apply k)) (is_some (kept_answer k e.answers)) (applying.TheVariants.Made a c) new
+    → q' ≡ q ++ c ∷ [] → ap_new ≡ ap_list ++ a ∷ [] → Sound e.requested q r s → Shows (ends_from e q s r ap_list md) (does (apply k)) (applies k) (ends_from new q' s r ap_new md)
+made_happens e new k a c q q' r s ap_list ap_new md comes is_q is_ap sound = (
+  acted e new (done_by e (apply k)) (Some c) q q' r s ap_list ap_new md (act_grows e (apply k)) comes.0 is_q
+  (ap (map applied_of) is_ap ∙ map-append applied_of ap_list (a ∷ []) ∙ ap (λ x. map applied_of ap_list ++ x) (sym comes.1)) sound,
+  apply_seen_so e new k (applying.TheVariants.Made a c) comes,
+)
+
+pub dropped_happens : (e new : Editor) (k : ℕ) (q r : Contents) (s : SessionState) (ap_list : List applied.Applied) (md : List made.Made) → ComesOf (done_by e (apply k)) (is_some (kept_answer k e.answers)) applying.TheVariants.Dropped new → Sound e.requested q r s
+    → Shows (ends_from e q s r ap_list md) (does (apply k)) (drops k) (ends_from new q s r ap_list md)
+dropped_happens e new k q r s ap_list md comes sound = (silent_shows (apply k) e new q r s ap_list md comes.0 sound, apply_seen_so e new k applying.TheVariants.Dropped comes)
+
+pub not_held_happens : (e new : Editor) (k : ℕ) (q r : Contents) (s : SessionState) (ap_list : List applied.Applied) (md : List made.Made) → ComesOf (done_by e (apply k)) (is_some (kept_answer k e.answers)) applying.TheVariants.NotHeld new → Sound e.requested q r s
+    → Shows (ends_from e q s r ap_list md) (does (apply k)) nothing (ends_from new q s r ap_list md)
+not_held_happens e new k q r s ap_list md comes sound = (silent_shows (apply k) e new q r s ap_list md comes.0 sound, apply_seen_so e new k applying.TheVariants.NotHeld comes)
 
 -- ---- taking
 
-pub keep_asks : (e : Editor) (number : ℕ) (edits : List Replacement) → (keeps e number edits).requested ≡ e.requested
+pub keep_asks : (e : Editor) (number : ℕ) (edits : List Replacement) → (reads e (answers number edits)).requested ≡ e.requested
 keep_asks e number [] = refl
 keep_asks e number (edit ∷ edits) = refl
+
+pub read_asks : (e : Editor) (m : ToEditor) → (reads e m).requested ≡ e.requested
+read_asks e (publishes uri version empty) = refl
+read_asks e (answers number edits) = keep_asks e number edits
+
+-- the editor has read the first content that waits for it
+pub taken_happens : (e new : Editor) (q r rest : Contents) (s : SessionState) (ap_list : List applied.Applied) (md : List made.Made) (c : Vec ℕ Global) (m : ToEditor) → r ≡ c ∷ rest → understood e.requested c.items ≡ Some m → new ≡ reads e m
+    → Shows (ends_from e q s r ap_list md) take_message (taken_seen (m ∷ [])) (ends_from new q s rest ap_list md)
+taken_happens e new q r rest s ap_list md c m first means is =
+    let waits : all_understood e.requested r ≡ m ∷ all_understood e.requested rest = ap (all_understood e.requested) first ∙ said_first (understood e.requested) c rest m means in
+    let same : new.requested ≡ e.requested = ap (λ (x : Editor). x.requested) is ∙ read_asks e m in
+    let w : Ends = ends_from e q s r ap_list md in
+    let after : ends_from new q s rest ap_list md ≡ after_taking w (m ∷ all_understood e.requested rest) =
+    (λ i. record w { editor = is i; to_server = all_heard (same i) q; to_editor = all_understood (same i) rest }) in
+    (after ∙ ap (after_taking w) (sym waits), of_message m ∙ ap taken_seen (sym waits))
+  where
+    of_message : (m : ToEditor) → taken_seen (m ∷ []) ≡ taken_seen (m ∷ all_understood e.requested rest)
+    of_message (publishes uri version empty) = refl
+    of_message (answers k edits) = refl
 
 -- ---- what waits
 
@@ -189,21 +259,6 @@ module _ (s : SessionState) (tk q gt r : Contents) where
   writes_sent q' content (Err x) sent = tt
   writes_sent q' None (Ok shown) sent = subst (λ x. WritesContent (wire_from s tk q gt r) (wire_from s tk x gt r)) (sym sent.1) writes_none
   writes_sent q' (Some c) (Ok shown) sent = writes_one q' c sent.1
-
--- ---- sending
-
-pub sent_sound : {X : Type 0} (f : Editor → Move) (e new : Editor) (content : Option (Vec ℕ Global)) (q q' r : Contents) (s : SessionState) (result : Result seen.Seen X) → Extends e (f e) → Moves (f e) e content new
-    → IfOk result (λ shown. IsSent q content shown q') → OnErr result (q' ≡ q) → Sound e.requested q r s → Sound new.requested q' r s
-sent_sound f e new content q q' r s (Ok shown) extends is sent none sound = moved_sound e new (f e) content q q' r s shown extends is sent sound
-sent_sound f e new content q q' r s (Err x) extends is sent none sound =
-    subst (λ x. Sound new.requested x r s) (sym none) (grown_sound e new q r s (moves_grow e new (f e) content extends is) sound)
-
-pub sent_happens : {X : Type 0} (f : Editor → Move) (old : Ends) (e new : Editor) (content : Option (Vec ℕ Global)) (q q' r : Contents) (s : SessionState) (ap_list : List applied.Applied) (md : List made.Made) (result : Result seen.Seen X)
-    → ends_from e q s r ap_list md ≡ old → Extends e (f e) → Moves (f e) e content new → IfOk result (λ shown. IsSent q content shown q') → Sound e.requested q r s
-    → IfOk result (λ shown. Is (after_move old (f old.editor)) (seen_of shown) (ends_from new q' s r ap_list md))
-sent_happens f old e new content q q' r s ap_list md (Ok shown) was extends is sent sound =
-    subst (λ (w : Ends). Is (after_move w (f w.editor)) (seen_of shown) (ends_from new q' s r ap_list md)) was (moved_happens e new (f e) content q q' r s ap_list md shown extends is sent sound)
-sent_happens f old e new content q q' r s ap_list md (Err x) was extends is sent sound = tt
 
 pub taken_sound : (requested : List SentAsk) (q r rest : Contents) (s : SessionState) (c : Vec ℕ Global) → r ≡ c ∷ rest → Sound requested q r s → Sound requested q rest s
 taken_sound requested q r rest s c is sound =
@@ -221,12 +276,7 @@ pub maybe_pushed : (requested : List SentAsk) (q q' r : Contents) (s : SessionSt
 maybe_pushed requested q q' r s c true is says sound = subst (λ x. Sound requested x r s) (sym is) (pushed_sound requested q r s c says.0 says.1 sound)
 maybe_pushed requested q q' r s c false is says sound = subst (λ x. Sound requested x r s) (sym is) sound
 
-discarded : (e : Editor) (k : ℕ) (o : Option (List Replacement)) (q r : Contents) (s : SessionState) (ap_list : List applied.Applied) (md : List made.Made) (shown : Bool) (new : Editor) → o ≡ kept_answer k e.answers → shown ≡ is_some o → new ≡ without_answer e k
-    → Is (comes_of (ends_from e q s r ap_list md) k (discards e k o)) (cond shown (drops k) nothing) (ends_from new q s r ap_list md)
-discarded e k (Some edits) q r s ap_list md shown new is held after = (ap (λ b. cond b (drops k) nothing) held, (λ i. ends_from (after i) q s r ap_list md))
-discarded e k None q r s ap_list md shown new is held after =
-    (ap (λ b. cond b (drops k) nothing) held, (λ i. ends_from (after i) q s r ap_list md) ∙ (λ i. ends_from (record e { answers = none_goes k e.answers (sym is) i }) q s r ap_list md))
-
-pub discard_happens : (e new : Editor) (k : ℕ) (q r : Contents) (s : SessionState) (ap_list : List applied.Applied) (md : List made.Made) (shown : Bool) → shown ≡ is_some (kept_answer k e.answers) → new ≡ without_answer e k
-    → Is (comes_of (ends_from e q s r ap_list md) k (discards e k (kept_answer k e.answers))) (cond shown (drops k) nothing) (ends_from new q s r ap_list md)
-discard_happens e new k q r s ap_list md shown held after = discarded e k (kept_answer k e.answers) q r s ap_list md shown new refl held after
+pub discard_shows : (e new : Editor) (k : ℕ) (q r : Contents) (s : SessionState) (ap_list : List applied.Applied) (md : List made.Made) (held : Bool) → held ≡ is_some (kept_answer k e.answers) → new ≡ without_answer e k → Sound e.requested q r s
+    → Shows (ends_from e q s r ap_list md) (does (discard k)) (cond held (drops k) nothing) (ends_from new q s r ap_list md)
+discard_shows e new k q r s ap_list md held is after sound =
+    (silent_shows (discard k) e new q r s ap_list md (after, refl, refl) sound, ap (λ b. cond b (drops k) nothing) is)

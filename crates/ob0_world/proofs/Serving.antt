@@ -1,9 +1,9 @@
 -- What the server's turn makes of both ends.
-use Rattle.std.proofs.Common.{◌≡◌, ◌∙◌, ℕ, Bool, List, [], ◌∷◌, ◌++◌, length, Option, Some, None, refl, sym, ap, subst, cond}
+use Rattle.std.proofs.Common.{◌≡◌, ◌∙◌, ℕ, ◌+◌, ◌-◌, arith, Bool, List, [], ◌∷◌, ◌++◌, length, Option, Some, None, refl, sym, ap, subst, cond}
 use Rattle.std.specs.Prelude.{All, Vec, map, option_map, option_and_then}
 use Rattle.std.specs.Option.{option_to_list}
 use Rattle.std.specs.declared.alloc.Global.{Global}
-use Rattle.std.proofs.lemmas.List.{map-append, length-map}
+use Rattle.std.proofs.lemmas.List.{map-append, length-map, length-append}
 use Rattle.std.proofs.lemmas.List.Elements.{All-nil, All-cons, All-head, All-tail}
 use Rattle.ob0_text.specs.OpenDocuments.{OpenDocuments}
 use Rattle.ob0_session_server.specs.Answers.{ServerState}
@@ -16,8 +16,9 @@ use Rattle.ob0_world_editor.specs.declared.applied.Applied as applied
 use Rattle.ob0_world_editor.proofs.Hearing.{says_heard}
 use Rattle.ob0_world_rules.specs.Ends.{SentAsk, Editor, ToServer, ToEditor, Made, Ends, after_message}
 use Rattle.ob0_world_rules.specs.Serving.{Replies}
-use Rattle.ob0_world_rules.specs.Happens.{ServerTakes}
-use Rattle.ob0_world_rules.specs.Events as events
+use Rattle.ob0_world_rules.specs.Happens.{serve, ServerTakes}
+use Rattle.ob0_world.specs.Seen as seen
+use Rattle.ob0_world.specs.Seen.{served_seen, Shows}
 use Rattle.ob0_world.specs.declared.played.Made as made
 use Rattle.ob0_world.specs.Code.{publication_of}
 use Rattle.ob0_world.specs.Queues.{Contents, bytes, all_heard, all_understood, IsHeard, IsUnderstood, Sound, IsRunning, IsRunningOrFailed, held_by, ends_from, wire_from, made_first, made_for, made_sent}
@@ -88,7 +89,7 @@ as_list (Some m) p is = ap option_to_list is
 
 pub turn_happens : (e : Editor) (q rest r r' : Contents) (s s' : SessionState) (ap_list : List applied.Applied) (md md' : List made.Made) (content : Vec ℕ Global) (sent : Contents) (held : OpenDocuments) (o : Option made.Made) (n : ℕ)
     → q ≡ content ∷ rest → Turn e q rest s s' content sent → ((st : ServerState) → s' ≡ serving st → held ≡ st.held) → option_map publication_of o ≡ made_sent held e.requested sent → r' ≡ r ++ sent → md' ≡ md ++ option_to_list o → n ≡ length sent
-    → ServerTakes (ends_from e q s r ap_list md) (all_heard e.requested q) (events.served n) (ends_from e rest s' r' ap_list md')
+    → Shows (ends_from e q s r ap_list md) serve (seen.served n) (ends_from e rest s' r' ap_list md')
 turn_happens e q rest r r' s s' ap_list md md' content sent held o n first t references is_made grown more count =
     let w : Ends = ends_from e q s r ap_list md in
     let said : List ToEditor = t.served_so.said in
@@ -99,20 +100,30 @@ turn_happens e q rest r r' s s' ap_list md md' content sent held o n first t ref
     is_made ∙ made_as_sent held e.requested sent understood_all ∙ (λ i. made_first (here i) (all i)) in
     let held_before : held_by s ≡ t.before.held = ap held_by t.was in
     let held_after : held_by s' ≡ after_message (held_by s) t.message = ap held_by t.is ∙ t.served_so.held ∙ ap (λ h. after_message h t.message) (sym held_before) in
-    let this : ServerTakes w (t.message ∷ all_heard e.requested rest) (events.served n) (ends_from e rest s' r' ap_list md') = (
+    let waits : all_heard e.requested q ≡ t.message ∷ all_heard e.requested rest =
+    ap (all_heard e.requested) first ∙ said_first (heard e.requested) content rest t.message (says_heard e.requested t.message content.items t.says) in
+    let grew : all_understood e.requested r' ≡ all_understood e.requested r ++ said =
+    ap (all_understood e.requested) grown ∙ said_append (understood e.requested) r sent ∙ ap (λ x. all_understood e.requested r ++ x) all in
+    let this : ServerTakes w (t.message ∷ all_heard e.requested rest) (ends_from e rest s' r' ap_list md') = (
       said,
       option_to_list (made_first t.after.held said),
       subst (λ h. Replies h t.message said (option_to_list (made_first t.after.held said))) (sym held_before) t.served_so.replies,
-      ap events.served (count ∙ sym (length-map sent (λ v. v.items)) ∙ t.served_so.heard.count),
       (λ i. record w {
         to_server = all_heard e.requested rest;
         held = held_after i;
-        to_editor = (ap (all_understood e.requested) grown ∙ said_append (understood e.requested) r sent ∙ ap (λ x. all_understood e.requested r ++ x) all) i;
+        to_editor = grew i;
         made = (ap (map publication_of) more ∙ map-append publication_of md (option_to_list o) ∙ ap (λ x. map publication_of md ++ x) (as_list o (made_first t.after.held said) is_first)) i;
       }),
     ) in
-    subst (λ x. ServerTakes w x (events.served n) (ends_from e rest s' r' ap_list md'))
-    (sym (ap (all_heard e.requested) first ∙ said_first (heard e.requested) content rest t.message (says_heard e.requested t.message content.items t.says))) this
+    let many : n ≡ length (all_understood e.requested r') - length (all_understood e.requested r) =
+    count ∙ sym (length-map sent (λ v. v.items)) ∙ t.served_so.heard.count ∙ sym (ap (λ x. length x - length (all_understood e.requested r)) grew ∙ ap (λ x. x - length (all_understood e.requested r)) (length-append (all_understood e.requested r) said) ∙ less (length (all_understood e.requested r)) (length said)) in
+    (
+      subst (λ x. ServerTakes w x (ends_from e rest s' r' ap_list md')) (sym waits) this,
+      ap seen.served many ∙ sym (ap (λ x. served_seen x (all_understood e.requested r) (all_understood e.requested r')) waits),
+    )
+  where
+    less : (a b : ℕ) → (a + b) - a ≡ b
+    less a b = omega arith
 
 pub answered_so : (old : SessionState) (content : List ℕ) (step : Step) (new : SessionState) → SessionSteps old content step new → IsAnswered old content (bytes step.send.items) new
 answered_so (serving before) content step new h = record { before = before; after = h.after; served = refl; serves = h.serves; answers = h.answers }

@@ -1,21 +1,22 @@
 -- What a step makes of a world.
 use Rattle.std.proofs.Common.{◌≡◌, ◌+◌, false, [], ◌∷◌, ◌++◌, refl, sym, subst}
 use Rattle.ob0_world_rules.specs.Ends.{Ends, start}
-use Rattle.ob0_world_rules.specs.Events.{Event, Seen}
-use Rattle.ob0_world_rules.specs.Happens.{Happens}
+use Rattle.ob0_world_rules.specs.Happens.{Event, Happens}
+use Rattle.ob0_world_rules.specs.Mirror.{Mirrors}
 use Rattle.ob0_world_rules.specs.Headline.{Holds}
-use Rattle.ob0_world_rules.proofs.Interleavings.{in_every_interleaving}
+use Rattle.ob0_world_rules.proofs.Interleavings.{in_every_interleaving, server_mirrors}
 use Rattle.ob0_world_rules.proofs.MadeFor.{course_push}
 use Rattle.ob0_text.specs.declared.position_types.Unit.{Unit}
 use Rattle.ob0_world.specs.Queues.{IsReached}
+use Rattle.ob0_world.specs.Seen.{Seen, Shows}
 use Rattle.ob0_world.specs.Worlds.{World, MovesWire, IsTied, SameHistory, StepsFrom, WorldSteps, FailsFrom, WorldFails}
 use Rattle.ob0_world.specs.declared.faults.WorldFault.{WorldFault}
 use Rattle.ob0_world.specs.declared.faults.WorldFault.TheVariants.{Memory, Ended}
 
-pub made_step : (w old : World) (event : Event) (seen : Seen) (new : World) → w ≡ old → w.ended ≡ false → Happens w.both.ends event seen new.both.ends → MovesWire event w.both.wire new.both.wire → IsTied new.both
+pub made_step : (w old : World) (event : Event) (seen : Seen) (new : World) → w ≡ old → w.ended ≡ false → Shows w.both.ends event seen new.both.ends → MovesWire event w.both.wire new.both.wire → IsTied new.both
     → new.steps ≡ w.steps + 1 → new.ended ≡ false → WorldSteps old event seen new
-made_step w old event seen new same on happens moves tied counted goes_on =
-    subst (λ (x : World). WorldSteps x event seen new) same (subst (λ b. StepsFrom b w event seen new) (sym on) (record { made = record { happens = happens; moves = moves; tied = tied }; counted = counted; goes_on = goes_on }))
+made_step w old event seen new same on shows moves tied counted goes_on =
+    subst (λ (x : World). WorldSteps x event seen new) same (subst (λ b. StepsFrom b w event seen new) (sym on) (record { made = record { happens = shows.0; moves = moves; tied = tied }; shown = shows.1; counted = counted; goes_on = goes_on }))
 
 -- what is known of a step of a world that hasn't ended
 pub step_made : (old : World) (event : Event) (seen : Seen) (new : World) → old.ended ≡ false → WorldSteps old event seen new → StepsFrom false old event seen new
@@ -30,8 +31,11 @@ step_failed old Ended new on fails = let no : FailsFrom false old Ended new = su
 pub reached_start : (unit : Unit) → IsReached (start unit)
 reached_start unit = (unit, [], refl)
 
-pub reached_more : (w : Ends) (event : Event) (seen : Seen) (new : Ends) → IsReached w → Happens w event seen new → IsReached new
-reached_more w event seen new (unit, events, course) happens = (unit, events ++ event ∷ [], course_push (start unit) events w event seen new course happens)
+pub reached_more : (w : Ends) (event : Event) (new : Ends) → IsReached w → Happens w event new → IsReached new
+reached_more w event new (unit, events, course) happens = (unit, events ++ event ∷ [], course_push (start unit) events w event new course happens)
 
 pub reached_holds : (w : Ends) → IsReached w → Holds w
 reached_holds w (unit, events, course) = in_every_interleaving unit events w course
+
+pub reached_mirrors : (w : Ends) → IsReached w → Mirrors w
+reached_mirrors w (unit, events, course) = server_mirrors unit events w course

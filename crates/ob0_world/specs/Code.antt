@@ -6,34 +6,24 @@ use Rattle.std.specs.declared.alloc.Global.{Global}
 use Rattle.ob0_text.specs.OpenDocuments.{reported_change}
 use Rattle.ob0_world_editor.specs.Code.{ask_of, applied_of}
 use Rattle.ob0_world.specs.declared.events.Event as event
-use Rattle.ob0_world.specs.declared.events.Seen as seen
 use Rattle.ob0_world.specs.declared.played.Made as made
 use Rattle.ob0_world.specs.declared.played.Played as played
 use Rattle.ob0_world_rules.specs.Ends.{Applied, Made}
-use Rattle.ob0_world_rules.specs.Events.{Event, open_document, change_document, close_document, ask_about, serve, take_message, apply, discard, Seen, nothing, sent, served, published, answered, applies, drops}
+use Rattle.ob0_world_rules.specs.Editing.{open_document, change_document, close_document, ask_about, apply, discard}
+use Rattle.ob0_world_rules.specs.Happens.{Event, does, serve, take_message}
 
 -- an event of the code
 abbrev pub event_of : event.Event → Event
 event_of (event.TheVariants.OpenDoc uri text) =
-    open_document (string_bytes uri) (chars (string_bytes text))
+    does (open_document (string_bytes uri) (chars (string_bytes text)))
 event_of (event.TheVariants.ChangeDoc uri changes) =
-    change_document (string_bytes uri) (map reported_change changes.items)
-event_of (event.TheVariants.CloseDoc uri) = close_document (string_bytes uri)
-event_of (event.TheVariants.Ask uri ask) = ask_about (string_bytes uri) (ask_of ask)
+    does (change_document (string_bytes uri) (map reported_change changes.items))
+event_of (event.TheVariants.CloseDoc uri) = does (close_document (string_bytes uri))
+event_of (event.TheVariants.Ask uri ask) = does (ask_about (string_bytes uri) (ask_of ask))
 event_of event.TheVariants.Serve = serve
 event_of event.TheVariants.Take = take_message
-event_of (event.TheVariants.Apply k) = apply k
-event_of (event.TheVariants.Discard k) = discard k
-
--- what was seen, of the code
-abbrev pub seen_of : seen.Seen → Seen
-seen_of seen.TheVariants.Nothing = nothing
-seen_of seen.TheVariants.Sent = sent
-seen_of (seen.TheVariants.Served n) = served n
-seen_of (seen.TheVariants.Published uri empty) = published (string_bytes uri) empty
-seen_of (seen.TheVariants.Answered k edits) = answered k edits
-seen_of (seen.TheVariants.Applied k) = applies k
-seen_of (seen.TheVariants.Dropped k) = drops k
+event_of (event.TheVariants.Apply k) = does (apply k)
+event_of (event.TheVariants.Discard k) = does (discard k)
 
 -- a publication of the code
 abbrev pub publication_of : made.Made → Made

@@ -1,3 +1,4 @@
 pub mod Code
 pub mod Queues
+pub mod Seen
 pub mod Worlds

@@ -20,12 +20,12 @@ use Rattle.ob0_world_editor.specs.Understood.{understood}
 use Rattle.ob0_world_editor.specs.Code.{applied_of}
 use Rattle.ob0_world_editor.specs.declared.applied.Applied as applied
 use Rattle.ob0_world_rules.specs.Ends.{Open, SentAsk, Editor, open_at, ToServer, ToEditor, publishes, answers, Made, Ends, start}
-use Rattle.ob0_world_rules.specs.Events.{Event, nothing, sent}
-use Rattle.ob0_world_rules.specs.Happens.{Course}
+use Rattle.ob0_world_rules.specs.Happens.{Event, Course}
 use Rattle.ob0_world.specs.declared.events.Seen as seen
 use Rattle.ob0_world.specs.declared.played.Made as made
 pub use Rattle.ob0_world.specs.Code.{bytes}
-use Rattle.ob0_world.specs.Code.{publication_of, seen_of}
+use Rattle.ob0_world.specs.Code.{publication_of}
+use Rattle.ob0_world.specs.Seen.{nothing, sent, seen_of}
 use Rattle.ob0_world.specs.Worlds.{Wire, Both}
 
 -- contents that wait in a queue

@@ -11,10 +11,10 @@ use Rattle.ob0_world_editor.specs.Beginning.{client_for, initialize_message}
 use Rattle.ob0_world_editor.specs.Heard.{SaysToServer}
 use Rattle.ob0_world_editor.specs.Understood.{understood}
 use Rattle.ob0_world_rules.specs.Ends.{SentAsk, ToServer, Ends, start}
-use Rattle.ob0_world_rules.specs.Events.{Event, open_document, change_document, close_document, ask_about, serve, take_message, apply, discard, Seen}
-use Rattle.ob0_world_rules.specs.Happens.{Happens}
+use Rattle.ob0_world_rules.specs.Happens.{Event, does, serve, take_message, Happens}
 use Rattle.ob0_world_rules.specs.Headline.{Headline}
 use Rattle.ob0_world.specs.Code.{event_of, bytes, all_applied, all_made}
+use Rattle.ob0_world.specs.Seen.{Seen, event_seen}
 use Rattle.ob0_world.specs.declared.events.Event as event
 use Rattle.ob0_world.specs.declared.faults.PlayFault.{PlayFault}
 use Rattle.ob0_world.specs.declared.faults.WorldFault.{WorldFault}
@@ -95,14 +95,9 @@ WritesContent old new =
 -- What an event moves: the session its own alone. Nothing that waits is lost, changed or moved
 -- to another place.
 abbrev pub MovesWire : Event → Wire → Wire → Type 0
+MovesWire (does act) old new = WritesContent old new
 MovesWire serve old new = TakesFirst old.to_server old new
 MovesWire take_message old new = GetsFirst old.to_editor old new
-MovesWire (open_document uri text) old new = WritesContent old new
-MovesWire (change_document uri how) old new = WritesContent old new
-MovesWire (close_document uri) old new = WritesContent old new
-MovesWire (ask_about uri ask) old new = WritesContent old new
-MovesWire (apply k) old new = WritesContent old new
-MovesWire (discard k) old new = WritesContent old new
 
 -- each content says its message: as many contents as messages
 abbrev pub AllSay : List SentAsk → List ToServer → List (List ℕ) → Type 0
@@ -121,8 +116,8 @@ pub record IsTied (w : Both) : Type 0 where
   pub documents : (s : ServerState) → w.wire.session ≡ serving s → w.ends.held ≡ s.held
 
 -- One event: what the model says of it happens, and the session and the contents do the same.
-pub record BothStep (old : Both) (event : Event) (seen : Seen) (new : Both) : Type 0 where
-  pub happens : Happens old.ends event seen new.ends
+pub record BothStep (old : Both) (event : Event) (new : Both) : Type 0 where
+  pub happens : Happens old.ends event new.ends
   pub moves : MovesWire event old.wire new.wire
   pub tied : IsTied new
 
@@ -130,10 +125,7 @@ pub record BothStep (old : Both) (event : Event) (seen : Seen) (new : Both) : Ty
 abbrev pub BothCourse : Both → List Event → Both → Type 0
 BothCourse old [] new = new ≡ old
 BothCourse old (event ∷ events) new =
-    (seen : Seen)
-    × (between : Both)
-    × BothStep old event seen between
-    × BothCourse between events new
+    (between : Both) × BothStep old event between × BothCourse between events new
 
 -- ---- lists of events
 
@@ -189,7 +181,8 @@ pub record IsNew (unit : Unit) (w : World) : Type 0 where
 
 -- the step is made and counted
 pub record MakesStep (old : World) (event : Event) (seen : Seen) (new : World) : Type 0 where
-  pub made : BothStep old.both event seen new.both
+  pub made : BothStep old.both event new.both
+  pub shown : seen ≡ event_seen old.both.ends event new.both.ends
   pub counted : new.steps ≡ old.steps + 1
   pub goes_on : new.ended ≡ false
 

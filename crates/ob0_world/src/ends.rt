@@ -6,10 +6,12 @@ ghost use Rattle.ob0_session_server.specs.SessionStates.{failed};
 ghost use Rattle.ob0_world_editor.specs.Code.{ask_of};
 ghost use Rattle.ob0_world_editor.specs.Moves.{AreFew};
 ghost use Rattle.ob0_world_editor.specs.Understood.{understood};
-ghost use Rattle.ob0_world_rules.specs.Events as events;
-ghost use Rattle.ob0_world_rules.specs.Happens.{Happens};
-ghost use Rattle.ob0_world_rules.specs.Events.{open_document, change_document, close_document, ask_about, take_message};
-ghost use Rattle.ob0_world.specs.Code.{event_of, seen_of, publication_of};
+ghost use Rattle.ob0_world_rules.specs.Editing as acts;
+ghost use Rattle.ob0_world_rules.specs.Editing.{open_document, change_document, close_document, ask_about};
+ghost use Rattle.ob0_world_rules.specs.Happens as events;
+ghost use Rattle.ob0_world_rules.specs.Happens.{does, take_message};
+ghost use Rattle.ob0_world.specs.Code.{event_of, publication_of};
+ghost use Rattle.ob0_world.specs.Seen.{seen_of, Shows};
 ghost use Rattle.ob0_world.specs.Queues.{bytes, IsSent, made_for, made_of_document, made_sent};
 ghost use Rattle.ob0_world.specs.Worlds.{Begins, GetsFirst, HasCome, HasPassed, IsAnswered, IsTied, MovesWire, SameHistory, TakesFirst, WritesContent};
 
@@ -105,7 +107,7 @@ impl<T: TextStore> Ends<T> {
     pub fn make(&mut self, event: &Event) -> Result<Seen, AllocError>
         requires { AreFew self.old.ends.editor }
         ensures ok { IfOk result
-            (λ seen. Happens self.old.ends (event_of event.now) (seen_of seen) self.new.ends) }
+            (λ seen. Shows self.old.ends (event_of event.now) (seen_of seen) self.new.ends) }
         ensures wire { OnOk result (MovesWire (event_of event.now) self.old.wire self.new.wire) }
         ensures err { OnErr result (SameHistory self.old.ends self.new.ends) }
     {
@@ -123,8 +125,8 @@ impl<T: TextStore> Ends<T> {
 
     fn open(&mut self, uri: &str, text: &str) -> Result<Seen, AllocError>
         requires { AreFew self.old.ends.editor }
-        ensures ok { IfOk result (λ seen. Happens self.old.ends
-            (open_document uri.now (chars text.now)) (seen_of seen) self.new.ends) }
+        ensures ok { IfOk result (λ seen. Shows self.old.ends
+            (does (open_document uri.now (chars text.now))) (seen_of seen) self.new.ends) }
         ensures wire { OnOk result (WritesContent self.old.wire self.new.wire) }
         ensures err { OnErr result (SameHistory self.old.ends self.new.ends) }
     {
@@ -134,8 +136,8 @@ impl<T: TextStore> Ends<T> {
 
     fn change(&mut self, uri: &str, changes: &[Change]) -> Result<Seen, AllocError>
         requires { AreFew self.old.ends.editor }
-        ensures ok { IfOk result (λ seen. Happens self.old.ends
-            (change_document uri.now (map reported_change changes.now)) (seen_of seen)
+        ensures ok { IfOk result (λ seen. Shows self.old.ends
+            (does (change_document uri.now (map reported_change changes.now))) (seen_of seen)
             self.new.ends) }
         ensures wire { OnOk result (WritesContent self.old.wire self.new.wire) }
         ensures err { OnErr result (SameHistory self.old.ends self.new.ends) }
@@ -145,8 +147,8 @@ impl<T: TextStore> Ends<T> {
     }
 
     fn close(&mut self, uri: &str) -> Result<Seen, AllocError>
-        ensures ok { IfOk result
-            (λ seen. Happens self.old.ends (close_document uri.now) (seen_of seen) self.new.ends) }
+        ensures ok { IfOk result (λ seen. Shows self.old.ends
+            (does (close_document uri.now)) (seen_of seen) self.new.ends) }
         ensures wire { OnOk result (WritesContent self.old.wire self.new.wire) }
         ensures err { OnErr result (SameHistory self.old.ends self.new.ends) }
     {
@@ -156,8 +158,8 @@ impl<T: TextStore> Ends<T> {
 
     fn ask(&mut self, uri: &str, ask: &Ask) -> Result<Seen, AllocError>
         requires { AreFew self.old.ends.editor }
-        ensures ok { IfOk result (λ seen. Happens self.old.ends (ask_about uri.now (ask_of ask.now))
-            (seen_of seen) self.new.ends) }
+        ensures ok { IfOk result (λ seen. Shows self.old.ends
+            (does (ask_about uri.now (ask_of ask.now))) (seen_of seen) self.new.ends) }
         ensures wire { OnOk result (WritesContent self.old.wire self.new.wire) }
         ensures err { OnErr result (SameHistory self.old.ends self.new.ends) }
     {
@@ -169,7 +171,7 @@ impl<T: TextStore> Ends<T> {
     /// the text that the document has then.
     fn serve(&mut self) -> Result<Seen, AllocError>
         ensures ok { IfOk result
-            (λ seen. Happens self.old.ends events.serve (seen_of seen) self.new.ends) }
+            (λ seen. Shows self.old.ends events.serve (seen_of seen) self.new.ends) }
         ensures wire { OnOk result
             (TakesFirst self.old.wire.to_server self.old.wire self.new.wire) }
         ensures err { OnErr result (SameHistory self.old.ends self.new.ends) }
@@ -195,7 +197,7 @@ impl<T: TextStore> Ends<T> {
 
     fn take(&mut self) -> Result<Seen, AllocError>
         ensures ok { IfOk result
-            (λ seen. Happens self.old.ends take_message (seen_of seen) self.new.ends) }
+            (λ seen. Shows self.old.ends take_message (seen_of seen) self.new.ends) }
         ensures wire { OnOk result
             (GetsFirst self.old.wire.to_editor self.old.wire self.new.wire) }
         ensures err { OnErr result (SameHistory self.old.ends self.new.ends) }
@@ -223,7 +225,7 @@ impl<T: TextStore> Ends<T> {
     fn apply(&mut self, k: u64) -> Result<Seen, AllocError>
         requires { AreFew self.old.ends.editor }
         ensures ok { IfOk result
-            (λ seen. Happens self.old.ends (events.apply k) (seen_of seen) self.new.ends) }
+            (λ seen. Shows self.old.ends (does (acts.apply k)) (seen_of seen) self.new.ends) }
         ensures wire { OnOk result (WritesContent self.old.wire self.new.wire) }
         ensures err { OnErr result (SameHistory self.old.ends self.new.ends) }
     {
@@ -239,7 +241,8 @@ impl<T: TextStore> Ends<T> {
     }
 
     fn discard(&mut self, k: u64) -> Seen
-        ensures ok { Happens self.old.ends (events.discard k) (seen_of result) self.new.ends }
+        ensures ok
+            { Shows self.old.ends (does (acts.discard k)) (seen_of result) self.new.ends }
         ensures wire { WritesContent self.old.wire self.new.wire }
     {
         if self.editor.discard(k) {

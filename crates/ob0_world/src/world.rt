@@ -10,7 +10,9 @@
 ghost use Rattle.std.specs.Prelude.{◌≡◌, ◌<◌, ◌-◌, ◌^◌, [], length, IfOk, OnOk, IfErr};
 ghost use Rattle.ob0_text.specs.declared.position_types.Unit.TheVariants.{Utf16};
 ghost use Rattle.ob0_world_rules.specs.Headline.{Holds};
-ghost use Rattle.ob0_world.specs.Code.{event_of, seen_of, all_applied, all_made};
+ghost use Rattle.ob0_world_rules.specs.Mirror.{Mirrors};
+ghost use Rattle.ob0_world.specs.Code.{event_of, all_applied, all_made};
+ghost use Rattle.ob0_world.specs.Seen.{seen_of};
 ghost use Rattle.ob0_world.specs.Worlds.{HasCome, HasPassed, IsNew, Plays, PlaysBefore, WorldSteps, WorldFails};
 ghost use Rattle.ob0_world.specs.declared.faults.WorldFault.TheVariants.{Memory};
 
@@ -88,6 +90,7 @@ impl<T: TextStore> World<T> {
         ensures ok { IfOk result
             (λ seen. WorldSteps self.old (event_of event.now) (seen_of seen) self.new) }
         ensures holds { OnOk result (Holds self.new.both.ends) }
+        ensures mirror { OnOk result (Mirrors self.new.both.ends) }
         ensures err { IfErr result (λ fault. WorldFails self.old fault self.new) }
     {
         if self.has_ended {

@@ -7,3 +7,4 @@ mod Conversations
 mod Fronts
 mod Streams
 mod Beginnings
+mod Framings

@@ -8,7 +8,7 @@
 -- Rule: none; laws of the session.
 use Rattle.std.specs.Prelude.{◌≡◌, ◌≤◌, ◌++◌, ◌⊎◌, ℕ, List, [], length, All, Bool, Result, Ok, Err, ⊤}
 use Rattle.std.specs.List.{flat_map}
-use Rattle.ob0_frame.specs.Frames.{frame}
+use Rattle.ob0_frame.specs.Frames.{Frames, frame}
 use Rattle.ob0_frame.specs.Head.{max_content}
 use Rattle.ob0_scope_table.specs.Resolution.{Resolution, IsResolution, ordinal_in}
 use Rattle.ob0_tree.specs.Parsed.{Parsed, tree_of}
@@ -115,6 +115,12 @@ OneResult =
     → IsOfBytes result → IsOfBytes end
     → MayServe result taken put → MayServe end (taken ++ more) all
     → IsDecided result taken put ⊎ (more ≡ []) → result ≡ end
+
+-- each stream has a list of contents: it can't be that none fits
+abbrev pub AListFits : Type 0
+AListFits =
+    (bytes : List ℕ)
+    → ¬ ((contents : List (List ℕ)) (rest : List ℕ) → ¬ (Frames bytes contents rest))
 
 -- ---- a conversation, as bytes
 

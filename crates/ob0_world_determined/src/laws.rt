@@ -1,5 +1,5 @@
 //! What holds of the definitions that the contracts cite.
-ghost use Rattle.ob0_world_determined.specs.Determined.{ConversationIsServed, OneAnswer, OneConversation, OneDiagnosis, OneOutput, OneReply, OneResult, OneTable};
+ghost use Rattle.ob0_world_determined.specs.Determined.{AListFits, ConversationIsServed, OneAnswer, OneConversation, OneDiagnosis, OneOutput, OneReply, OneResult, OneTable};
 
 use ob0_analysis::laws::one_refusal;
 use ob0_frame::laws::{feeding_is_determined, nothing_is_fed, written_is_read};
@@ -60,6 +60,11 @@ pub fn one_result()
     one_conversation();
     feeding_is_determined();
 }
+
+/// Each stream has a list of contents, so what is said of all that fit it is said of one.
+pub fn a_list_fits()
+    ensures { AListFits }
+{}
 
 /// Fed with the frames of what a session took in a conversation, `serve` writes the frames of what the session sent,
 /// unless an allocation or the writer fails.

@@ -1,6 +1,6 @@
 -- Asks and answers that are found by their numbers, and what follows of it for the editor.
 use Rattle.std.proofs.Common.{◌≡◌, ◌∙◌, ◌<◌, ◌≤◌, ◌+◌, ℕ, zero, suc, Bool, true, false, cond, List, [], ◌∷◌, ◌++◌, length, take, drop, get_or, map, Option, Some, None, option_map, arith, refl, ap, sym, subst, add-one}
-use Rattle.std.specs.Prelude.{Vec, slice_get, ◌==◌}
+use Rattle.std.specs.Prelude.{Vec, is_some, unwrap_or, option_and_then, slice_get, ◌==◌}
 use Rattle.std.specs.declared.alloc.Global.{Global}
 use Rattle.std.proofs.lemmas.List.{map-append, length-map}
 use Rattle.std.proofs.lemmas.Option.{slice_get-map, slice_get_read}
@@ -8,14 +8,15 @@ use Rattle.std.proofs.Math.Seq.{drop-cons}
 use Rattle.ob0_world_editor.specs.declared.editor.SentAsk as requested
 use Rattle.ob0_world_editor.specs.declared.editor.HeldAnswer as answer
 use Rattle.ob0_world_editor.specs.declared.applied.Applying as applying
+use Rattle.ob0_world_editor.specs.declared.editor.Rewritten as rewritten
 use Rattle.ob0_world_rules.specs.Edited.{Replacement}
 use Rattle.ob0_world_rules.specs.Asks.{Ask}
 use Rattle.ob0_world_rules.specs.Ends.{Open, SentAsk, Answer, Editor, request_numbered, open_at}
-use Rattle.ob0_world_rules.specs.Editing.{asks_about, kept_answer, all_but, without_answer, applies_answer}
+use Rattle.ob0_world_rules.specs.Editing.{open_document, change_document, close_document, ask_about, apply, Done, stays, opens, rewrites, closes, asks, kept_answer, all_but, without_answer, applies, done_by}
 use Rattle.ob0_world_editor.specs.Code.{requested_of, answer_of}
 use Rattle.ob0_world_rules.specs.Edited.{replacements}
-use Rattle.ob0_world_editor.specs.Heard.{IsRequest}
-use Rattle.ob0_world_editor.specs.Moves.{AreFew, Moves, IsPlaceOf, ComesOf}
+use Rattle.ob0_world_editor.specs.Heard.{IsRequest, IsAsk}
+use Rattle.ob0_world_editor.specs.Moves.{AreFew, SaysSent, Acts, IsPlaceOf, ComesOf, IsRewritten, IsAppliedAs}
 
 -- ---- asks
 
@@ -66,10 +67,49 @@ edits_at xs i a h at = sym (ap (option_map (λ (x : answer.HeldAnswer). replacem
 pub few_without : (e : Editor) (k : ℕ) → AreFew e → AreFew (without_answer e k)
 few_without e k few = record { openings = few.openings; asks = few.asks; versions = few.versions }
 
-pub comes_not_held : (e : Editor) (k : ℕ) (o : Option (List Replacement)) → o ≡ kept_answer k e.answers → o ≡ None → ComesOf (applies_answer e k (kept_answer k e.answers)) e applying.TheVariants.NotHeld (without_answer e k)
+-- an answer that isn't held has nothing to be applied
+pub comes_not_held : (e : Editor) (k : ℕ) (o : Option (List Replacement)) → o ≡ kept_answer k e.answers → o ≡ None → ComesOf (done_by e (apply k)) (is_some (kept_answer k e.answers)) applying.TheVariants.NotHeld (without_answer e k)
 comes_not_held e k o is none =
     let absent : kept_answer k e.answers ≡ None = sym is ∙ none in
-    subst (λ x. ComesOf (applies_answer e k x) e applying.TheVariants.NotHeld (without_answer e k)) (sym absent) (λ i. record e { answers = none_goes k e.answers absent i })
+    subst (λ x. ComesOf (unwrap_or (option_and_then (applies (without_answer e k) k) x) (stays (without_answer e k))) (is_some x) applying.TheVariants.NotHeld (without_answer e k)) (sym absent)
+    ((refl, refl, refl), refl)
+
+-- one that is held, and makes nothing of its document
+pub comes_dropped : (e rest : Editor) (k : ℕ) (edits : List Replacement) → kept_answer k e.answers ≡ Some edits → rest ≡ without_answer e k → IsRewritten rest (applies rest k edits) None → ComesOf (done_by e (apply k)) (is_some (kept_answer k e.answers)) applying.TheVariants.Dropped rest
+comes_dropped e rest k edits held is made =
+    subst (λ (r : Editor). ComesOf (done_by e (apply k)) (is_some (kept_answer k e.answers)) applying.TheVariants.Dropped r) (sym is)
+    (subst (λ x. ComesOf (unwrap_or (option_and_then (applies (without_answer e k) k) x) (stays (without_answer e k))) (is_some x) applying.TheVariants.Dropped (without_answer e k)) (sym held)
+    (go (applies (without_answer e k) k edits) (subst (λ r. IsRewritten r (applies r k edits) None) is made)))
+  where
+    go : (o : Option Done) → IsRewritten (without_answer e k) o None → ComesOf (unwrap_or o (stays (without_answer e k))) true applying.TheVariants.Dropped (without_answer e k)
+    go None h = ((refl, refl, refl), refl)
+    go (Some done) h = absurd h
+
+-- one that is held, whose edits were made
+pub comes_made : (e rest new : Editor) (k : ℕ) (edits : List Replacement) (r : rewritten.Rewritten) (a : applying.Applying) → kept_answer k e.answers ≡ Some edits → rest ≡ without_answer e k → IsRewritten rest (applies rest k edits) (Some r) → IsAppliedAs rest r a new
+    → ComesOf (done_by e (apply k)) (is_some (kept_answer k e.answers)) a new
+comes_made e rest new k edits r applying.TheVariants.NotHeld held is made applied = absurd applied
+comes_made e rest new k edits r applying.TheVariants.Dropped held is made applied = absurd applied
+comes_made e rest new k edits r (applying.TheVariants.Made a content) held is made applied =
+    subst (λ x. ComesOf (unwrap_or (option_and_then (applies (without_answer e k) k) x) (stays (without_answer e k))) (is_some x) (applying.TheVariants.Made a content) new) (sym held)
+    (go (applies (without_answer e k) k edits) (subst (λ x. IsRewritten x (applies x k edits) (Some r)) is made) (subst (λ x. IsAppliedAs x r (applying.TheVariants.Made a content) new) is applied))
+  where
+    go : (o : Option Done) → IsRewritten (without_answer e k) o (Some r) → IsAppliedAs (without_answer e k) r (applying.TheVariants.Made a content) new → ComesOf (unwrap_or o (stays (without_answer e k))) true (applying.TheVariants.Made a content) new
+    go None h applied = absurd h
+    go (Some done) h (is_new, is_applied, says) = (
+      (is_new ∙ sym h.text, subst (λ sent. SaysSent new.requested sent (Some content)) (sym h.says) (says, refl)),
+      h.applied ∙ ap (λ x. x ∷ []) (sym is_applied),
+      refl,
+    )
+
+-- ---- documents
+
+-- what is done of a document that isn't open, or is
+pub opens_so : (e new : Editor) (uri text : List ℕ) (content : Option (Vec ℕ Global)) → open_at e uri ≡ None → Acts (opens e uri text) content new → Acts (done_by e (open_document uri text)) content new
+opens_so e new uri text content none acts = subst (λ o. Acts (cond (is_some o) (stays e) (opens e uri text)) content new) (sym none) acts
+
+pub open_already : (e new : Editor) (uri text : List ℕ) (d : Open) → open_at e uri ≡ Some d → new ≡ e → Acts (done_by e (open_document uri text)) None new
+open_already e new uri text d at is = subst (λ o. Acts (cond (is_some o) (stays e) (opens e uri text)) None new) (sym at) (is, tt)
 
 -- ---- asking
 
@@ -80,12 +120,16 @@ slice_get_last (y ∷ xs) x = slice_get_last xs x
 -- the editor has sent one more request, and the content is that request
 pub asks_once_more : (e new : Editor) (uri : List ℕ) (ask : Ask) (d : Open) (content : Vec ℕ Global) (n : ℕ) (older : List requested.SentAsk) (this : requested.SentAsk) → open_at e uri ≡ Some d → map requested_of older ≡ e.requested → n ≡ length older
     → requested_of this ≡ record { ask = ask; uri = uri; opening = d.opening; version = d.version } → new ≡ record e { requested = map requested_of (older ++ this ∷ []) } → IsRequest (n + 1) uri ask content.items
-    → Moves (asks_about e uri ask (open_at e uri)) e (Some content) new
+    → Acts (done_by e (ask_about uri ask)) (Some content) new
 asks_once_more e new uri ask d content n older this at were count is is_new request =
     let a : SentAsk = record { ask = ask; uri = uri; opening = d.opening; version = d.version } in
     let grown : map requested_of (older ++ this ∷ []) ≡ e.requested ++ a ∷ [] = map-append requested_of older (this ∷ []) ∙ (λ i. were i ++ is i ∷ []) in
+    let now : new ≡ record e { requested = e.requested ++ a ∷ [] } = is_new ∙ (λ i. record e { requested = grown i }) in
     let number : n + 1 ≡ suc (length e.requested) = rw add-one (ap suc (count ∙ sym (length-map older requested_of) ∙ ap length were)) in
-    subst (λ o. Moves (asks_about e uri ask o) e (Some content) new) (sym at) (
-      is_new ∙ (λ i. record e { requested = grown i }),
-      (subst (λ k. IsRequest k uri ask content.items) number request, record { sent = a; is = slice_get_last e.requested a; about = refl; asks_this = refl }),
+    subst (λ o. Acts (unwrap_or (option_and_then (λ d. Some (asks e uri ask d)) o) (stays e)) (Some content) new) (sym at) (
+      now,
+      (
+        (subst (λ k. IsRequest k uri ask content.items) number request, subst (λ (x : Editor). IsAsk x.requested (suc (length e.requested)) uri ask) (sym now) (record { sent = a; is = slice_get_last e.requested a; about = refl; asks_this = refl })),
+        refl,
+      ),
     )

@@ -1,13 +1,13 @@
 -- What a call of the editor did.
 -- Rule: none; for contracts: what a call of the editor did.
-use Rattle.std.specs.Prelude.{◌≡◌, ◌<◌, ◌-◌, ◌^◌, ℕ, pos, List, [], ◌∷◌, Vec, Option, Some, None, length, map, option_map, slice_get}
+use Rattle.std.specs.Prelude.{◌≡◌, ◌<◌, ◌-◌, ◌^◌, ⊤, ℕ, Bool, true, false, pos, List, [], ◌∷◌, Vec, Option, Some, None, length, map, option_map, slice_get}
 use Rattle.std.specs.List.{remove}
 use Rattle.std.specs.FinMap as map_of
 use Rattle.std.specs.declared.alloc.Global.{Global}
 use Rattle.ob0_text.specs.OpenDocuments.{Changed}
-use Rattle.ob0_world_rules.specs.Edited.{whole_text}
-use Rattle.ob0_world_rules.specs.Ends.{Open, Applied, Editor, open_at, ToServer, notifies}
-use Rattle.ob0_world_rules.specs.Editing.{Move, idle, sends, ApplyOutcome, not_held, drops_answer, makes, kept_answer, all_but}
+use Rattle.ob0_world_rules.specs.Edited.{Replacement, whole_text}
+use Rattle.ob0_world_rules.specs.Ends.{Open, SentAsk, Applied, Editor, open_at, ToServer, notifies}
+use Rattle.ob0_world_rules.specs.Editing.{Done, rewrites, kept_answer, all_but}
 use Rattle.ob0_world_editor.specs.Code.{answer_of, applied_of}
 use Rattle.ob0_world_rules.specs.Edited.{replacements}
 use Rattle.ob0_world_editor.specs.Heard.{SaysToServer}
@@ -21,26 +21,33 @@ pub record AreFew (e : Editor) : Type 0 where
   pub asks : length e.requested < 2 ^ 63 - 1
   pub versions : (uri : List ℕ) (d : Open) → open_at e uri ≡ Some d → d.version < 2 ^ 63 - 1
 
--- the move was made, and this content, if any, says its message
-abbrev pub Moves : Move → Editor → Option (Vec ℕ Global) → Editor → Type 0
-Moves idle old None new = new ≡ old
-Moves idle old (Some content) new = ⊥
-Moves (sends e message) old None new = ⊥
-Moves (sends e message) old (Some content) new =
-    (new ≡ e) × SaysToServer e.requested message content.items
+-- there is an edit
+abbrev pub has_edits : List Replacement → Bool
+has_edits [] = false
+has_edits (e ∷ es) = true
 
--- this is what became of an answer
-abbrev pub ComesOf : ApplyOutcome → Editor → applying.Applying → Editor → Type 0
-ComesOf not_held old applying.TheVariants.NotHeld new = new ≡ old
-ComesOf not_held old applying.TheVariants.Dropped new = ⊥
-ComesOf not_held old (applying.TheVariants.Made applied content) new = ⊥
-ComesOf (drops_answer e) old applying.TheVariants.NotHeld new = ⊥
-ComesOf (drops_answer e) old applying.TheVariants.Dropped new = new ≡ e
-ComesOf (drops_answer e) old (applying.TheVariants.Made applied content) new = ⊥
-ComesOf (makes e a message) old applying.TheVariants.NotHeld new = ⊥
-ComesOf (makes e a message) old applying.TheVariants.Dropped new = ⊥
-ComesOf (makes e a message) old (applying.TheVariants.Made applied content) new =
-    (new ≡ e) × (applied_of applied ≡ a) × SaysToServer e.requested message content.items
+-- one message at most is sent, and this content, if any, says it
+abbrev pub SaysSent : List SentAsk → List ToServer → Option (Vec ℕ Global) → Type 0
+SaysSent requested [] None = ⊤
+SaysSent requested [] (Some content) = ⊥
+SaysSent requested (message ∷ more) None = ⊥
+SaysSent requested (message ∷ more) (Some content) =
+    SaysToServer requested message content.items × (more ≡ [])
+
+-- the editor has done this, and this content, if any, says its message
+abbrev pub Acts : Done → Option (Vec ℕ Global) → Editor → Type 0
+Acts done content new = (new ≡ done.editor) × SaysSent new.requested done.sent content
+
+-- nothing was sent or applied
+abbrev pub IsSilent : Done → Editor → Type 0
+IsSilent done new = (new ≡ done.editor) × (done.sent ≡ []) × (done.applied ≡ [])
+
+-- this is what became of an answer, which was kept or not
+abbrev pub ComesOf : Done → Bool → applying.Applying → Editor → Type 0
+ComesOf done held applying.TheVariants.NotHeld new = IsSilent done new × (held ≡ false)
+ComesOf done held applying.TheVariants.Dropped new = IsSilent done new × (held ≡ true)
+ComesOf done held (applying.TheVariants.Made applied content) new =
+    Acts done (Some content) new × (done.applied ≡ applied_of applied ∷ []) × (held ≡ true)
 
 -- ---- the steps of applying
 
@@ -70,20 +77,24 @@ text_sent r =
     = applied_of r.applied in notifies (Changed a.uri (pos r.version) (whole_text a.after ∷ []))
 
 -- the editor has this document's new text, and the message says so
-pub record Rewrites (old new : Editor) (a : Applied) (message : ToServer)
-    (r : rewritten.Rewritten) : Type 0 where
-  pub text : new ≡ with_text old r
-  pub applied : a ≡ applied_of r.applied
-  pub says : message ≡ text_sent r
+pub record Rewrites (old : Editor) (done : Done) (r : rewritten.Rewritten) : Type 0 where
+  pub text : done.editor ≡ with_text old r
+  pub applied : done.applied ≡ applied_of r.applied ∷ []
+  pub says : done.sent ≡ text_sent r ∷ []
   pub few : r.version < 2 ^ 63
 
 -- this document gets a new text, if any does
-abbrev pub IsRewritten : Editor → ApplyOutcome → Option rewritten.Rewritten → Type 0
-IsRewritten e not_held r = ⊥
-IsRewritten e (drops_answer f) None = f ≡ e
-IsRewritten e (drops_answer f) (Some r) = ⊥
-IsRewritten e (makes f a message) None = ⊥
-IsRewritten e (makes f a message) (Some r) = Rewrites e f a message r
+abbrev pub IsRewritten : Editor → Option Done → Option rewritten.Rewritten → Type 0
+IsRewritten e None None = ⊤
+IsRewritten e None (Some r) = ⊥
+IsRewritten e (Some done) None = ⊥
+IsRewritten e (Some done) (Some r) = Rewrites e done r
+
+-- a document with the text that edits made of it, if they make one
+abbrev pub with_edits : Editor → List ℕ → Open → Option (List ℕ) → Option Done
+with_edits e uri d edited =
+    let applied : List ℕ → Applied = λ text. record { uri = uri; before = d.text; after = text } in
+    option_map (λ text. rewrites e uri d text (whole_text text ∷ []) (applied text ∷ [])) edited
 
 -- the editor has it, and this content is the notification
 abbrev pub StoresRewritten : Editor → rewritten.Rewritten → Vec ℕ Global → Editor → Type 0

@@ -7,12 +7,13 @@
 ghost use Rattle.std.specs.Prelude.{◌≡◌, IfOk, OnOk, OnErr, map, option_map, is_some, ◌<◌, ◌-◌, ◌^◌, string_bytes};
 ghost use Rattle.std.specs.Str.{chars};
 ghost use Rattle.ob0_text.specs.OpenDocuments.{reported_change};
-ghost use Rattle.ob0_world_rules.specs.Ends.{new_editor, request_numbered, open_at};
-ghost use Rattle.ob0_world_rules.specs.Editing.{opens_document, changes_document, closes_document, asks_about, has_edits, keeps, kept_answer, without_answer, applies_text, applies_requested, applies_answer};
+ghost use Rattle.ob0_world_rules.specs.Ends.{answers, new_editor};
+ghost use Rattle.ob0_world_rules.specs.Editing as acts;
+ghost use Rattle.ob0_world_rules.specs.Editing.{change_document, close_document, ask_about, apply, applies, done_by, kept_answer, reads, without_answer};
 ghost use Rattle.ob0_world_editor.specs.Code.{ask_of, message_of, requested_of};
 ghost use Rattle.ob0_world_editor.specs.Entries.{open_document};
 ghost use Rattle.ob0_world_rules.specs.Edited.{edited, replacements};
-ghost use Rattle.ob0_world_editor.specs.Moves.{AreFew, Moves, ComesOf, IsRewritten, IsAppliedAs, StoresRewritten, IsPlaceOf};
+ghost use Rattle.ob0_world_editor.specs.Moves.{AreFew, Acts, ComesOf, has_edits, with_edits, IsRewritten, IsAppliedAs, StoresRewritten, IsPlaceOf};
 ghost use Rattle.ob0_world_editor.specs.Understood.{understood};
 
 use crate::applied::{Applied, Applying, applied_edit};
@@ -98,9 +99,8 @@ impl Editor {
     /// Opens a document; the content is the notification. None where it is open already.
     pub fn open(&mut self, uri: &str, text: &str) -> Result<Option<Vec<u8>>, AllocError>
         requires { AreFew self.old }
-        ensures ok { IfOk result (λ content. Moves
-            (opens_document self.old uri.now (chars text.now) (open_at self.old uri.now)) self.old
-            content self.new) }
+        ensures ok { IfOk result (λ content. Acts
+            (done_by self.old (acts.open_document uri.now (chars text.now))) content self.new) }
         ensures err { OnErr result (self.new ≡ self.old) }
     {
         if self.documents.get(uri).is_some() {
@@ -117,8 +117,8 @@ impl Editor {
     /// Changes a document; the content is the notification. None where it isn't open.
     pub fn change(&mut self, uri: &str, changes: &[Change]) -> Result<Option<Vec<u8>>, AllocError>
         requires { AreFew self.old }
-        ensures ok { IfOk result (λ content. Moves (changes_document self.old uri.now
-            (map reported_change changes.now) (open_at self.old uri.now)) self.old content
+        ensures ok { IfOk result (λ content. Acts
+            (done_by self.old (change_document uri.now (map reported_change changes.now))) content
             self.new) }
         ensures err { OnErr result (self.new ≡ self.old) }
     {
@@ -140,9 +140,8 @@ impl Editor {
 
     /// Closes a document; the content is the notification. None where it isn't open.
     pub fn close(&mut self, uri: &str) -> Result<Option<Vec<u8>>, AllocError>
-        ensures ok { IfOk result (λ content. Moves
-            (closes_document self.old uri.now (open_at self.old uri.now)) self.old content
-            self.new) }
+        ensures ok { IfOk result
+            (λ content. Acts (done_by self.old (close_document uri.now)) content self.new) }
         ensures err { OnErr result (self.new ≡ self.old) }
     {
         if self.documents.get(uri).is_none() {
@@ -156,9 +155,8 @@ impl Editor {
     /// Requests this about a document; the content is the request. None where it isn't open.
     pub fn ask(&mut self, uri: &str, ask: &Ask) -> Result<Option<Vec<u8>>, AllocError>
         requires { AreFew self.old }
-        ensures ok { IfOk result (λ content. Moves
-            (asks_about self.old uri.now (ask_of ask.now) (open_at self.old uri.now)) self.old
-            content self.new) }
+        ensures ok { IfOk result (λ content. Acts
+            (done_by self.old (ask_about uri.now (ask_of ask.now))) content self.new) }
         ensures err { OnErr result (self.new ≡ self.old) }
     {
         let Some(open) = self.documents.get(uri) else {
@@ -182,7 +180,8 @@ impl Editor {
 
     /// Keeps an answer, if it has edits, and says whether it has.
     pub fn keep(&mut self, number: u64, edits: Vec<Edit>) -> Result<bool, AllocError>
-        ensures kept { OnOk result (self.new ≡ keeps self.old number (replacements edits.items)) }
+        ensures kept { OnOk result
+            (self.new ≡ reads self.old (answers number (replacements edits.items))) }
         ensures some { IfOk result (λ kept. kept ≡ has_edits (replacements edits.items)) }
         ensures err { OnErr result (self.new ≡ self.old) }
     {
@@ -197,9 +196,8 @@ impl Editor {
     /// requested about; the content is the notification. Else, and on an error, the answer is dropped.
     pub fn apply(&mut self, k: u64) -> Result<Applying, AllocError>
         requires { AreFew self.old }
-        ensures ok { IfOk result (λ applying. ComesOf
-            (applies_answer self.old k (kept_answer k self.old.answers)) self.old applying
-            self.new) }
+        ensures ok { IfOk result (λ applying. ComesOf (done_by self.old (apply k))
+            (is_some (kept_answer k self.old.answers)) applying self.new) }
         ensures err { OnErr result (self.new ≡ without_answer self.old k) }
     {
         let Some(edits) = self.drop_document(k) else {
@@ -235,10 +233,8 @@ impl Editor {
     /// made.
     fn rewrite(&self, k: u64, edits: &[Edit]) -> Result<Option<Rewritten>, AllocError>
         requires { AreFew self.now }
-        ensures { IfOk result (λ rewritten. IsRewritten self.now
-            (applies_requested self.now (replacements edits.now)
-            (request_numbered self.now.requested k))
-            rewritten) }
+        ensures { IfOk result (λ rewritten.
+            IsRewritten self.now (applies self.now k (replacements edits.now)) rewritten) }
     {
         let Some(requested) = numbered_ask(self.requested.as_slice(), k) else {
             return Ok(None);
@@ -261,7 +257,7 @@ impl Editor {
     ) -> Result<Option<Rewritten>, AllocError>
         requires { document.now.version < 2 ^ 63 - 1 }
         ensures { IfOk result (λ rewritten. IsRewritten self.now
-            (applies_text self.now uri.now (open_document document.now)
+            (with_edits self.now uri.now (open_document document.now)
             (edited self.now.unit (chars (string_bytes document.now.text))
             (replacements edits.now)))
             rewritten) }

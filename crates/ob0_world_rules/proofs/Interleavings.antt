@@ -15,52 +15,40 @@ use Rattle.ob0_world_rules.specs.Language.{WellTypedText, SameRun}
 use Rattle.ob0_world_rules.specs.Edited.{Replacement, edited, whole_text, after_changes}
 use Rattle.ob0_world_rules.specs.Asks.{Ask}
 use Rattle.ob0_world_rules.specs.Answers.{IsAnswer}
-use Rattle.ob0_world_rules.specs.Ends.{Open, SentAsk, Answer, Editor, request_numbered, open_at, ToServer, notifies, requests, ToEditor, publishes, answers, Applied, Made, Ends, start, after_message, will_have, as_open}
-use Rattle.ob0_world_rules.specs.Editing.{opens_document, changes_text, changes_document, closes_document, asks_about, keeps, kept_answer, all_but, without_answer, discards, if_same, applies_text, applies_edits, applies_requested, applies_answer, Move, idle, sends, ApplyOutcome, not_held, drops_answer, makes}
+use Rattle.ob0_world_rules.specs.Ends.{Open, SentAsk, Answer, Editor, request_numbered, open_at, ToServer, notifies, requests, ToEditor, publishes, answers, Applied, Made, Ends, start, after_message}
+use Rattle.ob0_world_rules.specs.Editing.{Act, stays, opens, rewrites, closes, asks, kept_answer, all_but, without_answer, done_by}
 use Rattle.ob0_world_rules.specs.Serving.{Publishes, cleared, RepliesToNotification, Replies}
-use Rattle.ob0_world_rules.specs.Events.{Event, open_document, change_document, close_document, ask_about, serve, take_message, apply, discard, Seen, after_move, takes, comes_of}
-use Rattle.ob0_world_rules.specs.Happens.{ServerTakes, Happens, Course}
+use Rattle.ob0_world_rules.specs.Happens.{Event, does, serve, take_message, after_act, after_taking, ServerTakes, Happens, Course}
+use Rattle.ob0_world_rules.specs.Mirror.{will_have, as_open, Mirrors}
 use Rattle.ob0_world_rules.specs.Headline.{KeepsTheRun, IsRight, IsMadeFor, last_publication, AreUpToDate, Holds}
 use Rattle.ob0_world_rules.specs.Laws.{EditsPreserveRun}
 use Rattle.ob0_world_rules.proofs.UriLaws.{get_put, get_removed, same_uri, uri_itself}
 use Rattle.ob0_world_rules.proofs.Latest.{latest_push}
-use Rattle.ob0_world_rules.proofs.SameDocument.{Known, Same, same_from, still_known, later_answers, later_open, later_close, later_ask, slice_get_last, found, left}
+use Rattle.ob0_world_rules.proofs.SameDocument.{Known, Same, later_answers, later_open, later_close, later_ask, slice_get_last, found, left}
+use Rattle.ob0_world_rules.proofs.Acts.{edit_of, of_each}
 use Rattle.ob0_world_rules.proofs.KeptRuns.{answer_keeps}
-use Rattle.ob0_world_rules.proofs.Keeping.{Fits, AnswerFits, HeldFits, AsksSee, Kept, message_unit, sends_kept, put_mirrors, remove_mirrors, rewrites_kept, answers_kept, held_known}
+use Rattle.ob0_world_rules.proofs.Keeping.{Fits, AnswerFits, HeldFits, AsksSee, Kept, message_unit, acts_kept, put_mirrors, remove_mirrors, rewrites_kept, answers_kept, held_known}
 
 -- ---- the editor's events
 
 module _ (unit : Unit) where
-  open_kept : (w : Ends) (uri text : List ℕ) (o : Option Open) → Kept unit w → Kept unit (after_move w (opens_document w.editor uri text o)).after
-  open_kept w uri text (Some d) kept = kept
-  open_kept w uri text None kept =
+  open_kept : (w : Ends) (uri text : List ℕ) → Kept unit w → Kept unit (after_act w (opens w.editor uri text))
+  open_kept w uri text kept =
       let d : Open = record { version = 1; text = text; opening = w.editor.openings + 1 } in
-      let e : Editor = record w.editor { documents = map_of.insert w.editor.documents uri d; openings = w.editor.openings + 1 } in
-      sends_kept unit w e (notifies (Opened uri (pos 1) text)) kept (later_open w.editor uri d refl)
+      acts_kept unit w (opens w.editor uri text) kept (later_open w.editor uri d refl)
       (λ q x at. found w.editor.documents uri q d x (x.opening ≤ w.editor.openings + 1) at
       (λ same is. subst (λ y. y.opening ≤ w.editor.openings + 1) is (omega arith))
       (λ was. let known : x.opening ≤ w.editor.openings = kept.openings q x was in omega arith))
-      refl refl (put_mirrors w uri d kept.mirror) tt
+      refl refl (put_mirrors w uri d kept.mirror) tt (All-nil KeepsTheRun)
 
-  change_kept : (w : Ends) (uri : List ℕ) (how : List TextChange) (o : Option Open) → open_at w.editor uri ≡ o → Kept unit w → Kept unit (after_move w (changes_document w.editor uri how o)).after
-  change_kept w uri how None is kept = kept
-  change_kept w uri how (Some d) is kept = go (after_changes w.editor.unit (Some d.text) how) refl
-    where
-      go : (t : Option (List ℕ)) → after_changes w.editor.unit (Some d.text) how ≡ t → Kept unit (after_move w (changes_text w.editor uri d how t)).after
-      go None made = kept
-      go (Some text) made = rewrites_kept unit w uri d how text kept is made
-
-  close_kept : (w : Ends) (uri : List ℕ) (o : Option Open) → Kept unit w → Kept unit (after_move w (closes_document w.editor uri o)).after
-  close_kept w uri None kept = kept
-  close_kept w uri (Some d) kept =
-      let e : Editor = record w.editor { documents = map_of.remove w.editor.documents uri } in
-      sends_kept unit w e (notifies (Closed uri)) kept (later_close w.editor uri)
+  close_kept : (w : Ends) (uri : List ℕ) → Kept unit w → Kept unit (after_act w (closes w.editor uri))
+  close_kept w uri kept =
+      acts_kept unit w (closes w.editor uri) kept (later_close w.editor uri)
       (λ q x at. kept.openings q x (left w.editor.documents uri q x at))
-      refl refl (remove_mirrors w uri kept.mirror) tt
+      refl refl (remove_mirrors w uri kept.mirror) tt (All-nil KeepsTheRun)
 
-  ask_kept : (w : Ends) (uri : List ℕ) (ask : Ask) (o : Option Open) → open_at w.editor uri ≡ o → Kept unit w → Kept unit (after_move w (asks_about w.editor uri ask o)).after
-  ask_kept w uri ask None is kept = kept
-  ask_kept w uri ask (Some d) is kept =
+  ask_kept : (w : Ends) (uri : List ℕ) (ask : Ask) (d : Open) → open_at w.editor uri ≡ Some d → Kept unit w → Kept unit (after_act w (asks w.editor uri ask d))
+  ask_kept w uri ask d is kept =
       let a : SentAsk = record { ask = ask; uri = uri; opening = d.opening; version = d.version } in
       let e : Editor = record w.editor { requested = w.editor.requested ++ a ∷ [] } in
       let known : Known e (suc (length w.editor.requested)) (λ x. document_at (will_have w) uri ≡ Some (as_open x)) =
@@ -73,8 +61,13 @@ module _ (unit : Unit) where
         };
         still = λ x same. kept.mirror uri ∙ ap (option_map as_open) same.at;
       } in
-      sends_kept unit w e (requests (suc (length w.editor.requested)) uri ask) kept (later_ask w.editor (a ∷ []))
-      kept.openings refl refl kept.mirror (known, tt)
+      acts_kept unit w (asks w.editor uri ask d) kept (later_ask w.editor (a ∷ []))
+      kept.openings refl refl kept.mirror (known, tt) (All-nil KeepsTheRun)
+
+  -- nothing is sent
+  still_kept : (w : Ends) → Kept unit w → Kept unit (after_act w (stays w.editor))
+  still_kept w kept =
+      acts_kept unit w (stays w.editor) kept (later_answers w.editor w.editor.answers) kept.openings refl refl kept.mirror tt (All-nil KeepsTheRun)
 
   -- a message that the editor has taken is no more in the queue
   rest_kept : (w : Ends) (rest : List ToEditor) → Kept unit w → All (AnswerFits unit w.editor) rest → Kept unit (record w { to_editor = rest })
@@ -89,7 +82,7 @@ module _ (unit : Unit) where
       go d (inl none) = absurd (cc)
       go d (inr keep) = keep
 
-  take_kept : (w : Ends) (queue : List ToEditor) → Kept unit w → All (AnswerFits unit w.editor) queue → Kept unit (takes w queue).after
+  take_kept : (w : Ends) (queue : List ToEditor) → Kept unit w → All (AnswerFits unit w.editor) queue → Kept unit (after_taking w queue)
   take_kept w [] kept fit = kept
   take_kept w (publishes uri version empty ∷ rest) kept fit = rest_kept w rest kept (All-tail (AnswerFits unit w.editor) (publishes uri version empty) rest fit)
   take_kept w (answers k [] ∷ rest) kept fit = rest_kept w rest kept (All-tail (AnswerFits unit w.editor) (answers k []) rest fit)
@@ -114,50 +107,34 @@ module _ (unit : Unit) where
   without_kept w k kept =
       answers_kept unit w (all_but k w.editor.answers) w.to_editor kept (All-all_but (HeldFits unit w.editor) k w.editor.answers kept.answers_held) kept.answered
 
-  discard_kept : (w : Ends) (k : ℕ) (o : Option (List Replacement)) → Kept unit w → Kept unit (comes_of w k (discards w.editor k o)).after
-  discard_kept w k None kept = kept
-  discard_kept w k (Some edits) kept = without_kept w k kept
-
-  applied_kept : (w : Ends) (a : Applied) → Kept unit w → KeepsTheRun a → Kept unit (record w { applied = w.applied ++ a ∷ [] })
-  applied_kept w a kept keeps =
-      record { counts = kept.counts; holds = kept.holds; mirror = kept.mirror; openings = kept.openings; requested = kept.requested; answered = kept.answered; answers_held = kept.answers_held; applied = All-push KeepsTheRun w.applied a kept.applied keeps; made = kept.made }
-
   whole : (u : Unit) (old text : List ℕ) → after_changes u (Some old) (whole_text text ∷ []) ≡ Some text
   unfolding changed_text
   whole u old text = refl
 
-  -- e is the editor once it has let the answer go
-  text_kept : (w : Ends) (e : Editor) (k : ℕ) (uri : List ℕ) (d : Open) (edits : List Replacement) (o : Option (List ℕ)) → edited unit d.text edits ≡ o → open_at e uri ≡ Some d → Kept unit (record w { editor = e })
-      → EditsPreserveRun unit d.text edits → Kept unit (comes_of w k (applies_text e uri d o)).after
-  text_kept w e k uri d edits None is_made at kept keep = kept
-  text_kept w e k uri d edits (Some text) is_made at kept keep =
-      let a : Applied = record { uri = uri; before = d.text; after = text } in
-      let is : keep.after ≡ text = same_Some keep.after text (sym keep.makes ∙ is_made) in
-      let keeps : KeepsTheRun a = record { before_fits = keep.before_fits; after_fits = subst WellTypedText is keep.after_fits; same = subst (SameRun d.text) is keep.same } in
-      rewrites_kept unit (record w { editor = e; applied = w.applied ++ a ∷ [] }) uri d (whole_text text ∷ []) text
-      (applied_kept (record w { editor = e }) a kept keeps) at (whole e.unit d.text text)
+  -- the edits of an answer are made of the document of its request
+  made_kept : (w : Ends) (k : ℕ) (edits : List Replacement) (a : SentAsk) (d : Open) (text : List ℕ) → Kept unit w → kept_answer k w.editor.answers ≡ Some edits → request_numbered w.editor.requested k ≡ Some a → Same w.editor a d
+      → edited w.editor.unit d.text edits ≡ Some text → Kept unit (after_act w (rewrites (without_answer w.editor k) a.uri d text (whole_text text ∷ []) (edit_of a.uri d text ∷ [])))
+  made_kept w k edits a d text kept held numbered same makes =
+      let known : Known w.editor k (λ d. EditsPreserveRun unit d.text edits) = held_known unit w.editor k w.editor.answers edits held kept.answers_held in
+      let asked : known.requested ≡ a = same_Some known.requested a (sym known.is ∙ numbered) in
+      let keep : EditsPreserveRun unit d.text edits = subst (λ x. (d : Open) → Same w.editor x d → EditsPreserveRun unit d.text edits) asked known.still d same in
+      let is : keep.after ≡ text = same_Some keep.after text (sym keep.makes ∙ ap (λ u. edited u d.text edits) (sym kept.counts) ∙ makes) in
+      let keeps : KeepsTheRun (edit_of a.uri d text) = record { before_fits = keep.before_fits; after_fits = subst WellTypedText is keep.after_fits; same = subst (SameRun d.text) is keep.same } in
+      rewrites_kept unit (record w { editor = without_answer w.editor k }) a.uri d (whole_text text ∷ []) text (edit_of a.uri d text ∷ []) (without_kept w k kept) same.at (whole w.editor.unit d.text text)
+      (All-push KeepsTheRun [] (edit_of a.uri d text) (All-nil KeepsTheRun) keeps)
 
-  edits_kept : (w : Ends) (e : Editor) (k : ℕ) (edits : List Replacement) (a : SentAsk) (o : Option Open) → if_same a (open_at e a.uri) ≡ o → Kept unit (record w { editor = e })
-      → ((d : Open) → Same e a d → EditsPreserveRun unit d.text edits) → Kept unit (comes_of w k (applies_edits e edits a.uri o)).after
-  edits_kept w e k edits a None is kept keep = kept
-  edits_kept w e k edits a (Some d) is kept keep =
-      let same : Same e a d = same_from e a d is in
-      text_kept w e k a.uri d edits (edited e.unit d.text edits) (ap (λ u. edited u d.text edits) (sym kept.counts)) same.at kept (keep d same)
-
-  requested_kept : (w : Ends) (e : Editor) (k : ℕ) (edits : List Replacement) (o : Option SentAsk) → request_numbered e.requested k ≡ o → Kept unit (record w { editor = e }) → Known e k (λ d. EditsPreserveRun unit d.text edits)
-      → Kept unit (comes_of w k (applies_requested e edits o)).after
-  requested_kept w e k edits None is kept known = kept
-  requested_kept w e k edits (Some a) is kept known =
-      let same : known.requested ≡ a = same_Some known.requested a (sym known.is ∙ is) in
-      edits_kept w e k edits a (if_same a (open_at e a.uri)) refl kept (subst (λ x. (d : Open) → Same e x d → EditsPreserveRun unit d.text edits) same known.still)
-
-  apply_kept : (w : Ends) (k : ℕ) (o : Option (List Replacement)) → kept_answer k w.editor.answers ≡ o → Kept unit w → Kept unit (comes_of w k (applies_answer w.editor k o)).after
-  apply_kept w k None is kept = kept
-  apply_kept w k (Some edits) is kept =
-      let e : Editor = without_answer w.editor k in
-      let known : Known w.editor k (λ d. EditsPreserveRun unit d.text edits) = held_known unit w.editor k w.editor.answers edits is kept.answers_held in
-      requested_kept w e k edits (request_numbered w.editor.requested k) refl (without_kept w k kept)
-      (still_known w.editor e k (λ d. EditsPreserveRun unit d.text edits) (later_answers w.editor e.answers) known)
+  act_kept : (w : Ends) → Kept unit w → (act : Act) → Kept unit (after_act w (done_by w.editor act))
+  act_kept w kept =
+      of_each w.editor (λ done. Kept unit (after_act w done))
+      (record {
+        still = still_kept w kept;
+        opened = λ uri text none. open_kept w uri text kept;
+        changed = λ uri d how text at made. rewrites_kept unit w uri d how text [] kept at made (All-nil KeepsTheRun);
+        closed = λ uri d at. close_kept w uri kept;
+        asked = λ uri ask d at. ask_kept w uri ask d at kept;
+        made = λ k edits a d text. made_kept w k edits a d text kept;
+        dropped = λ k. still_kept (record w { editor = without_answer w.editor k }) (without_kept w k kept);
+      })
 
   -- ---- the server's events
 
@@ -313,9 +290,9 @@ module _ (unit : Unit) where
   sees_first e held (notifies note) rest h = (tt, h)
   sees_first e held (requests k uri ask) rest h = ((h.0, tt), h.1)
 
-  serve_kept : (w : Ends) (queue : List ToServer) (seen : Seen) (new : Ends) → w.to_server ≡ queue → Both w → ServerTakes w queue seen new → Both new
-  serve_kept w [] seen new is both h = subst Both (sym h.1) both
-  serve_kept w (m ∷ rest) seen new is (kept, now) (said, more, may, shown, is_new) =
+  serve_kept : (w : Ends) (queue : List ToServer) (new : Ends) → w.to_server ≡ queue → Both w → ServerTakes w queue new → Both new
+  serve_kept w [] new is both h = subst Both (sym h) both
+  serve_kept w (m ∷ rest) new is (kept, now) (said, more, may, is_new) =
       let see : Meets w.editor w.held m × AsksSee w.editor (after_message w.held m) rest = sees_first w.editor w.held m rest (subst (AsksSee w.editor w.held) is kept.requested) in
       let sound : Sound w.editor (after_message w.held m) said w.made more = message_sound w.editor w.held m said w.made more kept.holds see.0 now may in
       subst Both (sym is_new) (
@@ -336,55 +313,20 @@ module _ (unit : Unit) where
   -- ---- all events
 
   -- the server is as it was
-  abbrev Unmoved : Ends → Ends → Type 0
-  Unmoved w after = (after.held ≡ w.held) × (after.made ≡ w.made)
-
-  move_unmoved : (w : Ends) (m : Move) → Unmoved w (after_move w m).after
-  move_unmoved w idle = (refl, refl)
-  move_unmoved w (sends e m) = (refl, refl)
-
-  take_unmoved : (w : Ends) (queue : List ToEditor) → Unmoved w (takes w queue).after
+  take_unmoved : (w : Ends) (queue : List ToEditor) → ((after_taking w queue).held ≡ w.held) × ((after_taking w queue).made ≡ w.made)
   take_unmoved w [] = (refl, refl)
-  take_unmoved w (publishes uri version empty ∷ rest) = (refl, refl)
-  take_unmoved w (answers k edits ∷ rest) = (refl, refl)
+  take_unmoved w (m ∷ rest) = (refl, refl)
 
-  outcome_unmoved : (w : Ends) (k : ℕ) (o : ApplyOutcome) → Unmoved w (comes_of w k o).after
-  outcome_unmoved w k not_held = (refl, refl)
-  outcome_unmoved w k (drops_answer e) = (refl, refl)
-  outcome_unmoved w k (makes e a m) = (refl, refl)
-
-  -- an event at the editor
-  at_the_editor : (w after new : Ends) → new ≡ after → Kept unit after → Unmoved w after → AreLatest w.held w.made → Both new
-  at_the_editor w after new is kept unmoved now =
-      subst Both (sym is) (kept, subst (λ made. AreLatest after.held made) (sym unmoved.1) (subst (λ held. AreLatest held w.made) (sym unmoved.0) now))
-
-  -- a move of the editor
-  move_kept : (w : Ends) (m : Move) (new : Ends) → new ≡ (after_move w m).after → Kept unit (after_move w m).after → AreLatest w.held w.made → Both new
-  move_kept w m new is kept now = at_the_editor w (after_move w m).after new is kept (move_unmoved w m) now
-
-  outcome_kept : (w : Ends) (k : ℕ) (o : ApplyOutcome) (new : Ends) → new ≡ (comes_of w k o).after → Kept unit (comes_of w k o).after → AreLatest w.held w.made → Both new
-  outcome_kept w k o new is kept now = at_the_editor w (comes_of w k o).after new is kept (outcome_unmoved w k o) now
-
-  event_kept : (w : Ends) (event : Event) (seen : Seen) (new : Ends) → Both w → Happens w event seen new → Both new
-  event_kept w (open_document uri text) seen new (kept, now) h =
-      let o : Option Open = open_at w.editor uri in move_kept w (opens_document w.editor uri text o) new h.1 (open_kept w uri text o kept) now
-  event_kept w (change_document uri how) seen new (kept, now) h =
-      let o : Option Open = open_at w.editor uri in move_kept w (changes_document w.editor uri how o) new h.1 (change_kept w uri how o refl kept) now
-  event_kept w (close_document uri) seen new (kept, now) h =
-      let o : Option Open = open_at w.editor uri in move_kept w (closes_document w.editor uri o) new h.1 (close_kept w uri o kept) now
-  event_kept w (ask_about uri ask) seen new (kept, now) h =
-      let o : Option Open = open_at w.editor uri in move_kept w (asks_about w.editor uri ask o) new h.1 (ask_kept w uri ask o refl kept) now
-  event_kept w serve seen new both h = serve_kept w w.to_server seen new refl both h
-  event_kept w take_message seen new (kept, now) h =
-      at_the_editor w (takes w w.to_editor).after new h.1 (take_kept w w.to_editor kept kept.answered) (take_unmoved w w.to_editor) now
-  event_kept w (apply k) seen new (kept, now) h =
-      let o : Option (List Replacement) = kept_answer k w.editor.answers in outcome_kept w k (applies_answer w.editor k o) new h.1 (apply_kept w k o refl kept) now
-  event_kept w (discard k) seen new (kept, now) h =
-      let o : Option (List Replacement) = kept_answer k w.editor.answers in outcome_kept w k (discards w.editor k o) new h.1 (discard_kept w k o kept) now
+  event_kept : (w : Ends) (event : Event) (new : Ends) → Both w → Happens w event new → Both new
+  event_kept w (does act) new (kept, now) h = subst Both (sym h) (act_kept w kept act, now)
+  event_kept w serve new both h = serve_kept w w.to_server new refl both h
+  event_kept w take_message new (kept, now) h =
+      let still = take_unmoved w w.to_editor in
+      subst Both (sym h) (take_kept w w.to_editor kept kept.answered, subst (λ made. AreLatest (after_taking w w.to_editor).held made) (sym still.1) (subst (λ held. AreLatest held w.made) (sym still.0) now))
 
   run_kept : (events : List Event) (w new : Ends) → Both w → Course w events new → Both new
   run_kept [] w new both h = subst Both (sym h) both
-  run_kept (event ∷ events) w new both (seen, between, happens, run) = run_kept events between new (event_kept w event seen between both happens) run
+  run_kept (event ∷ events) w new both (between, happens, run) = run_kept events between new (event_kept w event between both happens) run
 
   nothing_at : {X : Type 0} (q : List ℕ) (x : X) (P : Type 0) → map_of.get (map_of.empty {X = X} {R = slice_cmp nat_cmp}) q ≡ Some x → P
   nothing_at q x P h = absurd (none-some x (sym (map_of.get-empty (slice_cmp nat_cmp) q) ∙ h))
@@ -413,4 +355,7 @@ module _ (unit : Unit) where
 pub in_every_interleaving : (unit : Unit) (events : List Event) (w : Ends) → Course (start unit) events w → Holds w
 in_every_interleaving unit events w run =
     let both : Both unit w = run_kept unit events (start unit) w (start_kept unit) run in
-    record { applied = both.0.applied; made = both.0.made; mirror = both.0.mirror; latest_made = up_to_date unit w both }
+    record { applied = both.0.applied; made = both.0.made; latest_made = up_to_date unit w both }
+
+pub server_mirrors : (unit : Unit) (events : List Event) (w : Ends) → Course (start unit) events w → Mirrors w
+server_mirrors unit events w run = (run_kept unit events (start unit) w (start_kept unit) run).0.mirror

@@ -5,14 +5,16 @@ use Rattle.std.specs.Str.{bytes_eq}
 use Rattle.std.specs.FinMap as map_of
 use Rattle.std.proofs.lemmas.Bool.{eqb-true}
 use Rattle.std.proofs.lemmas.Option.{same_Some, none-some}
-use Rattle.std.proofs.lemmas.List.Elements.{All-head, All-tail, All-weaker}
-use Rattle.std.proofs.lemmas.List.Sums.{fold_push}
+use Rattle.std.proofs.lemmas.List.Elements.{All-head, All-tail, All-weaker, All-append}
+use Rattle.std.proofs.lemmas.List.Sums.{fold-append}
 use Rattle.ob0_text.specs.declared.position_types.Unit.{Unit}
 use Rattle.ob0_text.specs.OpenDocuments.{OpenDocuments, document, DocumentEvent, Opened, Changed, Lost, Closed, TextChange, after_event, changed_document, document_at}
 use Rattle.ob0_text.proofs.EntryLaws.{updated-some}
 use Rattle.ob0_world_rules.specs.Edited.{Replacement, after_changes}
-use Rattle.ob0_world_rules.specs.Ends.{Open, Answer, Editor, open_at, ToServer, notifies, requests, ToEditor, publishes, answers, Ends, after_message, will_have, as_open, Mirrors}
-use Rattle.ob0_world_rules.specs.Editing.{kept_answer, rewritten, rewrites}
+use Rattle.ob0_world_rules.specs.Ends.{Open, Answer, Editor, open_at, ToServer, notifies, requests, ToEditor, publishes, answers, Applied, Ends, after_message}
+use Rattle.ob0_world_rules.specs.Editing.{Done, kept_answer, rewrites}
+use Rattle.ob0_world_rules.specs.Happens.{after_act}
+use Rattle.ob0_world_rules.specs.Mirror.{will_have, as_open, Mirrors}
 use Rattle.ob0_world_rules.specs.Headline.{KeepsTheRun, IsRight}
 use Rattle.ob0_world_rules.specs.Laws.{EditsPreserveRun}
 use Rattle.ob0_world_rules.proofs.UriLaws.{get_put, get_removed, mapped_choice}
@@ -92,24 +94,20 @@ asks_append e held [] more h k = k
 asks_append e held (notifies note ∷ rest) more h k = asks_append e (after_event held note) rest more h k
 asks_append e held (requests n uri ask ∷ rest) more h k = (h.0, asks_append e held rest more h.1 k)
 
--- ---- the editor sends
+-- ---- the editor acts
 
--- the ends once the editor is this one and its message waits for the server
-abbrev pub sent_by : Ends → Editor → ToServer → Ends
-sent_by w e m = record w { editor = e; to_server = w.to_server ++ m ∷ [] }
-
-pub sends_kept : (unit : Unit) (w : Ends) (e : Editor) (m : ToServer) → Kept unit w → Later w.editor e → KnowsOpenings e → e.unit ≡ w.editor.unit → e.answers ≡ w.editor.answers
-    → ((uri : List ℕ) → document_at (after_message (will_have w) m) uri ≡ option_map as_open (open_at e uri)) → AsksSee e (will_have w) (m ∷ []) → Kept unit (sent_by w e m)
-sends_kept unit w e m kept later openings same_unit same mirror see =
+pub acts_kept : (unit : Unit) (w : Ends) (done : Done) → Kept unit w → Later w.editor done.editor → KnowsOpenings done.editor → done.editor.unit ≡ w.editor.unit → done.editor.answers ≡ w.editor.answers
+    → ((uri : List ℕ) → document_at (fold after_message (will_have w) done.sent) uri ≡ option_map as_open (open_at done.editor uri)) → AsksSee done.editor (will_have w) done.sent → All KeepsTheRun done.applied → Kept unit (after_act w done)
+acts_kept unit w done kept later openings same_unit same mirror see keeps =
     record {
       counts = same_unit ∙ kept.counts;
       holds = kept.holds;
-      mirror = λ uri. ap (λ held. document_at held uri) (fold_push after_message w.held w.to_server m) ∙ mirror uri;
+      mirror = λ uri. ap (λ held. document_at held uri) (fold-append after_message w.held w.to_server done.sent) ∙ mirror uri;
       openings = openings;
-      requested = asks_append e w.held w.to_server (m ∷ []) (asks_later w.editor e later w.held w.to_server kept.requested) see;
-      answered = answers_later unit w.editor e later w.to_editor kept.answered;
-      answers_held = subst (λ list. All (HeldFits unit e) list) (sym same) (held_later unit w.editor e later w.editor.answers kept.answers_held);
-      applied = kept.applied;
+      requested = asks_append done.editor w.held w.to_server done.sent (asks_later w.editor done.editor later w.held w.to_server kept.requested) see;
+      answered = answers_later unit w.editor done.editor later w.to_editor kept.answered;
+      answers_held = subst (λ list. All (HeldFits unit done.editor) list) (sym same) (held_later unit w.editor done.editor later w.editor.answers kept.answers_held);
+      applied = All-append KeepsTheRun w.applied done.applied kept.applied keeps;
       made = kept.made;
     }
 
@@ -142,15 +140,15 @@ change_mirrors w uri d new how mirror same_unit was_open is q =
     ∙ ap (λ text. map_of.get (map_of.insert (will_have w).by_uri uri (document (pos new.version) text)) q) (ap (λ u. after_changes u (Some d.text) how) same_unit ∙ is)
     ∙ put_mirror w uri new mirror q
 
-pub rewrites_kept : (unit : Unit) (w : Ends) (uri : List ℕ) (d : Open) (how : List TextChange) (text : List ℕ) → Kept unit w → open_at w.editor uri ≡ Some d
-    → after_changes w.editor.unit (Some d.text) how ≡ Some text → Kept unit (sent_by w (rewrites w.editor uri d text) (notifies (Changed uri (pos (d.version + 1)) how)))
-rewrites_kept unit w uri d how text kept was_open is =
-    let new : Open = rewritten d text in
-    sends_kept unit w (rewrites w.editor uri d text) (notifies (Changed uri (pos (d.version + 1)) how)) kept (later_rewrite w.editor uri d text was_open)
+pub rewrites_kept : (unit : Unit) (w : Ends) (uri : List ℕ) (d : Open) (how : List TextChange) (text : List ℕ) (applied : List Applied) → Kept unit w → open_at w.editor uri ≡ Some d
+    → after_changes w.editor.unit (Some d.text) how ≡ Some text → All KeepsTheRun applied → Kept unit (after_act w (rewrites w.editor uri d text how applied))
+rewrites_kept unit w uri d how text applied kept was_open is keeps =
+    let new : Open = record d { version = d.version + 1; text = text } in
+    acts_kept unit w (rewrites w.editor uri d text how applied) kept (later_rewrite w.editor uri d text was_open)
     (λ q x at. found w.editor.documents uri q new x (x.opening ≤ w.editor.openings) at
     (λ same is. subst (λ y. y.opening ≤ w.editor.openings) is (kept.openings uri d was_open))
     (λ was. kept.openings q x was))
-    refl refl (change_mirrors w uri d new how kept.mirror (will_unit w.held w.to_server ∙ kept.holds ∙ sym kept.counts) was_open is) tt
+    refl refl (change_mirrors w uri d new how kept.mirror (will_unit w.held w.to_server ∙ kept.holds ∙ sym kept.counts) was_open is) tt keeps
 
 -- ---- answers in the editor
 

@@ -12,16 +12,17 @@ use Rattle.ob0_world_rules.proofs.EditedTexts.{edited_as_patched}
 use Rattle.ob0_world_rules.specs.Asks.{Ask, rename, inline_here, inline_all, format}
 use Rattle.ob0_world_rules.specs.Answers.{GivesEdits, AnswersFor}
 use Rattle.ob0_world_rules.specs.Laws.{EditsPreserveRun}
+use Rattle.ob0_world_rules.proofs.ModuleTexts.{well_typed_text}
 use Rattle.ob0_world_rules.proofs.Trees.{same_run}
 
 -- edits that leave a text which runs as before
 runs_kept : (unit : Unit) (text after : List ℕ) (edits : List Edit) → patched (width_of unit) text edits ≡ Some after → RunsAsBefore (utf8 text) (utf8 after) → EditsPreserveRun unit text (replacements edits)
 runs_kept unit text after edits made runs =
     record {
-      before_fits = runs.old;
+      before_fits = well_typed_text text runs.old;
       after = after;
       makes = edited_as_patched unit text edits ∙ made;
-      after_fits = runs.new;
+      after_fits = well_typed_text after runs.new;
       same = same_run text after runs;
     }
 

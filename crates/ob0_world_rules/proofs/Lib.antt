@@ -1,4 +1,5 @@
 mod Latest
+pub mod ModuleTexts
 pub mod Trees
 pub mod KeptRuns
 pub mod OneModule
@@ -14,4 +15,5 @@ pub mod MadeFor
 pub mod MadeInOrder
 pub mod UriLaws
 pub mod SameDocument
+pub mod Acts
 pub mod EditedTexts

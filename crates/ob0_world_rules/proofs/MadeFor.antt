@@ -3,23 +3,25 @@
 -- A message that the editor sends adds what the mirror says at that moment; a server's turn publishes what it then
 -- holds.
 use Rattle.std.proofs.Common.{◌≡◌, ◌∙◌, ℕ, List, [], ◌∷◌, ◌++◌, append-nil, append_assoc, refl, sym, ap, subst}
-use Rattle.std.specs.Prelude.{ℤ, pos, fold, All, Option, Some, None, option_map}
+use Rattle.std.specs.Prelude.{⊤, ℤ, pos, fold, All, Option, Some, None, option_map}
 use Rattle.std.proofs.lemmas.Option.{same_Some, none-some}
 use Rattle.std.proofs.lemmas.List.Elements.{All-nil, All-push, All-append, All-weaker}
+use Rattle.std.proofs.lemmas.List.Sums.{fold-append}
 use Rattle.ob0_text.specs.declared.position_types.Unit.{Unit}
 use Rattle.ob0_text.specs.OpenDocuments.{OpenDocuments, Document, InStep, OutOfStep, DocumentEvent, Opened, Changed, Lost, Closed, after_event, document_at}
-use Rattle.ob0_world_rules.specs.Ends.{Open, open_at, ToServer, notifies, requests, ToEditor, publishes, answers, Made, Ends, start, after_message, will_have, as_open}
-use Rattle.ob0_world_rules.specs.Editing.{Move, idle, sends, opens_document, changes_document, closes_document, asks_about, kept_answer, ApplyOutcome, not_held, drops_answer, makes, discards, applies_answer}
+use Rattle.ob0_world_rules.specs.Ends.{Open, Editor, open_at, ToServer, notifies, requests, ToEditor, publishes, answers, Made, Ends, start, after_message}
+use Rattle.ob0_world_rules.specs.Editing.{Act, Done, done_by}
 use Rattle.ob0_world_rules.specs.Serving.{Publishes, RepliesToNotification, Replies}
-use Rattle.ob0_world_rules.specs.Events.{Event, open_document, change_document, close_document, ask_about, serve, take_message, apply, discard, Seen, EventStep, Is, after_move, takes, comes_of}
-use Rattle.ob0_world_rules.specs.Happens.{ServerTakes, Happens, Course}
+use Rattle.ob0_world_rules.specs.Happens.{Event, does, serve, take_message, after_act, after_taking, ServerTakes, Happens, Course}
+use Rattle.ob0_world_rules.specs.Mirror.{will_have, as_open}
 use Rattle.ob0_world_rules.specs.Headline.{WasOpen, WasMadeFor}
-use Rattle.ob0_world_rules.proofs.Interleavings.{in_every_interleaving}
+use Rattle.ob0_world_rules.proofs.Acts.{of_each}
+use Rattle.ob0_world_rules.proofs.Interleavings.{server_mirrors}
 
 -- one event more at the end
-pub course_push : (w : Ends) (events : List Event) (between : Ends) (e : Event) (seen : Seen) (new : Ends) → Course w events between → Happens between e seen new → Course w (events ++ e ∷ []) new
-course_push w [] between e seen new run happens = let from_w : Happens w e seen new = subst (λ x. Happens x e seen new) run happens in (seen, new, from_w, refl)
-course_push w (x ∷ events) between e seen new (s, mid, first, rest) happens = (s, mid, first, course_push mid events between e seen new rest happens)
+pub course_push : (w : Ends) (events : List Event) (between : Ends) (e : Event) (new : Ends) → Course w events between → Happens between e new → Course w (events ++ e ∷ []) new
+course_push w [] between e new run happens = (new, subst (λ x. Happens x e new) run happens, refl)
+course_push w (x ∷ events) between e new (mid, first, rest) happens = (mid, first, course_push mid events between e new rest happens)
 
 same_version : (v w : ℤ) (t u : List ℕ) → InStep v t ≡ InStep w u → v ≡ w
 same_version v w t u h = cc
@@ -59,7 +61,7 @@ module _ (unit : Unit) where
   by_more events more held [] h = λ uri version text at. was_open_more events more uri version text (h uri version text at)
   by_more events more held (m ∷ queue) h = (λ uri version text at. was_open_more events more uri version text (h.0 uri version text at), by_more events more (after_message held m) queue h.1)
 
-  by_push : (events : List Event) (held : OpenDocuments) (queue : List ToServer) (m : ToServer) → WereOpenBy events held queue → WereOpenIn events (fold after_message held (queue ++ m ∷ [])) → WereOpenBy events held (queue ++ m ∷ [])
+  by_push : (events : List Event) (held : OpenDocuments) (queue : List ToServer) (m : ToServer) → WereOpenBy events held queue → WereOpenIn events (after_message (fold after_message held queue) m) → WereOpenBy events held (queue ++ m ∷ [])
   by_push events held [] m h last = (h, last)
   by_push events held (x ∷ queue) m h last = (h.0, by_push events (after_message held x) queue m h.1 last)
 
@@ -71,7 +73,7 @@ module _ (unit : Unit) where
   at_last events w run uri version text at = go (open_at w.editor uri) refl
     where
       mirror : document_at (will_have w) uri ≡ option_map as_open (open_at w.editor uri)
-      mirror = (in_every_interleaving unit events w run).mirror uri
+      mirror = server_mirrors unit events w run uri
 
       go : (o : Option Open) → open_at w.editor uri ≡ o → WasOpen unit events uri version text
       go None is = absurd (none-some (InStep version text) (sym (ap (option_map as_open) is) ∙ (sym mirror ∙ at)))
@@ -96,36 +98,42 @@ module _ (unit : Unit) where
 
   -- ---- the editor's events
 
-  moved_open : (events : List Event) (e : Event) (w : Ends) (move : Move) → WereOpen events w → Course (start unit) (events ++ e ∷ []) (after_move w move).after → WereOpen (events ++ e ∷ []) (after_move w move).after
-  moved_open events e w idle was run =
-      record { reached = run; held = by_more events (e ∷ []) w.held w.to_server was.held; made = made_more events (e ∷ []) w.made was.made }
-  moved_open events e w (sends editor m) was run =
+  -- an act sends one message at most
+  abbrev OneAtMost : List ToServer → Type 0
+  OneAtMost [] = ⊤
+  OneAtMost (m ∷ rest) = rest ≡ []
+
+  act_sends_one : (e : Editor) (act : Act) → OneAtMost (done_by e act).sent
+  act_sends_one e = of_each e (λ done. OneAtMost done.sent) (record {
+    still = tt;
+    opened = λ uri text none. refl;
+    changed = λ uri d how text at made. refl;
+    closed = λ uri d at. refl;
+    asked = λ uri ask d at. refl;
+    made = λ k edits a d text held numbered same makes. refl;
+    dropped = λ k. tt;
+  })
+
+  by_sent : (events : List Event) (held : OpenDocuments) (queue sent : List ToServer) → OneAtMost sent → WereOpenBy events held queue → WereOpenIn events (fold after_message held (queue ++ sent)) → WereOpenBy events held (queue ++ sent)
+  by_sent events held queue [] one were last = subst (WereOpenBy events held) (sym (append-nil queue)) were
+  by_sent events held queue (m ∷ rest) one were last =
+      let now : WereOpenIn events (after_message (fold after_message held queue) m) = subst (WereOpenIn events) (fold-append after_message held queue (m ∷ rest) ∙ ap (fold after_message (after_message (fold after_message held queue) m)) one) last in
+      subst (λ x. WereOpenBy events held (queue ++ m ∷ x)) (sym one) (by_push events held queue m were now)
+
+  act_open : (events : List Event) (e : Event) (w : Ends) (act : Act) → WereOpen events w → Course (start unit) (events ++ e ∷ []) (after_act w (done_by w.editor act)) → WereOpen (events ++ e ∷ []) (after_act w (done_by w.editor act))
+  act_open events e w act was run =
+      let new : Ends = after_act w (done_by w.editor act) in
       record {
         reached = run;
-        held = by_push (events ++ e ∷ []) w.held w.to_server m (by_more events (e ∷ []) w.held w.to_server was.held) (at_last (events ++ e ∷ []) (record w { editor = editor; to_server = w.to_server ++ m ∷ [] }) run);
+        held = by_sent (events ++ e ∷ []) w.held w.to_server (done_by w.editor act).sent (act_sends_one w.editor act) (by_more events (e ∷ []) w.held w.to_server was.held) (at_last (events ++ e ∷ []) new run);
         made = made_more events (e ∷ []) w.made was.made;
       }
 
-  takes_open : (events : List Event) (e : Event) (w : Ends) (queue : List ToEditor) → WereOpen events w → Course (start unit) (events ++ e ∷ []) (takes w queue).after → WereOpen (events ++ e ∷ []) (takes w queue).after
+  takes_open : (events : List Event) (e : Event) (w : Ends) (queue : List ToEditor) → WereOpen events w → Course (start unit) (events ++ e ∷ []) (after_taking w queue) → WereOpen (events ++ e ∷ []) (after_taking w queue)
   takes_open events e w [] was run =
       record { reached = run; held = by_more events (e ∷ []) w.held w.to_server was.held; made = made_more events (e ∷ []) w.made was.made }
-  takes_open events e w (publishes uri version empty ∷ rest) was run =
+  takes_open events e w (m ∷ rest) was run =
       record { reached = run; held = by_more events (e ∷ []) w.held w.to_server was.held; made = made_more events (e ∷ []) w.made was.made }
-  takes_open events e w (answers k edits ∷ rest) was run =
-      record { reached = run; held = by_more events (e ∷ []) w.held w.to_server was.held; made = made_more events (e ∷ []) w.made was.made }
-
-  comes_open : (events : List Event) (e : Event) (w : Ends) (k : ℕ) (outcome : ApplyOutcome) → WereOpen events w → Course (start unit) (events ++ e ∷ []) (comes_of w k outcome).after → WereOpen (events ++ e ∷ []) (comes_of w k outcome).after
-  comes_open events e w k not_held was run =
-      record { reached = run; held = by_more events (e ∷ []) w.held w.to_server was.held; made = made_more events (e ∷ []) w.made was.made }
-  comes_open events e w k (drops_answer editor) was run =
-      record { reached = run; held = by_more events (e ∷ []) w.held w.to_server was.held; made = made_more events (e ∷ []) w.made was.made }
-  comes_open events e w k (makes editor applied m) was run =
-      record {
-        reached = run;
-        held = by_push (events ++ e ∷ []) w.held w.to_server m (by_more events (e ∷ []) w.held w.to_server was.held)
-            (at_last (events ++ e ∷ []) (record w { editor = editor; to_server = w.to_server ++ m ∷ []; applied = w.applied ++ applied ∷ [] }) run);
-        made = made_more events (e ∷ []) w.made was.made;
-      }
 
   -- ---- the server's events
 
@@ -149,11 +157,11 @@ module _ (unit : Unit) where
   sent_open events held (notifies note) said made were h = note_open events held note said made were h
   sent_open events held (requests k uri ask) said made were (edits, answer, is_said, none) = subst (All (WasMadeFor unit events)) (sym none) (All-nil (WasMadeFor unit events))
 
-  serve_open : (events : List Event) (e : Event) (w : Ends) (queue : List ToServer) (seen : Seen) (new : Ends) → w.to_server ≡ queue → WereOpen events w → Course (start unit) (events ++ e ∷ []) new → ServerTakes w queue seen new → WereOpen (events ++ e ∷ []) new
-  serve_open events e w [] seen new is was run h =
-      let still : Course (start unit) (events ++ e ∷ []) w = subst (Course (start unit) (events ++ e ∷ [])) h.1 run in
-      subst (WereOpen (events ++ e ∷ [])) (sym h.1) (record { reached = still; held = by_more events (e ∷ []) w.held w.to_server was.held; made = made_more events (e ∷ []) w.made was.made })
-  serve_open events e w (m ∷ rest) seen new is was run (said, made, may, is_seen, is_new) =
+  serve_open : (events : List Event) (e : Event) (w : Ends) (queue : List ToServer) (new : Ends) → w.to_server ≡ queue → WereOpen events w → Course (start unit) (events ++ e ∷ []) new → ServerTakes w queue new → WereOpen (events ++ e ∷ []) new
+  serve_open events e w [] new is was run h =
+      let still : Course (start unit) (events ++ e ∷ []) w = subst (Course (start unit) (events ++ e ∷ [])) h run in
+      subst (WereOpen (events ++ e ∷ [])) (sym h) (record { reached = still; held = by_more events (e ∷ []) w.held w.to_server was.held; made = made_more events (e ∷ []) w.made was.made })
+  serve_open events e w (m ∷ rest) new is was run (said, made, may, is_new) =
       let waits : WereOpenBy (events ++ e ∷ []) (after_message w.held m) rest = by_more events (e ∷ []) (after_message w.held m) rest (subst (WereOpenBy events w.held) is was.held).1 in
       subst (WereOpen (events ++ e ∷ [])) (sym is_new)
       (record {
@@ -165,37 +173,20 @@ module _ (unit : Unit) where
 
   -- ---- every event
 
-  stepped : (events : List Event) (e : Event) (step : EventStep) (seen : Seen) (new : Ends) → (Course (start unit) (events ++ e ∷ []) step.after → WereOpen (events ++ e ∷ []) step.after) → Course (start unit) (events ++ e ∷ []) new → Is step seen new → WereOpen (events ++ e ∷ []) new
-  stepped events e step seen new so run is = subst (WereOpen (events ++ e ∷ [])) (sym is.1) (so (subst (Course (start unit) (events ++ e ∷ [])) is.1 run))
+  -- from what an event leaves to what is equal to it
+  left : (events : List Event) (e : Event) (after new : Ends) → (Course (start unit) (events ++ e ∷ []) after → WereOpen (events ++ e ∷ []) after) → Course (start unit) (events ++ e ∷ []) new → new ≡ after → WereOpen (events ++ e ∷ []) new
+  left events e after new so run is = subst (WereOpen (events ++ e ∷ [])) (sym is) (so (subst (Course (start unit) (events ++ e ∷ [])) is run))
 
-  event_open : (events : List Event) (w : Ends) (e : Event) (seen : Seen) (new : Ends) → WereOpen events w → Happens w e seen new → Course (start unit) (events ++ e ∷ []) new → WereOpen (events ++ e ∷ []) new
-  event_open events w (open_document uri text) seen new was h run =
-      let move : Move = opens_document w.editor uri text (open_at w.editor uri) in
-      stepped events (open_document uri text) (after_move w move) seen new (moved_open events (open_document uri text) w move was) run h
-  event_open events w (change_document uri how) seen new was h run =
-      let move : Move = changes_document w.editor uri how (open_at w.editor uri) in
-      stepped events (change_document uri how) (after_move w move) seen new (moved_open events (change_document uri how) w move was) run h
-  event_open events w (close_document uri) seen new was h run =
-      let move : Move = closes_document w.editor uri (open_at w.editor uri) in
-      stepped events (close_document uri) (after_move w move) seen new (moved_open events (close_document uri) w move was) run h
-  event_open events w (ask_about uri ask) seen new was h run =
-      let move : Move = asks_about w.editor uri ask (open_at w.editor uri) in
-      stepped events (ask_about uri ask) (after_move w move) seen new (moved_open events (ask_about uri ask) w move was) run h
-  event_open events w serve seen new was h run = serve_open events serve w w.to_server seen new refl was run h
-  event_open events w take_message seen new was h run =
-      stepped events take_message (takes w w.to_editor) seen new (takes_open events take_message w w.to_editor was) run h
-  event_open events w (apply k) seen new was h run =
-      let outcome : ApplyOutcome = applies_answer w.editor k (kept_answer k w.editor.answers) in
-      stepped events (apply k) (comes_of w k outcome) seen new (comes_open events (apply k) w k outcome was) run h
-  event_open events w (discard k) seen new was h run =
-      let outcome : ApplyOutcome = discards w.editor k (kept_answer k w.editor.answers) in
-      stepped events (discard k) (comes_of w k outcome) seen new (comes_open events (discard k) w k outcome was) run h
+  event_open : (events : List Event) (w : Ends) (e : Event) (new : Ends) → WereOpen events w → Happens w e new → Course (start unit) (events ++ e ∷ []) new → WereOpen (events ++ e ∷ []) new
+  event_open events w (does act) new was h run = left events (does act) (after_act w (done_by w.editor act)) new (act_open events (does act) w act was) run h
+  event_open events w serve new was h run = serve_open events serve w w.to_server new refl was run h
+  event_open events w take_message new was h run = left events take_message (after_taking w w.to_editor) new (takes_open events take_message w w.to_editor was) run h
 
   run_open : (more events : List Event) (w new : Ends) → WereOpen events w → Course w more new → WereOpen (events ++ more) new
   run_open [] events w new was is = subst (λ x. WereOpen (events ++ []) x) (sym is) (subst (λ es. WereOpen es w) (sym (append-nil events)) was)
-  run_open (e ∷ more) events w new was (seen, between, happens, run) =
+  run_open (e ∷ more) events w new was (between, happens, run) =
       subst (λ es. WereOpen es new) (append_assoc events (e ∷ []) more)
-      (run_open more (events ++ e ∷ []) between new (event_open events w e seen between was happens (course_push (start unit) events w e seen between was.reached happens)) run)
+      (run_open more (events ++ e ∷ []) between new (event_open events w e between was happens (course_push (start unit) events w e between was.reached happens)) run)
 
 pub made_for : (unit : Unit) (events : List Event) (w : Ends) → Course (start unit) events w → All (WasMadeFor unit events) w.made
 made_for unit events w run =

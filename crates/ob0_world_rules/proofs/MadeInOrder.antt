@@ -10,16 +10,17 @@ use Rattle.std.proofs.lemmas.List.{map-append}
 use Rattle.std.proofs.lemmas.List.Sums.{fold_push}
 use Rattle.ob0_text.specs.declared.position_types.Unit.{Unit}
 use Rattle.ob0_text.specs.OpenDocuments.{OpenDocuments, TextChange, Opened, Changed, Lost, Closed, after_event, document_at}
-use Rattle.ob0_world_rules.specs.Ends.{Open, EditorDocuments, SentAsk, Editor, request_numbered, open_at, ToServer, notifies, requests, ToEditor, publishes, answers, Made, Ends, start, after_message, as_open, Mirrors}
+use Rattle.ob0_world_rules.specs.Ends.{Open, EditorDocuments, SentAsk, Editor, request_numbered, open_at, ToServer, notifies, requests, ToEditor, publishes, answers, Made, Ends, start, after_message}
 use Rattle.ob0_world_rules.specs.Edited.{Replacement, edited, after_changes}
 use Rattle.ob0_world_rules.specs.Asks.{Ask}
-use Rattle.ob0_world_rules.specs.Editing.{Move, idle, sends, opens_document, rewritten, changes_text, changes_document, closes_document, asks_about, kept_answer, without_answer, ApplyOutcome, not_held, drops_answer, makes, discards, if_same, applies_text, applies_edits, applies_requested, applies_answer}
+use Rattle.ob0_world_rules.specs.Editing.{Act, Done, done_by}
 use Rattle.ob0_world_rules.specs.Serving.{Publishes, Replies}
-use Rattle.ob0_world_rules.specs.Events.{Event, open_document, change_document, close_document, ask_about, serve, take_message, apply, discard, Seen, EventStep, Is, after_move, takes, comes_of}
-use Rattle.ob0_world_rules.specs.Happens.{ServerTakes, Happens, Course}
-use Rattle.ob0_world_rules.specs.MadeInOrder.{Announced, announced_at, announced_by, announced_in_move, announced_in_outcome, announced_at_event, AreAnnounced, versions_announced, named_in, versioned_uri, AreMadeOf, AreMadeInOrder}
+use Rattle.ob0_world_rules.specs.Happens.{Event, does, serve, take_message, after_act, after_taking, ServerTakes, Happens, Course}
+use Rattle.ob0_world_rules.specs.Mirror.{as_open, Mirrors}
+use Rattle.ob0_world_rules.specs.MadeInOrder.{Announced, announced_at, announced_by, announced_in, announced_at_event, AreAnnounced, versions_announced, named_in, versioned_uri, AreMadeOf, AreMadeInOrder}
 use Rattle.ob0_world_rules.proofs.UriLaws.{get_put, uri_itself}
-use Rattle.ob0_world_rules.proofs.Interleavings.{in_every_interleaving}
+use Rattle.ob0_world_rules.proofs.Acts.{of_each}
+use Rattle.ob0_world_rules.proofs.Interleavings.{server_mirrors}
 use Rattle.ob0_world_rules.proofs.MadeFor.{course_push}
 use Rattle.ob0_world_rules.proofs.OneCourse.{one_course}
 
@@ -28,25 +29,24 @@ use Rattle.ob0_world_rules.proofs.OneCourse.{one_course}
 abbrev Announcing : Ends → List Event → List Announced → Ends → Type 0
 Announcing w [] announced end = (announced ≡ []) × (end ≡ w)
 Announcing w (event ∷ events) announced end =
-    (seen : Seen) × (between : Ends) × (later : List Announced) × Happens w event seen between × Announcing between events later end × (announced ≡ announced_at_event w event ++ later)
+    (between : Ends) × (later : List Announced) × Happens w event between × Announcing between events later end × (announced ≡ announced_at_event w event ++ later)
 
 are_announced : (events : List Event) (w : Ends) (announced : List Announced) (end : Ends) → Announcing w events announced end → AreAnnounced w events announced
 are_announced [] w announced end h = h.0
-are_announced (event ∷ events) w announced end (seen, between, later, happens, rest, is) = (seen, between, later, happens, are_announced events between later end rest, is)
+are_announced (event ∷ events) w announced end (between, later, happens, rest, is) = (between, later, happens, are_announced events between later end rest, is)
 
 -- one event more at the end
-announcing_push : (events : List Event) (w : Ends) (announced : List Announced) (between : Ends) (e : Event) (seen : Seen) (new : Ends) → Announcing w events announced between → Happens between e seen new
+announcing_push : (events : List Event) (w : Ends) (announced : List Announced) (between : Ends) (e : Event) (new : Ends) → Announcing w events announced between → Happens between e new
     → Announcing w (events ++ e ∷ []) (announced ++ announced_at_event between e) new
-announcing_push [] w announced between e seen new h happens =
-    let from_w : Happens w e seen new = subst (λ x. Happens x e seen new) h.1 happens in
+announcing_push [] w announced between e new h happens =
+    let from_w : Happens w e new = subst (λ x. Happens x e new) h.1 happens in
     let is : announced ++ announced_at_event between e ≡ announced_at_event w e ++ [] = ap (λ ts. ts ++ announced_at_event between e) h.0 ∙ ap (λ x. announced_at_event x e) h.1 ∙ sym (append-nil (announced_at_event w e)) in
-    (seen, new, [], from_w, (refl, refl), is)
-announcing_push (x ∷ events) w announced between e seen new (s, mid, later, first, rest, is) happens = (
-  s,
+    (new, [], from_w, (refl, refl), is)
+announcing_push (x ∷ events) w announced between e new (mid, later, first, rest, is) happens = (
   mid,
   later ++ announced_at_event between e,
   first,
-  announcing_push events mid later between e seen new rest happens,
+  announcing_push events mid later between e new rest happens,
   ap (λ ts. ts ++ announced_at_event between e) is ∙ append_assoc (announced_at_event w x) later (announced_at_event between e),
 )
 
@@ -55,58 +55,25 @@ announcing_push (x ∷ events) w announced between e seen new (s, mid, later, fi
 abbrev Names : Editor → ToServer → Type 0
 Names e m = map versioned_uri (announced_by e m) ≡ versions_announced m
 
-abbrev MoveNames : Move → Type 0
-MoveNames idle = ⊤
-MoveNames (sends e m) = Names e m
-
-abbrev OutcomeNames : ApplyOutcome → Type 0
-OutcomeNames not_held = ⊤
-OutcomeNames (drops_answer e) = ⊤
-OutcomeNames (makes e applied m) = Names e m
+-- one message at most is sent, and names it
+abbrev SentNames : Editor → List ToServer → Type 0
+SentNames e [] = ⊤
+SentNames e (m ∷ rest) = Names e m × (rest ≡ [])
 
 put_named : (docs : EditorDocuments) (uri : List ℕ) (d : Open) → map versioned_uri (announced_at uri (map_of.get (map_of.insert docs uri d) uri)) ≡ (uri, pos d.version) ∷ []
 put_named docs uri d =
     ap (λ o. map versioned_uri (announced_at uri o)) (get_put docs uri d uri ∙ ap (λ b. cond b (Some d) (map_of.get docs uri)) (uri_itself uri))
 
-opens_names : (e : Editor) (uri text : List ℕ) (o : Option Open) → MoveNames (opens_document e uri text o)
-opens_names e uri text (Some d) = tt
-opens_names e uri text None = put_named e.documents uri (record { version = 1; text = text; opening = e.openings + 1 })
-
-text_names : (e : Editor) (uri : List ℕ) (d : Open) (how : List TextChange) (o : Option (List ℕ)) → MoveNames (changes_text e uri d how o)
-text_names e uri d how None = tt
-text_names e uri d how (Some text) = put_named e.documents uri (rewritten d text)
-
-changes_names : (e : Editor) (uri : List ℕ) (how : List TextChange) (o : Option Open) → MoveNames (changes_document e uri how o)
-changes_names e uri how None = tt
-changes_names e uri how (Some d) = text_names e uri d how (after_changes e.unit (Some d.text) how)
-
-closes_names : (e : Editor) (uri : List ℕ) (o : Option Open) → MoveNames (closes_document e uri o)
-closes_names e uri None = tt
-closes_names e uri (Some d) = refl
-
-asks_names : (e : Editor) (uri : List ℕ) (ask : Ask) (o : Option Open) → MoveNames (asks_about e uri ask o)
-asks_names e uri ask None = tt
-asks_names e uri ask (Some d) = refl
-
-applied_names : (e : Editor) (uri : List ℕ) (d : Open) (o : Option (List ℕ)) → OutcomeNames (applies_text e uri d o)
-applied_names e uri d None = tt
-applied_names e uri d (Some text) = put_named e.documents uri (rewritten d text)
-
-edits_names : (e : Editor) (edits : List Replacement) (uri : List ℕ) (o : Option Open) → OutcomeNames (applies_edits e edits uri o)
-edits_names e edits uri None = tt
-edits_names e edits uri (Some d) = applied_names e uri d (edited e.unit d.text edits)
-
-requested_names : (e : Editor) (edits : List Replacement) (o : Option SentAsk) → OutcomeNames (applies_requested e edits o)
-requested_names e edits None = tt
-requested_names e edits (Some requested) = edits_names e edits requested.uri (if_same requested (open_at e requested.uri))
-
-applies_names : (e : Editor) (k : ℕ) (o : Option (List Replacement)) → OutcomeNames (applies_answer e k o)
-applies_names e k None = tt
-applies_names e k (Some edits) = requested_names (without_answer e k) edits (request_numbered e.requested k)
-
-discards_names : (e : Editor) (k : ℕ) (o : Option (List Replacement)) → OutcomeNames (discards e k o)
-discards_names e k None = tt
-discards_names e k (Some edits) = tt
+act_names : (e : Editor) (act : Act) → SentNames (done_by e act).editor (done_by e act).sent
+act_names e = of_each e (λ done. SentNames done.editor done.sent) (record {
+  still = tt;
+  opened = λ uri text none. (put_named e.documents uri (record { version = 1; text = text; opening = e.openings + 1 }), refl);
+  changed = λ uri d how text at made. (put_named e.documents uri (record d { version = d.version + 1; text = text }), refl);
+  closed = λ uri d at. (refl, refl);
+  asked = λ uri ask d at. (refl, refl);
+  made = λ k edits a d text held numbered same makes. (put_named e.documents a.uri (record d { version = d.version + 1; text = text }), refl);
+  dropped = λ k. tt;
+})
 
 -- ---- what waits for the server
 
@@ -145,6 +112,16 @@ pending_sent : (held : OpenDocuments) (queue : List ToServer) (e : Editor) (m : 
 pending_sent held queue e m waiting pending names mirror =
     pending_push held queue m waiting (announced_by e m) pending
     (sent_awaits (fold after_message held queue) e m (λ uri. sym (ap (λ h. document_at h uri) (fold_push after_message held queue m)) ∙ mirror uri), names)
+
+pending_act : (held : OpenDocuments) (queue sent : List ToServer) (e : Editor) (waiting : List Announced) → Pending held queue waiting → SentNames e sent
+    → ((uri : List ℕ) → document_at (fold after_message held (queue ++ sent)) uri ≡ option_map as_open (open_at e uri)) → Pending held (queue ++ sent) (waiting ++ announced_in e sent)
+pending_act held queue [] e waiting pending names mirror =
+    subst (λ q. Pending held q (waiting ++ [])) (sym (append-nil queue)) (subst (Pending held queue) (sym (append-nil waiting)) pending)
+pending_act held queue (m ∷ rest) e waiting pending (names, alone) mirror =
+    let sees : (uri : List ℕ) → document_at (fold after_message held (queue ++ m ∷ [])) uri ≡ option_map as_open (open_at e uri) =
+    subst (λ r. (uri : List ℕ) → document_at (fold after_message held (queue ++ m ∷ r)) uri ≡ option_map as_open (open_at e uri)) alone mirror in
+    subst (λ r. Pending held (queue ++ m ∷ r) (waiting ++ announced_in e (m ∷ r))) (sym alone)
+    (subst (λ ts. Pending held (queue ++ m ∷ []) (waiting ++ ts)) (sym (append-nil (announced_by e m))) (pending_sent held queue e m waiting pending names sees))
 
 pending_named : (held : OpenDocuments) (queue : List ToServer) (waiting : List Announced) → Pending held queue waiting → map versioned_uri waiting ≡ named_in queue
 pending_named held [] waiting is = ap (map versioned_uri) is
@@ -191,38 +168,25 @@ module _ (announced waiting : List Announced) where
   stays : (w : Ends) → AreMadeOf w.made announced → Pending w.held w.to_server waiting → Next announced waiting [] w
   stays w made_of pending = record { done = announced; awaits = waiting; parts = append-nil (announced ++ waiting); made_of = made_of; pending = pending }
 
-  move_next : (w : Ends) (move : Move) → MoveNames move → AreMadeOf w.made announced → Pending w.held w.to_server waiting → Mirrors (after_move w move).after → Next announced waiting (announced_in_move move) (after_move w move).after
-  move_next w idle names made_of pending mirror = stays w made_of pending
-  move_next w (sends e m) names made_of pending mirror =
+  act_next : (w : Ends) (act : Act) → AreMadeOf w.made announced → Pending w.held w.to_server waiting → Mirrors (after_act w (done_by w.editor act)) → Next announced waiting (announced_at_event w (does act)) (after_act w (done_by w.editor act))
+  act_next w act made_of pending mirror =
+      let done : Done = done_by w.editor act in
       record {
         done = announced;
-        awaits = waiting ++ announced_by e m;
-        parts = append_assoc announced waiting (announced_by e m);
+        awaits = waiting ++ announced_in done.editor done.sent;
+        parts = append_assoc announced waiting (announced_in done.editor done.sent);
         made_of = made_of;
-        pending = pending_sent w.held w.to_server e m waiting pending names mirror;
+        pending = pending_act w.held w.to_server done.sent done.editor waiting pending (act_names w.editor act) mirror;
       }
 
-  comes_next : (w : Ends) (k : ℕ) (outcome : ApplyOutcome) → OutcomeNames outcome → AreMadeOf w.made announced → Pending w.held w.to_server waiting → Mirrors (comes_of w k outcome).after → Next announced waiting (announced_in_outcome outcome) (comes_of w k outcome).after
-  comes_next w k not_held names made_of pending mirror = stays w made_of pending
-  comes_next w k (drops_answer e) names made_of pending mirror = stays (record w { editor = e }) made_of pending
-  comes_next w k (makes e applied m) names made_of pending mirror =
-      record {
-        done = announced;
-        awaits = waiting ++ announced_by e m;
-        parts = append_assoc announced waiting (announced_by e m);
-        made_of = made_of;
-        pending = pending_sent w.held w.to_server e m waiting pending names mirror;
-      }
-
-  takes_next : (w : Ends) (queue : List ToEditor) → AreMadeOf w.made announced → Pending w.held w.to_server waiting → Next announced waiting [] (takes w queue).after
+  takes_next : (w : Ends) (queue : List ToEditor) → AreMadeOf w.made announced → Pending w.held w.to_server waiting → Next announced waiting [] (after_taking w queue)
   takes_next w [] made_of pending = stays w made_of pending
-  takes_next w (publishes uri version empty ∷ rest) made_of pending = stays (takes w (publishes uri version empty ∷ rest)).after made_of pending
-  takes_next w (answers k edits ∷ rest) made_of pending = stays (takes w (answers k edits ∷ rest)).after made_of pending
+  takes_next w (m ∷ rest) made_of pending = stays (after_taking w (m ∷ rest)) made_of pending
 
-  serve_next : (w : Ends) (queue : List ToServer) (seen : Seen) (new : Ends) → AreMadeOf w.made announced → Pending w.held queue waiting → w.to_server ≡ queue → ServerTakes w queue seen new → Next announced waiting [] new
-  serve_next w [] seen new made_of pending is h =
-      subst (Next announced waiting []) (sym h.1) (stays w made_of (subst (λ q. Pending w.held q waiting) (sym is) pending))
-  serve_next w (m ∷ rest) seen new made_of (now, later, parts, awaits, following) is (said, made, may, is_seen, is_new) =
+  serve_next : (w : Ends) (queue : List ToServer) (new : Ends) → AreMadeOf w.made announced → Pending w.held queue waiting → w.to_server ≡ queue → ServerTakes w queue new → Next announced waiting [] new
+  serve_next w [] new made_of pending is h =
+      subst (Next announced waiting []) (sym h) (stays w made_of (subst (λ q. Pending w.held q waiting) (sym is) pending))
+  serve_next w (m ∷ rest) new made_of (now, later, parts, awaits, following) is (said, made, may, is_new) =
       subst (Next announced waiting []) (sym is_new)
       (record {
         done = announced ++ now;
@@ -232,31 +196,11 @@ module _ (announced waiting : List Announced) where
         pending = following;
       })
 
-  stepped : (now : List Announced) (step : EventStep) (seen : Seen) (new : Ends) → (Mirrors step.after → Next announced waiting now step.after) → Mirrors new → Is step seen new → Next announced waiting now new
-  stepped now step seen new so mirror is = subst (Next announced waiting now) (sym is.1) (so (subst Mirrors is.1 mirror))
-
-  event_next : (w : Ends) (e : Event) (seen : Seen) (new : Ends) → AreMadeOf w.made announced → Pending w.held w.to_server waiting → Mirrors new → Happens w e seen new → Next announced waiting (announced_at_event w e) new
-  event_next w (open_document uri text) seen new made_of pending mirror h =
-      let move : Move = opens_document w.editor uri text (open_at w.editor uri) in
-      stepped (announced_in_move move) (after_move w move) seen new (move_next w move (opens_names w.editor uri text (open_at w.editor uri)) made_of pending) mirror h
-  event_next w (change_document uri how) seen new made_of pending mirror h =
-      let move : Move = changes_document w.editor uri how (open_at w.editor uri) in
-      stepped (announced_in_move move) (after_move w move) seen new (move_next w move (changes_names w.editor uri how (open_at w.editor uri)) made_of pending) mirror h
-  event_next w (close_document uri) seen new made_of pending mirror h =
-      let move : Move = closes_document w.editor uri (open_at w.editor uri) in
-      stepped (announced_in_move move) (after_move w move) seen new (move_next w move (closes_names w.editor uri (open_at w.editor uri)) made_of pending) mirror h
-  event_next w (ask_about uri ask) seen new made_of pending mirror h =
-      let move : Move = asks_about w.editor uri ask (open_at w.editor uri) in
-      stepped (announced_in_move move) (after_move w move) seen new (move_next w move (asks_names w.editor uri ask (open_at w.editor uri)) made_of pending) mirror h
-  event_next w serve seen new made_of pending mirror h = serve_next w w.to_server seen new made_of pending refl h
-  event_next w take_message seen new made_of pending mirror h =
-      stepped [] (takes w w.to_editor) seen new (λ _. takes_next w w.to_editor made_of pending) mirror h
-  event_next w (apply k) seen new made_of pending mirror h =
-      let outcome : ApplyOutcome = applies_answer w.editor k (kept_answer k w.editor.answers) in
-      stepped (announced_in_outcome outcome) (comes_of w k outcome) seen new (comes_next w k outcome (applies_names w.editor k (kept_answer k w.editor.answers)) made_of pending) mirror h
-  event_next w (discard k) seen new made_of pending mirror h =
-      let outcome : ApplyOutcome = discards w.editor k (kept_answer k w.editor.answers) in
-      stepped (announced_in_outcome outcome) (comes_of w k outcome) seen new (comes_next w k outcome (discards_names w.editor k (kept_answer k w.editor.answers)) made_of pending) mirror h
+  event_next : (w : Ends) (e : Event) (new : Ends) → AreMadeOf w.made announced → Pending w.held w.to_server waiting → Mirrors new → Happens w e new → Next announced waiting (announced_at_event w e) new
+  event_next w (does act) new made_of pending mirror h =
+      subst (Next announced waiting (announced_at_event w (does act))) (sym h) (act_next w act made_of pending (subst Mirrors h mirror))
+  event_next w serve new made_of pending mirror h = serve_next w w.to_server new made_of pending refl h
+  event_next w take_message new made_of pending mirror h = subst (Next announced waiting []) (sym h) (takes_next w w.to_editor made_of pending)
 
 -- ---- every run
 
@@ -268,24 +212,24 @@ record InOrder (unit : Unit) (events : List Event) (w : Ends) : Type 0 where
   pub made_of : AreMadeOf w.made announced
   pub pending : Pending w.held w.to_server waiting
 
-event_in_order : (unit : Unit) (events : List Event) (w : Ends) (e : Event) (seen : Seen) (new : Ends) → InOrder unit events w → Happens w e seen new → InOrder unit (events ++ e ∷ []) new
-event_in_order unit events w e seen new was happens =
-    let reached : Course (start unit) (events ++ e ∷ []) new = course_push (start unit) events w e seen new was.reached happens in
-    let next : Next was.announced was.waiting (announced_at_event w e) new = event_next was.announced was.waiting w e seen new was.made_of was.pending (in_every_interleaving unit (events ++ e ∷ []) new reached).mirror happens in
+event_in_order : (unit : Unit) (events : List Event) (w : Ends) (e : Event) (new : Ends) → InOrder unit events w → Happens w e new → InOrder unit (events ++ e ∷ []) new
+event_in_order unit events w e new was happens =
+    let reached : Course (start unit) (events ++ e ∷ []) new = course_push (start unit) events w e new was.reached happens in
+    let next : Next was.announced was.waiting (announced_at_event w e) new = event_next was.announced was.waiting w e new was.made_of was.pending (server_mirrors unit (events ++ e ∷ []) new reached) happens in
     record {
       reached = reached;
       announced = next.done;
       waiting = next.awaits;
-      announcing = subst (λ ts. Announcing (start unit) (events ++ e ∷ []) ts new) next.parts (announcing_push events (start unit) (was.announced ++ was.waiting) w e seen new was.announcing happens);
+      announcing = subst (λ ts. Announcing (start unit) (events ++ e ∷ []) ts new) next.parts (announcing_push events (start unit) (was.announced ++ was.waiting) w e new was.announcing happens);
       made_of = next.made_of;
       pending = next.pending;
     }
 
 run_in_order : (unit : Unit) (more events : List Event) (w new : Ends) → InOrder unit events w → Course w more new → InOrder unit (events ++ more) new
 run_in_order unit [] events w new was is = subst (λ x. InOrder unit (events ++ []) x) (sym is) (subst (λ es. InOrder unit es w) (sym (append-nil events)) was)
-run_in_order unit (e ∷ more) events w new was (seen, between, happens, run) =
+run_in_order unit (e ∷ more) events w new was (between, happens, run) =
     subst (λ es. InOrder unit es new) (append_assoc events (e ∷ []) more)
-    (run_in_order unit more (events ++ e ∷ []) between new (event_in_order unit events w e seen between was happens) run)
+    (run_in_order unit more (events ++ e ∷ []) between new (event_in_order unit events w e between was happens) run)
 
 pub made_in_order : (unit : Unit) (events : List Event) (w : Ends) → Course (start unit) events w → AreMadeInOrder unit events w.made
 made_in_order unit events w run =

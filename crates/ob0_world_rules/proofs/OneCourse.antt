@@ -9,8 +9,7 @@ use Rattle.ob0_world_rules.specs.Asks.{Ask}
 use Rattle.ob0_world_rules.specs.Answers.{IsAnswer}
 use Rattle.ob0_world_rules.specs.Ends.{ToServer, notifies, requests, ToEditor, publishes, answers, Made, Ends, after_message}
 use Rattle.ob0_world_rules.specs.Serving.{Publishes, RepliesToNotification, Replies}
-use Rattle.ob0_world_rules.specs.Events.{Event, open_document, change_document, close_document, ask_about, serve, take_message, apply, discard, Seen, served, EventStep, Is}
-use Rattle.ob0_world_rules.specs.Happens.{ServerTakes, Happens, Course}
+use Rattle.ob0_world_rules.specs.Happens.{Event, does, serve, take_message, ServerTakes, Happens, Course}
 use Rattle.ob0_world_rules.proofs.OneAnswer.{answers_are_one}
 
 same_truth : (a b : Bool) (P : Type 0) → IsTrue a ↔ P → IsTrue b ↔ P → a ≡ b
@@ -46,29 +45,19 @@ sends_one held (requests number uri ask) said also made more (given, h, is_said,
     let same : given ≡ other = answers_one held.unit (document_at held uri) ask given other h k in
     (is_said ∙ ap (λ edits. answers number edits ∷ []) same ∙ sym is_also, is_made ∙ sym is_more)
 
-serves_one : (w : Ends) (queue : List ToServer) (seen shown : Seen) (new other : Ends) → ServerTakes w queue seen new → ServerTakes w queue shown other → (seen ≡ shown) × (new ≡ other)
-serves_one w [] seen shown new other h k = (h.0 ∙ sym k.0, h.1 ∙ sym k.1)
-serves_one w (m ∷ rest) seen shown new other (said, made, replies, is_seen, is) (also, more, replies_too, is_shown, is_too) =
-    let both : (said ≡ also) × (made ≡ more) = sends_one w.held m said also made more replies replies_too in (
-      is_seen ∙ ap (λ x. served (length x)) both.0 ∙ sym is_shown,
-      is ∙ (λ i. record w { to_server = rest; held = after_message w.held m; to_editor = w.to_editor ++ both.0 i; made = w.made ++ both.1 i }) ∙ sym is_too,
-    )
+serves_one : (w : Ends) (queue : List ToServer) (new other : Ends) → ServerTakes w queue new → ServerTakes w queue other → new ≡ other
+serves_one w [] new other h k = h ∙ sym k
+serves_one w (m ∷ rest) new other (said, made, replies, is) (also, more, replies_too, is_too) =
+    let both : (said ≡ also) × (made ≡ more) = sends_one w.held m said also made more replies replies_too in
+    is ∙ (λ i. record w { to_server = rest; held = after_message w.held m; to_editor = w.to_editor ++ both.0 i; made = w.made ++ both.1 i }) ∙ sym is_too
 
-one_of : (step : EventStep) (seen shown : Seen) (new other : Ends) → Is step seen new → Is step shown other → (seen ≡ shown) × (new ≡ other)
-one_of step seen shown new other h k = (h.0 ∙ sym k.0, h.1 ∙ sym k.1)
-
-pub one_step : (w : Ends) (event : Event) (seen shown : Seen) (new other : Ends) → Happens w event seen new → Happens w event shown other → (seen ≡ shown) × (new ≡ other)
-one_step w (open_document uri text) seen shown new other h k = one_of _ seen shown new other h k
-one_step w (change_document uri how) seen shown new other h k = one_of _ seen shown new other h k
-one_step w (close_document uri) seen shown new other h k = one_of _ seen shown new other h k
-one_step w (ask_about uri ask) seen shown new other h k = one_of _ seen shown new other h k
-one_step w serve seen shown new other h k = serves_one w w.to_server seen shown new other h k
-one_step w take_message seen shown new other h k = one_of _ seen shown new other h k
-one_step w (apply n) seen shown new other h k = one_of _ seen shown new other h k
-one_step w (discard n) seen shown new other h k = one_of _ seen shown new other h k
+pub one_step : (w : Ends) (event : Event) (new other : Ends) → Happens w event new → Happens w event other → new ≡ other
+one_step w (does act) new other h k = h ∙ sym k
+one_step w serve new other h k = serves_one w w.to_server new other h k
+one_step w take_message new other h k = h ∙ sym k
 
 pub one_course : (w : Ends) (events : List Event) (end other : Ends) → Course w events end → Course w events other → end ≡ other
 one_course w [] end other h k = h ∙ sym k
-one_course w (event ∷ events) end other (seen, between, happens, course) (shown, middle, happens_too, course_too) =
-    let same : between ≡ middle = (one_step w event seen shown between middle happens happens_too).1 in
+one_course w (event ∷ events) end other (between, happens, course) (middle, happens_too, course_too) =
+    let same : between ≡ middle = one_step w event between middle happens happens_too in
     one_course middle events end other (subst (λ x. Course x events end) same course) course_too

@@ -1,7 +1,7 @@
 -- The hard step: a document that is the same opening with the same version as at its request has the text
 -- that it had then. No event makes such a document of another one, since opening numbers are fresh and versions rise.
 use Rattle.std.proofs.Common.{◌≡◌, ◌∙◌, ℕ, zero, suc, ◌+◌, ◌≤◌, Bool, true, false, cond, List, [], ◌∷◌, ◌++◌, length, refl, sym, ap, arith, ◌&&◌}
-use Rattle.std.specs.Prelude.{Option, Some, None, slice_get, ◌==◌}
+use Rattle.std.specs.Prelude.{Option, Some, None, option_and_then, slice_get, ◌==◌}
 use Rattle.std.specs.Str.{bytes_eq}
 use Rattle.std.specs.FinMap as map_of
 use Rattle.std.proofs.lemmas.Bool.{eqb-true, and_parts}
@@ -21,10 +21,10 @@ pub record Same (e : Editor) (a : SentAsk) (d : Open) : Type 0 where
   pub opening : d.opening ≡ a.opening
   pub version : d.version ≡ a.version
 
-pub same_from : (e : Editor) (a : SentAsk) (d : Open) → if_same a (open_at e a.uri) ≡ Some d → Same e a d
+pub same_from : (e : Editor) (a : SentAsk) (d : Open) → option_and_then (if_same a) (open_at e a.uri) ≡ Some d → Same e a d
 same_from e a d h = go (open_at e a.uri) refl h
   where
-    go : (o : Option Open) → open_at e a.uri ≡ o → if_same a o ≡ Some d → Same e a d
+    go : (o : Option Open) → open_at e a.uri ≡ o → option_and_then (if_same a) o ≡ Some d → Same e a d
     go None is h = absurd (none-some d h)
     go (Some x) is h =
         let both : (x.opening == a.opening && x.version == a.version ≡ true) × (x ≡ d) = cond_some _ x d h in

@@ -11,6 +11,7 @@ use Rattle.ob0_edits.specs.Diagnosed.{IsTextOf}
 use Rattle.ob0_edits.specs.RunsKept.{RunsAsBefore}
 use Rattle.ob0_edits.specs.Texts.{utf8}
 use Rattle.ob0_world_rules.specs.Language.{SameRun}
+use Rattle.ob0_world_rules.proofs.ModuleTexts.{text_of_module}
 
 pub one_tree : (s : Scanned) (a b : Tree Name module_text) → ModuleOf s a → ModuleOf s b → a ≡ b
 one_tree s a b p q = (same a b [] [] tt tt (append-nil (spell a) ∙ (sym p.spelled ∙ (q.spelled ∙ sym (append-nil (spell b)))))).0
@@ -22,5 +23,5 @@ same_tree text a b p q =
 
 pub same_run : (text after : List ℕ) → RunsAsBefore (utf8 text) (utf8 after) → SameRun text after
 same_run text after runs s t is also =
-    subst (λ x. SameRuns x t) (same_tree (utf8 text) runs.old.tree s runs.old.text_of is)
-    (subst (λ x. SameRuns runs.old.tree x) (same_tree (utf8 after) runs.new.tree t runs.new.text_of also) (λ input c n. sym (runs.same input c n)))
+    subst (λ x. SameRuns x t) (same_tree (utf8 text) runs.old.tree s runs.old.text_of (text_of_module s (utf8 text) is))
+    (subst (λ x. SameRuns runs.old.tree x) (same_tree (utf8 after) runs.new.tree t runs.new.text_of (text_of_module t (utf8 after) also)) (λ input c n. sym (runs.same input c n)))

@@ -1,75 +1,73 @@
--- What the editor does at each event, and what it sends.
+-- What the editor does, and what it sends.
 -- Rule: LSP 3.17, versioned documents: a model of a client.
-use Rattle.std.specs.Prelude.{ℕ, suc, ◌+◌, pos, List, [], ◌∷◌, ◌++◌, Bool, true, false, ◌&&◌, ◌==◌, length, Option, Some, None, if◌then◌else◌}
+use Rattle.std.specs.Prelude.{ℕ, suc, ◌+◌, pos, List, [], ◌∷◌, ◌++◌, ◌&&◌, ◌==◌, length, Option, Some, None, is_some, unwrap_or, if◌then◌else◌}
 use Rattle.std.specs.FinMap as map_of
 use Rattle.ob0_text.specs.OpenDocuments.{TextChange, Opened, Changed, Closed}
+use Rattle.ob0_language_types.specs.Typing.{◌>>=◌}
 use Rattle.ob0_world_rules.specs.Edited.{Replacement, edited, whole_text, after_changes}
 use Rattle.ob0_world_rules.specs.Asks.{Ask}
-use Rattle.ob0_world_rules.specs.Ends.{Open, SentAsk, Answer, Editor, request_numbered, open_at, ToServer, notifies, requests, Applied}
+use Rattle.ob0_world_rules.specs.Ends.{Open, SentAsk, Answer, Editor, request_numbered, open_at, ToServer, notifies, requests, ToEditor, publishes, answers, Applied}
 
--- nothing, or the editor becomes this one and sends this message
-pub data Move : Type 0 where
-  idle : Move
-  sends : Editor → ToServer → Move
+-- what the editor may do
+pub data Act : Type 0 where
+  -- the uri and the text
+  open_document : List ℕ → List ℕ → Act
+  change_document : List ℕ → List TextChange → Act
+  close_document : List ℕ → Act
+  ask_about : List ℕ → Ask → Act
+  -- it applies an answer that it has, or drops it
+  apply : ℕ → Act
+  discard : ℕ → Act
 
--- ---- documents
+-- what an act leaves: the editor, the messages that it sends, and the edits that it applies
+pub record Done : Type 0 where
+  pub editor : Editor
+  pub sent : List ToServer
+  pub applied : List Applied
 
--- a document that is open isn't opened; else it gets version 1 and an opening number of its own
-abbrev pub opens_document : Editor → List ℕ → List ℕ → Option Open → Move
-opens_document e uri text (Some d) = idle
-opens_document e uri text None =
+-- nothing is sent or applied
+abbrev pub stays : Editor → Done
+stays e = record { editor = e; sent = []; applied = [] }
+
+-- a document is opened, with version 1 and an opening number of its own
+abbrev pub opens : Editor → List ℕ → List ℕ → Done
+opens e uri text =
     let d : Open = record { version = 1; text = text; opening = e.openings + 1 } in
-    sends (record e { documents = map_of.insert e.documents uri d; openings = e.openings + 1 })
-    (notifies (Opened uri (pos 1) text))
+    record {
+      editor = record e { documents = map_of.insert e.documents uri d; openings = e.openings + 1 };
+      sent = notifies (Opened uri (pos 1) text) ∷ [];
+      applied = [];
+    }
 
--- an open document gets a new text, and its version rises by one
-abbrev pub rewritten : Open → List ℕ → Open
-rewritten d text = record { version = d.version + 1; text = text; opening = d.opening }
-
--- the editor with a document's new text, one version later
-abbrev pub rewrites : Editor → List ℕ → Open → List ℕ → Editor
-rewrites e uri d text = record e { documents = map_of.insert e.documents uri (rewritten d text) }
-
--- the change that makes this text is sent (one change alone overlaps no other,
--- so there is always a text)
-abbrev pub changes_text : Editor → List ℕ → Open → List TextChange → Option (List ℕ) → Move
-changes_text e uri d how (Some text) =
-    sends (rewrites e uri d text) (notifies (Changed uri (pos (d.version + 1)) how))
-changes_text e uri d how None = idle
-
--- an open document is changed
-abbrev pub changes_document : Editor → List ℕ → List TextChange → Option Open → Move
-changes_document e uri how (Some d) =
-    changes_text e uri d how (after_changes e.unit (Some d.text) how)
-changes_document e uri how None = idle
+-- an open document gets this text, one version later, and the server is sent how
+abbrev pub rewrites : Editor → List ℕ → Open → List ℕ → List TextChange → List Applied → Done
+rewrites e uri d text how applied =
+    let new : Open = record d { version = d.version + 1; text = text } in
+    record {
+      editor = record e { documents = map_of.insert e.documents uri new };
+      sent = notifies (Changed uri (pos new.version) how) ∷ [];
+      applied = applied;
+    }
 
 -- an open document is closed
-abbrev pub closes_document : Editor → List ℕ → Option Open → Move
-closes_document e uri (Some d) =
-    sends (record e { documents = map_of.remove e.documents uri }) (notifies (Closed uri))
-closes_document e uri None = idle
+abbrev pub closes : Editor → List ℕ → Done
+closes e uri =
+    record {
+      editor = record e { documents = map_of.remove e.documents uri };
+      sent = notifies (Closed uri) ∷ [];
+      applied = [];
+    }
 
--- ---- asks and answers
-
--- a request about an open document is sent, with the next number
-abbrev pub asks_about : Editor → List ℕ → Ask → Option Open → Move
-asks_about e uri ask (Some d) =
-    let requested : SentAsk
+-- something is requested of an open document, with the next number
+abbrev pub asks : Editor → List ℕ → Ask → Open → Done
+asks e uri ask d =
+    let a : SentAsk
     = record { ask = ask; uri = uri; opening = d.opening; version = d.version } in
-    sends (record e { requested = e.requested ++ requested ∷ [] })
-    (requests (suc (length e.requested)) uri ask)
-asks_about e uri ask None = idle
-
--- there is an edit
-abbrev pub has_edits : List Replacement → Bool
-has_edits [] = false
-has_edits (e ∷ es) = true
-
--- an answer is kept only with edits
-abbrev pub keeps : Editor → ℕ → List Replacement → Editor
-keeps e number [] = e
-keeps e number (edit ∷ edits) =
-    record e { answers = e.answers ++ record { number = number; edits = edit ∷ edits } ∷ [] }
+    record {
+      editor = record e { requested = e.requested ++ a ∷ [] };
+      sent = requests (suc (length e.requested)) uri ask ∷ [];
+      applied = [];
+    }
 
 -- the edits of the answer with this number
 abbrev pub kept_answer : ℕ → List Answer → Option (List Replacement)
@@ -85,48 +83,42 @@ all_but k (a ∷ rest) = if a.number == k then rest else a ∷ all_but k rest
 abbrev pub without_answer : Editor → ℕ → Editor
 without_answer e k = record e { answers = all_but k e.answers }
 
--- ---- applying
+-- the document that was asked about, where it is the same opening with the same version
+abbrev pub if_same : SentAsk → Open → Option Open
+if_same a d = if d.opening == a.opening && d.version == a.version then Some d else None
 
--- what becomes of an answer that is to be applied or dropped
-pub data ApplyOutcome : Type 0 where
-  not_held : ApplyOutcome
-  -- the editor drops it
-  drops_answer : Editor → ApplyOutcome
-  -- the editor makes the edits, and sends the whole text
-  makes : Editor → Applied → ToServer → ApplyOutcome
+-- edits that answer request k are made of its document, where that is still the same and no two of
+-- them share a character
+abbrev pub applies : Editor → ℕ → List Replacement → Option Done
+applies e k edits = do
+  a ← request_numbered e.requested k
+  d ← open_at e a.uri >>= if_same a
+  text ← edited e.unit d.text edits
+  let made : Applied = record { uri = a.uri; before = d.text; after = text }
+  Some (rewrites e a.uri d text (whole_text text ∷ []) (made ∷ []))
 
--- an answer is dropped
-abbrev pub discards : Editor → ℕ → Option (List Replacement) → ApplyOutcome
-discards e k (Some edits) = drops_answer (without_answer e k)
-discards e k None = not_held
+-- What an act leaves. A document that is open isn't opened, and one that isn't is neither changed,
+-- closed nor asked about; an answer is dropped, applied or not.
+abbrev pub done_by : Editor → Act → Done
+done_by e (open_document uri text) =
+    if is_some (open_at e uri) then stays e else opens e uri text
+done_by e (change_document uri how) = unwrap_or (do
+  d ← open_at e uri
+  text ← after_changes e.unit (Some d.text) how
+  Some (rewrites e uri d text how [])) (stays e)
+done_by e (close_document uri) =
+    if is_some (open_at e uri) then closes e uri else stays e
+done_by e (ask_about uri ask) = unwrap_or (do
+  d ← open_at e uri
+  Some (asks e uri ask d)) (stays e)
+done_by e (apply k) =
+    let rest : Editor = without_answer e k in
+    unwrap_or (kept_answer k e.answers >>= applies rest k) (stays rest)
+done_by e (discard k) = stays (without_answer e k)
 
--- the document, where it is the same opening with the same version as when it was requested
-abbrev pub if_same : SentAsk → Option Open → Option Open
-if_same requested (Some d) =
-    if d.opening == requested.opening && d.version == requested.version then Some d else None
-if_same requested None = None
-
--- an open document gets the text that edits make; edits that overlap make none, and are dropped
-abbrev pub applies_text : Editor → List ℕ → Open → Option (List ℕ) → ApplyOutcome
-applies_text e uri d (Some text) =
-    makes (rewrites e uri d text) (record { uri = uri; before = d.text; after = text })
-    (notifies (Changed uri (pos (d.version + 1)) (whole_text text ∷ [])))
-applies_text e uri d None = drops_answer e
-
--- edits are applied to an open document
-abbrev pub applies_edits : Editor → List Replacement → List ℕ → Option Open → ApplyOutcome
-applies_edits e edits uri (Some d) = applies_text e uri d (edited e.unit d.text edits)
-applies_edits e edits uri None = drops_answer e
-
--- edits are applied where the document is as it was when they were requested
-abbrev pub applies_requested : Editor → List Replacement → Option SentAsk → ApplyOutcome
-applies_requested e edits (Some requested) =
-    applies_edits e edits requested.uri (if_same requested (open_at e requested.uri))
-applies_requested e edits None = drops_answer e
-
--- the edits of answer k are made of the document, where that is the same as when it was requested;
--- else the answer is dropped
-abbrev pub applies_answer : Editor → ℕ → Option (List Replacement) → ApplyOutcome
-applies_answer e k (Some edits) =
-    applies_requested (without_answer e k) edits (request_numbered e.requested k)
-applies_answer e k None = not_held
+-- the editor has read a message: it keeps an answer that has edits
+abbrev pub reads : Editor → ToEditor → Editor
+reads e (publishes uri version empty) = e
+reads e (answers number []) = e
+reads e (answers number (edit ∷ edits)) =
+    record e { answers = e.answers ++ record { number = number; edits = edit ∷ edits } ∷ [] }

@@ -1,11 +1,11 @@
 -- Client and server, and the messages between them.
 -- Rule: LSP 3.17: a model of client and server.
-use Rattle.std.specs.Prelude.{◌≡◌, ℕ, zero, suc, ℤ, pos, List, [], Bool, Option, None, option_map, slice_get, fold}
+use Rattle.std.specs.Prelude.{ℕ, zero, suc, ℤ, List, [], Bool, Option, None, slice_get}
 use Rattle.std.specs.Ordering.{nat_cmp}
 use Rattle.std.specs.Cmp.Lexicographic.{slice_cmp}
 use Rattle.std.specs.FinMap as map_of
 use Rattle.ob0_text.specs.declared.position_types.Unit.{Unit}
-use Rattle.ob0_text.specs.OpenDocuments.{OpenDocuments, Document, InStep, DocumentEvent, after_event, none_open, document_at}
+use Rattle.ob0_text.specs.OpenDocuments.{OpenDocuments, DocumentEvent, after_event, none_open}
 use Rattle.ob0_world_rules.specs.Edited.{Replacement}
 use Rattle.ob0_world_rules.specs.Asks.{Ask}
 
@@ -114,21 +114,7 @@ start unit =
       made = [];
     }
 
--- the documents that the server will have once it has taken the messages that wait for it
+-- the server's documents once it has taken a message
 abbrev pub after_message : OpenDocuments → ToServer → OpenDocuments
 after_message held (notifies note) = after_event held note
 after_message held (requests number uri ask) = held
-
--- the server's documents, once it has taken what waits for it
-abbrev pub will_have : Ends → OpenDocuments
-will_have w = fold after_message w.held w.to_server
-
--- a document of the editor, as the server has it
-abbrev pub as_open : Open → Document
-as_open d = InStep (pos d.version) d.text
-
--- The mirror: the server's documents, after the messages that wait for it,
--- are the editor's documents.
-abbrev pub Mirrors : Ends → Type 0
-Mirrors w =
-    (uri : List ℕ) → document_at (will_have w) uri ≡ option_map as_open (open_at w.editor uri)

@@ -5,9 +5,8 @@ use Rattle.std.specs.Str.{bytes_eq}
 use Rattle.ob0_text.specs.declared.position_types.Unit.{Unit}
 use Rattle.ob0_world_rules.specs.Language.{WellTypedText, SameRun}
 use Rattle.ob0_world_rules.specs.Answers.{IsEmptyIfCorrect}
-use Rattle.ob0_world_rules.specs.Ends.{Open, Editor, open_at, Applied, Made, Ends, start, Mirrors}
-use Rattle.ob0_world_rules.specs.Events.{Event}
-use Rattle.ob0_world_rules.specs.Happens.{Course}
+use Rattle.ob0_world_rules.specs.Ends.{Open, Editor, open_at, Applied, Made, Ends, start}
+use Rattle.ob0_world_rules.specs.Happens.{Event, Course}
 
 -- ---- an applied edit
 
@@ -72,8 +71,6 @@ pub record Holds (w : Ends) : Type 0 where
   pub applied : All KeepsTheRun w.applied
   -- diagnostics are empty exactly when the text that they were made for is a well-typed module
   pub made : All IsRight w.made
-  -- the server's documents, once it has taken all messages that wait for it, are the editor's
-  pub mirror : Mirrors w
   -- when no message waits for it, the latest diagnostics of each open document are those
   -- of its present text
   pub latest_made : w.to_server ≡ [] → AreUpToDate w.editor w.made

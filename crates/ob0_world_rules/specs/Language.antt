@@ -1,23 +1,48 @@
 -- What a text means as a module: whether it is well-typed, and whether two texts have the same run.
 -- Rule: docs/LANGUAGE.md, Types 8, Runs.
-use Rattle.std.specs.Prelude.{ℕ, List}
-use Rattle.ob0_tree.specs.Tree.{Tree, module_text}
+use Rattle.std.specs.Prelude.{◌≡◌, ◌≤◌, ℕ, List, [], ◌∷◌, length}
+use Rattle.std.specs.List.{flat_map}
+use Rattle.std.specs.Str.{IsUtf8}
+use Rattle.ob0_scan.specs.declared.lexeme.LexemeKind.{LexemeKind}
+use Rattle.ob0_scan.specs.declared.lexeme.LexemeKind.TheVariants as lexeme
+use Rattle.ob0_scan.specs.Lexed.{Lexeme, Lexed}
+use Rattle.ob0_scan.specs.Scanned.{max_text}
+use Rattle.ob0_tree.specs.Lexeme.{Terminal, kind_lexeme}
+use Rattle.ob0_tree.specs.Module.{max_nesting}
+use Rattle.ob0_tree.specs.Tree.{Tree, module_text, spell, nesting}
 use Rattle.ob0_language_names.specs.Names.{Name}
+use Rattle.ob0_language_types.specs.WellTyped.{WellTyped}
 use Rattle.ob0_language_runs.specs.EditLaws.{SameRuns}
-use Rattle.ob0_edits.specs.Diagnosed.{IsTextOf, IsWellTypedModule}
 use Rattle.ob0_edits.specs.Texts.{utf8}
 
--- A text is here the list of its characters.
+-- a lexeme as a tree spells it, which leaves white space and comments out
+abbrev pub terminals : LexemeKind → List ℕ → List (Terminal Name)
+terminals lexeme.Space text = []
+terminals lexeme.Comment text = []
+terminals (lexeme.Token kind) text = kind_lexeme text kind ∷ []
+
+-- these bytes are the text of a module, which has this tree
+pub record IsModuleText (tree : Tree Name module_text) (bytes : List ℕ) : Type 0 where
+  pub utf8 : IsUtf8 bytes
+  pub lexemes : List Lexeme
+  pub lexed : Lexed bytes lexemes
+  pub spelled : flat_map (λ l. terminals l.kind l.text) lexemes ≡ spell tree
+  pub short : length bytes ≤ max_text
+  pub shallow : nesting tree ≤ max_nesting
+
+-- A text is from here on the list of its characters.
 
 -- the text is a module, and its tree is well-typed (LANGUAGE.md, Scopes and Types)
-abbrev pub WellTypedText : List ℕ → Type 0
-WellTypedText text = IsWellTypedModule (utf8 text)
+pub record WellTypedText (text : List ℕ) : Type 0 where
+  pub tree : Tree Name module_text
+  pub text_of : IsModuleText tree (utf8 text)
+  pub well_typed : WellTyped tree
 
 -- The modules of these texts output the same and end alike, for every input and all bounds on calls
 -- and on the iterations of a loop (LANGUAGE.md, Runs).
 abbrev pub SameRun : List ℕ → List ℕ → Type 0
 SameRun a b =
     (before after : Tree Name module_text)
-    → IsTextOf before (utf8 a)
-    → IsTextOf after (utf8 b)
+    → IsModuleText before (utf8 a)
+    → IsModuleText after (utf8 b)
     → SameRuns before after

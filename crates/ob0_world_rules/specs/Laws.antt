@@ -1,16 +1,27 @@
 -- Laws of the definitions of client and server.
 -- Rule: none; laws of the model of client and server.
-use Rattle.std.specs.Prelude.{◌≡◌, ℕ, List, All, Some}
+use Rattle.std.specs.Prelude.{◌≡◌, ◌↔◌, ℕ, List, All, Some}
 use Rattle.ob0_text.specs.declared.edits.Edit.{Edit}
 use Rattle.ob0_text.specs.declared.position_types.Unit.{Unit}
-use Rattle.ob0_world_rules.specs.Language.{WellTypedText, SameRun}
+use Rattle.ob0_tree.specs.Tree.{Tree, module_text}
+use Rattle.ob0_language_names.specs.Names.{Name}
+use Rattle.ob0_edits.specs.Diagnosed.{IsTextOf}
+use Rattle.ob0_world_rules.specs.Language.{IsModuleText, WellTypedText, SameRun}
 use Rattle.ob0_world_rules.specs.Edited.{Replacement, replacements, edited}
 use Rattle.ob0_world_rules.specs.Asks.{Ask}
 use Rattle.ob0_world_rules.specs.Answers.{GivesEdits, AnswersFor}
 use Rattle.ob0_world_rules.specs.Ends.{Ends, start}
-use Rattle.ob0_world_rules.specs.Events.{Event, Seen}
-use Rattle.ob0_world_rules.specs.Happens.{Course, Happens}
+use Rattle.ob0_world_rules.specs.Happens.{Event, Course, Happens}
 use Rattle.ob0_world_rules.specs.Headline.{Holds, WasMadeFor}
+use Rattle.ob0_world_rules.specs.Mirror.{Mirrors}
+
+-- ---- texts
+
+-- a text has a tree by its lexemes exactly where it has that by the tokens that are parsed
+abbrev pub OneReading : Type 0
+OneReading =
+    (tree : Tree Name module_text) (bytes : List ℕ)
+    → IsTextOf tree bytes ↔ IsModuleText tree bytes
 
 -- ---- answers
 
@@ -39,13 +50,13 @@ AnswersAreOne =
 
 -- ---- events
 
--- an event does one thing: what is seen of it and what it leaves are determined
+-- an event does one thing: what it leaves is determined
 abbrev pub OneStep : Type 0
 OneStep =
-    (w : Ends) (event : Event) (seen shown : Seen) (new other : Ends)
-    → Happens w event seen new
-    → Happens w event shown other
-    → (seen ≡ shown) × (new ≡ other)
+    (w : Ends) (event : Event) (new other : Ends)
+    → Happens w event new
+    → Happens w event other
+    → new ≡ other
 
 -- two courses of one list of events have one end: documents, queues, edits applied and publications
 abbrev pub OneCourse : Type 0
@@ -59,6 +70,11 @@ OneCourse =
 abbrev pub InEveryInterleaving : Type 0
 InEveryInterleaving =
     (unit : Unit) (events : List Event) (w : Ends) → Course (start unit) events w → Holds w
+
+-- and the server's documents, once it has taken all messages that wait for it, are the editor's
+abbrev pub ServerMirrors : Type 0
+ServerMirrors =
+    (unit : Unit) (events : List Event) (w : Ends) → Course (start unit) events w → Mirrors w
 
 -- each publication was made for a text that the editor had
 abbrev pub MadeForTheEditor : Type 0

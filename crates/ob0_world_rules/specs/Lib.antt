@@ -9,4 +9,4 @@ pub mod Edited
 pub mod Asks
 pub mod Ends
 pub mod Editing
-pub mod Events
+pub mod Mirror

@@ -2,12 +2,12 @@
 -- that the editor announced to the server.
 -- Rule: docs/PROTOCOL.md, Publishing 1.
 use Rattle.std.specs.Prelude.{◌≡◌, ⊤, ℕ, ℤ, pos, List, [], ◌∷◌, ◌++◌, map, Option, Some, None}
+use Rattle.std.specs.List.{flat_map}
 use Rattle.ob0_text.specs.declared.position_types.Unit.{Unit}
 use Rattle.ob0_text.specs.OpenDocuments.{Opened, Changed, Lost, Closed}
 use Rattle.ob0_world_rules.specs.Ends.{Open, Editor, open_at, ToServer, notifies, requests, Made, Ends, start}
-use Rattle.ob0_world_rules.specs.Editing.{Move, idle, sends, opens_document, changes_document, closes_document, asks_about, kept_answer, ApplyOutcome, not_held, drops_answer, makes, discards, applies_answer}
-use Rattle.ob0_world_rules.specs.Events.{Event, open_document, change_document, close_document, ask_about, serve, take_message, apply, discard, Seen}
-use Rattle.ob0_world_rules.specs.Happens.{Happens, Course}
+use Rattle.ob0_world_rules.specs.Editing.{Done, done_by}
+use Rattle.ob0_world_rules.specs.Happens.{Event, does, serve, take_message, Happens, Course}
 
 -- ---- the documents that the editor announced
 
@@ -29,42 +29,24 @@ announced_by e (notifies (Lost uri)) = []
 announced_by e (notifies (Closed uri)) = []
 announced_by e (requests number uri ask) = []
 
--- the document that a move of the editor announces
-abbrev pub announced_in_move : Move → List Announced
-announced_in_move idle = []
-announced_in_move (sends e message) = announced_by e message
+-- the documents that messages of this editor announce
+abbrev pub announced_in : Editor → List ToServer → List Announced
+announced_in e messages = flat_map (announced_by e) messages
 
--- the document that an applied answer announces
-abbrev pub announced_in_outcome : ApplyOutcome → List Announced
-announced_in_outcome not_held = []
-announced_in_outcome (drops_answer e) = []
-announced_in_outcome (makes e applied message) = announced_by e message
-
--- the document that is announced as this event happens
+-- the documents that are announced as this event happens
 abbrev pub announced_at_event : Ends → Event → List Announced
-announced_at_event w (open_document uri text) =
-    announced_in_move (opens_document w.editor uri text (open_at w.editor uri))
-announced_at_event w (change_document uri how) =
-    announced_in_move (changes_document w.editor uri how (open_at w.editor uri))
-announced_at_event w (close_document uri) =
-    announced_in_move (closes_document w.editor uri (open_at w.editor uri))
-announced_at_event w (ask_about uri ask) =
-    announced_in_move (asks_about w.editor uri ask (open_at w.editor uri))
+announced_at_event w (does act) =
+    let done : Done = done_by w.editor act in announced_in done.editor done.sent
 announced_at_event w serve = []
 announced_at_event w take_message = []
-announced_at_event w (apply k) =
-    announced_in_outcome (applies_answer w.editor k (kept_answer k w.editor.answers))
-announced_at_event w (discard k) =
-    announced_in_outcome (discards w.editor k (kept_answer k w.editor.answers))
 
 -- in the course of these events exactly these documents are announced, in this order
 abbrev pub AreAnnounced : Ends → List Event → List Announced → Type 0
 AreAnnounced w [] announced = announced ≡ []
 AreAnnounced w (event ∷ events) announced =
-    (seen : Seen)
-    × (between : Ends)
+    (between : Ends)
     × (later : List Announced)
-    × Happens w event seen between
+    × Happens w event between
     × AreAnnounced between events later
     × (announced ≡ announced_at_event w event ++ later)
 

@@ -1,5 +1,5 @@
 //! What holds of the definitions that the contracts cite.
-ghost use Rattle.ob0_world_rules.specs.Laws.{AnswersAreOne, EditsKeepTheRun, InEveryInterleaving, MadeForTheEditor, OneCourse, OneStep};
+ghost use Rattle.ob0_world_rules.specs.Laws.{AnswersAreOne, EditsKeepTheRun, InEveryInterleaving, MadeForTheEditor, OneCourse, OneReading, OneStep, ServerMirrors};
 ghost use Rattle.ob0_world_rules.specs.MadeInOrder.{MadeInOrder};
 
 /// Whatever the order of the events, every applied edit keeps the run, and diagnostics are right.
@@ -12,12 +12,17 @@ pub fn edits_keep_the_run()
     ensures { EditsKeepTheRun }
 {}
 
+/// A tree is that of a text by its lexemes exactly where it is that by the tokens that are parsed.
+pub fn one_reading()
+    ensures { OneReading }
+{}
+
 /// An ask about a text has one answer: these edits, or none.
 pub fn answers_are_one()
     ensures { AnswersAreOne }
 {}
 
-/// What is seen of an event and what it leaves are determined.
+/// What an event leaves is determined.
 pub fn one_step()
     ensures { OneStep }
 {}
@@ -25,6 +30,11 @@ pub fn one_step()
 /// A list of events has one course.
 pub fn one_course()
     ensures { OneCourse }
+{}
+
+/// Once it has taken all messages that wait for it, the server has the editor's documents.
+pub fn server_mirrors()
+    ensures { ServerMirrors }
 {}
 
 /// Each publication with a version was made for a text that the editor's document had at that version.

@@ -1,11 +1,11 @@
 use Rattle.std.proofs.Common.{◌≡◌, ◌∙◌, ap, sym, subst, cond}
 use Rattle.ob0_world_rules.specs.Ends.{Ends}
-use Rattle.ob0_world_rules.specs.Editing.{discards, kept_answer}
-use Rattle.ob0_world_rules.specs.Events.{Is, comes_of, drops, nothing}
-use Rattle.ob0_world.specs.Code.{seen_of}
+use Rattle.ob0_world_rules.specs.Editing as acts
+use Rattle.ob0_world_rules.specs.Happens.{does}
 use Rattle.ob0_world.specs.Queues.{ends_from, wire_from}
+use Rattle.ob0_world.specs.Seen.{drops, nothing, seen_of, Shows}
 use Rattle.ob0_world.specs.Worlds.{Both, WritesContent}
-use Rattle.ob0_world.proofs.Moved.{discard_happens, writes_none}
+use Rattle.ob0_world.proofs.Moved.{discard_shows, writes_none}
 use Rattle.ob0_world.proofs.ends.Ends.discard.Goals as goal
 use Rattle.ob0_world.proofs.ends.Ends.discard.Goals.{then-discard, else-discard}
 
@@ -18,9 +18,9 @@ returns-clause-ok g c =
       | then-discard w ↦ ap seen_of w.result-is ∙ sym (ap (λ b. cond b (drops k) nothing) w.if-discard.true)
       | else-discard w ↦ ap seen_of w.result-is ∙ sym (ap (λ b. cond b (drops k) nothing) w.if-discard.false)
     ] in
-    let happens = discard_happens i.editor c.discard.new.self k i.to_server.items i.to_editor.items i.session i.applied.items i.made.items c.discard.result c.discard.ensures.held c.discard.ensures.after in
-    subst (λ (w : Ends). Is (comes_of w k (discards w.editor k (kept_answer k w.editor.answers))) (seen_of c.if-discard.result) (ends_from c.discard.new.self i.to_server.items i.session i.to_editor.items i.applied.items i.made.items)) (ap (λ (w : Both). w.ends) c.self.view_is)
-    (shown ∙ happens.0, happens.1)
+    let shows = discard_shows i.editor c.discard.new.self k i.to_server.items i.to_editor.items i.session i.applied.items i.made.items c.discard.result c.discard.ensures.held c.discard.ensures.after c.self.invariant in
+    subst (λ (w : Ends). Shows w (does (acts.discard k)) (seen_of c.if-discard.result) (ends_from c.discard.new.self i.to_server.items i.session i.to_editor.items i.applied.items i.made.items)) (ap (λ (w : Both). w.ends) c.self.view_is)
+    (shows.0, shown ∙ shows.1)
 
 pub returns-clause-wire : goal.returns-clause-wire
 returns-clause-wire g c =

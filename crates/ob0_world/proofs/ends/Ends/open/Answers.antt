@@ -1,22 +1,23 @@
-use Rattle.std.proofs.Common.{ap, subst}
+use Rattle.std.proofs.Common.{refl, ap, subst}
 use Rattle.std.specs.Str.{chars}
-use Rattle.ob0_world_rules.specs.Ends.{Editor, open_at}
-use Rattle.ob0_world_rules.specs.Editing.{opens_document}
 use Rattle.std.specs.Prelude.{OnOk}
+use Rattle.ob0_world_rules.specs.Editing.{open_document}
 use Rattle.ob0_world.specs.Queues.{wire_from}
 use Rattle.ob0_world.specs.Worlds.{Both, WritesContent}
-use Rattle.ob0_world.proofs.Moved.{sent_sound, sent_happens, writes_sent, open_extends}
+use Rattle.ob0_world.proofs.Moved.{sent_sound, sent_shows, writes_sent, open_applies}
 use Rattle.ob0_world.proofs.ends.Ends.open.Goals as goal
 
 pub invariant_of-self-2 : goal.invariant_of-self-2
 invariant_of-self-2 g c =
-    sent_sound (λ (e : Editor). opens_document e c.args.uri.now (chars c.args.text.now) (open_at e c.args.uri.now)) c.self.inside.editor c.open.new.self c.in_ok-content.content c.self.inside.to_server.items c.send.new.queue.items c.self.inside.to_editor.items c.self.inside.session c.send.result
-    (open_extends c.self.inside.editor c.args.uri.now (chars c.args.text.now) (open_at c.self.inside.editor c.args.uri.now)) c.in_ok-content.ensures.ok c.send.ensures.ok c.send.ensures.err c.self.invariant
+    let i = c.self.inside in
+    sent_sound (open_document c.args.uri.now (chars c.args.text.now)) i.editor c.open.new.self c.in_ok-content.content i.to_server.items c.send.new.queue.items i.to_editor.items i.session c.send.result
+    c.in_ok-content.ensures.ok c.send.ensures.ok c.send.ensures.err c.self.invariant
 
 pub returns-clause-ok : goal.returns-clause-ok
 returns-clause-ok g c =
-    sent_happens (λ (e : Editor). opens_document e c.args.uri.now (chars c.args.text.now) (open_at e c.args.uri.now)) c.args.self.now.ends c.self.inside.editor c.open.new.self c.in_ok-content.content c.self.inside.to_server.items c.send.new.queue.items c.self.inside.to_editor.items c.self.inside.session
-    c.self.inside.applied.items c.self.inside.made.items c.send.result (ap (λ (w : Both). w.ends) c.self.view_is) (open_extends c.self.inside.editor c.args.uri.now (chars c.args.text.now) (open_at c.self.inside.editor c.args.uri.now)) c.in_ok-content.ensures.ok c.send.ensures.ok c.self.invariant
+    let i = c.self.inside in
+    sent_shows (open_document c.args.uri.now (chars c.args.text.now)) c.args.self.now.ends i.editor c.open.new.self c.in_ok-content.content i.to_server.items c.send.new.queue.items i.to_editor.items i.session i.applied.items i.made.items c.send.result
+    (ap (λ (w : Both). w.ends) c.self.view_is) (open_applies i.editor c.args.uri.now (chars c.args.text.now)) refl c.in_ok-content.ensures.ok c.send.ensures.ok c.self.invariant
 
 pub returns-clause-wire : goal.returns-clause-wire
 returns-clause-wire g c =

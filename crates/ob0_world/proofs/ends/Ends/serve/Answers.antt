@@ -3,8 +3,8 @@ use Rattle.std.specs.Prelude.{is_ok}
 use Rattle.std.specs.Option.{option_to_list}
 use Rattle.std.proofs.lemmas.List.{append-nil}
 use Rattle.ob0_world_rules.specs.Ends.{Ends}
-use Rattle.ob0_world_rules.specs.Happens.{ServerTakes}
-use Rattle.ob0_world_rules.specs.Events as events
+use Rattle.ob0_world_rules.specs.Happens.{serve}
+use Rattle.ob0_world.specs.Seen.{served, Shows}
 use Rattle.ob0_world.specs.Queues.{IsRunningOrFailed, bytes, ends_from, wire_from, made_sent}
 use Rattle.ob0_world.specs.Worlds.{Both, IsAnswered, TakesFirst}
 use Rattle.ob0_world.proofs.Serving.{turn, rest_sound, turn_running, turn_sound, turn_happens, turn_taken}
@@ -61,16 +61,16 @@ pub returns-clause-ok : goal.returns-clause-ok
 returns-clause-ok g c =
     elim c.match-made-3.branch [
       | in-Some-made+in_ok-push-2 w ↦
-          subst (λ (x : Both). ServerTakes c.args.self.now.ends c.args.self.now.ends.to_server (events.served c.len-count.result) x.ends) (sym w.self-is)
-          (subst (λ (x : Ends). ServerTakes x x.to_server (events.served c.len-count.result) (ends_from c.self.inside.editor c.pop_front.new.self.items c.answer.new.session c.append.new.self.items c.self.inside.applied.items w.push-in-Some-made.new.self.items)) (ap (λ (w : Both). w.ends) c.self.view_is)
+          subst (λ (x : Both). Shows c.args.self.now.ends serve (served c.len-count.result) x.ends) (sym w.self-is)
+          (subst (λ (x : Ends). Shows x serve (served c.len-count.result) (ends_from c.self.inside.editor c.pop_front.new.self.items c.answer.new.session c.append.new.self.items c.self.inside.applied.items w.push-in-Some-made.new.self.items)) (ap (λ (w : Both). w.ends) c.self.view_is)
           (turn_happens c.self.inside.editor c.self.inside.to_server.items c.pop_front.new.self.items c.self.inside.to_editor.items c.append.new.self.items c.self.inside.session c.answer.new.session c.self.inside.applied.items c.self.inside.made.items w.push-in-Some-made.new.self.items c.in-Some.content c.in_ok-sent.sent.items c.documents.result.now c.in_ok-made.made c.len-count.result c.in-Some.ensures.items
           (turn c.self.inside.editor c.self.inside.to_server.items c.pop_front.new.self.items c.self.inside.to_editor.items c.self.inside.session c.answer.new.session c.in-Some.content c.in_ok-sent.sent.items c.in-Some.ensures.items c.self.invariant
           (subst (λ x. IsAnswered c.self.inside.session x (bytes c.in_ok-sent.sent.items) c.answer.new.session) c.as_slice.ensures.value c.in_ok-sent.ensures.ok))
           c.documents.ensures (c.in_ok-made.ensures ∙ ap (made_sent c.documents.result.now c.self.inside.editor.requested) c.as_slice-2.ensures.value) (c.in_ok-append.ensures.items ∙ ap (λ x. c.self.inside.to_editor.items ++ x) c.from_vec.ensures.items)
           (w.in_ok-push-2.ensures.items ∙ ap (λ o. c.self.inside.made.items ++ option_to_list o) (sym w.in-Some-made.is)) (c.len-count.ensures ∙ c.in_ok-sent.sent.ok.0)))
       | in_default-made w ↦
-          subst (λ (x : Both). ServerTakes c.args.self.now.ends c.args.self.now.ends.to_server (events.served c.len-count.result) x.ends) (sym w.self-is)
-          (subst (λ (x : Ends). ServerTakes x x.to_server (events.served c.len-count.result) (ends_from c.self.inside.editor c.pop_front.new.self.items c.answer.new.session c.append.new.self.items c.self.inside.applied.items c.self.inside.made.items)) (ap (λ (w : Both). w.ends) c.self.view_is)
+          subst (λ (x : Both). Shows c.args.self.now.ends serve (served c.len-count.result) x.ends) (sym w.self-is)
+          (subst (λ (x : Ends). Shows x serve (served c.len-count.result) (ends_from c.self.inside.editor c.pop_front.new.self.items c.answer.new.session c.append.new.self.items c.self.inside.applied.items c.self.inside.made.items)) (ap (λ (w : Both). w.ends) c.self.view_is)
           (turn_happens c.self.inside.editor c.self.inside.to_server.items c.pop_front.new.self.items c.self.inside.to_editor.items c.append.new.self.items c.self.inside.session c.answer.new.session c.self.inside.applied.items c.self.inside.made.items c.self.inside.made.items c.in-Some.content c.in_ok-sent.sent.items c.documents.result.now c.in_ok-made.made c.len-count.result c.in-Some.ensures.items
           (turn c.self.inside.editor c.self.inside.to_server.items c.pop_front.new.self.items c.self.inside.to_editor.items c.self.inside.session c.answer.new.session c.in-Some.content c.in_ok-sent.sent.items c.in-Some.ensures.items c.self.invariant
           (subst (λ x. IsAnswered c.self.inside.session x (bytes c.in_ok-sent.sent.items) c.answer.new.session) c.as_slice.ensures.value c.in_ok-sent.ensures.ok))

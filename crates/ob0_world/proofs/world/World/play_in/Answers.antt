@@ -25,7 +25,7 @@ pub loop-event-preserved : goal.loop-event-preserved
 loop-event-preserved g c =
     let i = c.loop-event.invariant in
     let made = step_made _ _ _ _ i.4 c.in-Ok-step.ensures.ok in
-    (i.0, i.1, course_more i.0 c.args.events.now c.loop-event.event-index c.event-item.result _ _ _ c.loop-event-test.true c.event-item.is i.2 made.made, made.counted ∙ ap (λ n. n + 1) i.3, made.goes_on)
+    (i.0, i.1, course_more i.0 c.args.events.now c.loop-event.event-index c.event-item.result _ _ c.loop-event-test.true c.event-item.is i.2 made.made, made.counted ∙ ap (λ n. n + 1) i.3, made.goes_on)
 
 pub returns-clause-ok : goal.returns-clause-ok
 returns-clause-ok g c =

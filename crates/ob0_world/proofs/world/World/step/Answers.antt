@@ -1,8 +1,8 @@
 use Rattle.std.proofs.Common.{◌<◌, ◌-◌, ◌^◌, refl, subst, sym}
-use Rattle.ob0_world.specs.Code.{event_of, seen_of}
+use Rattle.ob0_world.specs.Code.{event_of}
 use Rattle.ob0_world.specs.Worlds.{World}
 use Rattle.ob0_world.proofs.Counting.{few, within_step}
-use Rattle.ob0_world.proofs.Stepping.{made_step, reached_more, reached_holds}
+use Rattle.ob0_world.proofs.Stepping.{made_step, reached_more, reached_holds, reached_mirrors}
 use Rattle.ob0_world.proofs.world.World.step.Goals as goal
 
 pub make-requires : goal.make-requires
@@ -10,13 +10,17 @@ make-requires g c = few c.self.inside.steps c.self.inside.ends.ends.editor (c.se
 
 pub invariant_of-self : goal.invariant_of-self
 invariant_of-self g c = λ goes_on. (
-  within_step c.self.inside.steps c.self.inside.ends.ends (c.self.invariant c.if-self.false).0 (event_of c.args.event.now) (seen_of c.in-Ok.seen) c.make.new.self.ends c.in-Ok.ensures.ok,
-  reached_more c.self.inside.ends.ends (event_of c.args.event.now) (seen_of c.in-Ok.seen) c.make.new.self.ends (c.self.invariant c.if-self.false).1 c.in-Ok.ensures.ok,
+  within_step c.self.inside.steps c.self.inside.ends.ends (c.self.invariant c.if-self.false).0 (event_of c.args.event.now) c.make.new.self.ends c.in-Ok.ensures.ok.0,
+  reached_more c.self.inside.ends.ends (event_of c.args.event.now) c.make.new.self.ends (c.self.invariant c.if-self.false).1 c.in-Ok.ensures.ok.0,
 )
 
 pub returns-in-Ok-clause-holds : goal.returns-in-Ok-clause-holds
 returns-in-Ok-clause-holds g c =
-    reached_holds c.make.new.self.ends (reached_more c.self.inside.ends.ends (event_of c.args.event.now) (seen_of c.in-Ok.seen) c.make.new.self.ends (c.self.invariant c.if-self.false).1 c.in-Ok.ensures.ok)
+    reached_holds c.make.new.self.ends (reached_more c.self.inside.ends.ends (event_of c.args.event.now) c.make.new.self.ends (c.self.invariant c.if-self.false).1 c.in-Ok.ensures.ok.0)
+
+pub returns-in-Ok-clause-mirror : goal.returns-in-Ok-clause-mirror
+returns-in-Ok-clause-mirror g c =
+    reached_mirrors c.make.new.self.ends (reached_more c.self.inside.ends.ends (event_of c.args.event.now) c.make.new.self.ends (c.self.invariant c.if-self.false).1 c.in-Ok.ensures.ok.0)
 
 pub returns-in-Ok-clause-ok : goal.returns-in-Ok-clause-ok
 returns-in-Ok-clause-ok g c = made_step _ _ _ _ _ c.self.view_is c.if-self.false c.in-Ok.ensures.ok c.in-Ok.ensures.wire c.is_tied.ensures refl c.if-self.false

@@ -1,0 +1,33 @@
+-- Each stream has a list of contents: of a message's content, and of what comes after the message.
+use Rattle.std.proofs.Common.{◌≡◌, ◌∙◌, ◌<◌, ◌≤◌, ◌+◌, ℕ, zero, suc, List, [], ◌∷◌, ◌++◌, length, refl, ap, arith}
+use Rattle.std.proofs.lemmas.List.{length-append}
+use Rattle.ob0_frame.specs.Frames.{BeginsWith, Frames}
+use Rattle.ob0_frame.proofs.Heads.{end_takes_room}
+use Rattle.ob0_world_determined.specs.Determined.{AListFits}
+
+-- a head has at least a byte
+head_is_some : (bytes head content more : List ℕ) → BeginsWith bytes head content more → 0 < length head
+head_is_some bytes head content more b =
+    let ends = b.announces.whole.ends in
+    omega (arith, end_takes_room ends.end, ap length ends.empty ∙ length-append ends.lines _)
+
+-- what comes after a message is shorter
+shorter : (bytes head content more : List ℕ) → BeginsWith bytes head content more → length more < length bytes
+shorter bytes head content more b =
+    let some : 0 < length head = head_is_some bytes head content more b in
+    let long : length bytes ≡ length head + length (content ++ more) = ap length b.joined ∙ length-append head (content ++ more) in
+    let rest : length (content ++ more) ≡ length content + length more = length-append content more in
+    omega arith
+
+fits_within : (n : ℕ) (bytes : List ℕ) → length bytes < n → ((contents : List (List ℕ)) (rest : List ℕ) → Frames bytes contents rest → ⊥) → ⊥
+fits_within zero bytes within none = absurd (omega arith)
+fits_within (suc n) bytes within none =
+    none [] bytes (
+      refl,
+      λ head content more b.
+      let less : length more < length bytes = shorter bytes head content more b in
+      fits_within n more (omega arith) (λ contents rest frames. none (content ∷ contents) rest (head, more, b, frames)),
+    )
+
+pub a_list_fits : AListFits
+a_list_fits bytes none = fits_within (suc (length bytes)) bytes (omega arith) none
