@@ -1,5 +1,5 @@
 pub mod Scanning
 pub mod Alike
-mod GivenBack
 mod Refusals
 mod Pieces
+mod GivenBack

@@ -1,13 +1,27 @@
 -- What is known of the text before a change.
 -- Rule: none; for private contracts: what an analysis takes over.
-use Rattle.std.specs.Prelude.{◌≡◌, true}
+use Rattle.std.specs.Prelude.{◌≡◌, ◌==◌, ℕ, true, List, map}
+use Rattle.ob0_scan.specs.Refused.{AreFaults}
+use Rattle.ob0_scan.specs.Reused.{kinds, names_in, words_in}
 use Rattle.ob0_scan.specs.SameKinds.{HasSameTokens}
-use Rattle.ob0_scan.specs.Scanned.{Scanned}
+use Rattle.ob0_scan.specs.Scanned.{IsScan, IsScannable, Scanned}
+use Rattle.ob0_scan.specs.declared.rescanning.NotRescanned.{NotRescanned}
+use Rattle.ob0_scan.specs.declared.rescanning.NotRescanned.TheVariants as rescanned
 use Rattle.ob0_scan.specs.declared.tokens.RescanInPlace.{RescanInPlace}
 use Rattle.ob0_tree.specs.declared.tree.ModuleTree.{ModuleTree}
 use Rattle.ob0_tree.specs.Parsed.{IsParsed, parsed_by}
+use Rattle.ob0_scope_table.specs.Bindings.{resolution_by}
+use Rattle.ob0_scope_table.specs.FaultTokens.{AreWrittenAlike, fault_at, first_start, tokens_of}
+use Rattle.ob0_scope_table.specs.Resolution.{IsResolution}
+use Rattle.ob0_scope_table.specs.declared.fault_tokens.FaultAt.{FaultAt}
+use Rattle.ob0_scope_table.specs.declared.resolved.Bindings.{Bindings}
 use Rattle.ob0_parse.specs.KeptTokens.{AreKept}
 use Rattle.ob0_parse.specs.declared.kept.Kept.{Kept}
+use Rattle.ob0_parse_descent.specs.declared.refusal.ParseRefusal.{ParseRefusal}
+use Rattle.ob0_types.specs.CheckedModules.{AreTypesOf}
+use Rattle.ob0_types.specs.declared.checked.ModuleTypes.{ModuleTypes}
+use Rattle.ob0_analysis.specs.Found.{IsRefusedByParser}
+use Rattle.ob0_analysis.specs.declared.fault_places.FaultPlaces.{FaultPlaces}
 
 -- the text before has the tokens of these procedures
 pub record AreKeptBefore (c : RescanInPlace) (procedures : Kept) : Type 0 where
@@ -16,8 +30,82 @@ pub record AreKeptBefore (c : RescanInPlace) (procedures : Kept) : Type 0 where
   pub kept : AreKept old.tokens procedures
   pub alike : c.alike ≡ true → AreKept c.rescan.tokens.tokens procedures
 
--- the text before was a module with this tree
-pub record IsParsedBefore (c : RescanInPlace) (tree : ModuleTree) : Type 0 where
+-- the tokens where a module is at fault, and whether its text begins with a token
+pub record ArePlacesOf
+    (source : Scanned) (b : Bindings) (types : ModuleTypes) (places : FaultPlaces) : Type 0 where
+  pub names : places.names.items ≡ map (tokens_of source.tokens) b.faults.items
+  pub of_types : places.types.items ≡ map (tokens_of source.tokens) types.faults.items
+  pub front : places.front ≡ (first_start source == 0)
+
+-- the same bindings with the faults at these tokens
+pub record HasFaultsAt
+    (source : Scanned) (b : Bindings) (places : List FaultAt) (c : Bindings) : Type 0 where
+  pub ordinals : c.ordinals.items ≡ b.ordinals.items
+  pub declarations : c.declarations.items ≡ b.declarations.items
+  pub occurrences : c.occurrences.items ≡ b.occurrences.items
+  pub faults : c.faults.items ≡ map (fault_at source) places
+
+-- the same findings with the faults at these tokens
+pub record HasTypesAt
+    (source : Scanned) (types : ModuleTypes) (places : List FaultAt) (moved : ModuleTypes)
+    : Type 0 where
+  pub known : moved.known ≡ types.known
+  pub fields : moved.fields ≡ types.fields
+  pub faults : moved.faults.items ≡ map (fault_at source) places
+
+-- a module with these names and types, which is at fault at these tokens
+pub record IsModuleOver
+    (source : Scanned) (tree : ModuleTree) (b : Bindings) (types : ModuleTypes)
+    (places : FaultPlaces) : Type 0 where
+  pub parsed : IsParsed (parsed_by source tree)
+  pub resolved : IsResolution (resolution_by (parsed_by source tree) b)
+  pub types_are : AreTypesOf (resolution_by (parsed_by source tree) b) types
+  pub places_are : ArePlacesOf source b types places
+
+-- the text before was such a module; and what is the same in the changed one
+pub record IsModuleBefore
+    (c : RescanInPlace) (tree : ModuleTree) (b : Bindings) (types : ModuleTypes)
+    (places : FaultPlaces) : Type 0 where
   pub old : Scanned
+  pub was : IsModuleOver old tree b types places
+  pub old_scan : IsScan old
+  pub new_scan : IsScan c.rescan.tokens
   pub same : HasSameTokens c.same old.tokens c.rescan.tokens.tokens
-  pub parsed : IsParsed (parsed_by old tree)
+  pub alike : c.alike ≡ true → kinds c.rescan.tokens.tokens ≡ kinds old.tokens
+  pub same_names : c.same_names ≡ true
+      → names_in c.rescan.tokens.text c.rescan.tokens.tokens ≡ names_in old.text old.tokens
+  pub same_words : c.same_words ≡ true
+      → words_in c.rescan.tokens.text c.rescan.tokens.tokens ≡ words_in old.text old.tokens
+
+-- the text before was such a module, and its tokens are written as those of this one
+pub record IsWrittenAsBefore
+    (new : Scanned) (tree : ModuleTree) (b : Bindings) (types : ModuleTypes) (places : FaultPlaces)
+    : Type 0 where
+  pub old : Scanned
+  pub was : IsModuleOver old tree b types places
+  pub alike : AreWrittenAlike old new
+  pub parsed : IsParsed (parsed_by new tree)
+
+-- why a changed text has no tokens; the old tokens, where it gives them back, are refused so
+abbrev pub IsUnreadRefusal : List ℕ → ParseRefusal → Kept → NotRescanned → Type 0
+IsUnreadRefusal text refusal procedures (rescanned.Faults faults tokens) =
+    (IsScannable text → ⊥)
+    × AreFaults text faults.items
+    × IsRefusedByParser tokens refusal
+    × AreKept tokens.tokens procedures
+IsUnreadRefusal text refusal procedures rescanned.Memory = Unit {0}
+
+-- the same, where the old tokens are a module's
+abbrev pub IsUnreadModule : List ℕ
+    → ModuleTree
+    → Bindings
+    → ModuleTypes
+    → NotRescanned
+    → Type 0
+IsUnreadModule text tree b types (rescanned.Faults faults tokens) =
+    (IsScannable text → ⊥)
+    × AreFaults text faults.items
+    × IsParsed (parsed_by tokens tree)
+    × IsResolution (resolution_by (parsed_by tokens tree) b)
+    × AreTypesOf (resolution_by (parsed_by tokens tree) b) types
+IsUnreadModule text tree b types rescanned.Memory = Unit {0}

@@ -7,8 +7,10 @@ mod asking;
 mod diagnoses;
 mod diagnosing;
 mod differences;
+mod fault_places;
 pub mod laws;
 mod parts;
+mod read_text;
 
 pub use analysis::Analysis;
 pub use asking::{Question, ask};

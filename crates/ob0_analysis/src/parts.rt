@@ -81,6 +81,26 @@ impl ModuleParts {
         })
     }
 
+    /// A module of which all is known.
+    pub(crate) fn from_parts(
+        tokens: Tokens,
+        tree: ModuleTree,
+        bindings: Bindings,
+        types: ModuleTypes,
+    ) -> ModuleParts
+        requires parsed { IsParsed (parsed_by tokens tree) }
+        requires resolved { IsResolution (resolution_by (parsed_by tokens tree) bindings) }
+        requires types { AreTypesOf (resolution_by (parsed_by tokens tree) bindings) types }
+        ensures { result ≡ resolution_by (parsed_by tokens tree) bindings }
+    {
+        ModuleParts {
+            tokens,
+            tree,
+            bindings,
+            types,
+        }
+    }
+
     /// The text as a module.
     pub(crate) fn module(&self) -> Module<'_>
         ensures { result ≡ self.now.module_read }
@@ -120,18 +140,19 @@ impl ModuleParts {
         &self.tokens
     }
 
-    /// The tokens, the tree and what the names are bound to, without the types.
-    pub(crate) fn into_bound(self) -> (Tokens, ModuleTree, Bindings)
+    /// Its parts.
+    pub(crate) fn into_parts(self) -> (Tokens, ModuleTree, Bindings, ModuleTypes)
         ensures parsed { IsParsed (parsed_by result.0 result.1) }
         ensures resolved { IsResolution (resolution_by (parsed_by result.0 result.1) result.2) }
+        ensures types { AreTypesOf (resolution_by (parsed_by result.0 result.1) result.2) result.3 }
     {
         let ModuleParts {
             tokens,
             tree,
             bindings,
-            types: _,
+            types,
         } = self;
-        (tokens, tree, bindings)
+        (tokens, tree, bindings, types)
     }
 }
 

@@ -5,9 +5,6 @@ use Rattle.ob0_analysis.specs.Found.{IsFound, text_of}
 use Rattle.ob0_analysis.proofs.Scanning.{finds_lexemes}
 use Rattle.ob0_analysis.proofs.analysis.Analysis.diagnoses.Goals as goal
 
-pub diagnose_refusal-requires : goal.diagnose_refusal-requires
-diagnose_refusal-requires c = (subst IsFound c.in-NoTree.is c.self.invariant).0.0
-
 pub returns-in-NoLexemes-clause-reported : goal.returns-in-NoLexemes-clause-reported
 returns-in-NoLexemes-clause-reported c =
     let by = subst IsFound c.in-NoLexemes.is c.self.invariant in

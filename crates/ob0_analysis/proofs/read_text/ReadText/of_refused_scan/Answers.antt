@@ -1,4 +1,4 @@
-use Rattle.ob0_analysis.proofs.analysis.Analysis.of_refused_scan.Goals as goal
+use Rattle.ob0_analysis.proofs.read_text.ReadText.of_refused_scan.Goals as goal
 
 pub of_tokens-requires : goal.of_tokens-requires
 of_tokens-requires c =

@@ -1,7 +1,7 @@
 use Rattle.ob0_parse.proofs.Carried.{kept_stay}
 use Rattle.ob0_parse.proofs.Stays.{refusal_stays}
-use Rattle.ob0_analysis.proofs.GivenBack.{given_back}
-use Rattle.ob0_analysis.proofs.analysis.Analysis.after_refusal.Goals as goal
+use Rattle.ob0_analysis.proofs.GivenBack.{refusal_given_back}
+use Rattle.ob0_analysis.proofs.read_text.ReadText.after_refusal.Goals as goal
 
 pub of_refused_scan-requires-clause-alike : goal.of_refused_scan-requires-clause-alike
 of_refused_scan-requires-clause-alike c =
@@ -15,5 +15,5 @@ of_refused_scan-requires-clause-kept c = record {
   alike = λ alike. kept_stay c.args.ill.tokens.tokens c.in-Ok.changed.rescan.tokens.tokens c.args.ill.kept (c.in-Ok.ensures.alike alike) c.requires.1;
 }
 
-pub not_scanned-requires : goal.not_scanned-requires
-not_scanned-requires c = given_back c.args.ill.tokens _ c.args.ill.kept _ c.in-Err.ensures.err c.requires.1
+pub unread_refusal-requires : goal.unread_refusal-requires
+unread_refusal-requires c = refusal_given_back c.args.ill.tokens _ c.args.ill.refusal c.args.ill.kept _ c.in-Err.ensures.err c.requires.0 c.requires.1

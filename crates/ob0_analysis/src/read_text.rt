@@ -1,0 +1,383 @@
+//! A text that has lexemes: its tokens, and the module that they are or why the parser refuses them.
+
+ghost use Rattle.std.specs.Prelude.{◌≡◌, [], true, IfErr, IfOk, MatchOption, map};
+ghost use Rattle.ob0_scan.specs.Refused.{AreFaults, IsRightRefusalOver};
+ghost use Rattle.ob0_scan.specs.Reused.{kinds, names_in, words_in};
+ghost use Rattle.ob0_scan.specs.SameKinds.{HasSameTokens};
+ghost use Rattle.ob0_scan.specs.Scanned.{IsScan, IsScanOf};
+ghost use Rattle.ob0_tree.specs.Parsed.{IsParsed, parsed_by};
+ghost use Rattle.ob0_scope_table.specs.Bindings.{resolution_by};
+ghost use Rattle.ob0_scope_table.specs.Resolution.{IsResolution};
+ghost use Rattle.ob0_parse.specs.KeptTokens.{AreKept};
+ghost use Rattle.ob0_analysis.specs.Found.{IsRead, IsRefusedByParser, IsUnread};
+ghost use Rattle.ob0_analysis.specs.Before.{AreKeptBefore, IsModuleBefore, IsUnreadModule, IsUnreadRefusal, IsWrittenAsBefore};
+ghost use Rattle.ob0_analysis.specs.declared.read_text.NotRead.TheVariants as not_read;
+ghost use Rattle.ob0_analysis.specs.declared.read_text.Reading.TheVariants.{NoTree};
+ghost use Rattle.ob0_analysis.specs.Diagnosed.{IsWellTypedModule, Reports, complaint_in};
+
+use crate::diagnoses::Diagnosis;
+use crate::diagnosing::{diagnose_module, diagnose_refusal};
+use crate::differences::Difference;
+use crate::fault_places::{FaultPlaces, move_bindings, move_types};
+use crate::parts::ModuleParts;
+use ob0_parse::{Kept, tree_after};
+use ob0_parse_descent::ParseRefusal;
+use ob0_scan::laws::one_scan;
+use ob0_scan::{Fault, NotRescanned, RescanInPlace, Tokens, rescan_in_place};
+use ob0_scope::laws::{bindings_keep_tokens, bindings_stay};
+use ob0_scope_table::Bindings;
+use ob0_tree::ModuleTree;
+use ob0_types::ModuleTypes;
+use ob0_types::laws::types_keep_tokens;
+use std::alloc::{AllocError, Global};
+use std::marker::Model;
+
+/// A text that has lexemes and no tree: its tokens, why the parser refuses them, and procedures for the next parse.
+#[derive(Drop)]
+pub(crate) struct IllFormed {
+    tokens: Tokens,
+    refusal: ParseRefusal,
+    kept: Kept,
+}
+
+/// What the tokens of a text are read as.
+#[derive(Drop)]
+pub(crate) enum Reading {
+    NoTree(IllFormed),
+    Module(ModuleParts),
+}
+
+/// What is known of a text that has lexemes.
+#[derive(Drop)]
+pub(crate) struct ReadText {
+    reading: Reading,
+}
+
+impl Model for ReadText {
+    ghost use Rattle.std.specs.Prelude.{List, ℕ};
+
+    ghost Value = { List ℕ };
+
+    ghost use Rattle.ob0_analysis.specs.Found.{text_read, IsRead};
+
+    ghost view = { λ r. text_read r.reading };
+
+    ghost invariant = { λ r. IsRead r.reading };
+}
+
+/// Why a changed text has no tokens. Where it has faults, with what was known of the text before.
+#[derive(Drop)]
+pub(crate) enum NotRead {
+    Faults(Vec<Fault>, ReadText),
+    Memory,
+}
+
+impl From<AllocError> for NotRead {
+    ghost from_gives = { λ _ e. e ≡ not_read.Memory };
+
+    fn from(_error: AllocError) -> NotRead {
+        NotRead::Memory
+    }
+}
+
+impl ReadText {
+    /// The text with these tokens, of which these procedures are known.
+    pub(crate) fn of_tokens(
+        alloc: Global,
+        tokens: Tokens,
+        kept: Kept,
+    ) -> Result<ReadText, AllocError>
+        requires { AreKept tokens.tokens kept }
+        ensures { IfOk result (λ r. r ≡ tokens.text) }
+    {
+        let mut kept = kept;
+        match tree_after(alloc, &tokens, &mut kept) {
+            Ok(tree) => ReadText::of_tree(alloc, tokens, tree),
+            Err(ParseRefusal::Memory) => Err(AllocError),
+            Err(refusal) => Ok(ReadText {
+                reading: Reading::NoTree(IllFormed {
+                    tokens,
+                    refusal,
+                    kept,
+                }),
+            }),
+        }
+    }
+
+    fn of_tree(alloc: Global, tokens: Tokens, tree: ModuleTree) -> Result<ReadText, AllocError>
+        requires { IsParsed (parsed_by tokens tree) }
+        ensures { IfOk result (λ r. r ≡ tokens.text) }
+    {
+        let parts = ModuleParts::of(alloc, tokens, tree)?;
+        Ok(ReadText::of_module(parts))
+    }
+
+    /// The text of a module.
+    fn of_module(parts: ModuleParts) -> ReadText
+        ensures { result ≡ parts.module_read.source.text }
+    {
+        ReadText {
+            reading: Reading::Module(parts),
+        }
+    }
+
+    /// What is known of another text. What it has in common with the text before is taken over from it: tokens and
+    /// procedures; where all tokens are of the kinds that they were the tree, or where the parser stops; where all
+    /// identifiers are written as they were also what they are bound to; and where all tokens are written as they were
+    /// all that is known, with the faults at the same tokens. A text with faults gives what was known before.
+    pub(crate) fn after(self, alloc: Global, text: &str) -> Result<ReadText, NotRead>
+        ensures ok { IfOk result (λ r. r ≡ text.now) }
+        ensures err { IfErr result (IsUnread text.now) }
+    {
+        let ReadText { reading } = self;
+        match reading {
+            Reading::NoTree(ill) => ReadText::after_refusal(alloc, ill, text),
+            Reading::Module(parts) => ReadText::after_module(alloc, parts, text),
+        }
+    }
+
+    fn after_refusal(alloc: Global, ill: IllFormed, text: &str) -> Result<ReadText, NotRead>
+        requires { IsRead (NoTree ill) }
+        ensures ok { IfOk result (λ r. r ≡ text.now) }
+        ensures err { IfErr result (IsUnread text.now) }
+    {
+        let IllFormed {
+            tokens,
+            refusal,
+            kept,
+        } = ill;
+        match scan_changed(alloc, tokens, text) {
+            Ok(changed) => Ok(ReadText::of_refused_scan(alloc, changed, refusal, kept)?),
+            Err(unread) => Err(ReadText::unread_refusal(text, unread, refusal, kept)),
+        }
+    }
+
+    /// Why a changed text has no tokens, where the parser refuses the text before.
+    fn unread_refusal(
+        _text: &str,
+        unread: NotRescanned,
+        refusal: ParseRefusal,
+        kept: Kept,
+    ) -> NotRead
+        requires { IsUnreadRefusal _text.now refusal kept unread }
+        ensures { IsUnread _text.now result }
+    {
+        match unread {
+            NotRescanned::Faults(faults, tokens) => {
+                let last = ReadText {
+                    reading: Reading::NoTree(IllFormed {
+                        tokens,
+                        refusal,
+                        kept,
+                    }),
+                };
+                NotRead::Faults(faults, last)
+            }
+            NotRescanned::Memory => NotRead::Memory,
+        }
+    }
+
+    /// A text by the refusal of the text before, which is its own where the tokens are alike, and by the procedures
+    /// that were kept of it.
+    fn of_refused_scan(
+        alloc: Global,
+        changed: RescanInPlace,
+        refusal: ParseRefusal,
+        kept: Kept,
+    ) -> Result<ReadText, AllocError>
+        requires alike { changed.alike ≡ true → IsRefusedByParser changed.rescan.tokens refusal }
+        requires kept { AreKeptBefore changed kept }
+        ensures { IfOk result (λ r. r ≡ changed.rescan.tokens.text) }
+    {
+        let RescanInPlace {
+            rescan,
+            same,
+            alike,
+            same_names: _,
+            same_words: _,
+        } = changed;
+        let tokens = rescan.tokens;
+        if !alike {
+            let kept = kept.after(alloc, same)?;
+            return ReadText::of_tokens(alloc, tokens, kept);
+        }
+        Ok(ReadText {
+            reading: Reading::NoTree(IllFormed {
+                tokens,
+                refusal,
+                kept,
+            }),
+        })
+    }
+
+    fn after_module(alloc: Global, old: ModuleParts, text: &str) -> Result<ReadText, NotRead>
+        ensures ok { IfOk result (λ r. r ≡ text.now) }
+        ensures err { IfErr result (IsUnread text.now) }
+    {
+        let (tokens, tree, bindings, types) = old.into_parts();
+        let places = FaultPlaces::of(alloc, &tokens, &bindings, &types)?;
+        // For the proof: what the contract of this call says.
+        let _text = tokens.text();
+        match scan_changed(alloc, tokens, text) {
+            Ok(changed) => Ok(ReadText::of_scan(alloc, changed, tree, bindings, types, places)?),
+            Err(unread) => Err(ReadText::unread_module(text, unread, tree, bindings, types)),
+        }
+    }
+
+    /// Why a changed text has no tokens, where the text before is a module.
+    fn unread_module(
+        _text: &str,
+        unread: NotRescanned,
+        tree: ModuleTree,
+        bindings: Bindings,
+        types: ModuleTypes,
+    ) -> NotRead
+        requires { IsUnreadModule _text.now tree bindings types unread }
+        ensures { IsUnread _text.now result }
+    {
+        match unread {
+            NotRescanned::Faults(faults, tokens) => {
+                let last = ModuleParts::from_parts(tokens, tree, bindings, types);
+                NotRead::Faults(faults, ReadText::of_module(last))
+            }
+            NotRescanned::Memory => NotRead::Memory,
+        }
+    }
+
+    /// A text by the tree of the text before, which is its own where the tokens are alike, by its bindings and by what
+    /// was found of its types. That module was at fault at these tokens.
+    fn of_scan(
+        alloc: Global,
+        changed: RescanInPlace,
+        tree: ModuleTree,
+        bindings: Bindings,
+        types: ModuleTypes,
+        places: FaultPlaces,
+    ) -> Result<ReadText, AllocError>
+        requires { IsModuleBefore changed tree bindings types places }
+        ensures { IfOk result (λ r. r ≡ changed.rescan.tokens.text) }
+    {
+        bindings_stay();
+        let RescanInPlace {
+            rescan,
+            same,
+            alike: same_kinds,
+            same_names,
+            same_words,
+        } = changed;
+        let tokens = rescan.tokens;
+        if !same_kinds {
+            let kept = Kept::of(alloc, tree).after(alloc, same)?;
+            return ReadText::of_tokens(alloc, tokens, kept);
+        }
+        if same_words {
+            if places.keep_front(&tokens) {
+                return ReadText::of_same_words(alloc, tokens, tree, bindings, types, places);
+            }
+        }
+        ReadText::of_same_tree(alloc, tokens, tree, bindings, same_names)
+    }
+
+    /// A text with the tree of the text before. The bindings of that text are its own where the identifiers are written
+    /// as they were; but the faults of names are in other places, so where there are some all names are bound again.
+    fn of_same_tree(
+        alloc: Global,
+        tokens: Tokens,
+        tree: ModuleTree,
+        bindings: Bindings,
+        same_names: bool,
+    ) -> Result<ReadText, AllocError>
+        requires parsed { IsParsed (parsed_by tokens tree) }
+        requires resolved { same_names ≡ true
+            → bindings.faults.items ≡ []
+            → IsResolution (resolution_by (parsed_by tokens tree) bindings) }
+        ensures { IfOk result (λ r. r ≡ tokens.text) }
+    {
+        if same_names && bindings.faults.is_empty() {
+            let parts = ModuleParts::from_bindings(alloc, tokens, tree, bindings)?;
+            Ok(ReadText::of_module(parts))
+        } else {
+            drop(bindings);
+            ReadText::of_tree(alloc, tokens, tree)
+        }
+    }
+
+    /// A text whose tokens are written as those of the text before, by all that was known of that, with its faults at
+    /// the same tokens.
+    fn of_same_words(
+        alloc: Global,
+        tokens: Tokens,
+        tree: ModuleTree,
+        bindings: Bindings,
+        types: ModuleTypes,
+        places: FaultPlaces,
+    ) -> Result<ReadText, AllocError>
+        requires { IsWrittenAsBefore tokens tree bindings types places }
+        ensures { IfOk result (λ r. r ≡ tokens.text) }
+    {
+        bindings_keep_tokens();
+        types_keep_tokens();
+        let bindings = move_bindings(alloc, &tokens, bindings, &places)?;
+        let types = move_types(alloc, &tokens, types, &places)?;
+        let parts = ModuleParts::from_parts(tokens, tree, bindings, types);
+        Ok(ReadText::of_module(parts))
+    }
+
+    /// The text.
+    pub(crate) fn text(&self) -> &str
+        ensures { result.now ≡ self.now }
+    {
+        match &self.reading {
+            Reading::NoTree(ill) => ill.tokens.text(),
+            Reading::Module(parts) => parts.tokens().text(),
+        }
+    }
+
+    /// The module that the text is, with its names bound. None where it has no tree.
+    pub(crate) fn module_parts(&self) -> Option<&ModuleParts>
+        ensures { MatchOption result (¬ IsWellTypedModule self.now)
+            (λ m. IsScanOf self.now m.now.module_read.source) }
+    {
+        one_scan();
+        match &self.reading {
+            Reading::NoTree(ill) => {
+                // For the proof: what the contract of this call says.
+                let _text = ill.tokens.text();
+                None
+            }
+            Reading::Module(parts) => {
+                // For the proof: what the contract of this call says.
+                let _text = parts.tokens().text();
+                Some(parts)
+            }
+        }
+    }
+
+    /// What is wrong with the text: the place at which the parser refuses it, or its faults of names and types.
+    pub(crate) fn diagnoses(&self, alloc: Global) -> Result<Vec<Diagnosis>, AllocError>
+        ensures { IfOk result (λ list. Reports self.now (map complaint_in list.items)) }
+    {
+        match &self.reading {
+            Reading::NoTree(ill) => diagnose_refusal(alloc, &ill.tokens, &ill.refusal),
+            Reading::Module(parts) => diagnose_module(alloc, parts),
+        }
+    }
+}
+
+/// The tokens of a text by those of another, or its faults.
+fn scan_changed(alloc: Global, old: Tokens, text: &str) -> Result<RescanInPlace, NotRescanned>
+    ensures ok { IfOk result (λ r. IsScanOf text.now r.rescan.tokens) }
+    ensures same { IfOk result (λ r. HasSameTokens r.same old.tokens r.rescan.tokens.tokens) }
+    ensures alike { IfOk result
+        (λ r. r.alike ≡ true → kinds r.rescan.tokens.tokens ≡ kinds old.tokens) }
+    ensures same_names { IfOk result
+        (λ r. r.same_names ≡ true → names_in r.rescan.tokens.text r.rescan.tokens.tokens
+        ≡ names_in old.text old.tokens) }
+    ensures same_words { IfOk result
+        (λ r. r.same_words ≡ true → words_in r.rescan.tokens.text r.rescan.tokens.tokens
+        ≡ words_in old.text old.tokens) }
+    ensures err { IfErr result (IsRightRefusalOver old text.now) }
+{
+    let change = Difference::between(old.text(), text);
+    rescan_in_place(alloc, old, text, change.from, change.removed, change.added)
+}
