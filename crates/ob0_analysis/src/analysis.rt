@@ -1,24 +1,28 @@
 //! What a text is, as one value that is kept.
 //!
-//! An `Analysis` owns the parts of a text that is a module (`ModuleParts`: tokens, tree, bindings, types, which borrow
-//! nothing), or why there are none: the parser's refusal with the tokens, or the faults of lexemes with the text and
-//! the last tokens before it. Its value is the text alone, and its invariant says that what it owns is of that text
-//! (`IsFound`). So `of` and `after` have the same clause, what is taken over can't be seen, and an analysis may keep
-//! more without a change above it.
+//! An `Analysis` owns a text that has lexemes (`ReadText`: the parts of its module, or the parser's refusal with the
+//! tokens), or the faults of lexemes with the text and the last `ReadText` before it (`IllLexed`). Its value is the text
+//! alone, and its invariant says that what it owns is of that text (`IsFound`, `IsRead`). So `of` and `after` have the
+//! same clause, what is taken over can't be seen, and an analysis may keep more without a change above it.
 //!
 //! `after` finds what both texts have in common at their start and end (`Difference::between`) and scans the rest in
 //! place of the old tokens (`rescan_in_place`). Where all tokens are of the kinds that they were, the tree stays: it is
 //! over the indexes of tokens, so it spells the new ones too (`tree_stays` of `ob0_parse`). Bindings stay where the
-//! identifiers are written as they were and no name is at fault (`of_same_tree`); types are checked again. Of a text
-//! that the parser refused the refusal stays in the same way (`refusal_stays`): a module that began with the new tokens
-//! up to that one would begin with the old ones too, once its names and numbers are theirs. So half of the keys of a
-//! statement that is being typed parse nothing. Where a kind changed, procedures of the module's own block are taken
-//! over (`tree_after` of `ob0_parse`).
+//! identifiers are written as they were and no name is at fault; types are checked again. Of a text that the parser
+//! refused the refusal stays in the same way (`refusal_stays`): a module that began with the new tokens up to that one
+//! would begin with the old ones too, once its names and numbers are theirs. So half of the keys of a statement that is
+//! being typed parse nothing. Where a kind changed, procedures of the module's own block are taken over (`tree_after` of
+//! `ob0_parse`).
 //!
-//! A text with faults of lexemes keeps the last tokens before it and their procedures (`LastTokens`) as they were,
-//! unless their text was much longer (`last_tokens`): the scan gives these tokens back (`IsRightRefusalOver`,
-//! `given_back`). The next scan that succeeds is over them, and carries the procedures once (`after_tokens`), over
-//! however many such texts.
+//! Where all tokens are written as they were (`words_in`), after a blank, a line end or a comment, all stays
+//! (`of_same_words`): the tree has the same names and numbers, and what is at fault is at fault at the same tokens
+//! (`bindings_keep_tokens` of `ob0_scope`, `types_keep_tokens` of `ob0_types`). Faults have spans, so their tokens are
+//! found before the scan, by halving, and their spans are made again after it (`FaultPlaces`). A fault at no token is at
+//! the text's start, so this is done only where both texts begin with a token, or neither (`AreWrittenAlike`).
+//!
+//! A text with faults of lexemes keeps all that was known of the last text that had lexemes, unless that was much longer
+//! (`last_text`): the scan gives the tokens back (`IsRightRefusalOver`). The next scan that succeeds is over them, over
+//! however many such texts; so a bad character that comes and goes loses nothing.
 
 ghost use Rattle.std.specs.Prelude.{◌≡◌, ◌≤◌, IfErr, IfOk, MatchOption, length, map};
 ghost use Rattle.std.specs.Str.{IsUtf8};
