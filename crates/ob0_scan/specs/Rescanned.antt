@@ -3,7 +3,7 @@
 use Rattle.std.specs.Prelude.{◌≡◌, ℕ, List, true}
 use Rattle.ob0_scan.specs.declared.tokens.RescanInPlace.{RescanInPlace}
 use Rattle.ob0_scan.specs.Scanned.{Scanned, IsScanOf}
-use Rattle.ob0_scan.specs.Reused.{Reuses, kinds, names_in}
+use Rattle.ob0_scan.specs.Reused.{Reuses, kinds, names_in, words_in}
 use Rattle.ob0_scan.specs.SameKinds.{HasSameTokens}
 
 -- the scan of the new text, of which is said what the old one had
@@ -14,4 +14,6 @@ pub record IsRescanOf (old : Scanned) (new : List ℕ) (from removed added : ℕ
   pub alike : r.alike ≡ true → kinds r.rescan.tokens.tokens ≡ kinds old.tokens
   pub same_names : r.same_names ≡ true
       → names_in r.rescan.tokens.text r.rescan.tokens.tokens ≡ names_in old.text old.tokens
+  pub same_words : r.same_words ≡ true
+      → words_in r.rescan.tokens.text r.rescan.tokens.tokens ≡ words_in old.text old.tokens
   pub same : HasSameTokens r.same old.tokens r.rescan.tokens.tokens
