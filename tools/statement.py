@@ -65,7 +65,8 @@ PARTS = [
      "is applied exactly where the document is the one that was asked about, unchanged"),
     ("Part 2: texts and patches", "LSP 3.17 on positions and lists of edits, and docs/PROTOCOL.md, Positions and Documents"),
     ("Part 3: the tie to the program", "that `play_in` runs the session that `ob0 serve` runs: it returns what that session took and "
-     "sent, which is a `Conversation` from a session's beginning on, and so is what `serve` has read and written"),
+     "sent, which is a `Conversation` from a session's beginning on, and so is what `serve` has read and written (`Served`, in each row of "
+     "its contract at the head of part 6)"),
     ("Part 4: Oberon-0", "docs/LANGUAGE.md: each group is under the rules of that page that it states, and says the same again"),
     ("Part 5: which edits answer a request", "docs/PROTOCOL.md, Requests on documents 6 to 10. The other parts name `GivesEdits` and "
      "`Refuses` without them: that each edit keeps the run needs nothing of this part; that a server that refuses all is excluded "
@@ -80,19 +81,26 @@ SENTENCE = (
 )
 # (the premises, an item each)
 PREMISES = (
+    "The edits are those of a rename, of an inlining at one place or everywhere, and of a layout.",
     "It holds with any editor that sends every change, makes the edits of an answer at once and as the protocol says, and drops an "
-    "answer whose document was changed, or closed and opened again, since it asked. The editor of part 1 does; it also counts "
-    "versions from 1 in steps of 1, and sends the whole text after an edit.",
-    "Nothing is lost, added or reordered between the two. The model has contents and no frames: no content is longer than a frame "
-    "may be (16,777,216 bytes; at a longer one `serve` ends). A text is a list of "
-    "Unicode scalar values: half a surrogate pair is none.",
-    "Where memory runs out the server ends, and what it sent before stands (`PlaysBefore`).",
-    "`serve` promises its bytes of a reader and a writer that tell theirs. The standard streams don't: there the same code is tested. "
-    "Of a device's failures it knows what `Noted` was told, and no more.",
-    "What the program's `main` does (it calls `serve`, and hands its status on) has no contract.",
+    "answer whose document was changed, or closed and opened again, since it asked. Proved is it of the editor of part 1, which does "
+    "so; it also counts versions from 1 in steps of 1, and sends the whole text after an edit. That another editor does its part is "
+    "for tests to show.",
+    "Nothing is lost, added or reordered between the two. The model has contents and no frames: assumed is that no content is longer "
+    "than a frame may be (16,777,216 bytes; at a longer one `serve` ends). A text is a list of Unicode scalar values: half a surrogate "
+    "pair is none.",
+    "Where an allocation fails the result is an `Err`: the headline holds of the events before that, and what was sent remains valid "
+    "(`PlaysBefore`). No contract can say whether one did fail, so none says that an `Err` is rare; nor is it tied to a session.",
+    "`play_in` joins that editor to the session that `serve` runs; the program doesn't call it. Part 3 ties it to `serve`, by one "
+    "relation that both promise. What `main` does (it calls `serve`, and hands its status on) has no contract.",
+    "The contract of `serve` (in part 6) is about a reader and a writer whose types know the bytes that passed. The standard streams' "
+    "don't: there the same code is tested. Of a device's failures it knows what its `Noted` was told, and no more.",
+    "The checker, the compiler and the contracts of libraries are trusted (README.md, What is trusted).",
 )
 # (what a reader has to know of the notation, an item each)
 READING = (
+    "A heading '`X` of `ob0_y`' is a group of definitions, the file X of that crate; what a definition uses comes after it. *Rule* is "
+    "the text that the group states, and *Elsewhere* leads to what it uses of other groups.",
     "`name : type`, and then equations, by cases; `_` is any other case. `data` lists the cases of a type; a `record` is a value with "
     "named parts, or a list of facts that all hold. `record { a = x; b = y }` is one with these parts, `record e { a = x }` is `e` with "
     "that part replaced.",
@@ -101,7 +109,7 @@ READING = (
     "`b ≡ true`; `All P xs` says P of each element.",
     "`λ x. y` is the function that gives y for x; `let x = y in z` gives y a name in z; `elim x [ p ↦ y | q ↦ z ]` is y or z, by what x "
     "is, and `if b then y else z` by a truth value. In a `do`, `x ← o` takes the value out of `o`; where `o` has none, the whole has "
-    "none. An argument in braces is left out where it is clear.",
+    "none (so has `o >>= f`). An argument in braces is left out where it is clear.",
     "`List`, `Option`, `Bool`, ℕ and ℤ are lists, optional values, truth values and numbers. `x ∷ xs` is a list with a first element, "
     "`xs ++ ys` joins two, `p.0` and `p.1` are the parts of a pair. `pos n` is the number n of ℤ, `negsuc n` is -(n + 1). In ℕ `n - m` is "
     "0 where m is the larger. `==`, `&&`, `||`, `not`, `nat_lt` and `nat_le` give truth values. `fold f a xs` goes over a list from its "
@@ -116,7 +124,7 @@ READING = (
     "`IfOk result f` and `IfErr result f` say f of the value of an `Ok` and of the error of an `Err`, `OnOk result P` says P where the "
     "result is an `Ok`. What `requires` says is for the caller to see to.",
 )
-LINES_A_MINUTE = 10
+LINES_A_MINUTE = 6
 # (how long a line of code may be)
 WIDTH = 100
 
