@@ -182,11 +182,7 @@ static COLUMNS: &[&[u64]] = &[
 ];
 
 /// Whether a change gives the same text in both stores, and replaces the same bytes.
-fn change_both(
-    lines: &mut Lines,
-    whole: &mut Whole,
-    place: Position,
-) -> Result<bool, AllocError> {
+fn change_both(lines: &mut Lines, whole: &mut Whole, place: Position) -> Result<bool, AllocError> {
     let end = at(place.line, place.character + 2);
     let bytes = lines.replace_at(range_of(place, end), "é-")?;
     let others = whole.replace_at(range_of(place, end), "é-")?;
@@ -194,11 +190,7 @@ fn change_both(
 }
 
 /// Whether both stores stay alike while the lines are changed at these columns.
-fn stay_alike(
-    lines: &mut Lines,
-    whole: &mut Whole,
-    columns: &[u64],
-) -> Result<bool, AllocError> {
+fn stay_alike(lines: &mut Lines, whole: &mut Whole, columns: &[u64]) -> Result<bool, AllocError> {
     for line in 0..3 {
         for column in columns {
             if !change_both(lines, whole, at(line, *column))? {

@@ -209,7 +209,7 @@ pub made_happens : (e new : Editor) (k : ℕ) (a : applied.Applied) (c : Vec ℕ
     → q' ≡ q ++ c ∷ [] → ap_new ≡ ap_list ++ a ∷ [] → Sound e.requested q r s → Shows (ends_from e q s r ap_list md) (does (apply k)) (applies k) (ends_from new q' s r ap_new md)
 made_happens e new k a c q q' r s ap_list ap_new md comes is_q is_ap sound = (
   acted e new (done_by e (apply k)) (Some c) q q' r s ap_list ap_new md (act_grows e (apply k)) comes.0 is_q
-  (ap (map applied_of) is_ap ∙ map-append applied_of ap_list (a ∷ []) ∙ ap (λ x. map applied_of ap_list ++ x) (sym comes.1)) sound,
+      (ap (map applied_of) is_ap ∙ map-append applied_of ap_list (a ∷ []) ∙ ap (λ x. map applied_of ap_list ++ x) (sym comes.1)) sound,
   apply_seen_so e new k (applying.TheVariants.Made a c) comes,
 )
 

@@ -116,8 +116,7 @@ turn_happens e q rest r r' s s' ap_list md md' content sent held o n first t ref
       }),
     ) in
     let many : n ≡ length (all_understood e.requested r') - length (all_understood e.requested r) =
-    count ∙ sym (length-map sent (λ v. v.items)) ∙ t.served_so.heard.count ∙ sym (ap (λ x. length x - length (all_understood e.requested r)) grew ∙ ap (λ x. x - length (all_understood e.requested r)) (length-append (all_understood e.requested r) said) ∙ less (length (all_understood e.requested r)) (length said)) in
-    (
+    count ∙ sym (length-map sent (λ v. v.items)) ∙ t.served_so.heard.count ∙ sym (ap (λ x. length x - length (all_understood e.requested r)) grew ∙ ap (λ x. x - length (all_understood e.requested r)) (length-append (all_understood e.requested r) said) ∙ less (length (all_understood e.requested r)) (length said)) in (
       subst (λ x. ServerTakes w x (ends_from e rest s' r' ap_list md')) (sym waits) this,
       ap seen.served many ∙ sym (ap (λ x. served_seen x (all_understood e.requested r) (all_understood e.requested r')) waits),
     )

@@ -241,8 +241,7 @@ impl<T: TextStore> Ends<T> {
     }
 
     fn discard(&mut self, k: u64) -> Seen
-        ensures ok
-            { Shows self.old.ends (does (acts.discard k)) (seen_of result) self.new.ends }
+        ensures ok { Shows self.old.ends (does (acts.discard k)) (seen_of result) self.new.ends }
         ensures wire { WritesContent self.old.wire self.new.wire }
     {
         if self.editor.discard(k) {

@@ -25,8 +25,8 @@ fits_within (suc n) bytes within none =
     none [] bytes (
       refl,
       λ head content more b.
-      let less : length more < length bytes = shorter bytes head content more b in
-      fits_within n more (omega arith) (λ contents rest frames. none (content ∷ contents) rest (head, more, b, frames)),
+          let less : length more < length bytes = shorter bytes head content more b in
+          fits_within n more (omega arith) (λ contents rest frames. none (content ∷ contents) rest (head, more, b, frames)),
     )
 
 pub a_list_fits : AListFits
