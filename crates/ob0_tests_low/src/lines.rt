@@ -183,7 +183,7 @@ static COLUMNS: &[&[u64]] = &[
 
 /// Whether a change gives the same text in both stores, and replaces the same bytes.
 fn change_both(lines: &mut Lines, whole: &mut Whole, place: Position) -> Result<bool, AllocError> {
-    let end = at(place.line, place.character + 2);
+    let end = at(place.line, place.character.saturating_add(2));
     let bytes = lines.replace_at(range_of(place, end), "é-")?;
     let others = whole.replace_at(range_of(place, end), "é-")?;
     Ok(bytes == others && lines.as_str() == whole.as_str())
