@@ -4,15 +4,17 @@
 //! says, and no lower number would do), and the run of a program that means a well-typed module is the module's run
 //! (`runs_lowered`). What is promised of a program is `RunsAs`, which `execute` uses for any module; `run` is both.
 //!
-//! The law requires addresses for the cells of all activations that may be open: `execute` tests that
-//! (`have_addresses`). It requires that the input has numbers of 32 bits. A slice of `i32` has no such fact by itself:
-//! `have_numbers` reads each number once, and each value that is read has its range (`let f : SFits w32 .. = search
-//! rules`).
+//! The law requires addresses for the cells of all activations that may be open: `execute` runs a program with as many
+//! open calls as have them (`calls_with_addresses`), and returns what that came to unless it ended at that bound
+//! (`of_fewer_calls`): it is the run with all calls then (`proofs/MoreCalls.antt`). The law requires that the input has
+//! numbers of 32 bits. A slice of `i32` has no such fact by itself: `have_numbers` reads each number once, and each
+//! value that is read has its range (`let f : SFits w32 .. = search rules`).
 
-ghost use Rattle.std.specs.Prelude.{◌≡◌, ◌*◌, ◌^◌, IfOk, nat_lt, suc};
+ghost use Rattle.std.specs.Prelude.{◌≡◌, ◌≢◌, ◌⊎◌, ◌+◌, ◌*◌, ◌^◌, ◌<◌, ◌≤◌, IfErr, IfOk, suc};
 ghost use Rattle.ob0_tree.specs.Parsed.{named_tree_of};
 ghost use Rattle.ob0_tree.specs.Tree.{Tree, module_text};
 ghost use Rattle.ob0_language_names.specs.Names.{Name};
+ghost use Rattle.ob0_language_values.specs.Values as values;
 ghost use Rattle.ob0_language_runs.specs.Runs.{run};
 ghost use Rattle.ob0_run_machine.specs.Outcomes as machine;
 ghost use Rattle.ob0_run_machine.specs.View.{program_of};
@@ -82,12 +84,32 @@ fn have_numbers(input: &[i32])
     }
 }
 
-/// Whether the cells of the module and of `calls` open calls have addresses, where none has more than `most_cells`.
-fn have_addresses(most_cells: usize, calls: u32) -> bool
-    ensures { result ≡ nat_lt (suc calls * most_cells) (2 ^ 64) }
+/// The number of open calls, up to `calls`, whose cells with those of the module have addresses, where none has more than
+/// `most_cells`.
+fn calls_with_addresses(most_cells: usize, calls: u32) -> u32
+    ensures within { result ≤ calls }
+    ensures room { suc result * most_cells < 2 ^ 64 }
+    ensures least { result ≡ calls ⊎ 2 ^ 64 ≤ (result + 2) * most_cells }
 {
-    let activations = calls as usize + 1;
-    activations.checked_mul(most_cells).is_some()
+    if most_cells == 0 {
+        return calls;
+    }
+    let activations = usize::MAX / most_cells;
+    if (calls as usize) < activations {
+        return calls;
+    }
+    (activations - 1) as u32
+}
+
+/// What a run came to that could have fewer open calls than were asked for, unless it ended for that.
+fn of_fewer_calls(outcome: Outcome) -> Result<Outcome, AllocError>
+    ensures ok { IfOk result (λ o. (o ≡ outcome) × (end_in outcome.end ≢ values.CallBound)) }
+    ensures err { IfErr result (λ _. end_in outcome.end ≡ values.CallBound) }
+{
+    if outcome.end == End::CallBound {
+        return Err(AllocError);
+    }
+    Ok(outcome)
 }
 
 /// Lowers a module to a program, which can be executed any number of times.
@@ -109,8 +131,8 @@ pub fn lower(alloc: Global, checked: &WellTyped<'_>) -> Result<Program, AllocErr
 ///
 /// # Errors
 ///
-/// Out of memory. So is a program whose module and calls could have 2^64 cells or more between them, for which no
-/// machine has addresses.
+/// Out of memory. So is a run in which so many calls are open that the module and they would have 2^64 cells or more,
+/// each counted as the largest: there are no addresses for them.
 pub fn execute(
     alloc: Global,
     program: &Program,
@@ -122,16 +144,17 @@ pub fn execute(
         → RunsAs m program.now
         → IfOk result (λ o. run_of o ≡ run m input.now calls turns) }
 {
-    let room = have_addresses(program.most_cells, calls);
-    if !room {
-        return Err(AllocError);
-    }
     have_numbers(input);
-    let outcome = ob0_run_machine::run(alloc, &program.code, input, calls, turns)?;
-    Ok(Outcome {
+    let bound = calls_with_addresses(program.most_cells, calls);
+    let outcome = ob0_run_machine::run(alloc, &program.code, input, bound, turns)?;
+    let outcome = Outcome {
         output: outcome.output,
         end: end_of(outcome.end),
-    })
+    };
+    if bound < calls {
+        return of_fewer_calls(outcome);
+    }
+    Ok(outcome)
 }
 
 /// Runs a module on an input: `lower` and `execute`.
