@@ -290,34 +290,6 @@ fn worked_modules_are_run(rt: HostRuntime) {
     }
 }
 
-/// A module of which one procedure, that isn't called, would have 2^32 cells.
-fn large_and_uncalled(alloc: Global) -> Result<String, AllocError> {
-    let mut text = String::new(alloc);
-    text.push_str("MODULE M; TYPE T = ARRAY 65536 OF INTEGER; PROCEDURE P; VAR v")?;
-    for at in 0..65535u32 {
-        write!(text, ", v{at}")?;
-    }
-    text.push_str(": T; BEGIN END P; PROCEDURE Q; BEGIN Write(1) END Q; BEGIN Q END M.")?;
-    Ok(text)
-}
-
-fn is_run_with_all_calls(alloc: Global) -> bool {
-    let question = RunOf {
-        input: &[],
-        calls: u32::MAX,
-        turns: 0,
-    };
-    match large_and_uncalled(alloc) {
-        Ok(text) => is_said(alloc, text.as_str(), &question, " 1; Done"),
-        Err(_) => false,
-    }
-}
-
-#[test]
-fn cells_of_what_is_not_called_need_no_addresses(rt: HostRuntime) {
-    assert!(rt; is_run_with_all_calls(rt.alloc()));
-}
-
 fn is_run_or_refused(alloc: Global, row: &RunRow) -> bool {
     let (text, input, calls, turns, wanted) = *row;
     let question = RunOf {
