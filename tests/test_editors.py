@@ -7,6 +7,7 @@ A test of an editor that isn't here is left out, by name; `make editors` install
 from __future__ import annotations
 
 import functools
+import glob
 import json
 import os
 import random
@@ -96,13 +97,56 @@ def in_vim(steps: str, text: str, **given: Any) -> Steps:
     return play("vim", words, steps, text, given, set_up, in_terminal=True)
 
 
-@test("editors: each page says whether the proved property holds in its editor, in the words of the table")
+# what pages of editors say in the same words
+ONLY_SHOWN = "**not applicable**: ob0 edits nothing in this editor"
+UNKNOWN = "save first, compare after"
+WRONG_EDIT = "After a wrong edit: undo it, save, close the file and open it again."
+LONE_CR = "Take out each CR that no LF follows: edits behind it may be wrong."
+ASKED = (
+    "It holds with any editor that sends every change, makes the edits of an answer at once and as the protocol says, and drops an answer "
+    "whose document was changed, or closed and opened again, since it asked. Changes are sent in order, columns are counted as LSP does, "
+    "and to take no keys until the answer comes is as good as to drop it."
+)
+
+
+def verdicts(page: str) -> list[tuple[str, str]]:
+    """Of each row of the first table of a page the editor with its versions, and whether the property holds."""
+    rows = re.findall(r"^\| ([^|]+) \| ([^|]+) \|", text_of(page).partition("\n|---|")[2].partition("\n\n")[0], re.M)
+    holds(len(rows) > 9, f"the table of {page} has {rows}")
+    return rows
+
+
+def items_of(folder: str, rows: list[tuple[str, str]]) -> list[str]:
+    """The rows of an editor as items of its page."""
+    found = []
+    for which, verdict in rows:
+        for name, after in re.findall(r"\]\((\w+)/README\.md\)([^\[]*)", which):
+            versions = re.sub(r"\([^)]*\)", "", after).strip(" ,")
+            if name == folder:
+                found.append(f"- {versions}: {verdict}" if versions else f"- {verdict}")
+    return found
+
+
+@test("editors: README and each editor's page say whether the proved property holds there, in the words of the table")
 def held_here() -> None:
-    rows = re.findall(r"^\| \[[\w ]+\]\((\w+)/README\.md\)[^|]*\| \*\*([^|]+?)\*\*", text_of("editors", "README.md"), re.M)
-    holds(len(rows) > 9, f"the table of editors/README.md has {rows}")
-    for folder, verdict in rows:
-        said = re.search(r"^Does \[the proved property\]\([^)]*\) hold\?\n(.*)\n\n", text_of("editors", folder, "README.md"), re.M)
-        holds(said and f"**{verdict}**".lower() in said[1].lower(), f"editors/{folder}/README.md says {said and said[1]!r}, the table {verdict!r}")
+    rows = verdicts("editors/README.md")
+    same(verdicts("README.md"), [(which.replace("](", "](editors/"), verdict) for which, verdict in rows], "the table of README")
+    folders = {os.path.basename(os.path.dirname(it)) for it in glob.glob(os.path.join(TOP, "editors", "*", "README.md"))}
+    for folder in folders - {"tree-sitter"}:
+        wanted = items_of(folder, rows)
+        holds(wanted, f"the table has no row of {folder}")
+        if [ONLY_SHOWN] != [it[2:] for it in wanted]:
+            wanted += [UNKNOWN, WRONG_EDIT]
+        if folder in ("neovim", "vim", "emacs", "helix"):
+            wanted.append(LONE_CR)
+        page = " ".join(text_of("editors", folder, "README.md").split())
+        same([it for it in wanted if it not in page], [], f"what editors/{folder}/README.md doesn't say")
+
+
+@test("editors: README, the editors' page, the promises and the statement say in the same words what an editor has to do")
+def asked_of_editors() -> None:
+    for page in ("README.md", "editors/README.md", "docs/PROMISES.md", "docs/STATEMENT.md"):
+        holds(ASKED in " ".join(text_of(page).split()), f"{page} doesn't say {ASKED!r}")
 
 
 GOOD = "MODULE M; BEGIN WriteLn END M.\n"

@@ -165,7 +165,7 @@ def wrong() -> None:
     for exercise, old, new, wanted in WRONG:
         holds(old in answer(exercise), f"{exercise} has {old}")
         status, said = marked(exercise, answer(exercise).replace(old, new, 1))
-        holds(status == 1 and re.match(f"{exercise} +wrong: ", said) and said.endswith(wanted), f"{exercise} with {new!r}: {said}")
+        holds(status == 1 and re.match(rf"{exercise}\.mod +wrong: ", said) and said.endswith(wanted), f"{exercise} with {new!r}: {said}")
 
 
 LOOPS = "MODULE Clock; VAR i: INTEGER; BEGIN WHILE TRUE DO i := 0; WHILE i < 50000 DO {}i := i + 1 END END END Clock."
@@ -174,10 +174,11 @@ LONG = "MODULE Clock; VAR i: INTEGER; BEGIN WHILE i < 100000 DO Write(2147483647
 
 @test("exercises: a module that doesn't end, prints without end, isn't there or isn't one of them is marked so")
 def bounded() -> None:
-    same(marked("Clock", LOOPS.format(""), "--seconds", "0.5"), (1, "Clock    wrong: for the input 3661: it had not ended after 0.5 seconds: does each loop end?"))
-    same(marked("Clock", LONG), (1, "Clock    wrong: for the input 3661: it prints too much: does each loop end?"))
+    same(marked("Clock", LOOPS.format(""), "--seconds", "0.5"), (1, "Clock.mod   wrong: for the input 3661: it had not ended after 0.5 seconds: does each loop end?"))
+    same(marked("Clock", LONG), (1, "Clock.mod   wrong: for the input 3661: it prints too much: does each loop end?"))
     status, said = marked("Clock", LOOPS.format("Write(i); "), "--seconds", "3")
-    holds(status == 1 and said.endswith("does each loop end?"), said)
+    # (by the machine it is stopped by its time, or has taken all memory for what it is to print)
+    holds(status == 1 and "does each loop" in said, said)
     status, said = marked("Gcd", text_of("examples", "Gcd.mod"))
     holds(status == 2 and "is not the module of an exercise: Clock, " in said, said)
     with tempfile.TemporaryDirectory() as room:
@@ -186,14 +187,85 @@ def bounded() -> None:
         status, said = mark(room, os.path.join(room, "Votes.mod"))
         lines = said.splitlines()
         same((status, lines[0], lines[4][:28]), (1, f"{room}:", "  3 of 12 right; not there: "), said)
-        same(lines[6], "  Votes    wrong: it can't be checked: fault: File (docs/MESSAGES.md says what that means)", said)
-        write(os.path.join(room, "lower", "power.mod"), answer("Power"))
-        same(mark(os.path.join(room, "lower"))[1].splitlines()[1], "  power.mod is not marked: is it Power.mod? Upper and lower case differ")
-        os.mkdir(os.path.join(room, "empty"))
-        same(mark(os.path.join(room, "empty"))[0], 2, "the status where nothing is there")
+        same(lines[5], f"there is no {room}/Votes.mod", said)
+        same(mark("/nosuch"), (2, "there is no /nosuch\n"), "a folder that isn't there")
     script = os.path.join(TOP, FOLDER, "mark.py")
     found = run_plainly(["python3", "-B", script, "--program", "no-such-program", "x.mod"], dict(os.environ), TOP)
     same(found, (2, "there is no program no-such-program: --program names another\n"), "without the program")
+
+
+def handed_in(files: dict[str, str], *words: str) -> tuple[int, list[str]]:
+    """Marks folders below a new one, which holds these files and is the one that the script runs in: the status, and the lines."""
+    need_program()
+    script = os.path.join(TOP, FOLDER, "mark.py")
+    with tempfile.TemporaryDirectory() as room:
+        for name, text in files.items():
+            write(os.path.join(room, name), text)
+        status, said = run_plainly(["python3", "-B", script, "--program", os.path.abspath(harness.BINARY), *words], dict(os.environ), room)
+        return status, said.splitlines()
+
+
+NOT_NAMED = "is not marked: it isn't named like an exercise"
+UNMARKED = {
+    "Clock (1).mod": NOT_NAMED,
+    "Clock.mod.txt": NOT_NAMED,
+    "Leap.oberon": NOT_NAMED,
+    "Gcd.mod": NOT_NAMED,
+    "CLOCK.MOD": "is not marked: is it Clock.mod? Upper and lower case differ",
+    "power.Mod": "is not marked: is it Power.Mod? Upper and lower case differ",
+    "more": "is not marked: it is a folder",
+    "Leap.mod": "is not marked: it is a folder",
+}
+
+
+@test("exercises: each entry of a folder that isn't marked is named, but for hidden ones")
+def unmarked() -> None:
+    files = {f"anna/{it}": answer("Clock") for it in [*UNMARKED, "Clock.mod", ".hidden"] if "folder" not in UNMARKED.get(it, "")}
+    status, lines = handed_in({**files, "anna/more/Clock.mod": "", "anna/Leap.mod/x": ""}, "anna")
+    same((status, lines[:2]), (0, ["anna:", "  Clock.mod   right"]), str(lines))
+    same(sorted(lines[2:-1]), sorted(f"  {it} {why}" for it, why in UNMARKED.items()), "the lines of what isn't marked")
+
+
+@test("exercises: several folders have a last line, and the status is 0 only if each has something to mark and all of it is right")
+def folders() -> None:
+    right_one, wrong_one = answer("Clock"), answer("Clock").replace("DIV", "MOD", 1)
+    files = {"anna/Clock.mod": right_one, "anna/Leap.ob0": answer("Leap"), "ben/Clock.mod": wrong_one, "carl/x.txt": "", "-xaver/Clock.Mod": right_one}
+    for words, status, last in (
+        (["anna", "ben/"], 1, "anna 2, ben 0"),
+        (["--", "-xaver", "anna"], 0, "-xaver 1, anna 2"),
+        (["anna", "carl"], 1, "anna 2, carl 0"),
+        (["carl", "nosuch"], 2, "there is no nosuch"),
+        (["anna", "nosuch"], 1, "there is no nosuch"),
+        (["--", "-xaver"], 0, f"  1 of 12 right; not there: {', '.join(NAMES[1:])}"),
+    ):
+        found, lines = handed_in(files, *words)
+        same((found, lines[-1]), (status, last), f"{words}: {lines}")
+    listed = " ".join(PAGE.split())
+    for it in ("The status is 0 if each PATH has a module to mark and all of them are right", "1 if not", "2 if there was nothing to mark in any"):
+        holds(it in listed, f"the page has no {it}")
+
+
+@test("exercises: two files of one exercise are told apart, and the name after MODULE and a last WriteLn don't count")
+def told_apart() -> None:
+    wrong_one = answer("Clock").replace("DIV", "MOD", 1)
+    status, lines = handed_in({"anna/Clock.mod": answer("Clock"), "anna/Clock.Mod": wrong_one}, "anna")
+    same((status, lines[1], lines[2][:20]), (1, "  Clock.mod   right", "  Clock.Mod   wrong:"), str(lines))
+    other = re.sub(r"\bClock\b", "Main", answer("Clock"))
+    same(marked("Clock", other), (0, "Clock.mod   right"), "a module of another name")
+    same(marked("Clock", answer("Clock").replace(";\n  WriteLn\n", "\n")), (0, "Clock.mod   right"), "a module without the last WriteLn")
+    listed = " ".join(PAGE.split())
+    for it in ("The name after MODULE isn't looked at", "a last WriteLn may be missing"):
+        holds(it in listed, f"the page has no {it}")
+
+
+@test("exercises: a byte order mark and a recursion that takes all memory are marked with what to do")
+def explained() -> None:
+    said = "Clock.mod   wrong: line 1, column 1: save it without a byte order mark"
+    same(marked("Clock", "\ufeff" + answer("Clock")), (1, said))
+    arrays = ", ".join(f"a{it}" for it in range(150))
+    large = f"MODULE Clock; TYPE T = ARRAY 65536 OF INTEGER; PROCEDURE P; VAR {arrays}: T; BEGIN P END P; BEGIN P END Clock."
+    said = "the run ends with Memory: it takes too much memory: does each loop and each recursion end? Is an array too large?"
+    same(marked("Clock", large), (1, f"Clock.mod   wrong: for the input 3661: {said}"))
 
 
 @test("exercises: the bounds and ends that the script speaks of are the program's")

@@ -99,8 +99,11 @@ def mistakes(title: str, module: str | None) -> None:
             ends(on_file("check", text), "", 0)
             ends(on_file("run", text), "", 1, found[1] + "\n")
             continue
-        message, at = found
         _, said, rest = first(snippet, module)
+        if what.endswith("at the end of the text"):
+            same(([said], rest), (found, ""), f"what is reported of {snippet}")
+            continue
+        message, at = found
         same((said, rest[: len(at)]), (message, at), f"what is reported of {snippet}")
 
 

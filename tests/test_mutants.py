@@ -5,9 +5,12 @@ import contextlib
 import io
 import os
 import shutil
+import sys
 import tempfile
-from typing import List, Tuple
+from typing import Iterable, List, Optional, Tuple
+from unittest import mock
 
+import build
 import common
 import edits
 import mutants
@@ -37,15 +40,15 @@ class Text(edits.Edit):
 
     def __init__(self, path: str, number: int) -> None:  # pylint: disable=super-init-not-called
         self.crate, self.name, self.file = "ob0_text", f"{edits.OF_GATE}/{MUTANT}.edit", ""
-        self.lines, self.turned, self.why = {(path, number): ""}, None, None
+        self.lines, self.turned, self.why, self.claim = {(path, number): ""}, None, None, None
 
 
 EDIT = Text("src/passes.rt", 122)
 
 
-def claim_of(text: str) -> mutants.Claim:
+def claim_of(text: str) -> edits.Claim:
     """The claim of a mutant that has one."""
-    found = mutants.claim_of(text)
+    found = edits.claim_of(text)
     assert found
     return found
 
@@ -54,7 +57,7 @@ CLAIM = claim_of("# Offsets count characters: refused by the clause of `width`, 
 WIDTH = Turned("ob0_text", "passes::width")
 
 
-def judged(said: str, status: int = 1, claim: mutants.Claim = CLAIM) -> str:
+def judged(said: str, status: int = 1, claim: edits.Claim = CLAIM) -> str:
     return mutants.judge(EDIT, claim, Said(said, status), [WIDTH]).word
 
 
@@ -152,31 +155,82 @@ def counts() -> None:
 
 @test("mutants: a first line that names no clause, and one that names a function that isn't turned, are no claims")
 def claims() -> None:
-    same(mutants.claim_of("# Wrong: refused.\n"), None, "no clause")
-    same(mutants.claim_of("file: src/lib.rt\n"), None, "no first line")
-    same(CLAIM, mutants.Claim("width", ("the clause",)), "a clause without a name")
-    holds(CLAIM.is_of(WIDTH) and not mutants.Claim("idth", ()).is_of(WIDTH), "a function by the end of its path")
+    same(edits.claim_of("# Wrong: refused.\n"), None, "no clause")
+    same(edits.claim_of("# Refused by the clause `ok` of `f`.\n"), edits.Claim("f", ("ok",)), "a clause after its word, and no other words")
+    same(edits.claim_of("file: src/lib.rt\n"), None, "no first line")
+    same(CLAIM, edits.Claim("width", ("the clause",)), "a clause without a name")
+    holds(CLAIM.is_of(WIDTH) and not edits.Claim("idth", ()).is_of(WIDTH), "a function by the end of its path")
+
+
+@test("mutants: a method of a trait is asked for by the checker's name for it, as its folder of proofs has it")
+def asked_of_trait() -> None:
+    found = 0
+    for crate in ("ob0_text", "ob0_rpc", "ob0_session_answers"):
+        proofs, source = os.path.join(TOP, "crates", crate, "proofs"), reading.Source(crate)
+        for it in source.functions:
+            # (a type without a name, as a slice, has one of the checker's own)
+            if it.trait and it.trait != it.owner and it.owner in source.types:
+                folders = [at for at, _, _ in os.walk(os.path.join(proofs, *it.module)) if os.path.basename(at) == it.name]
+                named = [os.path.relpath(at, proofs).replace(os.sep, "::") for at in folders]
+                own = [at for at in named if it.is_named(f"{crate}::{at}")]
+                holds(not own or it.checked_as in own, f"{crate}: {it.checked_as} has its proof in one of {own}")
+                found += it.checked_as in own
+    holds(found > 5, f"{found} methods")
+    edits_here = edits.edits_of("ob0_session_answers", source)
+    asked = {it.name: mutants.Mutant(it, source).asked for it in edits_here if it.is_of_gate}
+    same(asked[f"{edits.OF_GATE}/diagnostics_always_empty.edit"], ["diagnostics::PublishRequestDocumentRequest::answer"], "of a type with a lifetime")
 
 
 @test("mutants: what was refused is tried again where the mutant or its crate changed, and what wasn't refused always")
 def judged_before() -> None:
-    edit, room = edits.edits_of("ob0_frame")[0], tempfile.mkdtemp()
+    source, room = reading.Source("ob0_frame"), tempfile.mkdtemp()
+    edit = next(it for it in edits.edits_of("ob0_frame", source) if "goes_on_after_bad_head" in it.name)
     path, copy = os.path.join(room, "judged.json"), os.path.join(room, "mutant.edit")
     shutil.copy2(edit.file, copy)
     edit.file, kept = copy, wrong_bodies.Judged(path)
     holds(not kept.has(edit), "one that wasn't tried")
-    kept.keep(edit, wrong_bodies.REFUSED, "a goal")
+    refused_by = "framer::Framer::feed returns-clause-bad at src/framer.rt:60"
+    kept.keep(edit, wrong_bodies.Verdict(wrong_bodies.REFUSED, "a goal", (refused_by,)))
     kept.write()
     again = wrong_bodies.Judged(path)
-    holds(again.has(edit) and again.why(edit) == "a goal", "one that was refused")
+    holds(again.has(edit), "one that was refused")
+    with open(copy, encoding="utf-8") as file:
+        text = file.read()
+    with open(copy, "w", encoding="utf-8") as file:
+        file.write("# In other words: refused by `broken` of `Framer::feed`.\n" + text.partition("\n")[2])
+    holds(again.has(edit), "one whose first line alone changed")
+    edit.claim = edits.claim_of("# In other words: refused by `broken` of `Framer::feed`.")
+    holds(not again.has(edit), "one whose first line names another clause now")
+    edit.claim = edits.claim_of("# In other words: refused by `bad` of `Framer::feed`.")
     again.crates[edit.crate] = "other sources"
     holds(not again.has(edit), "one of a crate that changed")
     with open(copy, "a", encoding="utf-8") as file:
         file.write("\n")
     holds(not wrong_bodies.Judged(path).has(edit), "one that changed")
-    kept.keep(edit, wrong_bodies.PROVED, "proved")
+    kept.keep(edit, wrong_bodies.Verdict(wrong_bodies.PROVED, "proved"))
     holds(not kept.has(edit), "one that was proved later")
     shutil.rmtree(room)
+
+
+@test("mutants: of many in one check each is refused by the clause that its first line names, or elsewhere")
+def many_judged() -> None:
+    source = reading.Source("ob0_frame")
+    edit = next(it for it in edits.edits_of("ob0_frame", source) if "goes_on_after_bad_head" in it.name)
+    end = "fn ob0_frame::framer::Framer::feed: no proof: `search` did not prove it\nlogic=not-proved functions=2\n"
+
+    def word(goal: str) -> str:
+        said = f"note: src/framer.rt:60:9: it is not proved that what the function ensures holds (`{goal}`)\n{end}"
+        found = wrong_bodies.judge(edit, Said(said, 1), source, False)
+        assert found
+        return found.word
+
+    same(word("returns-clause-bad-in-Err"), wrong_bodies.REFUSED, "a goal of the clause")
+    same(word("returns-clause-broken"), wrong_bodies.ELSEWHERE, "a goal of another clause")
+    same(word("cut_messages-requires-clause-bad"), wrong_bodies.ELSEWHERE, "what a callee requires")
+    edit.claim = None
+    same(word("returns-clause-broken"), wrong_bodies.REFUSED, "any clause, where the first line names none")
+    for goal in ("cut_messages-requires-clause-bad", "overflow_add-len"):
+        same(word(goal), wrong_bodies.ELSEWHERE, f"{goal}, where it names none")
 
 
 @test("mutants: the libraries are those of which `rt ci` says that they are proved")
@@ -189,3 +243,77 @@ def libraries() -> None:
     same(taken.proved, {"ob0_text", "ob0_scan"}, "the crates")
     same(taken.words("ob0_parse", ["parse"]), None, "the check of a crate over a library that isn't there")
     shutil.rmtree(taken.folder, ignore_errors=True)
+
+
+# What a check says of `ends_in_empty_line` of ob0_frame, by the patterns that its body has.
+CHECK = r"""
+import sys
+text = open("src/head.rt").read()
+name = "fn ob0_frame::head::ends_in_empty_line: "
+if "[b'x']" in text:
+    print("note: src/head.rt:68:1: it is not proved that what the function ensures holds (`returns-in-10`)")
+    print(name + "no proof: expected answers in ./proofs/head/ends_in_empty_line/Answers.antt; `search` did not prove `returns-in-10`")
+elif "lf()" in text:
+    print("src/head.rt:71:9: error[unresolved-name]: cannot find `lf` in this scope")
+    sys.exit(1)
+else:
+    print(name + "proved")
+    print("only=1 proved=1")
+    sys.exit(0)
+print("only=1 proved=0")
+sys.exit(1)
+"""
+
+
+class Recorded(mutants.Libraries):
+    """Libraries over which a check says what was recorded."""
+
+    def words(self, crate: str, only: Iterable[str]) -> Optional[List[str]]:
+        same((crate, list(only)), ("ob0_frame", ["head::ends_in_empty_line"]), "what is asked for")
+        return [sys.executable, "-c", CHECK]
+
+
+class Unnamed(mutants.Libraries):
+    """Libraries over which a check of a function alone has no verdict."""
+
+    def words(self, crate: str, only: Iterable[str]) -> Optional[List[str]]:
+        no_function = "import sys; print('rattle: error: `ob0_frame` has no function'); sys.exit(2)"
+        return [sys.executable, "-c", no_function if [*only] else CHECK]
+
+
+def mutant(folder: str, name: str, old: str, new: str) -> mutants.Mutant:
+    """A mutant of `ends_in_empty_line`."""
+    path = os.path.join(folder, f"{name}.edit")
+    with open(path, "w", encoding="utf-8") as file:
+        file.write(f"# Wrong: refused by the clause of `ends_in_empty_line`.\nfile: src/head.rt\nold: {old}\nnew: {new}\n")
+    edit, source = edits.Edit("ob0_frame", folder, f"{name}.edit"), reading.Source("ob0_frame")
+    edit.find_turned(source)
+    return mutants.Mutant(edit, source)
+
+
+@test("mutants: one made right again, one that doesn't compile and one that isn't found each fail the run")
+def whole_run() -> None:
+    folder, line = tempfile.mkdtemp(), "        [b'\\n'] | [b'\\r', b'\\n']"
+    refused = mutant(folder, "refused", line, "        [b'x'] | [b'\\r', b'\\n']")
+    libraries = Recorded(os.path.join(TOP, "bin", "rooms", "libraries-of-a-test"))
+    libraries.proved.add("ob0_frame")
+    os.makedirs(build.ROOMS, exist_ok=True)
+
+    def counts_with(*others: mutants.Mutant, wanted: int, libraries: mutants.Libraries = libraries) -> Tuple[int, int]:
+        with mock.patch.object(mutants, "mutants_of_gate", lambda: [refused, *others]):
+            with mock.patch.object(mutants, "count_of_readme", lambda: wanted), contextlib.redirect_stdout(io.StringIO()):
+                # (where the gate failed, one without a verdict isn't tried in another way, for which all crates are proved)
+                return mutants.try_all(libraries, 2, False)
+
+    right = mutant(folder, "right", line, f"{line} ")
+    bad = mutant(folder, "bad", line, f"{line} | lf()")
+    lost = mutant(folder, "lost", "        [b'y']", line)
+    words = [it.try_over(libraries).word for it in (right, bad, lost)]
+    same(words, [mutants.PROVED, mutants.BAD, mutants.BAD], "what each comes to")
+    same(counts_with(wanted=1), (1, 0), "one that is refused")
+    same(counts_with(right, bad, lost, wanted=4), (1, 3), "one that is made right again, one that doesn't compile, one without its text")
+    same(counts_with(wanted=2), (1, 1), "one whose file isn't there")
+    unnamed = Unnamed(libraries.folder)
+    unnamed.proved.add("ob0_frame")
+    same(counts_with(right, wanted=2, libraries=unnamed), (1, 1), "where a check of the function alone has no verdict, one of the crate")
+    shutil.rmtree(folder)

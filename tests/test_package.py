@@ -106,6 +106,29 @@ def as_readme_says() -> None:
             holds(status == 0 and "Inst ob0 " in said, said)
 
 
+@test("package: README's line looks at the sum of the one package that is there, and its line without sudo unpacks the archive")
+def as_readme_says_without() -> None:
+    want_proved()
+    made("package")
+    page = text_of("README.md").partition("**From a package.**")[2]
+    sums, unpack = (match_of(rf"^    ({it} .*?)(?:  +#.*)?$", page, re.M)[1] for it in ("sha256sum", "mkdir"))
+    archive, deb = packages()
+    for file in (archive, deb):
+        with tempfile.TemporaryDirectory() as room:
+            for it in (file, os.path.join(TOP, "bin", "SHA256SUMS")):
+                shutil.copy(it, room)
+            home = {**os.environ, "HOME": os.path.join(room, "home")}
+            name = os.path.basename(file)
+            same(run_plainly(["sh", "-c", sums], home, room), (0, f"{name}: OK\n"), "the sum")
+            if file == archive:
+                same(run_plainly(["sh", "-e", "-c", unpack], home, room), (0, ""), "the line without sudo")
+                local = os.path.join(room, "home", ".local")
+                same(paths_in(local), sorted([*paths_in(placed(os.path.join(room, "other"))), package.LIST]), "what was unpacked")
+            with open(os.path.join(room, name), "ab") as changed:
+                changed.write(b"x")
+            same(run_plainly(["sh", "-c", sums], home, room)[0], 1, "the status with another file")
+
+
 @test("package: the archive changes no folder's mode, and README's line and `make uninstall` take it away, but no folder that was there")
 def taken_away() -> None:
     want_proved()

@@ -6,7 +6,7 @@ import tempfile
 from collections.abc import Callable
 from typing import Dict, Tuple
 
-from harness import edited, ends, on_file, run, same, test
+from harness import BINARY, edited, ends, holds, leave_out, on_file, run, same, test
 from modules import CALLS, COUNTS, DIVIDES, FIVE, LEAST, NESTED, RECORDS, SHADOWED, WRITES_A_GLOBAL
 
 ALIASES = """MODULE M;
@@ -240,3 +240,14 @@ def chains() -> None:
         same(len(text) <= 1048576, True, f"{name}: {len(text)} bytes fit")
         found = on_file("run", text, stack=4096)
         same((found.out, found.err, found.status), (out.encode(), b"", 0), name)
+
+
+@test("run: what an iteration of a loop does is inlined in the loop")
+def inlined() -> None:
+    # (one that has grown too large isn't, without a word from the toolchain, and loops take a quarter longer)
+    with open(BINARY, "rb") as file:
+        program = file.read()
+    if b"ob0_run_machine::statements::run_loop" not in program:
+        leave_out("the program has no symbols")
+    for name in ("statements::statement", "statements::in_order", "statements::branches", "passing::pass_all"):
+        holds(f"ob0_run_machine::{name}".encode() not in program, f"{name} isn't inlined")

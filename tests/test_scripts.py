@@ -147,24 +147,87 @@ LISTED = ["two words.Mod:3:3: Undeclared: not declared", "two words.Mod:4:3: Und
 MARKED = [f"::error file=two words.Mod,line={line},col=3::Undeclared: not declared" for line in (3, 4)]
 
 
+# names that a shell, awk or GitHub could take for something else (Git quotes some of them, and takes `:1:x` for a stage of x)
+ODD = ["-ugly.mod", "100%, a:b.mod", "1:x.mod", "it's.mod", 'quote".mod', "back\\tslash.mod", "tab\t.mod", "line\nend.mod"]
+ESCAPED = [("%", "%25"), ("\n", "%0A"), (":", "%3A"), (",", "%2C")]
+
+
 @test("scripts: the page's ob0-check lists the faults of several files as compilers do, and as GitHub wants them, and keeps the status")
 def check_script() -> None:
     def trial(work: str, own: dict[str, str]) -> None:
         same(ran(["sh", "ob0-check", "two words.Mod", "good.mod"], work, own), (1, "\n".join(LISTED) + "\n", ""), "as compilers do")
-        found = ran(["sh", "ob0-check", *MODULES], work, {**own, "GITHUB_ACTIONS": "true"})
-        same(found, (1, "\n".join(MARKED) + "\n", ""), "for GitHub")
+        github = {**own, "GITHUB_ACTIONS": "true"}
+        same(ran(["sh", "ob0-check", *MODULES], work, github), (1, "\n".join(MARKED) + "\n", ""), "for GitHub")
         same(ran(["sh", "ob0-check", "good.mod", "loose.ob0"], work, own), (0, "", ""), "without faults")
-        same(ran(["sh", "ob0-check", "nowhere.mod", "good.mod"], work, own), (1, "", "fault: File\nnowhere.mod can't be checked\n"), "a file that isn't there")
+        found = ran(["sh", "ob0-check", "nowhere.mod", "good.mod"], work, own)
+        same(found, (1, "nowhere.mod:1:1: it cannot be checked\n", "fault: File\n"), "a file that isn't there")
+        found = ran(["sh", "ob0-check", "nowhere.mod", "good.mod"], work, github)
+        same(found, (1, "::error file=nowhere.mod,line=1,col=1::it cannot be checked\n", "fault: File\n"), "such a file, for GitHub")
 
     in_folder({**MODULES, "ob0-check": CHECK}, trial)
 
 
-@test("scripts: the page's line compares what a module prints with what is known")
+@test("scripts: the page's ob0-check takes files of any name")
+def check_names() -> None:
+    def trial(work: str, own: dict[str, str]) -> None:
+        for name in ODD:
+            marked = functools.reduce(lambda text, pair: text.replace(*pair), ESCAPED, name)
+            for said, listed, more in ((name, LISTED, own), (marked, MARKED, {**own, "GITHUB_ACTIONS": "true"})):
+                wanted = "".join(it.replace("two words.Mod", said) + "\n" for it in listed)
+                same(ran(["sh", "ob0-check", name], work, more), (1, wanted, ""), repr(name))
+
+    in_folder({**dict.fromkeys(ODD, FAULTY), "ob0-check": CHECK}, trial)
+
+
+@test("scripts: the page's scripts say which program isn't on PATH")
+def without_programs() -> None:
+    def trial(work: str, own: dict[str, str]) -> None:
+        others = os.path.join(work, "..", "others")
+        os.mkdir(others)
+        tools = {it: shutil.which(it) for it in ("sh", "git", "awk", "xargs", "ob0")}
+        for name, path in tools.items():
+            os.symlink(os.path.realpath(path or harness.BINARY), os.path.join(others, name))
+        alone = {**own, "PATH": others}
+        same(ran(["sh", "hook"], work, alone), (1, "", "ob0-format isn't on PATH\n"), "the hook without ob0-format")
+        os.unlink(os.path.join(others, "ob0"))
+        for words in (["sh", "hook"], ["sh", "ob0-check", "good.mod"]):
+            same(ran(words, work, alone), (1, "", "ob0 isn't on PATH\n"), f"{words} without ob0")
+
+    in_folder({**MODULES, "ob0-check": CHECK, "hook": HOOK}, trial)
+
+
+ENDLESS = "MODULE Gcd;\nBEGIN\n  WHILE TRUE DO\n  END\nEND Gcd.\n"
+
+
+@test("scripts: the page's line compares what a module prints with what is known, and refuses a run that ends with a fault")
 def run_script() -> None:
     files = {f"Gcd.{it}": text_of("examples", f"Gcd.{it}") for it in ("mod", "in", "out")}
-    for changed, status in (("", 0), (" 1", 1)):
-        found = in_folder({**files, "Gcd.out": files["Gcd.out"] + changed}, functools.partial(ran, ["sh", "-c", RUN]))
-        same(found[0], status, f"the status with {changed!r} added")
+    faulty = "a: ARRAY 1 OF INTEGER;\n" + files["Gcd.mod"].partition("VAR\n")[2]
+    faulty = "MODULE Gcd;\nVAR " + faulty.replace("\nEND Gcd.", ";\n  a[1] := 1\nEND Gcd.")
+    changed = {"Gcd.out": files["Gcd.out"] + " 1"}
+    endless = {"Gcd.mod": ENDLESS, "Gcd.out": ""}
+    trials: list[tuple[dict[str, str], int, str]] = [({}, 0, ""), (changed, 1, ""), ({"Gcd.mod": faulty}, 1, "fault: Index\n"), (endless, 1, "fault: TurnBound\n")]
+    for more, status, said in trials:
+        found = in_folder({**files, **more}, functools.partial(ran, ["sh", "-c", RUN]))
+        same((found[0], found[2] if said else ""), (status, said), f"with {more}: {found}")
+
+
+@test("scripts: a FILE is /dev/stdin where the page says so")
+def standard_input() -> None:
+    def trial(work: str, own: dict[str, str]) -> None:
+        same(ran(["ob0", "check", "/dev/stdin"], work, own, LAID_OUT), (0, "", ""), "check")
+        same(ran(["ob0", "rename", "/dev/stdin", "0", "7", "N"], work, own, LAID_OUT), (1, "", "refused: NoName\n"), "rename, refused")
+        same(ran(["ob0", "rename", "/dev/stdin", "2", "2", "y"], work, own, LAID_OUT), (0, LAID_OUT.replace("x", "y"), ""), "rename")
+        same(ran(["ob0-format", "--check", "/dev/stdin"], work, own, LAID_OUT), (0, "", ""), "ob0-format --check")
+        same(ran(["ob0-format", "/dev/stdin"], work, own, LOOSE)[0], 4, "the status of ob0-format through a pipe")
+        same(ran(["sh", "-c", "ob0 run /dev/stdin < good.mod"], work, own), (4, "", "fault: Input\n"), "run, of a file")
+        found = ran(["ob0", "run", "/dev/stdin"], work, own, "MODULE M; VAR x: INTEGER; BEGIN Read(x) END M.")
+        same(found, (1, "", "fault: InputEnd\n"), "run, through a pipe")
+
+    page = " ".join(text_of("docs", "CI.md").split())
+    for it in ("The FILE of `ob0 check`, `ob0 rename` and `ob0-format --check`", "not of `ob0 run`", "`ob0-format` without `--check` ends with status 4"):
+        holds(it in page, f"the page has no {it}")
+    in_folder(MODULES, trial)
 
 
 def git(work: str, own: dict[str, str], *words: str) -> tuple[int, str, str]:
@@ -183,8 +246,8 @@ def hook() -> None:
         os.chmod(os.path.join(work, ".git", "hooks", "pre-commit"), 0o755)
         git(work, own, "add", ".")
         status, out, err = git(work, own, "commit", "-q", "-m", "all")
-        same((status, "loose.ob0 isn't laid out: ob0-format loose.ob0\n" in err), (1, True), f"the commit of all: {out}{err}")
-        holds("two words.Mod has faults\n" in err and "3:2: Undeclared: not declared" in out + err, f"the faults: {out}{err}")
+        same((status, "loose.ob0 isn't laid out: ob0-format -- loose.ob0\n" in err), (1, True), f"the commit of all: {out}{err}")
+        holds("two words.Mod has faults, or cannot be checked\n" in err and "3:2: Undeclared: not declared" in out + err, f"the faults: {out}{err}")
         # (what is in the folder doesn't count)
         write(os.path.join(work, "two words.Mod"), LAID_OUT)
         same(git(work, own, "commit", "-q", "-m", "all")[0], 1, "a commit of what isn't in the folder any more")
@@ -194,6 +257,26 @@ def hook() -> None:
         same(git(work, own, "commit", "-q", "-m", "all")[0], 0, "a commit without faults")
 
     in_folder({**MODULES, "other.txt": FAULTY}, trial)
+
+
+@test("scripts: the page's hook looks at files of any name")
+def hook_names() -> None:
+    if not shutil.which("git"):
+        harness.leave_out("it wants git")
+
+    def trial(text: str, status: int, said: str, work: str, own: dict[str, str]) -> None:
+        git(work, own, "init", "-q")
+        write(os.path.join(work, ".git", "hooks", "pre-commit"), HOOK)
+        os.chmod(os.path.join(work, ".git", "hooks", "pre-commit"), 0o755)
+        for name in ODD:
+            write(os.path.join(work, name), text)
+            git(work, own, "add", "--", "./" + name)
+            found = git(work, own, "commit", "-q", "-m", "one")
+            same((found[0] != 0, said % ((name,) * said.count("%s")) in found[2]), (status, True), f"the commit of {name!r}: {found}")
+            git(work, own, "rm", "-q", "-f", "--cached", "--", "./" + name)
+
+    for text, status, said in ((LAID_OUT, False, ""), (FAULTY, True, "%s has faults, or cannot be checked\n"), (LOOSE, True, "%s isn't laid out: ob0-format -- %s\n")):
+        in_folder({"other.txt": ""}, functools.partial(trial, text, status, said))
 
 
 @test("scripts: the page's job finds faults and what isn't laid out")
@@ -210,6 +293,8 @@ def job() -> None:
         same(([it[0] != 0 for it in found], "".join(it[1] for it in found)), (statuses, said), str(found))
 
     in_folder({**MODULES, "ob0-check": CHECK}, functools.partial(trial, [True, True], "\n".join([*LISTED, "loose.ob0"]) + "\n"))
+    for text, statuses, said in ((LAID_OUT, [False, False], ""), (LOOSE, [False, True], "-ugly.mod\n")):
+        in_folder({"-ugly.mod": text, "ob0-check": CHECK}, functools.partial(trial, statuses, said))
     in_folder({"good.mod": LAID_OUT, "ob0-check": CHECK}, functools.partial(trial, [False, False], ""))
     in_folder({"ob0-check": CHECK}, functools.partial(trial, [False, False], ""))
 

@@ -9,7 +9,7 @@ import re
 
 import common
 import edits
-import mutants
+import reading
 import rooms
 from common import match_of
 from harness import TOP, holds, same, test, text_of, want
@@ -27,9 +27,28 @@ def mutants_fit() -> None:
 def mutants_explained() -> None:
     found = [it for crate in common.listed() for it in edits.edits_of(crate)]
     of_gate = [it for it in found if it.is_of_gate]
-    same([it.path for it in of_gate if not mutants.claim_of(text_of(it.file))], [], "those without such a line")
+    same([it.path for it in of_gate if not it.claim], [], "those without such a line")
     counts = match_of(r"every proof, (\d+) wrong versions.*?tries all (\d+) mutants", text_of("README.md"), re.S)
     same([int(it) for it in counts.groups()], [len(of_gate), len(found)], "the mutants of the gate, and all of them")
+
+
+def has_clauses(claim: edits.Claim, function: reading.Function) -> bool:
+    """Whether a function has the clauses that a mutant's first line names. Those of a trait's method are at the trait."""
+    rows = text_of(os.path.join("crates", function.crate, function.file)).split("\n")[function.first - 1 : function.last]
+    names = set(re.findall(r"\bensures\s+(\w*)\s*\{", "\n".join(rows)))
+    wanted = {"" if it == "the clause" else it for it in claim.clauses if it not in ("the loop", "the invariant")}
+    return bool(function.trait) or wanted <= names
+
+
+@test("sources: what the first line of a mutant names is a clause of a function that it turns")
+def mutants_name_clauses() -> None:
+    wrong = []
+    for crate in common.listed():
+        for edit in edits.edits_of(crate, reading.Source(crate)):
+            claim = edit.claim
+            if claim and not any(claim.is_of(it) and has_clauses(claim, it) for it in edit.turned or ()):
+                wrong.append(edit.path)
+    same(wrong, [], "those that name another")
 
 
 @test("sources: the picture of the rooms, and what each crate rests on, are as crates.txt has them")

@@ -115,12 +115,49 @@ def names_once() -> None:
     holds(at < 80, f"the headline stands at line {at}")
 
 
+@test("statement: parts 0 to 3 have at most 150 definitions and 640 lines, with part 4 395 and 2,250, and the tie is in part 3")
+def short_enough() -> None:
+    rows = re.findall(r"^\| \[Part \d: [^|]*\| (\d+) \| ([\d,]+) \|", text_of(PAGE), re.M)
+    counted = [(int(many), int(lines.replace(",", ""))) for many, lines in rows]
+    for parts, most in ((4, (150, 640)), (5, (395, 2250))):
+        many, lines = (sum(row[i] for row in counted[:parts]) for i in range(2))
+        holds(0 < many <= most[0] and lines <= most[1], f"parts 0 to {parts - 1} have {many} definitions and {lines} lines")
+    tie = {part for part, text in fenced("agda") if "record Served" in text or "Serves :" in text or "ConversationIsServed :" in text}
+    same(sorted(str(part)[:6] for part in tie), ["Part 3"], "the parts that have the tie to the program")
+
+
+def read_in(part: str) -> float:
+    """The minutes that a part takes at 200 words and 7 lines a minute, counted on the page as it stands, without lists of links."""
+    text = re.sub(r"^(?:Elsewhere: .*(?:\n.+)*|#.*|[|]-.*)$", "", part, flags=re.M)
+    code = "\n".join(re.findall(r"^```\w+\n(.*?)^```$", text, re.M | re.S))
+    lines = re.findall(r"^ *(?!--|//)[^\s].*$", code, re.M)
+    words = [word for word in re.sub(r"[|]", " ", text).split() if re.search(r"\w", word)]
+    in_lines = [word for word in re.sub(r"[|]", " ", "\n".join(lines)).split() if re.search(r"\w", word)]
+    return (len(words) - len(in_lines)) / 200 + len(lines) / 7
+
+
+@test("statement: the time that the page names for a part or a plan isn't less than its words and lines take")
+def times_hold() -> None:
+    page = text_of(PAGE)
+    parts = re.split(r"^(?=## )", page, flags=re.M)
+    rows = re.findall(r"^\| (.+) \| .+ \| ([\d,]+) \| ([\d,]+) \| ([\d.]+) (minutes|hours) \|$", page, re.M)
+    holds(len(rows) == 10, f"the rows are {rows}")
+    for name, first, second, time, unit in rows:
+        said = float(time) * (60 if unit == "hours" else 1)
+        if name.startswith("[Part"):
+            needed = next(read_in(part) for part in parts if part.startswith(f"## {name[1:8]}"))
+        else:
+            needed = int(first.replace(",", "")) / 200 + int(second.replace(",", "")) / 7
+        holds(needed <= said + 0.5, f"{name} takes {needed:.1f} minutes, and not {said}")
+
+
 @test("statement: no definition that the headline needs is left out of the page, counted in another way")
 def closed_page() -> None:
     counted = Counted()
     rows = re.findall(r"^\| `([^`|]+)` \| .* \| `(\w+)` of `(\w+)` \|$", text_of(PAGE), re.M)
     closed = {counted.home(crate, file, name.split(".")[-1]) for name, file, crate in rows}
-    roots = [("ob0_world", "Worlds", "Plays"), ("ob0_world", "Worlds", "PlaysBefore"), ("ob0_world_rules", "Headline", "Headline")]
+    roots = [("ob0_world", "Worlds", name) for name in ("Plays", "PlaysBefore")]
+    roots += [("ob0_session", "Serving", "Serves"), ("ob0_world_determined", "Determined", "ConversationIsServed")]
     needed = counted.needed(roots, closed)
     holds(len(needed) > 600, f"hardly any definition is needed: {len(needed)}")
     shown = {name for _, text in fenced("agda") for name in definitions(text)}

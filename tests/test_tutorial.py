@@ -85,6 +85,16 @@ def run_ends() -> None:
     same(named, [it for it in listed if it != "Done"], "the ends")
 
 
+@test("tutorial: what it gives as no list of whole numbers is none, and what it says to write is one")
+def numbers() -> None:
+    page = " ".join(text_of(PAGE).split())
+    refused = match_of(r"`([^`]*)`, `([^`]*)` or `([^`]*)` give the same\. \*\*Write whole numbers with spaces or line ends", page)
+    for given in ("3, 4", *refused.groups()):
+        ends(on_file("run", modules()["Rectangle"], given=given.encode()), "", 4, "fault: Input\n")
+    for given in ("3 4", "3\n4\n", "-3 -4"):
+        ends(on_file("run", modules()["Rectangle"], given=given.encode()), f" 12 {14 if given[0] == '3' else -14}\n", 0)
+
+
 @test("tutorial: what it translates from other languages is in the language")
 def translated() -> None:
     found = [it[1] for it in rows("| C, Java, Python, Pascal | Oberon-0 |")]
@@ -99,6 +109,8 @@ def translated() -> None:
 @test("tutorial: README and the page of examples lead to it")
 def led_to() -> None:
     holds("(docs/TUTORIAL.md)" in text_of("README.md"), "README has no link to it")
+    holds("Install it first: [README](../README.md#how-to-get-it)" in text_of(PAGE), "it doesn't say how to get the program")
+    holds("\n## How to get it\n" in text_of("README.md"), "README doesn't say how to get the program")
     holds("(../docs/TUTORIAL.md)" in text_of("examples", "README.md"), "examples/README.md has no link to it")
     for target in re.findall(r"\]\(([^)#:]+)(?:#[^)]*)?\)", text_of(PAGE)):
         holds(os.path.exists(os.path.join(TOP, "docs", target)), f"it has a link to {target}")

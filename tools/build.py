@@ -4,14 +4,16 @@
   tools/build.py           the program's crates; builds the program too, and leaves it as bin/ob0
   tools/build.py --check   all crates and their tests; builds no program, and runs no test
 
-It says which crate is being proved, how many are left and the time so far. A program that is up to date is left as it is. With
---check it says of each crate how many modules were loaded and how many proved again; what is kept is trusted, so this is not
-the gate.
+It says which crate is being proved, how many are left and the time so far. A program that is up to date is left as it is, and so is
+a crate that was proved here of the same sources, over the same crates below, by the same kit. With --check it says of each crate
+how many modules were loaded and how many proved again; what is kept is trusted, so this is not the gate.
 
 Two runs of rt in one tree wait for each other where they depend on the same crate. So each crate is proved in a tree of
-its own, a room: copies of its sources and of those below, with their proved libraries as hard links."""
+its own, a room: a copy of its sources, and of each crate below hard links to its sources and its proved library."""
 from __future__ import annotations
 
+import hashlib
+import json
 import os
 import re
 import shutil
@@ -19,6 +21,7 @@ import signal
 import subprocess
 import sys
 import time
+from collections.abc import Callable, Iterable
 from typing import Any, NamedTuple
 
 import common
@@ -27,6 +30,11 @@ from common import TOP, BINARY
 
 STEP = 15  # seconds between two lines about a crate that takes long
 ROOMS = os.path.join(TOP, "bin", "rooms")
+# What rattle makes of a function's body and of its proof, by the last part of a module's name, and the files of its proof: no crate
+# above can name these. (It can name a function's Kinds, Met, Reads, Statement and Symbol. A program rests on TheLink too, by which it
+# knows all that it reaches: what its last line says of that is left to the gate.)
+OF_BODIES = frozenset({"Code", "Mir", "Layout", "Lts", "View", "Given", "Goals", "Named", "Proof", "Tie", "TheLink"})
+OF_PROOFS = frozenset({"Answers.antt", "Invariants.antt", "Proof.antt"})
 
 
 def processors() -> int:
@@ -59,17 +67,31 @@ def chain(name: str, named: dict[str, list[str]]) -> int:
 
 
 def furnish(room: str, name: str, named: dict[str, list[str]]) -> None:
-    """Makes a room for a crate: its sources and those of the crates below, with their proved libraries."""
+    """Makes a room for a crate: its sources, and the crates below with their proved libraries."""
     shutil.rmtree(room, ignore_errors=True)
     os.makedirs(os.path.join(room, "crates"))
     shutil.copy2(os.path.join(TOP, "HANDLES"), room)
     common.write_list(os.path.join(room, "crates.txt"), common.below(name, named))
     for below in common.below(name, named):
-        crate, copied = os.path.join(TOP, "crates", below), os.path.join(room, "crates", below)
-        shutil.copytree(crate, copied, ignore=shutil.ignore_patterns("out", *edits.PLACES))
-        if below != name:
-            library = os.path.join("out", "rlib")
-            shutil.copytree(os.path.join(crate, library), os.path.join(copied, library), copy_function=link)
+        crate, inside = os.path.join(TOP, "crates", below), os.path.join(room, "crates", below)
+        if below == name:
+            shutil.copytree(crate, inside, ignore=shutil.ignore_patterns("out", *edits.PLACES))
+        else:
+            link_tree(crate, inside, ["out", *edits.PLACES])
+            link_tree(os.path.join(crate, "out", "rlib"), os.path.join(inside, "out", "rlib"), [])
+
+
+def link_tree(old: str, new: str, without: list[str]) -> None:
+    """A folder of hard links to what another folder has. (`rt` takes no symbolic links. There are some 300 files a library, so
+    nothing is done here that needn't be.)"""
+    os.makedirs(new)
+    for it in os.scandir(old):
+        if it.name in without:
+            continue
+        if it.is_dir():
+            link_tree(it.path, os.path.join(new, it.name), [])
+        else:
+            link(it.path, os.path.join(new, it.name))
 
 
 def command(name: str, named: dict[str, list[str]], is_check: bool) -> list[str]:
@@ -80,6 +102,109 @@ def command(name: str, named: dict[str, list[str]], is_check: bool) -> list[str]
     if any(name in below for below in named.values()):
         return ["rt", "lib"]
     return ["rt", "check", *["--test"] * name.startswith("ob0_tests_")]
+
+
+class Sums:
+    """Of each crate sums over what its proof rests on: its sources, what it names, the kit, and of the crates below either all of
+    their sources or what they show."""
+
+    def __init__(self, named: dict[str, list[str]]) -> None:
+        self.named, self.lines, self.kit = named, common.listed(), common.kit()
+        self.own = {it: common.sum_of(common.sources([it])[2:]) for it in named}
+        self.shown: dict[str, str] = {}
+        with open(os.path.join(TOP, "HANDLES"), encoding="utf-8") as file:
+            self.handles = file.read()
+
+    def sum_over(self, name: str, sum_of: Callable[[str], str]) -> str:
+        rests = [(it, self.lines[it], sum_of(it)) for it in common.below(name, self.named)]
+        return hashlib.sha256(repr((self.kit, self.handles, rests)).encode()).hexdigest()
+
+    def of_sources(self, name: str) -> str:
+        return self.sum_over(name, lambda it: self.own[it])
+
+    def of_shown(self, name: str) -> str:
+        """Nothing where a library below isn't there."""
+        below = common.below(name, self.named)[:-1]
+        self.shown.update((it, shown(it)) for it in below if it not in self.shown)
+        if not all(self.shown[it] for it in below):
+            return ""
+        return self.sum_over(name, lambda it: self.own[it] if it == name else self.shown[it])
+
+
+def marks(names: list[str]) -> list[tuple[str, int, int]]:
+    """When the sources of crates were last written, and their sizes: by these it is seen that something was written meanwhile."""
+    stats = [(it, os.stat(it)) for it in common.sources(names)]
+    return [(it, found.st_mtime_ns, found.st_size) for it, found in stats]
+
+
+def library_of(name: str) -> str:
+    return os.path.join(TOP, "crates", name, "out", "rlib", f"{name}.rlib")
+
+
+def shown(name: str) -> str:
+    """A sum over what crates above read of a crate, by its library: its public interface, its definitions and lemmas, and the
+    contract of each function. It is empty where there is no library, or one of another form."""
+    library = library_of(name)
+    try:
+        with open(os.path.join(library, "toolchain", "made.json"), encoding="utf-8") as file:
+            rows = [json.loads(line) for line in file]
+        modules = [(it[0], it[3]) for it in rows if it[0].rpartition("/")[2] not in OF_BODIES]
+        files = []
+        for part in ("interface", "below", os.path.join("lang", "antt")):
+            for at, folders, names in os.walk(os.path.join(library, part)):
+                folders.sort()
+                files += [os.path.join(at, it) for it in sorted(names) if it not in OF_PROOFS and it != "made.json"]
+        return hashlib.sha256(f"{common.sum_of(files)}\n{modules}".encode()).hexdigest()
+    except (OSError, ValueError, LookupError, TypeError):
+        return ""
+
+
+class Proved:
+    """What is kept of a crate that was proved: `proved` in its folder of kept work says of which sources, by which command, with
+    which library, and over what it read of the crates below."""
+
+    def __init__(self, name: str, words: list[str], sum_of_all: str, rests: list[str]) -> None:
+        self.name, self.words, self.sum, self.rests = name, words, sum_of_all, rests
+        self.marks = marks(rests)
+
+    @property
+    def path(self) -> str:
+        return os.path.join(TOP, "crates", self.name, "out", "proved")
+
+    @property
+    def text(self) -> str:
+        """What it says first where the crate is up to date."""
+        return "\n".join([" ".join(self.words), self.sum, text_of(self.library), ""])
+
+    @property
+    def library(self) -> str:
+        """The stamp of the library, by which `rt` knows of which sources it is."""
+        return os.path.join(TOP, "crates", self.name, "out", "rlib", "stamp")
+
+    def is_current(self) -> bool:
+        """Whether the crate was proved so; where others rest on it, its library has to be there."""
+        has_library = os.path.isdir(library_of(self.name)) and text_of(self.library)
+        return text_of(self.path).startswith(self.text) and bool(has_library or self.words[1] != "lib")
+
+    def has_read(self, read: str) -> bool:
+        """Whether the crate was proved so over what it would read now."""
+        lines = text_of(self.path).split("\n")
+        return bool(read) and len(lines) > 3 and (lines[0], lines[3]) == (" ".join(self.words), read)
+
+    def keep(self, read: str) -> None:
+        """Keeps that it was proved over what it read, but where something that it rests on was written meanwhile."""
+        if marks(self.rests) == self.marks:
+            with open(self.path, "w", encoding="utf-8") as file:
+                file.write(f"{self.text}{read}\n")
+
+
+def text_of(path: str) -> str:
+    """What a file says, and nothing where there is none."""
+    try:
+        with open(path, encoding="utf-8") as file:
+            return file.read()
+    except OSError:
+        return ""
 
 
 class Modules(NamedTuple):
@@ -177,30 +302,86 @@ def main(words: list[str]) -> int:
         shutil.rmtree(ROOMS, ignore_errors=True)
 
 
+class Plan:
+    """What is done and what is left: crates to prove, and libraries to build again since a crate above is to be proved."""
+
+    def __init__(self, is_check: bool) -> None:
+        self.named, self.is_check, self.timer = common.libraries(), is_check, common.Timer()
+        tops = self.named if is_check else ["ob0"]
+        self.all = list(dict.fromkeys(it for top in tops for it in common.below(top, self.named)))
+        self.sums = Sums(self.named)
+        self.kept = {it: Proved(it, self.command(it), self.sums.of_sources(it), common.below(it, self.named)) for it in self.all}
+        # (what has the longest chain above it goes first)
+        self.heights = {name: chain(name, self.named) for name in self.all}
+        self.done: dict[str, Modules] = {}
+        self.built: set[str] = set()  # of these, those whose library is made of the present sources
+        self.again: set[str] = set()  # and those whose library is to be built again
+        self.alike: set[str] = set()  # those above crates of which bodies alone changed
+        self.open: set[str] = set()  # those of which kept work says nothing
+
+    def command(self, name: str) -> list[str]:
+        return command(name, self.named, self.is_check)
+
+    def is_kept(self, name: str) -> bool:
+        """Whether kept work says that a crate is proved, all those below it being so. (The program is built of all crates: where
+        its executable is wanted, `rt` says whether it is up to date.)"""
+        kept = self.kept[name]
+        if name not in self.open and kept.words[1] != "run":
+            if kept.is_current():
+                self.built.add(name)
+                return True
+            if self.is_check and kept.has_read(self.sums.of_shown(name)):
+                self.alike.add(name)
+                return True
+        self.open.add(name)
+        return False
+
+    def ready(self, running: Iterable[str]) -> list[str]:
+        """The crates that can be proved now, or built again."""
+        found = []
+        for name in self.all:
+            if name in running or name in self.done and name not in self.again:
+                continue
+            if not all(low in self.done for low in self.named[name]):
+                continue
+            if name not in self.done and self.is_kept(name):
+                self.done[name] = Modules(0, 0)
+                continue
+            stale = {it for it in self.kept[name].rests if it != name and it not in self.built}
+            self.again |= stale
+            found += [name] * (not stale)
+        return sorted(found, key=lambda it: -self.heights[it])
+
+    def take(self, name: str, modules: Modules) -> None:
+        """Takes a crate that was proved, or built again."""
+        self.done[name] = modules
+        self.built.add(name)
+        self.again.discard(name)
+        self.sums.shown.pop(name, None)
+        self.kept[name].keep(self.sums.of_shown(name))
+
+    @property
+    def is_done(self) -> bool:
+        return len(self.done) == len(self.all) and not self.again
+
+    def say(self, text: str) -> None:
+        print(f"[{self.timer}] {text}", flush=True)
+
+    def left(self) -> str:
+        return f"{len(self.all) - len(self.done)} of {len(self.all)} crates are left"
+
+
 def prove_all(running: dict[str, Work], is_check: bool) -> int:
-    timer, named = common.Timer(), common.libraries()
-    tops = named if is_check else ["ob0"]
-    left = list(dict.fromkeys(it for top in tops for it in common.below(top, named)))
-    total = len(left)
-    done: dict[str, Modules] = {}
-
-    def say(text: str) -> None:
-        print(f"[{timer}] {text}", flush=True)
-
-    say(f"proving {total} crates: {' '.join(left)}")
-    most, shown_at = lanes(), time.monotonic()
-    # (what has the longest chain above it goes first)
-    heights = {name: chain(name, named) for name in left}
-    while left or running:
-        ready = [it for it in left if all(low in done for low in named[it])]
-        ready.sort(key=lambda it: -heights[it])
+    plan = Plan(is_check)
+    ready, most, shown_at = plan.ready(running), lanes(), time.monotonic()
+    plan.say(f"{len(plan.done)} of {len(plan.all)} crates are up to date")
+    while not plan.is_done:
         # (a check with more jobs takes more of the processors in all, so it gets those alone that nobody else wants)
         jobs = max(1, processors() // max(1, min(most, len(ready) + len(running))))
         for name in ready:
             if len(running) < most:
-                left.remove(name)
-                running[name] = Work(name, named, jobs, is_check)
-                say(f"{name}: proving it; {total - len(done)} of {total} crates are left")
+                running[name] = Work(name, plan.named, jobs, is_check)
+                plan.say(f"{name}: {'building its library again' if name in plan.done else 'proving it'}; {plan.left()}")
         time.sleep(0.2)
         for name, work in list(running.items()):
             if work.process.poll() is None:
@@ -210,23 +391,30 @@ def prove_all(running: dict[str, Work], is_check: bool) -> int:
             if work.process.returncode:
                 end_all(running)
                 print(work.said()[-4000:], file=sys.stderr)
-                say(f"{name}: NOT PROVED; the end of crates/{name}/out/build.log is above")
+                plan.say(f"{name}: NOT PROVED; the end of crates/{name}/out/build.log is above")
                 return 1
-            done[name] = work.modules()
-            say(f"{name}: proved{f', {done[name]}' if is_check else ''}; {total - len(done)} of {total} crates are left")
-        if time.monotonic() - shown_at > STEP:
+            plan.take(name, work.modules())
+            plan.say(f"{name}: proved{f', {plan.done[name]}' if is_check else ''}; {plan.left()}")
+        ready = plan.ready(running)
+        if time.monotonic() - shown_at > STEP and running:
             shown_at = time.monotonic()
-            at = "; ".join(f"{it.name}{it.at()}" for it in running.values())
-            if at:
-                say(f"at {at}; {total - len(done)} of {total} crates are left")
-    if is_check:
-        again = sum(it.checked > 0 for it in done.values())
-        sums = Modules(*(sum(it) for it in zip(*done.values())))
-        say(f"{total} crates are proved over kept work: {sums}, the latter in {again} of them")
-        say("this is not the gate: `make test` is")
+            plan.say(f"at {'; '.join(f'{it.name}{it.at()}' for it in running.values())}; {plan.left()}")
+    return end(plan)
+
+
+def end(plan: Plan) -> int:
+    """Says what was done, and keeps the program where one was built."""
+    if plan.is_check:
+        found = plan.done.values()
+        again = sum(it.checked > 0 for it in found)
+        total = Modules(*(sum(it) for it in zip(*found)))
+        plan.say(f"{len(plan.all)} crates are proved over kept work: {total}, the latter in {again} of them")
+        if plan.alike:
+            plan.say(f"{len(plan.alike)} were left, since of those below them bodies and proofs alone changed")
+        plan.say("this is not the gate: `make test` is")
         return 0
     common.keep(os.path.join(TOP, "crates", "ob0", "out", "ob0"))
-    say(f"built {os.path.relpath(BINARY, TOP)}")
+    plan.say(f"built {os.path.relpath(BINARY, TOP)}")
     return 0
 
 

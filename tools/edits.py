@@ -5,7 +5,7 @@ from __future__ import annotations
 import os
 import re
 from collections.abc import Callable, Iterable
-from typing import Dict, Tuple
+from typing import Dict, NamedTuple, Optional, Tuple
 
 import common
 import reading
@@ -13,10 +13,51 @@ import reading
 Lines = Dict[Tuple[str, int], str]  # the lines that an edit changes, by path and number
 OF_GATE, OTHERS = "gate-mutants", "wrong-bodies"
 PLACES = (OF_GATE, OTHERS)
+FIRST_LINE = re.compile(r"# (?:.*: r|R)efused by (the clause|the loop|the invariant|(?:the clause )?`\w+`(?: and `\w+`)*) of `([\w:]+)`")
+
+
+class Claim(NamedTuple):
+    """What the first line of a mutant says: the function that is refused, and the clauses that refuse it ('the clause' and 'the
+    loop' where they have no name, 'the invariant' where it is that of a type)."""
+
+    function: str
+    clauses: Tuple[str, ...]
+
+    def is_of(self, function: reading.Function) -> bool:
+        return f"::{function.path}".endswith(f"::{self.function}")
+
+    def is_goal(self, goal: str) -> bool:
+        """Whether a goal, by the prover's name for it, is one of these clauses."""
+        return "-requires" not in goal and any(is_goal_of(it, goal) for it in self.clauses)
+
+
+def is_goal_of(clause: str, goal: str) -> bool:
+    """Whether a goal of a function is that of one of its clauses."""
+    if clause == "the loop":
+        return bool(re.search(r"(?:^|-)loop-", goal))
+    if clause == "the invariant":
+        return "invariant_of-" in goal
+    if clause == "the clause":
+        return "returns" in goal and "-clause-" not in goal
+    return bool(re.search(rf"(?:^|-)clause-{clause}(?:-|$)", goal))
+
+
+def is_of_contract(goal: str) -> bool:
+    """Whether a goal of a function is that of one of its clauses, of a loop or of a type's invariant, and not what it needs to run."""
+    named = "returns" in goal or "clause-" in goal or is_goal_of("the loop", goal) or is_goal_of("the invariant", goal)
+    return named and "-requires" not in goal
+
+
+def claim_of(text: str) -> Optional[Claim]:
+    """What a mutant's first line says, where it has the form 'WHAT: refused by CLAUSE of `FUNCTION`'."""
+    found = FIRST_LINE.match(text)
+    if not found:
+        return None
+    return Claim(found[2], tuple(re.findall(r"`(\w+)`", found[1])) or (found[1],))
 
 
 class Edit:
-    """One mutant: the lines that it changes, and the functions that these belong to."""
+    """One mutant: the lines that it changes, the functions that these belong to, and what its first line says."""
 
     def __init__(self, crate: str, place: str, name: str) -> None:
         self.crate, self.name = crate, f"{place}/{name}"
@@ -24,6 +65,8 @@ class Edit:
         self.lines, self.why = changed_lines(self.file, os.path.join(common.TOP, "crates", crate))
         self.adds_loop = loops_added(self.file) > 0
         self.turned: set[reading.Function] | None = None
+        with open(self.file, encoding="utf-8") as it:
+            self.claim = claim_of(it.readline())
 
     @property
     def is_of_gate(self) -> bool:

@@ -1,10 +1,11 @@
 """Tries the mutants of the gate, crates/*/gate-mutants: the prover has to refuse each, for the function and the clause that its
 first line names.
 
-`make test` calls this after `rt ci`, over the libraries that `rt ci` has proved. A mutant is tried by a check from nothing of
-the function that it turns and of what that calls (`rattle check --only`), as many side by side as processors and memory allow.
-Where such a check ends without a verdict it is made once more, alone; and where that has none either, all crates are proved as
-`make check` does, and the mutant is tried over what that keeps."""
+`make test` calls this after `rt ci`, over the libraries that `rt ci` has proved. A mutant is tried by a check of the function that
+it turns and of what that calls (`rattle check --only`), those of one crate one after the other, each over what the ones before it
+kept in this run; as many crates side by side as processors and memory allow. Where such a check ends without a verdict it is made
+once more, alone; where that has none either, the whole crate is checked with the mutant; and where a library lacks, all crates are
+proved as `make check` does, and the mutant is tried over what that keeps."""
 from __future__ import annotations
 
 import os
@@ -30,34 +31,13 @@ BAD, LIMIT, NOT_TRIED = "BAD EDIT", "ONLY A LIMIT", "NOT TRIED"
 # What counts: that the function is refused. One that is refused elsewhere than its first line says is reported and counted.
 COUNTED = (REFUSED, ELSEWHERE)
 README = os.path.join(TOP, "README.md")
+# What the checks of this run keep, a folder for each crate.
+KEPT = os.path.join(build.ROOMS, "kept")
 COUNT = re.compile(r"every proof, (\d+) wrong versions")
 # (what `rt ci` says of a crate that it has proved, or that an earlier run on the machine has)
 HAS_PROVED = re.compile(r"rt: (\w+) (?:proved$|is kept: )")
-FIRST_LINE = re.compile(r"# .*: refused by (the clause|the loop|`\w+`(?: and `\w+`)*) of `([\w:]+)`")
 # (the exit status of a check in which the prover stopped at a limit of its own, and refused nothing)
 COULD_NOT_TELL = 3
-
-
-class Claim(NamedTuple):
-    """What the first line of a mutant says: the function that is refused, and the clauses that refuse it ('the clause' and 'the
-    loop' where they have no name)."""
-
-    function: str
-    clauses: Tuple[str, ...]
-
-    def is_of(self, function: reading.Function) -> bool:
-        return f"::{function.path}".endswith(f"::{self.function}")
-
-    def is_goal(self, goal: str) -> bool:
-        """Whether a goal, by the prover's name for it, is one of these clauses."""
-        for clause in self.clauses:
-            if clause == "the loop" and goal.startswith("loop-") and "-requires" not in goal:
-                return True
-            if clause == "the clause" and "returns" in goal and "-clause-" not in goal and "-requires" not in goal:
-                return True
-            if re.search(rf"(?:^|-)clause-{clause}(?:-|$)", goal) and "-requires" not in goal:
-                return True
-        return False
 
 
 class Outcome(NamedTuple):
@@ -68,15 +48,7 @@ class Outcome(NamedTuple):
     why: str
 
 
-def claim_of(text: str) -> Optional[Claim]:
-    """What a mutant's first line says, where it has the form 'WHAT: refused by CLAUSE of `FUNCTION`'."""
-    found = FIRST_LINE.match(text)
-    if not found:
-        return None
-    return Claim(found[2], tuple(re.findall(r"`(\w+)`", found[1])) or (found[1],))
-
-
-def judge(edit: edits.Edit, claim: Claim, said: Said, functions: Iterable[reading.Function]) -> Outcome:
+def judge(edit: edits.Edit, claim: edits.Claim, said: Said, functions: Iterable[reading.Function]) -> Outcome:
     """What a check says of a mutant. It is refused where the function that its first line names is not proved; elsewhere, where no
     goal of a clause that the line names is among what refuses it."""
     error = wrong_bodies.unreadable(said, edit)
@@ -90,25 +62,13 @@ def judge(edit: edits.Edit, claim: Claim, said: Said, functions: Iterable[readin
         return Outcome(edit, PROVED, f"`{claim.function}` is proved with it")
     if not refused or not said.ended:
         return Outcome(edit, NOT_TRIED, f"the check doesn't judge `{claim.function}`: {said.text[-300:].strip()}")
-    goals = [goal for it in refused for goal in said.goals(it)]
-    errors = [it for name in refused for it in said.proof_errors(name, symbols[name])]
-    named = [it for it in goals if claim.is_goal(it.partition(" ")[0])] + unproved_by_answer(claim, errors)
+    goals = [goal for it in refused for goal in said.refusing(it, symbols[it])]
+    named = [it for it in goals if claim.is_goal(wrong_bodies.name_of(it))]
     if named:
         return Outcome(edit, REFUSED, f"`{claim.function}`, {named[0]}")
+    errors = [it for name in refused for it in said.proof_errors(name, symbols[name])]
     others = "; ".join(goals or errors or [said.verdicts[it] for it in refused])
     return Outcome(edit, ELSEWHERE, f"`{claim.function}` is refused, but not by {' or '.join(claim.clauses)}: {others[:300]}")
-
-
-def unproved_by_answer(claim: Claim, errors: Iterable[str]) -> list[str]:
-    """The goals of a claim's clauses that the answers in the function's proof don't prove any more, though all that they name is
-    there."""
-    found = []
-    for line in errors:
-        at = wrong_bodies.ERROR.match(line)
-        goal = (at[3] or "").strip("`") if at else ""
-        if at and goal and claim.is_goal(goal) and not wrong_bodies.NAMES_LOST.search(at[4]):
-            found.append(f"{goal}, by its answer at {at[1]}:{at[2]}")
-    return found
 
 
 class Libraries:
@@ -137,7 +97,8 @@ class Libraries:
         return os.path.join(self.folder, f"{crate}.rlib")
 
     def words(self, crate: str, only: Iterable[str]) -> Optional[list[str]]:
-        """The command that checks some functions of a crate from nothing over these libraries, or None where one lacks."""
+        """The command that checks some functions of a crate over these libraries (all where none is given), or None where one
+        lacks."""
         lines = common.listed()
         below = [it for it in common.below(crate) if it != crate]
         if not all(os.path.isdir(self.place(it)) for it in below):
@@ -158,8 +119,7 @@ class Mutant:
 
     def __init__(self, edit: edits.Edit, source: reading.Source) -> None:
         self.edit, self.source = edit, source
-        with open(edit.file, encoding="utf-8") as file:
-            self.claim = claim_of(file.readline())
+        self.claim = edit.claim
         turned = source.proved_with(edit.turned or ())
         self.named = [it for it in turned if self.claim and self.claim.is_of(it)]
         # (functions that call each other have one proof, and the prover may refuse it under any of their names)
@@ -176,16 +136,18 @@ class Mutant:
 
     @property
     def asked(self) -> list[str]:
-        """The paths under which its functions are asked for: of a method of a trait its type's, which stands for all of it."""
-        return sorted({"::".join([*it.module, it.owner]) if it.trait else it.path for it in self.named})
+        """The paths under which its functions are asked for."""
+        return sorted({it.checked_as for it in self.named})
 
-    def try_over(self, libraries: Libraries) -> Outcome:
-        """Tries it by a check of its functions alone."""
+    def try_over(self, libraries: Libraries, is_whole: bool = False) -> Outcome:
+        """Tries it by a check of its functions alone, or of the whole crate, over what those before it kept."""
         if self.fault or not self.claim:
             return Outcome(self.edit, BAD, self.fault or "")
-        words = libraries.words(self.edit.crate, self.asked) if self.edit.crate in libraries.proved else None
+        only = [] if is_whole else self.asked
+        words = libraries.words(self.edit.crate, only) if self.edit.crate in libraries.proved else None
         if not words:
             return Outcome(self.edit, NOT_TRIED, "`rt ci` left no library of it, or of a crate below")
+        words += ["--incremental", os.path.join(KEPT, self.edit.crate)]
         with tempfile.TemporaryDirectory(dir=build.ROOMS) as room:
             self.furnish(room)
             how: dict[str, Any] = {"stdin": subprocess.DEVNULL, "stdout": subprocess.PIPE, "stderr": subprocess.STDOUT}
@@ -226,16 +188,20 @@ def say(outcome: Outcome) -> Outcome:
     return outcome
 
 
-def try_side_by_side(chosen: list[Mutant], libraries: Libraries, lanes: int) -> list[Outcome]:
-    """Tries mutants, some side by side, and says what each came to, but for those that can be tried in another way."""
-    os.makedirs(build.ROOMS, exist_ok=True)
+def try_side_by_side(chosen: list[Mutant], libraries: Libraries, lanes: int, is_whole: bool) -> list[Tuple[Mutant, Outcome]]:
+    """Tries mutants, those of some crates side by side, and says what each came to, but for those that can be tried in another
+    way."""
+    os.makedirs(KEPT, exist_ok=True)
 
-    def one(mutant: Mutant) -> Outcome:
-        found = mutant.try_over(libraries)
-        return found if found.word == NOT_TRIED else say(found)
+    def one(mutant: Mutant) -> Tuple[Mutant, Outcome]:
+        found = mutant.try_over(libraries, is_whole)
+        return mutant, found if found.word == NOT_TRIED else say(found)
+
+    def of_crate(crate: str) -> list[Tuple[Mutant, Outcome]]:
+        return [one(it) for it in chosen if it.edit.crate == crate]
 
     with ThreadPoolExecutor(lanes) as pool:
-        return list(pool.map(one, chosen))
+        return [it for found in pool.map(of_crate, dict.fromkeys(it.edit.crate for it in chosen)) for it in found]
 
 
 def try_over_all(left: list[Mutant]) -> list[Outcome]:
@@ -280,11 +246,11 @@ def try_all(libraries: Libraries, lanes: int, is_gate_passed: bool) -> tuple[int
     """Tries all mutants of the gate, and returns how many were refused, and how many were not. Those of crates that the gate didn't
     prove are not tried."""
     left, settled = mutants_of_gate(), []
-    for count in (lanes, 1):
-        found = try_side_by_side(left, libraries, count)
-        left = [it for it, outcome in zip(left, found) if outcome.word == NOT_TRIED]
-        settled += [it for it in found if it.word != NOT_TRIED]
-    unknown = [it for it in found if it.word == NOT_TRIED]
+    for count, is_whole in ((lanes, False), (1, False), (lanes, True)):
+        found = try_side_by_side(left, libraries, count, is_whole)
+        left = [it for it, outcome in found if outcome.word == NOT_TRIED]
+        settled += [outcome for _, outcome in found if outcome.word != NOT_TRIED]
+    unknown = [outcome for _, outcome in found if outcome.word == NOT_TRIED]
     if left and is_gate_passed:
         print(f"{len(left)} had no verdict, as {unknown[0].edit.path}: {unknown[0].why}", flush=True)
         return counted(settled + try_over_all(left), count_of_readme())

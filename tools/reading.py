@@ -34,6 +34,12 @@ class Function:
         return "::".join([*self.module, *([self.owner] if self.owner else []), self.name])
 
     @property
+    def checked_as(self) -> str:
+        """As the checker names it below its crate: a method of a trait belongs to its type and the trait, in one word."""
+        of_trait = "".join(it for it in self.impl_words if it != self.owner)
+        return "::".join([*self.module, self.owner + of_trait, self.name]) if self.trait else self.path
+
+    @property
     def gives(self) -> bool:
         """Whether it has a result, or writes through an argument."""
         text = " ".join(self.head)
@@ -237,7 +243,7 @@ class Source:
             head = head[len(generics) :]
             cut = head.index("for") if "for" in head else None
             owner = next((it for it in head[0 if cut is None else cut + 1 :] if it.isidentifier()), "()")
-            hidden = {"mut", "dyn", "for", *generics}
+            hidden = {"mut", "dyn", "for", *parameters(generics)}
             said = tuple(it for it in dict.fromkeys(head) if it.isidentifier() and it not in hidden)
             inner = scope.inside(owner=owner, trait="" if cut is None else head[0], impl_words=() if cut is None else said)
         self.items(words[opens + 1 : -1], inner)
@@ -278,6 +284,16 @@ def close_angle(words: list[str]) -> int:
         if not depth:
             return at + 1
     return len(words)
+
+
+def parameters(generics: list[str]) -> list[str]:
+    """The names that angle brackets declare, without what bounds them."""
+    found, depth = [], 0
+    for at, word in enumerate(generics):
+        if depth == 1 and generics[at - 1] in ("<", ",", "const"):
+            found.append(word)
+        depth += (word in "<([") - (word in ")]" or word == ">" and generics[at - 1] != "-")
+    return found
 
 
 def brings(words: list[str], at: Module, module: Module, name: str) -> bool:

@@ -7,6 +7,7 @@ named and not unfolded (`CLOSED`); what is needed only for the edits that answer
 last part. With --check the page isn't written: it fails where the page isn't of these sources."""
 from __future__ import annotations
 
+import math
 import os
 import re
 import sys
@@ -25,108 +26,290 @@ Key = Tuple[str, str, str]  # a crate, a file and a name
 
 # ---- what is on the page
 
-# (the contracts that carry the headline, and those of the program step by step)
-HEADLINE = [("ob0_world", "world", "play"), ("ob0_world", "world", "play_in")]
-STEPS = [("ob0_world", "world", "step"), ("ob0_session", "serving", "serve")]
-# (what `serve` promises in each of its rows)
-TIE = [("ob0_session", "Serving", "Served")]
+# (the contracts that carry the headline, that of what the program calls, the law that joins them, and an event)
+HEADLINE = [("ob0_world", "world", "play_in"), ("ob0_world_rules", "laws", "in_every_interleaving")]
+SERVE = ("ob0_session", "serving", "serve")
+LAW = ("ob0_world_determined", "laws", "a_conversation_is_served")
+STEP = ("ob0_world", "world", "step")
+# (laws that the words name)
+LAWS = [("ob0_world_rules", "laws", name) for name in ("one_step", "a_course_fits", "answers_are_one", "edits_keep_the_run", "server_mirrors")]
+LAWS += [("ob0_world", "laws", "versions_suffice")]
 # (on the first screen, in this order)
 FIRST = [("ob0_world_rules", "Headline", name) for name in ("Headline", "Holds", "KeepsTheRun", "IsRight", "AreUpToDate")]
-# (where the last part begins)
+FIRST += [("ob0_world_rules", "Laws", "InEveryInterleaving")]
+# (where the part on edits begins)
 EDITS = [("ob0_world_rules", "Answers", name) for name in ("GivesEdits", "Refuses")]
 # (what is named and not unfolded, and what it says)
 CLOSED = {
-    ("ob0_session_server", "Answers", "Answers"): "in the one state the session replies to this content with these contents, and "
-    "then it is in the other state: docs/PROTOCOL.md, all but the framing",
-    ("ob0_session_server", "Answers", "ServerState"): "what a session keeps: how far its lifecycle is, what the client can do, "
-    "and `held`, the open documents",
+    ("ob0_session_server", "Answers", "reacts"): "docs/PROTOCOL.md as a function, all but the framing: of a state and of what a content "
+    "means, the state afterwards and what is to be said",
+    ("ob0_session_server", "Answers", "SaysReply"): "nothing is sent, or one content, the JSON text of what is to be said: a "
+    "publication, a result or an error, as docs/PROTOCOL.md has it",
+    ("ob0_rpc", "Messages", "ReadsContent"): "the bytes are the JSON text of this value; none, where they aren't JSON",
+    ("ob0_rpc", "Messages", "meaning"): "a request with its id, method and params, a notification, a response, or no message",
+    ("ob0_session_server", "Answers", "ServerState"): "what a session keeps: `phase`, how far its lifecycle is; what the client can "
+    "do; and `held`, the open documents, as in part 2",
     ("ob0_session_server", "Answers", "start"): "the state of a new session, before `initialize`",
     ("ob0_session_server", "Answers", "begins"): "the state after the `initialize` of this client, with no document open",
-    ("ob0_session_server", "Steps", "IsGoingOn"): "the lifecycle isn't at its end",
+    ("ob0_session_server", "Steps", "IsGoingOn"): "no `exit` has ended the session",
     ("ob0_world_editor", "Beginning", "client_for"): "what this editor can do: it takes edits with the versions of their "
     "documents and code actions as literals, and counts positions in this unit",
     ("ob0_world_editor", "Beginning", "initialize_message"): "the JSON of its `initialize`",
-    ("ob0_rpc", "Messages", "ReadsContent"): "the bytes are the JSON text of this value",
     ("ob0_world_editor", "Heard", "SaysToServer"): "by the protocol's own reader the content is the notification or the request "
-    "that this message of the model stands for",
+    "that this message of the model means",
     ("ob0_world_editor", "Understood", "understood"): "what the editor reads in a content: a publication, or the edits that answer "
     "a request that it sent",
     ("ob0_frame", "Framing", "Feeds"): "these bytes, after what was left before, are messages with these contents, and leave this: "
-    "a part of a message, or what no message can begin with",
+    "a part of a message, or what no message can begin with (there is at most one such list: the law `feeding_is_determined` of that crate)",
     ("ob0_frame", "Framing", "Rest"): "what is left: `Open` with the bytes of a part of a message, or `Broken`",
     ("ob0_frame", "Frames", "frame"): "the message with this content, as it is written: its head, which gives the length, and it",
+    ("ob0_frame", "Head", "max_content"): "16,777,216, the bytes that a content may have",
 }
+# (what is named in a part and unfolded in a later one, and what it says)
+LATER: dict[Key, tuple[int, str]] = {
+    ("ob0_world", "Code", "event_of"): (3, "an event of the code as one of the model: `OpenDoc` as `open_document`, `Take` as `take_message` and "
+    "so on, uris and names by their bytes, texts by their characters"),
+    ("ob0_world", "Code", "all_applied"): (3, "the edits applied that the code returns: of each its uri, the text before and the text after"),
+    ("ob0_world", "Code", "all_made"): (3, "the publications that the code returns: of each its uri, version and text, and whether its list is empty"),
+    ("ob0_session", "Noted", "device_of"): (3, "the reader or the writer that `Noted` takes notes of"),
+    ("ob0_session", "Noted", "has_failed"): (3, "a call of it has returned an error"),
+    ("ob0_session", "Noted", "is_flushed"): (3, "a flush has succeeded since the last write, or nothing was written"),
+    ("ob0_session", "Noted", "reads_of"): (3, "how many reads were made of it, and how many bytes one could give at most"),
+    ("ob0_session", "Serving", "IsTaken"): (3, "the bytes were taken by at most 2^40 reads of at most 8,192 bytes each"),
+    ("ob0_session", "Serving", "AreAllRead"): (3, "2^40 reads were made in this call (the count goes no further than 2^64 - 1)"),
+    ("ob0_session", "Serving", "max_reads"): (3, "2^40"),
+    ("ob0_session", "Serving", "IsFlushedAfter"): (3, "the writer is flushed, if it was so before or anything was written"),
+    ("ob0_scan", "Classes", "reserved_text"): (4, "a reserved word as it is written: the name of the case in capitals, `BEGIN` for `Begin`"),
+    ("ob0_scan", "Classes", "symbol_text"): (4, "a symbol as it is written: `And` is `&`, `NotEqual` is `#`, `Not` is `~`, `Becomes` is `:=`, and the others are what their "
+    "names say"),
+}
+# (what is no definition of this repository's crates, or a type of the code whose words suffice)
+WORDS = (
+    ("Noted", "a reader or a writer, and notes of it: whether a call has failed, whether it is flushed, how it was read", "`ob0_session`"),
+    ("R.remaining d, W.contents d", "the bytes that a device has left to give, and those that were written to it, where its type knows them", "`std::io`"),
+    ("Data", "a JSON value", "`serde_json`"),
+    ("Change, Ask, Applied", "the code's type for a change, an ask, an edit that was applied; the model's has the same parts", "`ob0_text`, `ob0_world_editor`"),
+)
+# (types of the code in them)
+LATER_TYPES = [("ob0_scan", "lexeme", "Reserved"), ("ob0_scan", "lexeme", "Symbol")]
 # (the sections of docs/LANGUAGE.md by which the language is ordered)
 SECTIONS = ["Runs", "Types", "Scopes", "Nesting and limits", "Grammar", "Lexemes"]
-# (the title of a part, and what one may believe instead of reading it)
-PARTS = [
-    ("Part 0: the headline", None),
-    ("Part 1: client and server", "that client, server and the two queues between them are what the premises say, and that an edit "
-     "is applied exactly where the document is the one that was asked about, unchanged"),
-    ("Part 2: texts and patches", "LSP 3.17 on positions and lists of edits, and docs/PROTOCOL.md, Positions and Documents"),
-    ("Part 3: the tie to the program", "that `play_in` runs the session that `ob0 serve` runs: it returns what that session took and "
-     "sent, which is a `Conversation` from a session's beginning on, and so is what `serve` has read and written (`Served`, in each row of "
-     "its contract at the head of part 6)"),
-    ("Part 4: Oberon-0", "docs/LANGUAGE.md: each group is under the rules of that page that it states, and says the same again"),
-    ("Part 5: which edits answer a request", "docs/PROTOCOL.md, Requests on documents 6 to 10. The other parts name `GivesEdits` and "
-     "`Refuses` without them: that each edit keeps the run needs nothing of this part; that a server that refuses all is excluded "
-     "needs it"),
-    ("Part 6: step by step, and by each result of `serve`", "that `World::step` promises of each event what `Plays` says of all, and "
-     "that in each of its rows `serve` promises `Served`"),
+# (the title of a part, what it says in words, and what one may believe instead of reading it)
+PARTS: list[tuple[str, list[str], str]] = [
+    ("Part 0: the headline", [], ""),
+    (
+        "Part 1: client and server",
+        [
+            "`Ends` has both. The editor has documents, the requests that it sent and the answers that it keeps; the server has "
+            "documents; between them is a queue each way; and there are the edits applied and the publications made so far. An `Event` "
+            "is one of three: the editor acts, the server takes the first message that waits for it and sends what it replies, the "
+            "editor takes the first that waits for it. `Happens` says what each leaves, and `Course` what a list of them leaves. What "
+            "an event leaves is determined (the law `one_step`; part 6 has the laws), and so is the answer to a request (`answers_are_one`). "
+            "That each request has one, so that a list of events leads somewhere, is no law (`a_course_fits` supposes it): an `Ok` of "
+            "`play_in` shows it of its list.",
+            "*The server* (`Replies`): to a document that was opened or changed it replies with a publication with the document's "
+            "version, whose list is empty exactly where the text is a well-typed module; to one that was closed with an empty list "
+            "without a version; to a request with the edits that were requested (`AnswersFor`, by part 5), or none. It has a document's "
+            "version and text (`InStep`), or doesn't know its text (`OutOfStep`, as after a notification that it couldn't read, `Lost`). "
+            "The editor sends no `Lost`, and once all is taken each of its documents is `InStep` in the server (`server_mirrors`).",
+            "*The editor* (`done_by`) sends each opening, change and close. It makes the edits of an answer (`applies`) where its "
+            "document is the same opening with the same version as when it asked, and no two of them share a character; else it drops "
+            "them. It may take any time for that. One that counts no openings, compares the version in an answer with its document's, and drops "
+            "what it asked about a document before this was opened again, does the same with an answer (the law `versions_suffice`). "
+            "By `versions_are_named`, of which docs/PROMISES.md has the words, edits that answer a request name that version, but for those of "
+            "a formatting, which name none.",
+        ],
+        "that client, server and the two queues between them are what part 0 says, and that an edit is applied exactly where the "
+        "document is the one that was asked about, unchanged",
+    ),
+    (
+        "Part 2: texts and patches",
+        [
+            "A text is the list of its characters. A position is a line and a number of units from the line's start; before it are all "
+            "earlier lines, and of its own at most that number of units. Edits are made at once: each takes out what is between its "
+            "two positions in the old text and puts its own text there, and no two may share a character. A change of a document is "
+            "one such edit, or the whole text; the changes of one notification are made one after the other.",
+        ],
+        "LSP 3.17 on positions and lists of edits, and docs/PROTOCOL.md, Positions and Documents",
+    ),
+    (
+        "Part 3: the tie to the program",
+        [
+            "*What the model is tied to.* `play_in` returns edits, publications and contents (`Played`), at an `Err` also how many events "
+            "went before (`steps` of `PlayFault`). By `Plays` there is a course in which each event of the model was an event of a session "
+            "too (`BothCourse`, of which each is a `BothStep`), from an `initialize` with fixed capabilities on (`Begins`). "
+            "`Wire` has the session, and all contents that pass. When the server takes a message, the "
+            "session replies to the first content that waits (`TakesFirst`); what the editor writes waits after the others; an event "
+            "moves nothing else. After each event the contents that wait say the messages of the model, and the session's documents "
+            "are the model's (`IsTied`). The session took `taken`, and sent `got`, which the editor has taken, and then `unread`. The contract says "
+            "that there are such a session and course, and not how the body of `play_in` found them.",
+            "*What the program calls.* `ob0 serve` calls `ob0_session::serve`, the first contract below, over standard input and output, whose types don't know "
+            "the bytes that passed: there what follows is tested. It ends with the status of an `Ok`, and at an `Err` with 3, 4 or 5 (docs/PROTOCOL.md, The program). By the contract the bytes that "
+            "`serve` has read have contents (`Feeds`), and those that it has written are the frames of what a session replies to these in "
+            "turn (`Served`). `Serves` says so of each result; the table has it in words.",
+            "Each clause is of the moment at which `serve` returns, and `Noted` has notes of failures, flushes and reads in no order. "
+            "Of the time before something follows all the same. One body is proved for all readers and writers, also for such as fail from "
+            "any call on, and no row has both a failed reader and a failed writer. A body that reads while a reply isn't written and flushed "
+            "would have to do that after the read; where this read fails, and then the writer, no row is left; it has to return all the same, and beforehand it can't know. "
+            "So before each read all replies to the contents read are written and (by `Noted`) flushed. This is an inference, and no theorem; tests "
+            "show it too. (So the comment's 'whatever came before' isn't of a failed read: after that nothing is flushed.)",
+            "*What joins them.* What a session replies to a content is `Answers`, by `reacts`, which is docs/PROTOCOL.md as a function; "
+            "in turn that is a `Conversation`, from `Answers.start` on. `play_in` promises one of the contents that it returns, "
+            "`serve` one of the bytes that it has read and written. The law `a_conversation_is_served`, the second contract below, is "
+            "[`ConversationIsServed`](#determined-of-ob0_world_determined). It says that they are the same: where `serve` returns and "
+            "has read exactly "
+            "the frames of `taken`, it has written exactly the frames of `got` and `unread`, if none of `taken` is longer than a content may "
+            "be, and neither an allocation nor the writer failed. So where `play_in` returns an `Ok`, it doesn't matter that the program doesn't "
+            "call it, nor how its body found what it returns. At an `Err` this holds of the events before; of those that follow no "
+            "tie is proved, only the law of the model "
+            "and the contract of `serve`.",
+        ],
+        "that what `play_in` returns as taken and sent is what `serve`, where it has read the one, has written when it returns",
+    ),
+    (
+        "Part 4: Oberon-0",
+        [],
+        "docs/LANGUAGE.md: each group is under the rules of that page that it states, and says the same again",
+    ),
+    (
+        "Part 5: which edits answer a request",
+        [],
+        "docs/PROTOCOL.md, Requests on documents 6 to 10. The other parts name `GivesEdits` and `Refuses` without them: that each edit "
+        "keeps the run needs nothing of this part; that a server that refuses all is excluded needs it",
+    ),
+    (
+        "Part 6: step by step, laws, and some names of parts 3 and 4",
+        [],
+        "that `World::step` promises of each event what `Plays` says of all, and what the other parts say in words of the laws and names",
+    ),
 ]
+# (what `serve` has written, by what it returns: `Serves`)
+ROWS = """
+| `serve` returns | and has written the frames of | and of this call |
+|---|---|---|
+| `Ok(status)` | all replies up to an `exit`, which gives the status; or all replies, with status 1, where no `exit` came and the input is at its end, between messages | no device failed; flushed |
+| `Err(BadHead)` | all replies to the contents before the place from which no message can begin; no `exit` came | no device failed; flushed |
+| `Err(Truncated)` | all replies; no `exit` came, and the input is at its end, inside a message | no device failed; flushed |
+| `Err(Read)` | all replies to the contents read; no `exit` came | the reader failed, the writer didn't; flushed |
+| `Err(TooManyReads)` | all replies to the contents read; no `exit` came | 2^40 pieces were read, and at least as many bytes; no device failed; flushed |
+| `Err(Write)` | all replies to the first of the contents, but perhaps not the last bytes of these frames | the writer failed, the reader didn't |
+| `Err(Memory)` | all replies to the first of the contents, none in part | no device failed; flushed |
+"""
+AFTER_ROWS = (
+    "A *piece* is what one read gives. *Flushed*: if the writer was flushed before the call, or anything was written in it, the "
+    "writer is flushed at the return. The head "
+    "of a content that is too long is one with which no message begins: the row of `BadHead`."
+)
 SENTENCE = (
     "> In every interleaving of an editor and the server, each edit that the editor applies to a well-typed document leaves a "
     "well-typed module with the same run: the same output and end for every input and every bound on calls and loop turns; and an "
     "open document's latest diagnostics are empty exactly when the text they were made for is a well-typed module."
 )
-# (the premises, an item each)
+# (what it says and doesn't, an item each)
 PREMISES = (
-    "The edits are those of a rename, of an inlining at one place or everywhere, and of a layout.",
-    "It holds with any editor that sends every change, makes the edits of an answer at once and as the protocol says, and drops an "
-    "answer whose document was changed, or closed and opened again, since it asked. Proved is it of the editor of part 1, which does "
-    "so; it also counts versions from 1 in steps of 1, and sends the whole text after an edit. That another editor does its part is "
+    "*The theorem* is the contract of `play_in`, for each list of fewer than 2^63 - 1 events for which it returns an `Ok`. And it is a law "
+    "of the model, without any call: whatever state a list of events leads to, `Holds` is true of it (`in_every_interleaving`).",
+    "*Well-typed* is a text that docs/LANGUAGE.md allows (`WellTypedText`, part 4). A run ends as it should, by an error, or at a bound.",
+    "*The edits* are those of a rename, of an inlining of a constant at one use or everywhere, and of a formatting. They are *applied* where "
+    "the editor makes them in the document that it asked about, while that is open as it was then: the same opening (not closed since) with "
+    "the same version, so the same text. Otherwise, or where two edits share a character (in no answer do they), the answer is dropped. "
+    "All that are applied are made in well-typed texts (`before_fits`).",
+    "*The latest diagnostics* of a document are the last list that the server published for its uri with a version (`last_publication`), "
+    "whether the editor has taken it or not. Once the server has taken all messages, each open document has one, of its present "
+    "version and text (`latest_made`). Until then there may be none, or the last is of a text that the document had with that version, "
+    "in this opening or an earlier one (`made_for`). At a close the server publishes an empty list without a version, which isn't counted.",
+    "*The editor*: It holds with any editor that sends every change, makes the edits of an answer at once and as the protocol says, and "
+    "drops an answer whose document was changed, or closed and opened again, since it asked. Changes are sent in order, columns are "
+    "counted as LSP does, and to take no keys until the answer comes is as good as to drop it. This is our conclusion, and no theorem. "
+    "It is proved of a model that does so (part 1): it opens, changes and closes documents, requests these edits, and applies or drops "
+    "what it gets; it counts versions from 1, sends the whole text after an edit, takes edits that name their document's version and "
+    "code actions that hold their edits, and writes the contents that `play_in` returns. Of a real editor, which may write others "
+    "(other JSON or ids, a hover between), nothing is proved but what `serve` replies to them (part 3): that the headline holds with it is "
     "for tests to show.",
-    "Nothing is lost, added or reordered between the two. The model has contents and no frames: assumed is that no content is longer "
-    "than a frame may be (16,777,216 bytes; at a longer one `serve` ends). A text is a list of Unicode scalar values: half a surrogate "
-    "pair is none.",
-    "Where an allocation fails the result is an `Err`: the headline holds of the events before that, and what was sent remains valid "
-    "(`PlaysBefore`). No contract can say whether one did fail, so none says that an `Err` is rare; nor is it tied to a session.",
-    "`play_in` joins that editor to the session that `serve` runs; the program doesn't call it. Part 3 ties it to `serve`, by one "
-    "relation that both promise. What `main` does (it calls `serve`, and hands its status on) has no contract.",
-    "The contract of `serve` (in part 6) is about a reader and a writer whose types know the bytes that passed. The standard streams' "
-    "don't: there the same code is tested. Of a device's failures it knows what its `Noted` was told, and no more.",
-    "The checker, the compiler and the contracts of libraries are trusted (README.md, What is trusted).",
+    "*Between the two* nothing is lost, added or reordered. A message is a *content*, its JSON text, in a *frame*, after a head with its length. "
+    "No content of the editor is longer than 16,777,216 bytes (a longer one ends `serve`). A text is a list "
+    "of Unicode scalar values, so half of a surrogate pair can't be in one.",
+    "*The program*: `ob0 serve` calls `ob0_session::serve`. `play_in`, which the program doesn't call, also returns all contents that "
+    "a session took and sent in these events. Where `serve` returns and has read the frames of what that session took, it has written the "
+    "frames of what it sent, unless an allocation or the writer failed (part 3: `Plays`, the contract of `serve`, and the law "
+    "`a_conversation_is_served`). Every function returns, and in none is anything undefined (docs/PROMISES.md, Safe and total).",
+    "*Memory*: where an allocation fails `play_in` returns an `Err`. All of this then holds of the events before the one at which it "
+    "failed, or no session had begun and nothing has passed (`PlaysBefore`). `serve` has then written whole replies to the first of "
+    "the contents. The session has ended; what it sent remains valid. No contract can say that an allocation did fail: a function "
+    "that fails always would meet these too. That ours don't is tested.",
+    "*Not promised*: that a list of events leads somewhere (an `Ok` shows it of its list), and that a message that waits is ever taken; when `serve` writes a reply: its clauses are of its "
+    "return (that it writes and flushes it before it reads on is inferred in part 3, and tested); which diagnostics are in a list "
+    "that isn't empty; that a request "
+    "gets edits, except as part 5 says; anything of other requests and of another editor; time, and that memory and the stack suffice. `main`, "
+    "which calls `serve`, has no contract; and `serve` is proved of a reader and a writer whose types know the bytes that passed, which "
+    "the standard streams' don't. Both are tested.",
+    "*Trusted*: the checker and compiler of Rattle (Rust with contracts), the contracts of its libraries, and that the definitions of this "
+    "page say what they are meant to say (README.md, What is trusted).",
 )
 # (what a reader has to know of the notation, an item each)
 READING = (
-    "A heading '`X` of `ob0_y`' is a group of definitions, the file X of that crate; what a definition uses comes after it. *Rule* is "
-    "the text that the group states, and *Elsewhere* leads to what it uses of other groups.",
-    "`name : type`, and then equations, by cases; `_` is any other case. `data` lists the cases of a type; a `record` is a value with "
-    "named parts, or a list of facts that all hold. `record { a = x; b = y }` is one with these parts, `record e { a = x }` is `e` with "
-    "that part replaced.",
-    "`(x : A) → B` is 'for all x', `A → B` 'if A then B', `A × B` 'A and B', `(x : A) × B` 'some x with B', `A ⊎ B` 'A or B', `¬ A` "
-    "'not A', `A ↔ B` 'A exactly if B', `≡` equality, `≢` its contrary; `⊤` and `Unit {0}` always hold, `⊥` never. `IsTrue b` is "
-    "`b ≡ true`; `All P xs` says P of each element.",
-    "`λ x. y` is the function that gives y for x; `let x = y in z` gives y a name in z; `elim x [ p ↦ y | q ↦ z ]` is y or z, by what x "
-    "is, and `if b then y else z` by a truth value. In a `do`, `x ← o` takes the value out of `o`; where `o` has none, the whole has "
-    "none (so has `o >>= f`). An argument in braces is left out where it is clear.",
-    "`List`, `Option`, `Bool`, ℕ and ℤ are lists, optional values, truth values and numbers. `x ∷ xs` is a list with a first element, "
-    "`xs ++ ys` joins two, `p.0` and `p.1` are the parts of a pair. `pos n` is the number n of ℤ, `negsuc n` is -(n + 1). In ℕ `n - m` is "
-    "0 where m is the larger. `==`, `&&`, `||`, `not`, `nat_lt` and `nat_le` give truth values. `fold f a xs` goes over a list from its "
-    "beginning; `slice_get xs n` is the element with index n, if there is one; `take` and `drop` cut after n elements.",
-    "`codes` gives the bytes of a text, `string_bytes` those of a string of the code, `chars` the characters of bytes. A text is the "
-    "list of its bytes or of its characters, as the comments say.",
-    "No name stands twice. In `TokenKind.Comma` the word before the dot is the type whose case it is; in `Lexed.joined` it is the "
-    "group that defines this `joined`, where another group has one too (an operator has a stroke then); `code.Event` is a type of "
-    "the code, where the model has one of that name. `abbrev`, `unfoldable`, `unfolding`, `pub` and the 0 of `Type 0` matter to the checker alone; `mutual` comes "
-    "before definitions that name one another.",
-    "In the contracts `result` is what is returned, `x.now` what an argument is, `x.old` and `x.new` what it was and is afterwards; "
-    "`IfOk result f` and `IfErr result f` say f of the value of an `Ok` and of the error of an `Err`, `OnOk result P` says P where the "
-    "result is an `Ok`. What `requires` says is for the caller to see to.",
+    "*This page*: a heading '`X` of `ob0_y`' is a group of definitions, the file X of that crate, a folder of crates/; what a "
+    "definition uses comes after it. "
+    "*Rule* is the text that the group states, and *Elsewhere* leads to what it uses of other groups.",
+    "*Definitions*: `name : type`, and then equations, by cases; `_` is any other case. `data` lists the cases of a type; a `record` is a "
+    "value with named parts, or a list of facts that all hold. `record { a = x; b = y }` is one with these parts, `record e { a = x }` is "
+    "`e` with that part replaced. In a group the types come first.",
+    "*Facts*: `(x : A) → B` is 'for all x', `A → B` 'if A then B', `A × B` 'A and B', `(x : A) × B` 'some x with B', `A ⊎ B` 'A or B', "
+    "`¬ A` 'not A', `A ↔ B` 'A exactly if B', `≡` equality, `≢` its contrary; `⊤` and the library's `Unit {0}` (`Unit` alone is what "
+    "positions are counted in) always hold, `⊥` never. `IsTrue b` is "
+    "`b ≡ true`; `All P xs` says P of each element, `MatchOption o P f` says P where `o` has no value, and else f of it.",
+    "*Values*: `λ x. y` gives y for x; `let x = y in z` gives y a name in z; `elim x [ p ↦ y | q ↦ z ]` is y or z, by what x is. In a `do`, "
+    "`x ← o` takes the value out of `o`; where `o` has none, the whole has none (so has `o >>= f`). `pos n` is the number n of ℤ, "
+    "`negsuc n` is -(n + 1); in ℕ `n - m` is 0 where m is the larger. `==`, `&&`, `||`, `not`, `nat_lt` and `nat_le` give truth values.",
+    "*Lists*: `x ∷ xs` has x first, `xs ++ ys` joins two; `fold f a xs` goes over one from its beginning, `slice_get xs n` is the element "
+    "with index n, if there is one, `take` and `drop` cut after n elements. `p.0` and `p.1` are the parts of a pair. A text is the list "
+    "of its bytes or of its characters, as the comments say: `codes` and `string_bytes` give bytes, of a text written here and of a "
+    "string of the code, `chars` the characters of bytes.",
+    "*Library*: `FinMap c X` is a finite map from lists to X, by the order `c` of its keys, with `empty`, `get`, `insert` and `remove`; "
+    "`slice_cmp nat_cmp` is the order of lists of numbers, `bytes_eq` says whether two are equal. `length`, `map`, `min` and `max` are as "
+    "elsewhere; `flat_map f xs` joins the lists f x, `list_all p xs` is p of all. `is_some o` says whether `o` has a value, "
+    "`unwrap_or o x` is that or x, `option_to_list` a list of it or none. `len_utf8` is the number of bytes of a character. In ℕ are "
+    "`zero` and `suc n`. A `Vec` of the code has the list `items`; `Global` is the allocator.",
+    "*Names*: no definition has the name of another (but a part of a record, a case or an argument may: `answers` is a case and a part "
+    "of records, `Answers` a relation of part 3). In `TokenKind.Comma` the word before the dot is the type whose case it is; in `Lexed.joined` the "
+    "group that defines this `joined`, where another has one too (an operator has a stroke then): `start` is the model's beginning, "
+    "`Answers.start` a session's. Where two groups have that name, *Elsewhere* leads to the right one. `code.Event` is a type of the code, "
+    "where the model has one of that name. An argument in braces is left out where it is clear. `abbrev`, `unfoldable`, `unfolding`, `pub` "
+    "and the 0 of `Type 0` matter to the checker alone; `mutual` comes before definitions that name one another.",
+    "*Contracts*: `result` is what is returned, `x.now` what an argument is, `x.old` and `x.new` what it was and is afterwards; "
+    "`IfOk result f` and `IfErr result f` say f of the value of an `Ok` and of the error of an `Err`, `OnOk result P` says P where it is "
+    "an `Ok`. What `requires` says is for the caller to see to. A *law* is a function that does nothing: its contract is what is "
+    "proved. `Consumes r s taken` says that a reader that had r to give has "
+    "s left, having given `taken`, `IsAtEnd s` that none is left, and `Appends v w put` that a writer that had v written has w, with `put` "
+    "at its end; where the type of a device knows no bytes these say nothing.",
 )
-LINES_A_MINUTE = 6
+NAMED = "Named and not unfolded"
+# (what the tie of the headline to the program is made of)
+TIE = "Plays PlaysBefore Begins BothCourse BothStep IsTied Conversation Answers Serves Served ConversationIsServed".split()
+# (how many words and lines of definitions are read in a minute)
+WORDS_A_MINUTE, LINES_A_MINUTE = 200, 7
 # (how long a line of code may be)
 WIDTH = 100
+
+
+# (how to read the page)
+HOW = (
+    "Whoever believes that these definitions say what they are meant to say knows what is proved; proofs and code needn't be "
+    "read. Parts 0 to 3 say what is promised, and of which program; part 4 what a module is and does, part 5 which edits are "
+    "right answers, and part 6 has laws and details. Other pages say in words what definitions say, and are named for those words."
+)
+WHOLE = (
+    "The page has all definitions that these need, but for those in the table of part 3, which have words and a place "
+    "instead. That it leaves no other out is its own script's work (`tools/statement.py`), and a test counts them in another way."
+)
+PACES = (
+    f"Times are of {WORDS_A_MINUTE} words and {LINES_A_MINUTE} lines a minute. Lines are those of definitions as the sources lay them out and of "
+    "contracts (which the second table counts in its times alone); words are all others, with those of comments and tables and "
+    "without lists of links. "
+    "To whom the notation is new it takes longer."
+)
+# (how many minutes a plan may take by its name)
+PLANNED = {"Half an hour": 30, "An hour": 60, "Two hours and a quarter": 135}
 
 
 # ---- contracts
@@ -143,7 +326,7 @@ def contract(crate: str, module: str, name: str) -> list[str]:
     first = at
     while text[first - 1].lstrip().startswith("///"):
         first -= 1
-    last = next(i for i in range(at, len(text)) if text[i].strip() == "{")
+    last = next(i for i in range(at, len(text)) if text[i].strip() in ("{", "{}"))
     return textwrap.dedent("\n".join(text[first:last])).splitlines()
 
 
@@ -171,6 +354,7 @@ class Group:
 
     def __init__(self, crate: str, file: File | None, items: list[Any]) -> None:
         self.crate, self.file, self.items = crate, file, items
+        self.place: int | None = None  # its part, where an earlier one has definitions of this file
 
     def rule(self) -> str | None:
         """The rules of docs/LANGUAGE.md that the file states, as its first lines have them."""
@@ -178,9 +362,8 @@ class Group:
         return found[1] if found else None
 
     def heading(self, by_rule: bool) -> str:
-        if self.file is None:
-            return f"Types of the code of `{self.crate}`"
-        name = f"`{self.file.name}` of `{self.crate}`"
+        name = f"`{self.file.name}` of `{self.crate}`" if self.file else f"Types of the code of `{self.crate}`"
+        name = f"{name}, part {self.place}" if self.place else name
         return f"{self.rule()}: {name}" if by_rule and self.rule() else name
 
     def section(self) -> int:
@@ -230,8 +413,13 @@ def by_file(items: Iterable[Item], needs: Callable[[Block], list[Item]]) -> list
         if file not in started:
             started.add(file)
             go(file)
-    groups = [Group(file.crate, file, files[file][::-1]) for file in reversed(order) if file is not None]
+    groups = [Group(file.crate, file, sorted(files[file][::-1], key=is_derived)) for file in reversed(order) if file is not None]
     return groups + [Group(crate, None, items) for crate, items in types.items()]
+
+
+def is_derived(block: Block) -> bool:
+    """Whether a definition is anything but a type that takes no arguments: in its group it comes after these."""
+    return not re.match(r"^(?:pub )?(?:record|data) \w+ : Type", block.code[0])
 
 
 class Page:
@@ -239,14 +427,16 @@ class Page:
         self.sources = Sources()
         named: Callable[[Key], Block] = lambda key: self.sources.files[key[0], key[1]].named[key[2]]
         self.closed = {named(key): (key, says) for key, says in CLOSED.items()}
+        self.later = {named(key): (key, part, says) for key, (part, says) in LATER.items()}
+        late: list[Item] = [*self.later, *(self.sources.type_of(crate, [module], name) for crate, module, name in LATER_TYPES)]
         edits, self.first = [named(key) for key in EDITS], [named(key) for key in FIRST]
-        main = self.sources.closure(roots(self.sources, HEADLINE) + [named(key) for key in TIE], [*edits, *self.closed])
+        main = self.sources.closure(roots(self.sources, [SERVE, LAW, *HEADLINE]), [*edits, *self.closed, *late])
         parts: list[list[Item]] = [[] for _ in PARTS]
         for item in main:
             if item not in self.first:
                 parts[part_of(item)].append(item)
         parts[5] = [item for item in self.sources.closure(edits, [*self.closed]) if item not in main]
-        steps = self.sources.closure(roots(self.sources, STEPS), [*edits, *self.closed])
+        steps = self.sources.closure(roots(self.sources, [STEP, *LAWS]) + late, [*edits, *self.closed])
         parts[6] = [item for item in steps if item not in main + parts[5]]
         self.groups = [by_file(items, self.sources.needs) for items in parts]
         self.groups[4].sort(key=Group.section)
@@ -257,17 +447,20 @@ class Page:
     def give_names(self) -> None:
         """Each item's heading, and the name of each definition on the page: no name stands twice."""
         taken: set[str] = set()
+        headings: set[str] = set()
         for block in self.first:
             self.homes[block] = PARTS[0][0]
             self.take_names(block, taken)
         for part, groups in enumerate(self.groups):
             for group in groups:
+                group.place = part if group.heading(part == 4) in headings else None
+                headings.add(group.heading(part == 4))
                 for item in group.items:
                     self.homes[item] = group.heading(part == 4)
                     if isinstance(item, Block):
                         self.take_names(item, taken)
         for block in self.closed:
-            self.homes[block] = "Named and not unfolded"
+            self.homes[block] = NAMED
             self.take_names(block, taken)
         for item in self.homes:
             if isinstance(item, Declared):
@@ -338,8 +531,8 @@ class Page:
     # ---- writing
 
     def counts(self, items: Sequence[Item]) -> tuple[int, int]:
-        """How many definitions there are, and how many lines they have without comments."""
-        lines = [line.lstrip() for item in items for line in self.lines_of(item)]
+        """How many definitions there are, and how many lines they have without comments, as the sources lay them out."""
+        lines = [line.lstrip() for item in items for line in item.code]
         return len(items), sum(bool(line) and not line.startswith(("--", "//")) for line in lines)
 
     def group_lines(self, group: Group, by_rule: bool) -> list[str]:
@@ -356,9 +549,10 @@ class Page:
         code = [line for i, item in enumerate(items) for line in ([""] if i else []) + item.comment + self.code_of(item)]
         return ["```agda", *code, "```", ""]
 
-    def elsewhere(self, items: Iterable[Block], heading: str) -> list[str]:
-        """Where the names are defined that these use, those of other groups."""
-        found = {need: 0 for item in items for need in self.sources.needs(item) if self.homes.get(need, heading) != heading}
+    def elsewhere(self, items: Iterable[Block], heading: str, named: Iterable[Item] = ()) -> list[str]:
+        """Where the names are defined that these use, those of other groups, and others that are named."""
+        needs = [need for item in items for need in self.sources.needs(item)]
+        found = {need: 0 for need in [*named, *needs] if self.homes.get(need, heading) != heading}
         links = []
         for need in found:
             name = need.name if isinstance(need, Declared) else need.names[0]
@@ -366,45 +560,111 @@ class Page:
         return [*wrapped("Elsewhere: " + ", ".join(links) + "."), ""] if links else []
 
     def part_lines(self, part: int) -> list[str]:
-        title, believe = PARTS[part]
-        items = [item for group in self.groups[part] for item in group.items]
-        many, lines = self.counts(items)
-        out = [f"## {title}", "", *wrapped(f"{many} definitions, {lines:,} lines: {minutes(lines)}. Or believe {believe}."), ""]
-        if part == 6:
-            out += ["```rust", *between(contract(*name) for name in STEPS), "```", ""]
+        title, _, believe = PARTS[part]
+        many, lines = self.counts(self.items_of(part))
+        head = f"{many} definitions, {lines:,} lines: {time_of(self.size(part))}. Or believe {believe}."
+        return [f"## {title}", "", *wrapped(head), "", *self.body(part)]
+
+    def body(self, part: int) -> list[str]:
+        """What is under the heading of a part, and under what it says of itself."""
+        if part == 0:
+            return self.first_lines()
+        out = self.words(part) + self.contracts(part)
+        out += self.named_lines(part)
         for group in self.groups[part]:
             out += self.group_lines(group, part == 4)
-        return out + (self.closed_lines() if part == 3 else [])
+        return out
 
-    def closed_lines(self) -> list[str]:
-        rows = [f"| `{self.names[block, key[2]]}` | {says} | `{key[1]}` of `{key[0]}` |" for block, (key, says) in self.closed.items()]
-        return ["### Named and not unfolded", "", "| Name | What it says | Where it is defined |", "|---|---|---|", *rows, ""]
+    def words(self, part: int) -> list[str]:
+        out: list[str] = []
+        for i, paragraph in enumerate(PARTS[part][1]):
+            out += [*wrapped(f"*In words.* {paragraph}" if i == 0 else paragraph), ""]
+        return out
+
+    def contracts(self, part: int) -> list[str]:
+        """The contracts that a part shows, and what is said of them."""
+        shown = {3: [SERVE, LAW], 6: [STEP, *LAWS]}.get(part, [])
+        if not shown:
+            return []
+        out = ["```rust", *between(contract(*name) for name in shown), "```", ""]
+        out += self.elsewhere([], "", roots(self.sources, shown))
+        return [*out, *ROWS.strip().splitlines(), "", *wrapped(AFTER_ROWS), ""] if part == 3 else out
+
+    def size(self, part: int) -> tuple[int, int]:
+        """How many words and how many lines of definitions and contracts are to be read in a part."""
+        shown = {0: HEADLINE, 3: [SERVE, LAW], 6: [STEP, *LAWS]}.get(part, [])
+        lines = self.counts(self.items_of(part))[1] + sum(read_of(["```", *contract(*name)])[1] for name in shown)
+        return read_of(self.body(part))[0] + len(PARTS[part][2].split()), lines
+
+    def plans(self, how: list[str]) -> list[tuple[str, str, tuple[int, int]]]:
+        """Each way of reading the page: its name, what is read, and the size of that. `how` is what is said before part 1."""
+        half = [self.size(0), read_of(how), read_of(self.named_lines(3))]
+        half += [read_of(self.words(part) + self.contracts(part)) for part in range(1, 4)]
+        tie = [group for group in self.groups[3] if group.file]
+        hour = [*half, *((read_of(self.group_lines(group, False))[0], self.counts(group.items)[1]) for group in tie)]
+        whole = [read_of(how), *map(self.size, range(4))]
+        homes = {block.names[0]: self.homes[block] for group in tie for block in group.items}
+        named = ", ".join(f"[`{name}`](#{slug(homes[name])})" for name in TIE)
+        return [
+            ("Half an hour", "part 0, this section, the notation, the words of parts 1 to 3, and the contracts of part 3 with its two tables", summed(half)),
+            (
+                "An hour",
+                f"with them all of part 3 but the types of the code, so the whole tie: {named} and what they name. The words of parts 1 and 2 are believed",
+                summed(hour),
+            ),
+            ("Two hours and a quarter", "all of parts 0 to 3", summed(whole)),
+        ]
+
+    def named_lines(self, part: int) -> list[str]:
+        """What a part names and doesn't unfold."""
+        rows = [
+            f"| `{self.names[block, key[2]]}` | {says} | [`{block.file.name}`](#{slug(self.homes[block])}) |"
+            for block, (key, at, says) in self.later.items()
+            if at == part
+        ]
+        if part == 3:
+            rows = [
+                f"| `{self.names[block, key[2]]}` | {says} | `{key[1]}` of `{key[0]}` |"
+                for block, (key, says) in self.closed.items()
+            ] + rows
+            rows += [f"| {', '.join(f'`{name}`' for name in names.split(', '))} | {says} | {where} |" for names, says, where in WORDS]
+        heading = NAMED if part == 3 else f"{NAMED}, of part {part}"
+        return [f"### {heading}", "", "| Name | What it says | Where it is defined |", "|---|---|---|", *rows, ""] if rows else []
+
+    def items_of(self, part: int) -> list[Item]:
+        return [*self.first] if part == 0 else [item for group in self.groups[part] for item in group.items]
 
     def table(self) -> list[str]:
-        rows = ["| Part | Definitions | Lines without comments | Careful reading |", "|---|---|---|---|"]
-        for part, (title, _) in enumerate(PARTS):
-            items = self.first if part == 0 else [item for group in self.groups[part] for item in group.items]
-            many, lines = self.counts(items)
-            rows.append(f"| [{title}](#{slug(title)}) | {many} | {lines:,} | {minutes(lines)} |")
+        rows = ["| Part | Definitions | Lines without comments | Words | Careful reading |", "|---|---|---|---|---|"]
+        for part, (title, _, _) in enumerate(PARTS):
+            many, lines = self.counts(self.items_of(part))
+            size = self.size(part)
+            rows.append(f"| [{title}](#{slug(title)}) | {many} | {lines:,} | {size[0]:,} | {time_of(size)} |")
         return rows
 
     def first_lines(self) -> list[str]:
-        out = ["# The statement", "", f"<!-- Made by `make statement` of the sources. -->", "", f"## {PARTS[0][0]}", ""]
-        out += [*quoted(SENTENCE), ""]
+        out = [*quoted(SENTENCE), ""]
         out += [line for item in PREMISES for line in wrapped(f"- {item}", "  ")]
         out += ["", "```rust", *between(contract(*name) for name in HEADLINE), "```", ""]
-        return out + self.fenced(self.first) + self.elsewhere(self.first, PARTS[0][0])
+        return out + self.fenced(self.first) + self.elsewhere(self.first, PARTS[0][0], roots(self.sources, HEADLINE))
+
+    def how_to_read(self) -> list[str]:
+        """What is said between part 0 and part 1."""
+        head = ["## How to read it", "", *wrapped(HOW), "", *wrapped(WHOLE), ""]
+        tail = [*wrapped(PACES), "", *self.table(), "", "## The notation", ""]
+        tail += [line for item in READING for line in wrapped(f"- {item}", "  ")] + [""]
+        plans: list[str] = []
+        for _ in range(2):  # (the plans are to be read too)
+            plans = ["| Plan | What is read | Words | Lines | Careful reading |", "|---|---|---|---|---|"]
+            for name, what, size in self.plans(head + plans + tail):
+                if minutes(size) > PLANNED[name]:
+                    common.stop(f"the plan {name!r} takes {minutes(size)} minutes")
+                plans.append(f"| {name} | {what} | {size[0]:,} | {size[1]:,} | {time_of(size)} |")
+        return [*head, *plans, "", *tail]
 
     def text(self) -> str:
-        out = self.first_lines() + ["## How to read it", ""]
-        out += wrapped(
-            "Whoever believes that these definitions say what they are meant to say knows what is proved; proofs and code needn't be "
-            "read. That the page leaves none out is this page's own script's work (`tools/statement.py`), and a test counts them in "
-            "another way. The page has a long type in as few lines as hold it, and cases without values beside one another; else the "
-            "lines are those of the sources."
-        )
-        out += ["", *self.table(), "", "## The notation", ""]
-        out += [line for item in READING for line in wrapped(f"- {item}", "  ")] + [""]
+        out = ["# The statement", "", f"<!-- Made by `make statement` of the sources. -->", "", f"## {PARTS[0][0]}", ""]
+        out += self.first_lines() + self.how_to_read()
         for part in range(1, len(PARTS)):
             out += self.part_lines(part)
         out += ["## Names of the standard library", ""]
@@ -443,10 +703,35 @@ def side_by_side(lines: list[str]) -> list[str]:
     return found
 
 
-def minutes(lines: int) -> str:
-    """About how long a careful reading of these lines takes."""
-    about = max(5, round(lines / LINES_A_MINUTE / 5) * 5)
-    return f"about {about} minutes" if about < 60 else f"about {round(about / 30) / 2:g} hours"
+def read_of(text: Iterable[str]) -> tuple[int, int]:
+    """How many words some text has, those of comments too, and how many lines of code. Headings, lists of links and what
+    divides tables aren't read."""
+    words = lines = 0
+    fenced = skipped = False
+    for line in text:
+        skipped = not fenced and bool(line) and (skipped or line.startswith("Elsewhere: "))
+        if line.startswith("```"):
+            fenced = not fenced
+        elif fenced and not line.lstrip().startswith(("--", "//")):
+            lines += bool(line)
+        elif not skipped and not line.startswith(("#", "|---")):
+            words += len(re.findall(r"[^\s|]*\w[^\s|]*", line))
+    return words, lines
+
+
+def summed(sizes: Iterable[tuple[int, int]]) -> tuple[int, int]:
+    all_sizes = list(sizes)
+    return sum(words for words, _ in all_sizes), sum(lines for _, lines in all_sizes)
+
+
+def minutes(size: tuple[int, int]) -> int:
+    """How long a careful reading of so many words and lines takes."""
+    return math.ceil(size[0] / WORDS_A_MINUTE + size[1] / LINES_A_MINUTE)
+
+
+def time_of(size: tuple[int, int]) -> str:
+    """The same in words, never less."""
+    return f"{minutes(size)} minutes" if minutes(size) < 180 else f"{math.ceil(minutes(size) / 30) / 2:g} hours"
 
 
 def between(contracts: Iterable[list[str]]) -> list[str]:

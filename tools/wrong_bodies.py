@@ -10,13 +10,17 @@
 is kept of its proofs: the checker judges each function for itself. A function that only calls one that isn't proved is judged in a later
 check, and so is the second of two mutants of one function. What isn't refused among others is tried alone.
 
-What was refused is kept in bin/judged.json (or in the file after --kept), after each check: so a run that is ended can be
-resumed, on another day and another machine. A mutant is in its present form where the toolchain, its own text and its crate's
-sources, definitions and proofs are those with which it was refused. What changed in crates below isn't looked at, so before a
-release all are tried.
+A mutant counts as refused by its clause where a goal of the clause that its first line names isn't proved, or an answer doesn't
+prove such a goal any more; where it names none, any clause of the function does. One that only something else refuses, as what
+a callee requires, is listed as refused elsewhere.
 
-It works on a copy of the crate, in bin/rooms. The status is 1 where a mutant isn't refused, or could not be tried; with --left,
-where there are any."""
+What was refused is kept in bin/judged.json (or in the file after --kept), after each check, with the goals that refused it: so a
+run that is ended can be resumed, on another day and another machine, and a first line can be mended without another try. A
+mutant is in its present form where the toolchain, what it changes and its crate's sources, definitions and proofs are those with
+which it was refused. What changed in crates below isn't looked at, so before a release all are tried.
+
+It works on a copy of the crate, in bin/rooms. The status is 1 where a mutant isn't refused by its clause, or could not be tried;
+with --left, where there are any."""
 from __future__ import annotations
 
 import argparse
@@ -28,7 +32,7 @@ import shutil
 import subprocess
 import sys
 import time
-from typing import Any, Dict, List, Tuple
+from typing import Any, Dict, List, NamedTuple, Tuple
 from collections.abc import Callable
 
 import build
@@ -46,8 +50,20 @@ OF_ANOTHER = re.compile(r"it calls |it passes |a call of |it is in a cycle of ca
 # (an error by which a text can't be read, so that no contract was tried)
 UNREAD = re.compile(r"is not in scope|has no field|is no name|operand is missing|expected the end|cannot continue")
 NAMES_LOST = re.compile(r"has no field|is not in scope|has no `|was not admitted|that can be named from here")
-Verdict = Tuple[str, str]  # a word, and why
-REFUSED, PROVED, NOT_JUDGED = "refused", "PROVED", "not judged"
+REFUSED, ELSEWHERE, PROVED, NOT_JUDGED = "refused", "elsewhere", "PROVED", "not judged"
+WORDS = (REFUSED, ELSEWHERE, PROVED, NOT_JUDGED)
+
+
+class Verdict(NamedTuple):
+    """What a try of a mutant came to: a word, why, and the goals that refuse it, each after the proof that it belongs to."""
+
+    word: str
+    why: str
+    goals: Tuple[str, ...] = ()
+
+    @property
+    def is_refused(self) -> bool:
+        return self.word in (REFUSED, ELSEWHERE)
 
 
 class Judged:
@@ -56,7 +72,7 @@ class Judged:
     def __init__(self, path: str) -> None:
         self.path, self.kit = path, common.kit() or ""
         self.crates: Dict[str, str] = {}
-        self.found: Dict[str, Dict[str, str]] = {}
+        self.found: Dict[str, Dict[str, Any]] = {}
         if os.path.exists(path):
             with open(path, encoding="utf-8") as file:
                 self.found = json.load(file)
@@ -67,21 +83,20 @@ class Judged:
             folder = os.path.join(TOP, "crates", edit.crate) + os.sep
             files = [it for it in common.sources([edit.crate]) if it.startswith(folder)]
             self.crates[edit.crate] = common.sum_of(files)
-        with open(edit.file, "rb") as file:
-            return hashlib.sha256(f"{self.kit}\n{self.crates[edit.crate]}\n".encode() + file.read()).hexdigest()
+        with open(edit.file, encoding="utf-8") as file:
+            changes = "".join(it for it in file if not it.startswith("#"))
+        return hashlib.sha256(f"{self.kit}\n{self.crates[edit.crate]}\n{changes}".encode()).hexdigest()
 
     def has(self, edit: edits.Edit) -> bool:
-        """Whether a mutant was refused in its present form."""
-        return self.found.get(edit.path, {}).get("sum") == self.sum_of(edit)
+        """Whether a mutant was refused in its present form by the clause that its first line names."""
+        found = self.found.get(edit.path, {})
+        return found.get("sum") == self.sum_of(edit) and is_met(edit, found.get("goals", []))
 
-    def why(self, edit: edits.Edit) -> str:
-        return self.found[edit.path]["why"]
-
-    def keep(self, edit: edits.Edit, verdict: str, why: str) -> None:
+    def keep(self, edit: edits.Edit, verdict: Verdict) -> None:
         """Keeps that a mutant was refused, and of another that it wasn't."""
         self.found.pop(edit.path, None)
-        if verdict == REFUSED:
-            self.found[edit.path] = {"sum": self.sum_of(edit), "why": why}
+        if verdict.is_refused:
+            self.found[edit.path] = {"sum": self.sum_of(edit), "why": verdict.why, "goals": list(verdict.goals)}
 
     def write(self) -> None:
         os.makedirs(os.path.dirname(os.path.abspath(self.path)), exist_ok=True)
@@ -132,14 +147,41 @@ class Said:
         errors = ((it, ERROR.match(it)) for it in self.text.split("\n"))
         return [line for line, at in errors if at and at[1].startswith(start)]
 
+    def refusing(self, symbol: str, proof: str) -> list[str]:
+        """The goals of a function that were not proved, and those that the answers in its proof don't prove any more, though all that
+        they name is there."""
+        found = self.goals(symbol)
+        for line in self.proof_errors(symbol, proof):
+            at = ERROR.match(line)
+            goal = (at[3] or "").strip("`") if at else ""
+            if at and goal and not NAMES_LOST.search(at[4]):
+                found.append(f"{goal}, by its answer at {at[1]}:{at[2]}")
+        return found
+
     def why(self, symbol: str, proof: str) -> str:
-        """What refused a function: a goal, or an error in its proof."""
-        goals, errors = self.goals(symbol), self.proof_errors(symbol, proof)
+        """What refused a function: goals, or an error in its proof."""
+        goals, errors = self.refusing(symbol, proof), self.proof_errors(symbol, proof)
         if goals:
-            return goals[0]
+            return "; ".join(goals)[:300]
         if errors and all(NAMES_LOST.search(it) for it in errors):
             return "only because its proof names what was taken away, which says little"
         return errors[0][:120] if errors else self.verdicts[symbol][:120]
+
+
+def name_of(goal: str) -> str:
+    """A goal's name, without its place."""
+    return re.split(r"[ ,]", goal)[0]
+
+
+def is_met(edit: Edit, goals: List[str]) -> bool:
+    """Whether one of the goals that refuse a mutant is of the clause that its first line names; where that names none, whether one is
+    of a clause of what it turns at all."""
+    claim = edit.claim
+    # (functions that call each other have one proof, and the prover may refuse it under any of their names)
+    proofs = {it.proof for it in edit.turned or () if not claim or claim.is_of(it)}
+    pairs = [(proof, name_of(goal)) for proof, goal in (it.split(" ", 1) for it in goals)]
+    is_goal = claim.is_goal if claim else edits.is_of_contract
+    return any(proof in proofs and is_goal(goal) for proof, goal in pairs)
 
 
 class Room:
@@ -239,27 +281,29 @@ def judge(edit: Edit, said: Said, source: reading.Source, alone: bool) -> Verdic
     """What a check says of one mutant: a word and why, or None where it has to be tried again."""
     error = unreadable(said, edit)
     if error:
-        return NOT_JUDGED, f"it can't be read, so no contract was tried: {error}"
+        return Verdict(NOT_JUDGED, f"it can't be read, so no contract was tried: {error}")
     refused = [(it, proof) for it, proof in verdicts_of(edit, said, source).items() if said.own(it)]
     if refused:
-        return refusal(said, refused)
+        return refusal(edit, said, refused)
     if not alone:
         return None
     if not said.reached:
-        return NOT_JUDGED, f"the check did not reach the prover: {said.text[-300:]}"
+        return Verdict(NOT_JUDGED, f"the check did not reach the prover: {said.text[-300:]}")
     if said.is_proved():
-        return PROVED, "the crate is still proved with it"
+        return Verdict(PROVED, "the crate is still proved with it")
     others = [(it, "") for it in said.verdicts if said.own(it)]
-    return refusal(said, others) if others else (NOT_JUDGED, f"no function was judged: {said.text[-300:]}")
+    return refusal(edit, said, others) if others else Verdict(NOT_JUDGED, f"no function was judged: {said.text[-300:]}")
 
 
-def refusal(said: Said, refused: list[tuple[str, str]]) -> Verdict:
+def refusal(edit: Edit, said: Said, refused: list[tuple[str, str]]) -> Verdict:
     """What to say of functions that are refused for what they do themselves."""
     uncovered = [it for it, _ in refused if "does not cover" in said.verdicts[it]]
     if len(uncovered) == len(refused):
-        return NOT_JUDGED, f"the checker doesn't cover such a body, so no contract was tried: {said.verdicts[uncovered[0]][:200]}"
-    named = next((it for it in refused if said.goals(it[0]) or said.proof_errors(*it)), refused[0])
-    return REFUSED, f"{named[0].partition('::')[2]}: {said.why(*named)}"
+        return Verdict(NOT_JUDGED, f"the checker doesn't cover such a body, so no contract was tried: {said.verdicts[uncovered[0]][:200]}")
+    named = next((it for it in refused if said.refusing(*it)), refused[0])
+    goals = [f"{proof or '?'} {goal}" for it, proof in refused for goal in said.refusing(it, proof)]
+    word = REFUSED if is_met(edit, goals) else ELSEWHERE
+    return Verdict(word, f"{named[0].partition('::')[2]}: {said.why(*named)}", tuple(goals))
 
 
 def try_all(
@@ -311,16 +355,16 @@ def try_crate(
 ) -> list[int]:
     """Tries mutants of a crate, prints a line for each and one for all, and returns their counts."""
     timer = time.monotonic()
-    found = {it: (NOT_JUDGED, it.why) for it in chosen if it.why}
+    found = {it: Verdict(NOT_JUDGED, it.why) for it in chosen if it.why}
     left, checks = [it for it in chosen if not it.why], 0
 
     def keep(settled: dict[Edit, Verdict]) -> None:
         for edit, verdict in settled.items():
-            judged.keep(edit, *verdict)
+            judged.keep(edit, verdict)
         judged.write()
 
     if left and not prove(name, jobs):
-        found.update({it: (NOT_JUDGED, "the crate itself isn't proved") for it in left})
+        found.update({it: Verdict(NOT_JUDGED, "the crate itself isn't proved") for it in left})
     elif left:
         room = Room(name, named, jobs)
         try:
@@ -329,19 +373,22 @@ def try_crate(
             checks = room.checks
             room.leave()
     for edit in chosen:
-        verdict, why = found[edit]
-        if not is_quiet or verdict != REFUSED:
-            print(f"  {verdict:<10}  {name}/{edit.name}: {why}")
-    counts = [sum(it[0] == word for it in found.values()) for word in (REFUSED, PROVED, NOT_JUDGED)]
-    took = int(time.monotonic() - timer)
-    line = f"{counts[0]} refused, {counts[1]} proved, {counts[2]} not judged in {checks} checks, {took} s"
-    print(f"{name}: {line}", flush=True)
+        verdict = found[edit]
+        if not is_quiet or verdict.word != REFUSED:
+            print(f"  {verdict.word:<10}  {name}/{edit.name}: {verdict.why}")
+    counts = [sum(it.word == word for it in found.values()) for word in WORDS]
+    print(f"{name}: {said_of(counts)} in {checks} checks, {int(time.monotonic() - timer)} s", flush=True)
     return counts
+
+
+def said_of(counts: list[int]) -> str:
+    """The counts of a run."""
+    return f"{counts[0]} refused by their clause, {counts[1]} refused elsewhere, {counts[2]} proved, {counts[3]} not judged"
 
 
 def try_crates(chosen: Dict[str, List[str]], options: argparse.Namespace, judged: Judged) -> int:
     """Tries the mutants of some crates that have one of some words in their path."""
-    named, total, resumed = common.libraries(), [0, 0, 0], 0
+    named, total, resumed = common.libraries(), [0] * len(WORDS), 0
     for name, wanted in chosen.items():
         source = reading.Source(name)
         all_edits = [it for it in edits.edits_of(name, source) if any(word in it.name for word in wanted)]
@@ -352,16 +399,18 @@ def try_crates(chosen: Dict[str, List[str]], options: argparse.Namespace, judged
             total = [a + b for a, b in zip(total, counts)]
     if resumed:
         print(f"{resumed} more were refused before, in their present form")
-    print(f"{total[0] + resumed} refused, {total[1]} proved, {total[2]} not judged")
-    return 1 if total[1] or total[2] else 0
+    total[0] += resumed
+    print(said_of(total))
+    return 1 if any(total[1:]) else 0
 
 
 def list_left(chosen: Dict[str, List[str]], judged: Judged) -> int:
     """Lists the mutants that weren't refused yet in their present form."""
-    all_edits = [it for name, wanted in chosen.items() for it in edits.edits_of(name) if any(word in it.name for word in wanted)]
+    found = [(wanted, it) for name, wanted in chosen.items() for it in edits.edits_of(name, reading.Source(name))]
+    all_edits = [it for wanted, it in found if any(word in it.name for word in wanted)]
     left = [it for it in all_edits if not judged.has(it)]
     for edit in left:
-        print(f"{edit.path}{': refused in another form' if edit.path in judged.found else ''}")
+        print(f"{edit.path}{': refused in another form, or elsewhere' if edit.path in judged.found else ''}")
     print(f"{len(left)} of {len(all_edits)} mutants weren't refused yet in their present form")
     return 1 if left else 0
 

@@ -5,8 +5,10 @@
 
 A path is a module that is named like an exercise (Clock.mod, Clock.Mod or Clock.ob0), or a folder with such modules. Each is
 checked, and run on each input of its exercise. README.md has the exercises; Clock.txt has the inputs of Clock (`in:`) with the
-lines that are to be printed (`out:`). The status is 0 if all modules are right, 1 if one isn't, 2 if nothing could be marked."""
+lines that are to be printed (`out:`). The status is 0 if each path has a module to mark and all of them are right, 1 if not, 2 if
+there was nothing to mark in any path."""
 import argparse
+import codecs
 import os
 import re
 import resource
@@ -29,7 +31,7 @@ CAUSES = {
     "InputEnd": "it reads more numbers than there are",
     "CallBound": "more than 64 calls are open: does the recursion end?",
     "TurnBound": "a loop makes more than 100000 iterations: does it end?",
-    "Memory": "it takes too much memory: does each loop end?",
+    "Memory": "it takes too much memory: does each loop and each recursion end? Is an array too large?",
     "Write": "it prints too much: does each loop end?",
 }
 
@@ -56,6 +58,13 @@ class Bounds(NamedTuple):
 
     program: str
     seconds: float
+
+
+class Result(NamedTuple):
+    """Of a path: of how many exercises it has modules, and for how many all of these are right."""
+
+    marked: int
+    right: int
 
 
 def numbers_of(lines: List[str]) -> Lines:
@@ -124,19 +133,26 @@ def difference(wanted: Lines, printed: Lines) -> str:
 
 def fault_of(bounds: Bounds, file: str) -> Optional[str]:
     """Why a file isn't a module that can be run, or None."""
-    found = call(bounds, ["check", file])
+    found = call(bounds, ["check", "--", file])
     if found.status == 0:
         return None
     place = re.match(r"(\d+):(\d+): (?:Syntax: )?(.*)", found.out)
     if place is None:
         return f"it can't be checked: {found.err.strip()}{WHERE}"
     line, column = int(place[1]) + 1, int(place[2]) + 1
-    return f"line {line}, column {column}: {place[3]}{WHERE}"
+    cause = "save it without a byte order mark" if begins_with_mark(file) else place[3] + WHERE
+    return f"line {line}, column {column}: {cause}"
+
+
+def begins_with_mark(file: str) -> bool:
+    """Whether a file begins with a byte order mark."""
+    with open(file, "rb") as it:
+        return it.read(3) == codecs.BOM_UTF8
 
 
 def why_wrong(bounds: Bounds, file: str, case: Case) -> Optional[str]:
     """Why a module is wrong for a case, or None."""
-    found = call(bounds, ["run", file], case.given)
+    found = call(bounds, ["run", "--", file], case.given)
     if found.status is None:
         return f"it had not ended after {bounds.seconds:g} seconds: does each loop end?"
     if found.status == -signal.SIGXFSZ:
@@ -168,11 +184,32 @@ def modules_in(path: str) -> Iterator[str]:
         yield path
         return
     for exercise in exercises():
-        yield from (it for it in (os.path.join(path, exercise + ending) for ending in ENDINGS) if os.path.exists(it))
+        yield from (it for it in (os.path.join(path, exercise + ending) for ending in ENDINGS) if os.path.isfile(it))
 
 
-def mark(bounds: Bounds, path: str) -> Optional[bool]:
-    """Marks a path, and prints what is found: whether all is right, or None where there is nothing to mark."""
+def unmarked(path: str) -> Iterator[str]:
+    """A line for each entry of a folder that isn't marked, but for hidden ones."""
+    marked_ones = {os.path.basename(it) for it in modules_in(path)}
+    for entry in sorted(it for it in os.listdir(path) if it not in marked_ones and not it.startswith(".")):
+        yield f"  {entry} is not marked: {why_unmarked(os.path.join(path, entry))}"
+
+
+def why_unmarked(path: str) -> str:
+    """Why an entry of a folder isn't marked."""
+    stem, ending = os.path.splitext(os.path.basename(path))
+    meant = next((it for it in exercises() if it.lower() == stem.lower()), None)
+    if not os.path.isfile(path):
+        return "it is a folder" if os.path.isdir(path) else "it isn't a file"
+    if meant and ending.lower() in ENDINGS:
+        return f"is it {meant}{ending if ending in ENDINGS else ending.lower()}? Upper and lower case differ"
+    return "it isn't named like an exercise"
+
+
+def mark(bounds: Bounds, path: str) -> Result:
+    """Marks a path, and prints what is found."""
+    if not os.path.exists(path):
+        print(f"there is no {path}")
+        return Result(0, 0)
     names = exercises()
     results: Dict[str, bool] = {}
     print(f"{path}:")
@@ -183,16 +220,13 @@ def mark(bounds: Bounds, path: str) -> Optional[bool]:
             continue
         why = marked(bounds, exercise, file)
         results[exercise] = why is None and results.get(exercise, True)
-        print(f"  {exercise:8} {'right' if why is None else f'wrong: {why}'}", flush=True)
+        print(f"  {os.path.basename(file):11} {'right' if why is None else f'wrong: {why}'}", flush=True)
     if os.path.isdir(path):
-        for file in sorted(os.listdir(path)):
-            stem, ending = os.path.splitext(file)
-            meant = next((it for it in names if it.lower() == stem.lower() and it != stem and ending in ENDINGS), None)
-            if meant:
-                print(f"  {file} is not marked: is it {meant}{ending}? Upper and lower case differ")
+        for line in unmarked(path):
+            print(line)
         missing = [it for it in names if it not in results]
         print(f"  {sum(results.values())} of {len(names)} right" + (f"; not there: {', '.join(missing)}" if missing else ""))
-    return all(results.values()) if results else None
+    return Result(len(results), sum(results.values()))
 
 
 def main(words: List[str]) -> int:
@@ -206,8 +240,12 @@ def main(words: List[str]) -> int:
         print(f"there is no program {given.program}: --program names another", file=sys.stderr)
         return 2
     results = [mark(Bounds(os.path.abspath(program), given.seconds), it) for it in given.paths]
-    found = [it for it in results if it is not None]
-    return 2 if not found else 0 if all(found) else 1
+    folders = [(path, it.right) for path, it in zip(given.paths, results) if os.path.isdir(path)]
+    if len(folders) > 1:
+        print(", ".join(f"{os.path.basename(os.path.abspath(path))} {right}" for path, right in folders))
+    if not any(it.marked for it in results):
+        return 2
+    return 0 if all(it.right == it.marked > 0 for it in results) else 1
 
 
 if __name__ == "__main__":

@@ -76,7 +76,17 @@ class Maker:
                 made = Type(name, fields=[(it, self.chance.choice(parts)) for it in "fgh"[: 1 + self.chance.randrange(3)]])
                 found += f" {name} = RECORD {'; '.join(f'{field}: {it.name}' for field, it in made.fields)} END;"
             self.types.append(made)
-        return f"TYPE{found}\n"
+        return f"TYPE{found}{self.array_of_records()}\n"
+
+    def array_of_records(self) -> str:
+        """In most modules: a record, and an array of such."""
+        if self.chance.random() < 0.25:
+            return ""
+        record = Type(self.fresh("T"), fields=[("f", INTEGER), ("g", self.chance.choice(self.types)), ("h", INTEGER)])
+        array = Type(self.fresh("T"), 2 + self.chance.randrange(2), record)
+        self.types += [record, array]
+        fields = "; ".join(f"{field}: {it.name}" for field, it in record.fields)
+        return f" {record.name} = RECORD {fields} END; {array.name} = ARRAY {array.count} OF {record.name};"
 
     # Expressions and places
 
@@ -121,7 +131,8 @@ class Maker:
         if depth > 1:
             return related()
         joined: Callable[[], str] = lambda: f"({some()} {self.chance.choice(['&', 'OR', '=', '#'])} {some()})"
-        return self.pick((5, related), (3, lambda: self.place(scope, BOOLEAN)), (1, lambda: "~" + some()), (2, joined))()
+        constant: Callable[[], str] = lambda: self.chance.choice(["TRUE", "FALSE"])
+        return self.pick((5, related), (3, lambda: self.place(scope, BOOLEAN)), (1, lambda: "~" + some()), (2, joined), (1, constant))()
 
     def value(self, scope: Scope, type_: Type) -> str:
         """An expression of a type."""

@@ -2,12 +2,15 @@
 found of the text before, says the same as another server that has never seen the text."""
 from __future__ import annotations
 
+import collections
 import concurrent.futures
 import json
 import random
+from typing import Counter
 
 import corpus
 import faulty_modules
+import ways
 from harness import Message, Server, did_change, did_close, did_open, holds, same
 from long_conversation import LITERALS, position_of
 from random_texts import LEXEME
@@ -74,6 +77,17 @@ def blank_at(text: str, chance: random.Random) -> tuple[int, int, str]:
     return place, place, chance.choice(BLANKS)
 
 
+def word_at(text: str, chance: random.Random) -> tuple[int, int, str]:
+    """A name or a number, and another one in its place: one of the text, one that nothing declares, or a digit more. So the tokens are
+    of the same kinds."""
+    found = [it for it in LEXEME.finditer(text) if it[0].isdigit() or (it[0][0].isalpha() and not it[0].isupper())]
+    if not found:
+        return blank_at(text, chance)
+    lexeme = chance.choice(found)
+    others = [it[0] for it in found if it[0].isdigit() == lexeme[0].isdigit()]
+    return lexeme.start(), lexeme.end(), chance.choice([*chance.choices(others, k=3), lexeme[0] + "1", "7" if lexeme[0].isdigit() else "q"])
+
+
 def replacement(text: str, chance: random.Random) -> str:
     """What is put in: nothing, a piece, or a lexeme or a part of the text."""
     way = chance.random()
@@ -108,8 +122,11 @@ class Edited:
         if self.undo and (self.chance.random() < 0.57 or len(self.text) > 6000):
             start, new, old = self.undo.pop()
             return self.put(start, start + len(new), old)
-        if self.chance.random() < 0.2:
+        way = self.chance.random()
+        if way < 0.25:
             start, end, new = blank_at(self.text, self.chance)
+        elif way < 0.7:
+            start, end, new = word_at(self.text, self.chance)
         else:
             start, end = at_random(self.text, self.chance)
             new = replacement(self.text, self.chance)
@@ -147,30 +164,58 @@ def same_as_new(keeping: Server, fresh: Server, edited: Edited, published: list[
     fresh.notify(did_close(uri))
 
 
-def converse(seed: int) -> tuple[int, int]:
-    """One conversation. Returns of how many of its texts nothing was reported, and how many had a fault of lexemes."""
+def first_text(seed: int, chance: random.Random) -> str:
+    """A module without faults, or one with many faults of scopes and types."""
+    way = chance.random()
+    if way < 0.2:
+        return faulty_modules.records(seed)
+    if way < 0.4:
+        return faulty_modules.module(seed)
+    return corpus.module(chance.choice([300, 900, 2000]), seed, chance.random() < 0.2)
+
+
+def converse(seed: int) -> Counter[str]:
+    """One conversation. Returns how many of its texts had no fault, and how many changes were of which kind (`ways`)."""
     chance = random.Random(f"changes {seed}")
-    text = faulty_modules.records(seed) if chance.random() < 0.2 else corpus.module(chance.choice([300, 900, 2000]), seed, chance.random() < 0.2)
-    edited, clean, ill_lexed = Edited(text, chance), 0, 0
+    edited = Edited(first_text(seed, chance), chance)
+    found: Counter[str] = collections.Counter()
+    last = ways.lexed(edited.text)
     with Server(capabilities=LITERALS) as keeping, Server(capabilities=LITERALS) as fresh:
-        keeping.notify(did_open(edited.text, URI))
+        before = keeping.notify(did_open(edited.text, URI))
         for step in range(STEPS):
             while (change := edited.change()) is None:
                 pass
             published = keeping.notify(did_change([change], URI, step + 2))
-            clean += not published
-            ill_lexed += any(it["code"] in ("BadChar", "OpenComment", "NumberTooLarge", "NumberJoinsLetter") for it in published)
+            now = ways.lexed(edited.text)
+            way, body = ways.way_of(last, now)
+            found.update([way, *(["no fault"] if not published else [])])
+            if body:
+                # (the text before had as many lines, and its faults were at the lines where they are now)
+                found.update(ways.faults_about(before, edited.text, body))
+            last, before = now or last, published
             same_as_new(keeping, fresh, edited, published, f"file:///n{step}", f"seed {seed}, step {step}")
         for it in (keeping, fresh):
             same(it.end(), 0, "the status")
-    return clean, ill_lexed
+    return found
 
 
-def figures(found: list[tuple[int, int]]) -> str:
+# What has to be among many changes: each kind, and changes of one body of a module with faults of each kind in each place.
+PLACES = ["before it", "in it", "after it"]
+KINDS = [*ways.SHORT, ways.DECLARATIONS, ways.TOKENS, ways.LEXEMES, *(f"{of} {where}" for of in ("names", "types") for where in PLACES)]
+
+
+def figures(conversations: list[Counter[str]]) -> str:
     """What conversations gave, as a line."""
-    clean, ill_lexed = (sum(it) for it in zip(*found))
-    holds(clean and ill_lexed, f"{clean} texts without a fault, {ill_lexed} with a fault of lexemes")
-    return f"{len(found) * STEPS:,} changes, after each what a new server says: {clean:,} texts without a fault, {ill_lexed:,} with faults of lexemes"
+    found: Counter[str] = sum(conversations, collections.Counter())
+    count = len(conversations) * STEPS
+    missing = [it for it in ["no fault", *KINDS] if not found[it]]
+    holds(count < 1000 or not missing, f"of {count:,} changes none was {missing}")
+    short = sum(found[it] for it in ways.SHORT)
+    holds(count < 1000 or short * 2 > count, f"of {count:,} changes only {short:,} leave what is known but for one body")
+    kinds = ", ".join(f"{found[it]:,} {it}" for it in KINDS[:6])
+    faults = ", ".join(f"{found[it]:,} of {it}" for it in KINDS[6:])
+    return (f"{count:,} changes, after each what a new server says: {found['no fault']:,} texts without a fault; {kinds}; "
+            f"those in one body beside faults: {faults}")
 
 
 def seeds_of(count: int, first: int) -> range:

@@ -3,3 +3,4 @@ pub mod Alike
 mod Refusals
 mod Pieces
 mod GivenBack
+mod OneBody

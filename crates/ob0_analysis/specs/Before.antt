@@ -3,7 +3,7 @@
 use Rattle.std.specs.Prelude.{◌≡◌, ◌==◌, ℕ, true, List, map}
 use Rattle.ob0_scan.specs.Refused.{AreFaults}
 use Rattle.ob0_scan.specs.Reused.{kinds, names_in, words_in}
-use Rattle.ob0_scan.specs.SameKinds.{HasSameTokens}
+use Rattle.ob0_scan.specs.SameKinds.{HasSameTokens, HasSameWords}
 use Rattle.ob0_scan.specs.Scanned.{IsScan, IsScannable, Scanned}
 use Rattle.ob0_scan.specs.declared.rescanning.NotRescanned.{NotRescanned}
 use Rattle.ob0_scan.specs.declared.rescanning.NotRescanned.TheVariants as rescanned
@@ -51,6 +51,7 @@ pub record HasTypesAt
     : Type 0 where
   pub known : moved.known ≡ types.known
   pub fields : moved.fields ≡ types.fields
+  pub faulty : moved.faulty ≡ types.faulty
   pub faults : moved.faults.items ≡ map (fault_at source) places
 
 -- a module with these names and types, which is at fault at these tokens
@@ -71,6 +72,7 @@ pub record IsModuleBefore
   pub old_scan : IsScan old
   pub new_scan : IsScan c.rescan.tokens
   pub same : HasSameTokens c.same old.tokens c.rescan.tokens.tokens
+  pub written : HasSameWords c.same old c.rescan.tokens
   pub alike : c.alike ≡ true → kinds c.rescan.tokens.tokens ≡ kinds old.tokens
   pub same_names : c.same_names ≡ true
       → names_in c.rescan.tokens.text c.rescan.tokens.tokens ≡ names_in old.text old.tokens

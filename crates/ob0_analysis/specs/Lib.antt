@@ -2,6 +2,7 @@ pub mod Analysed
 pub mod Diagnosed
 pub mod Found
 pub mod Before
+pub mod OneBody
 pub mod RunsKept
 pub mod Texts
 pub mod Pieces

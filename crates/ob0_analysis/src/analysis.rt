@@ -8,11 +8,12 @@
 //! `after` finds what both texts have in common at their start and end (`Difference::between`) and scans the rest in
 //! place of the old tokens (`rescan_in_place`). Where all tokens are of the kinds that they were, the tree stays: it is
 //! over the indexes of tokens, so it spells the new ones too (`tree_stays` of `ob0_parse`). Bindings stay where the
-//! identifiers are written as they were and no name is at fault; types are checked again. Of a text that the parser
-//! refused the refusal stays in the same way (`refusal_stays`): a module that began with the new tokens up to that one
-//! would begin with the old ones too, once its names and numbers are theirs. So half of the keys of a statement that is
-//! being typed parse nothing. Where a kind changed, procedures of the module's own block are taken over (`tree_after` of
-//! `ob0_parse`).
+//! identifiers are written as they were and no name is at fault. Where what may be written otherwise lies in one body,
+//! the names of that body alone are bound again, and its types are checked by what was found before (`one_body.rt`);
+//! else all names are bound again and all types checked. Of a text that the parser refused the refusal stays in the
+//! same way (`refusal_stays`): a module that began with the new tokens up to that one would begin with the old ones
+//! too, once its names and numbers are theirs. So half of the keys of a statement that is being typed parse nothing.
+//! Where a kind changed, procedures of the module's own block are taken over (`tree_after` of `ob0_parse`).
 //!
 //! Where all tokens are written as they were (`words_in`), after a blank, a line end or a comment, all stays
 //! (`of_same_words`): the tree has the same names and numbers, and what is at fault is at fault at the same tokens

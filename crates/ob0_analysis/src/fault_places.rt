@@ -89,10 +89,12 @@ pub(crate) fn move_types(
         known,
         fields,
         faults: _,
+        faulty,
     } = types;
     Ok(ModuleTypes {
         known,
         fields,
         faults,
+        faulty,
     })
 }

@@ -58,20 +58,6 @@ impl ModuleParts {
         ensures { IfOk result (λ m. m.module_read ≡ parsed_by tokens tree) }
     {
         let bindings = bindings_of(alloc, &Module::from_parts(&tokens, &tree))?;
-        ModuleParts::from_bindings(alloc, tokens, tree, bindings)
-    }
-
-    /// Checks the types of a module whose names are bound so.
-    pub(crate) fn from_bindings(
-        alloc: Global,
-        tokens: Tokens,
-        tree: ModuleTree,
-        bindings: Bindings,
-    ) -> Result<ModuleParts, AllocError>
-        requires parsed { IsParsed (parsed_by tokens tree) }
-        requires resolved { IsResolution (resolution_by (parsed_by tokens tree) bindings) }
-        ensures { IfOk result (λ m. m.module_read ≡ parsed_by tokens tree) }
-    {
         let types = check_types(alloc, &tokens, &tree, &bindings)?;
         Ok(ModuleParts {
             tokens,
@@ -157,7 +143,7 @@ impl ModuleParts {
 }
 
 /// What checking the types of a module finds.
-fn check_types(
+pub(crate) fn check_types(
     alloc: Global,
     tokens: &Tokens,
     tree: &ModuleTree,

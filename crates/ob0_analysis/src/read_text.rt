@@ -3,7 +3,7 @@
 ghost use Rattle.std.specs.Prelude.{◌≡◌, [], true, IfErr, IfOk, MatchOption, map};
 ghost use Rattle.ob0_scan.specs.Refused.{AreFaults, IsRightRefusalOver};
 ghost use Rattle.ob0_scan.specs.Reused.{kinds, names_in, words_in};
-ghost use Rattle.ob0_scan.specs.SameKinds.{HasSameTokens};
+ghost use Rattle.ob0_scan.specs.SameKinds.{HasSameTokens, HasSameWords};
 ghost use Rattle.ob0_scan.specs.Scanned.{IsScan, IsScanOf};
 ghost use Rattle.ob0_tree.specs.Parsed.{IsParsed, parsed_by};
 ghost use Rattle.ob0_scope_table.specs.Bindings.{resolution_by};
@@ -14,16 +14,19 @@ ghost use Rattle.ob0_analysis.specs.Before.{AreKeptBefore, IsModuleBefore, IsUnr
 ghost use Rattle.ob0_analysis.specs.declared.read_text.NotRead.TheVariants as not_read;
 ghost use Rattle.ob0_analysis.specs.declared.read_text.Reading.TheVariants.{NoTree};
 ghost use Rattle.ob0_analysis.specs.Diagnosed.{IsWellTypedModule, Reports, complaint_in};
+ghost use Rattle.ob0_analysis.specs.OneBody.{HadTree};
+ghost use Rattle.ob0_types.specs.OneBody.{WereTypes};
 
 use crate::diagnoses::Diagnosis;
 use crate::diagnosing::{diagnose_module, diagnose_refusal};
 use crate::differences::Difference;
 use crate::fault_places::{FaultPlaces, move_bindings, move_types};
+use crate::one_body::{bind_again, check_again, is_in_one_body};
 use crate::parts::ModuleParts;
 use ob0_parse::{Kept, tree_after};
 use ob0_parse_descent::ParseRefusal;
 use ob0_scan::laws::one_scan;
-use ob0_scan::{Fault, NotRescanned, RescanInPlace, Tokens, rescan_in_place};
+use ob0_scan::{Fault, NotRescanned, RescanInPlace, SameTokens, Tokens, rescan_in_place};
 use ob0_scope::laws::{bindings_keep_tokens, bindings_stay};
 use ob0_scope_table::Bindings;
 use ob0_tree::ModuleTree;
@@ -275,31 +278,54 @@ impl ReadText {
                 return ReadText::of_same_words(alloc, tokens, tree, bindings, types, places);
             }
         }
-        ReadText::of_same_tree(alloc, tokens, tree, bindings, same_names)
+        ReadText::of_same_tree(alloc, tokens, tree, bindings, types, same, same_names)
     }
 
     /// A text with the tree of the text before. The bindings of that text are its own where the identifiers are written
-    /// as they were; but the faults of names are in other places, so where there are some all names are bound again.
+    /// as they were; but the faults of names are in other places, so where there are some names are bound again.
     fn of_same_tree(
         alloc: Global,
         tokens: Tokens,
         tree: ModuleTree,
         bindings: Bindings,
+        types: ModuleTypes,
+        same: SameTokens,
         same_names: bool,
     ) -> Result<ReadText, AllocError>
         requires parsed { IsParsed (parsed_by tokens tree) }
+        requires before { HadTree tokens tree bindings types same }
         requires resolved { same_names ≡ true
             → bindings.faults.items ≡ []
             → IsResolution (resolution_by (parsed_by tokens tree) bindings) }
         ensures { IfOk result (λ r. r ≡ tokens.text) }
     {
+        let in_body = is_in_one_body(&tokens, &tree, same)?;
         if same_names && bindings.faults.is_empty() {
-            let parts = ModuleParts::from_bindings(alloc, tokens, tree, bindings)?;
-            Ok(ReadText::of_module(parts))
-        } else {
-            drop(bindings);
-            ReadText::of_tree(alloc, tokens, tree)
+            return ReadText::of_bindings(alloc, tokens, tree, bindings, types, same, in_body);
         }
+        let names = bind_again(alloc, &tokens, &tree, bindings, same, in_body)?;
+        ReadText::of_bindings(alloc, tokens, tree, names, types, same, in_body)
+    }
+
+    /// A text with the tree of the text before and these bindings, by what was found of the types of that text.
+    fn of_bindings(
+        alloc: Global,
+        tokens: Tokens,
+        tree: ModuleTree,
+        bindings: Bindings,
+        types: ModuleTypes,
+        same: SameTokens,
+        in_body: bool,
+    ) -> Result<ReadText, AllocError>
+        requires parsed { IsParsed (parsed_by tokens tree) }
+        requires resolved { IsResolution (resolution_by (parsed_by tokens tree) bindings) }
+        requires before { in_body ≡ true
+            → WereTypes (resolution_by (parsed_by tokens tree) bindings) types same.front }
+        ensures { IfOk result (λ r. r ≡ tokens.text) }
+    {
+        let types = check_again(alloc, &tokens, &tree, &bindings, types, same, in_body)?;
+        let parts = ModuleParts::from_parts(tokens, tree, bindings, types);
+        Ok(ReadText::of_module(parts))
     }
 
     /// A text whose tokens are written as those of the text before, by all that was known of that, with its faults at
@@ -368,6 +394,7 @@ impl ReadText {
 fn scan_changed(alloc: Global, old: Tokens, text: &str) -> Result<RescanInPlace, NotRescanned>
     ensures ok { IfOk result (λ r. IsScanOf text.now r.rescan.tokens) }
     ensures same { IfOk result (λ r. HasSameTokens r.same old.tokens r.rescan.tokens.tokens) }
+    ensures written { IfOk result (λ r. HasSameWords r.same old r.rescan.tokens) }
     ensures alike { IfOk result
         (λ r. r.alike ≡ true → kinds r.rescan.tokens.tokens ≡ kinds old.tokens) }
     ensures same_names { IfOk result

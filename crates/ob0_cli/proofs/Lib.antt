@@ -1,4 +1,5 @@
 pub mod Named
+pub mod Needed
 pub mod Numbers
 pub mod Rows
 pub mod Stops

@@ -2,16 +2,16 @@
 //!
 //! A further subcommand: an `App` in `specs/Lines.antt`, a case of `HoldsValues` and of `NeedsAt`, and in
 //! `proofs/Named.antt` a `.._fits` and a `.._needs` by `refl` under `unfolding clap_on_literals nth`; an `App` of
-//! several arguments needs a line for each in the answers of its definition (`app_of` is put together step by step,
-//! with `global ≡ false` of each argument as a clause `own`). Nothing depends on the options of `serve`: only its `App`
+//! several arguments needs a line for each in the answers of its definition (`app_of` is put together step by step, by
+//! `with`, for which each argument has a clause `own`: `global ≡ false`). Nothing depends on the options of `serve`: only its `App`
 //! and `serve_definition` know them.
 //!
 //! Traps: a `ghost` clause can't be picked where a function takes a `&str`, so the bound of a number is a function of
 //! its name (`most_of`); a local named `run` is `run'` in the answers; `where` blocks want every `_` written out. Help
 //! texts are constants of at most 80 columns, one for each command: a test counts.
 
-ghost use Rattle.std.specs.Prelude.{◌≡◌, ◌≤◌, Some, false, IfOk, IfErr, map};
-ghost use Rattle.clap.specs.Words.{app_of, first_of, found_of, new_app, rows_of, rule_of, subcommand_rows_of};
+ghost use Rattle.std.specs.Prelude.{◌≡◌, ◌≤◌, Some, false, true, IfOk, IfErr, map};
+ghost use Rattle.clap.specs.Words.{App, Rule, app_of, first_of, found_of, new_app, rows_of, rule_of, subcommand_rows_of, with_rule, with_subcommand};
 ghost use Rattle.ob0_cli.specs.Given.{Gives, HasNeeded, HasBounded, HasPlace, HasText, HoldsValues, IsNumber, IsReadFrom, NeedsAt, RefusesWords, most_of};
 ghost use Rattle.ob0_cli.specs.Lines.{client_rule, ob0_alone, ob0_app, calls_rule, check as check_lines, number_rule, rename as rename_lines, run as run_lines, serve as serve_lines, serve_alone as serve_lines_alone, stdio_rule, turns_rule, word_rule};
 
@@ -247,15 +247,39 @@ fn place_at(given: &ArgMatches<'_>, id: &str) -> u64
 fn definition<'a>(alloc: Global) -> Result<Command<'a>, AllocError>
     ensures { IfOk result (λ c. app_of c ≡ ob0_app) }
 {
-    let alone = program(alloc);
-    let serve = serve_definition(alloc)?;
-    let with_serve = alone.subcommand(serve)?;
-    let check = check_definition(alloc)?;
-    let with_check = with_serve.subcommand(check)?;
-    let run = run_definition(alloc)?;
-    let with_run = with_check.subcommand(run)?;
-    let rename = rename_definition(alloc)?;
-    with_run.subcommand(rename)
+    let with_serve = join(Ok(program(alloc)), serve_definition(alloc));
+    let with_check = join(with_serve, check_definition(alloc));
+    let with_run = join(with_check, run_definition(alloc));
+    join(with_run, rename_definition(alloc))
+}
+
+/// A command with a further subcommand, where memory was enough for both. (Here alone is dropped what was made of a
+/// command when the memory ends.)
+fn join<'a>(
+    above: Result<Command<'a>, AllocError>,
+    below: Result<Command<'a>, AllocError>,
+) -> Result<Command<'a>, AllocError>
+    ensures { (app sub : App) → sub.top.is_plain ≡ true
+        → IfOk above.entry (λ c. app_of c ≡ app)
+        → IfOk below.entry (λ c. app_of c ≡ sub)
+        → IfOk result (λ c. app_of c ≡ with_subcommand app sub.top) }
+{
+    let below = below?;
+    let above = above?;
+    above.subcommand(below)
+}
+
+/// A command with a further argument, where memory was enough for what was made of it before.
+fn with<'a>(
+    command: Result<Command<'a>, AllocError>,
+    argument: Arg<'a>,
+) -> Result<Command<'a>, AllocError>
+    ensures { (app : App) (rule : Rule) → argument.entry.global ≡ false
+        → rule_of argument.entry ≡ rule
+        → IfOk command.entry (λ c. app_of c ≡ app)
+        → IfOk result (λ c. app_of c ≡ with_rule app rule) }
+{
+    command?.arg(argument)
 }
 
 /// The program, as yet without its subcommands.
@@ -278,11 +302,8 @@ fn bare<'a>(alloc: Global, name: &'a str, about: &'a str, notes: &'a str) -> Com
 fn serve_definition<'a>(alloc: Global) -> Result<Command<'a>, AllocError>
     ensures { IfOk result (λ c. app_of c ≡ serve_lines) }
 {
-    let alone = serve_alone(alloc);
-    let stdio = stdio_argument(alloc);
-    let with_stdio = alone.arg(stdio)?;
-    let client = client_argument(alloc);
-    with_stdio.arg(client)
+    let with_stdio = with(Ok(serve_alone(alloc)), stdio_argument(alloc));
+    with(with_stdio, client_argument(alloc))
 }
 
 /// `serve`, as yet without its options, each of which may be given several times.
@@ -341,11 +362,9 @@ fn run_definition<'a>(alloc: Global) -> Result<Command<'a>, AllocError>
         "Run a module on the numbers of standard input",
         RUN_NOTES,
     );
-    let with_file = alone.arg(file)?;
-    let calls = calls_argument(alloc);
-    let with_calls = with_file.arg(calls)?;
-    let turns = turns_argument(alloc);
-    with_calls.arg(turns)
+    let with_file = with(Ok(alone), file);
+    let with_calls = with(with_file, calls_argument(alloc));
+    with(with_calls, turns_argument(alloc))
 }
 
 fn rename_definition<'a>(alloc: Global) -> Result<Command<'a>, AllocError>
@@ -358,23 +377,22 @@ fn rename_definition<'a>(alloc: Global) -> Result<Command<'a>, AllocError>
         "Print a module with another name for one of its names",
         RENAME_NOTES,
     );
-    let with_file = alone.arg(file)?;
+    let with_file = with(Ok(alone), file);
     let line = number(
         alloc,
         "line",
         "LINE",
         "The line of the name, counted from 0",
     );
-    let with_line = with_file.arg(line)?;
+    let with_line = with(with_file, line);
     let column = number(
         alloc,
         "column",
         "COLUMN",
         "Its column, counted from 0 in UTF-16 units",
     );
-    let with_column = with_line.arg(column)?;
-    let name = word(alloc, "name", "NAME", "The new name");
-    with_column.arg(name)
+    let with_column = with(with_line, column);
+    with(with_column, word(alloc, "name", "NAME", "The new name"))
 }
 
 /// A word that must be there, and what help calls it.

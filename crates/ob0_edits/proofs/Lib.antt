@@ -1,1 +1,3 @@
+mod Inlined
+mod LaidOut
 pub mod Renamings

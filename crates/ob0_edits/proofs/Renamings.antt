@@ -1,8 +1,8 @@
 -- The edits of a renaming leave a text whose module runs as before.
-use Rattle.std.proofs.Common.{◌≡◌, ◌⊎◌, ℕ, List, Option, Some, None, Result, Ok, Err, Vec, Global, inl, inr, refl, subst}
+use Rattle.std.proofs.Common.{◌≡◌, ◌⊎◌, ℕ, List, Option, Some, None, Result, Ok, Err, IfErr, Vec, Global, inl, inr, refl, subst, sym}
 use Rattle.std.specs.Str.{chars, IsUtf8}
 use Rattle.ob0_language_fields.specs.Renaming.{field_renamed}
-use Rattle.ob0_rename.specs.Answers.{AreEdits, IsRefused, WritesName}
+use Rattle.ob0_rename.specs.Answers.{AreEdits, IsRefused, RenameAnswers, WritesName}
 use Rattle.ob0_rename.specs.Renaming.{Renaming, field_tokens_to_rename, tokens_to_rename}
 use Rattle.ob0_language_names.specs.Names.{Name}
 use Rattle.ob0_scope_table.specs.Resolution.{Resolution}
@@ -21,9 +21,14 @@ use Rattle.ob0_edits.specs.Renamings.{FindsNewName, RenamesIn, Settles, renaming
 use Rattle.ob0_analysis.proofs.Scanning.{is_module, utf8_of}
 
 -- a refusal that isn't out of memory
-pub not_memory : (r : Renaming) (refusal : EditRefusal) → (refusal ≡ Memory) ⊎ IsRefused r refusal → (refusal ≡ Memory → ⊥) → IsRefused r refusal
+not_memory : (r : Renaming) (refusal : EditRefusal) → (refusal ≡ Memory) ⊎ IsRefused r refusal → (refusal ≡ Memory → ⊥) → IsRefused r refusal
 not_memory r refusal (inl wants) other = absurd (other wants)
 not_memory r refusal (inr h) other = h
+
+-- edits or a refusal, where memory didn't run out
+pub settled : (r : Renaming) (answer kept : Result (Vec Edit Global) EditRefusal) → RenameAnswers r answer → kept ≡ answer → IfErr kept (λ refusal. refusal ≡ Memory → ⊥) → Settles r kept
+settled r answer (Ok edits) h is other = subst (λ (a : Result (Vec Edit Global) EditRefusal). RenameAnswers r a) (sym is) h
+settled r answer (Err refusal) h is other = not_memory r refusal (subst (λ (a : Result (Vec Edit Global) EditRefusal). RenameAnswers r a) (sym is) h) other
 
 -- edits that leave a text of a well-typed tree with the same runs leave a text that runs as before
 renames_in : (unit : Unit) (text : List ℕ) (place : Position) (new : List ℕ) (edits : List Edit) (names : Resolution) → IsModuleIn (utf8 text) names

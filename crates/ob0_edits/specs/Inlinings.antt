@@ -13,9 +13,11 @@ use Rattle.ob0_inline.specs.Everywhere.{AnswersEverywhere}
 use Rattle.ob0_inline.specs.Uses.{AnswersHere}
 use Rattle.ob0_analysis.specs.Texts.{utf8}
 use Rattle.ob0_analysis.specs.Analysed.{IsReadAs}
+use Rattle.ob0_analysis.specs.Diagnosed.{IsWellTypedModule}
 use Rattle.ob0_analysis.specs.RunsKept.{RunsAsBefore}
 use Rattle.ob0_edits.specs.declared.inlining.Inlining.{Inlining}
 use Rattle.ob0_edits.specs.declared.inlining.Inlining.TheVariants.{Here, Everywhere}
+use Rattle.ob0_edits.specs.declared.inlining.Inlinings as found_inlinings
 
 -- the answer of an inliner at a place in bytes of a module
 abbrev pub AnswersInlining : Inlining
@@ -51,3 +53,21 @@ pub record IsNotInlinedIn (how : Inlining) (unit : Unit) (text : List ℕ) (offs
   pub module_read : Parsed
   pub read : IsReadAs (utf8 text) module_read
   pub refused : Inlines how unit text module_read offset None
+
+-- ---- what is found in a text
+
+-- what an inliner's answer offers
+abbrev pub IsOffered : Result (Vec Edit Global) EditRefusal → Option (Vec Edit Global) → Type 0
+IsOffered answer (Some edits) = answer ≡ Ok edits
+IsOffered answer None = (refusal : EditRefusal) × ¬ (refusal ≡ Memory) × (answer ≡ Err refusal)
+
+-- offered exactly where it isn't refused
+abbrev pub Offers : Inlining → Unit → List ℕ → ℕ → Option (Vec Edit Global) → Type 0
+Offers how unit text offset (Some edits) = InlinesIn how unit text offset edits
+Offers how unit text offset None = IsNotInlinedIn how unit text offset
+
+-- what is offered at a place of a text, for a well-typed module alone
+abbrev pub FindsInlinings : Unit → List ℕ → ℕ → Option found_inlinings.Inlinings → Type 0
+FindsInlinings unit text offset (Some found) =
+    Offers Here unit text offset found.here × Offers Everywhere unit text offset found.everywhere
+FindsInlinings unit text offset None = ¬ IsWellTypedModule (utf8 text)

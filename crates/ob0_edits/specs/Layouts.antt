@@ -1,14 +1,17 @@
 -- A text is laid out: the edits, and what they leave.
 -- Rule: docs/PROTOCOL.md, Requests on documents 8, 10.
-use Rattle.std.specs.Prelude.{◌≡◌, ◌<◌, ℕ, List, Some, map, length}
+use Rattle.std.specs.Prelude.{◌≡◌, ◌<◌, ℕ, List, Option, Some, None, Result, Ok, Err, Vec, map, length}
+use Rattle.std.specs.declared.alloc.Global.{Global}
 use Rattle.ob0_scan.specs.Scanned.{max_text}
 use Rattle.ob0_text.specs.Patches.{patched}
 use Rattle.ob0_text.specs.Units.{width_of}
 use Rattle.ob0_text.specs.declared.edits.Edit.{Edit}
 use Rattle.ob0_text.specs.declared.edits.Indent.{Indent}
 use Rattle.ob0_text.specs.declared.position_types.Unit.{Unit}
+use Rattle.ob0_text.specs.declared.refusals.EditRefusal.{EditRefusal}
+use Rattle.ob0_text.specs.declared.refusals.EditRefusal.TheVariants.{TooLong}
 use Rattle.ob0_layout.specs.Layout.{layout}
-use Rattle.ob0_layout.specs.Sites.{EditText, edit_text, edit_of, changed_sites, all_sites}
+use Rattle.ob0_layout.specs.Gaps.{EditText, edit_text, edit_of, changed_gaps, all_gaps}
 use Rattle.ob0_layout.specs.LineRoles.{line_roles}
 use Rattle.ob0_analysis.specs.Diagnosed.{IsTextOf, IsWellTypedModule}
 use Rattle.ob0_analysis.specs.Texts.{utf8}
@@ -27,8 +30,8 @@ abbrev pub layout_changes : {text : List ℕ}
     → List EditText
 layout_changes unit indent characters m =
     let source = m.text_of.scanned in
-    map (edit_of indent (width_of unit) characters) (changed_sites indent source.text
-    (all_sites (line_roles 0 m.tree) m.text_of.scan.scan.lexemes))
+    map (edit_of (width_of unit) characters) (changed_gaps source.text
+    (all_gaps indent source.text (line_roles 0 m.tree) m.text_of.scan.scan.lexemes))
 
 -- These edits lay out a text: one for each gap that changes, which it replaces. Made at once they
 -- leave the layout, a text of the same module, which runs as before.
@@ -46,3 +49,17 @@ pub record LaysOut (unit : Unit) (indent : Indent) (text : List ℕ)
 pub record IsTooLongLaidOut (indent : Indent) (text : List ℕ) : Type 0 where
   pub before : IsWellTypedModule (utf8 text)
   pub long : max_text < length (layout_of indent before)
+
+-- edits, or the one refusal
+abbrev pub Formats : Unit → Indent → List ℕ → Result (Vec Edit Global) EditRefusal → Type 0
+Formats unit indent text (Ok edits) = LaysOut unit indent text edits.items
+Formats unit indent text (Err refusal) = (refusal ≡ TooLong) × IsTooLongLaidOut indent text
+
+-- edits, or the one refusal, for a well-typed module alone
+abbrev pub FindsLayout : Unit
+    → Indent
+    → List ℕ
+    → Option (Result (Vec Edit Global) EditRefusal)
+    → Type 0
+FindsLayout unit indent text (Some outcome) = Formats unit indent text outcome
+FindsLayout unit indent text None = ¬ IsWellTypedModule (utf8 text)

@@ -9,6 +9,7 @@ ghost use Rattle.std.specs.Prelude.{◌≡◌, IfOk};
 ghost use Rattle.std.specs.Str.{chars};
 ghost use Rattle.ob0_edits.specs.Renamings.{FindsNewName, Settles, renaming_of};
 
+use crate::refusals::without_memory;
 use ob0_analysis::{Analysis, Question, WellTyped, ask};
 use ob0_rename::rename;
 use ob0_text::{Edit, EditRefusal, Position, TextStore};
@@ -35,16 +36,7 @@ impl<'a, T: TextStore> Question for NewName<'a, T> {
         alloc: Global,
         module: &WellTyped<'_>,
     ) -> Result<Result<Vec<Edit>, EditRefusal>, AllocError> {
-        match rename(alloc, self.store, module, self.place, self.new) {
-            Ok(edits) => Ok(Ok(edits)),
-            Err(refusal) => {
-                if refusal == EditRefusal::Memory {
-                    Err(AllocError)
-                } else {
-                    Ok(Err(refusal))
-                }
-            }
-        }
+        without_memory(rename(alloc, self.store, module, self.place, self.new))
     }
 }
 

@@ -6,9 +6,7 @@ pub mod Removals
 pub mod Names
 pub mod Values
 pub mod OfTrees
-pub mod Factors
 pub mod Made
 pub mod MadeWithout
 pub mod Lengths
 pub mod Ranged
-pub mod Inlined

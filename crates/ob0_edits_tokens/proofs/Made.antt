@@ -1,7 +1,7 @@
 -- The text with another one at the places of identifiers is scanned, and has the expected words.
 use Rattle.std.proofs.Common.{◌≡◌, ℕ, suc, ◌≤◌, List, [], ◌∷◌, length, get_or, drop, map, refl, sym, ap, ap₂, ◌∙◌}
 use Rattle.std.specs.Prelude.{Some}
-use Rattle.std.specs.Str.{IsUtf8, chars}
+use Rattle.std.specs.Str.{IsCharBoundary, IsUtf8, chars}
 use Rattle.ob0_scan.specs.Lexed.{Lexeme, Lexed}
 use Rattle.ob0_scan.specs.Scanned.{Word, Scanned, IsScan, IsRangeOf, tokens_from, comments_from, max_text}
 use Rattle.ob0_scan.proofs.Borders.{lexed_by_next_bytes}
@@ -14,12 +14,19 @@ use Rattle.ob0_text.specs.Patches.{Cut, cut_at, cuts_of, patched_by_cuts}
 use Rattle.ob0_edits_tokens.specs.Changed.{words_of, changed_words, at_each}
 use Rattle.ob0_edits_tokens.specs.Replaced.{AreNames, span_at, cut_of, with_text_at, ReplacesName, parts, edit_at, LeavesWords}
 use Rattle.ob0_edits_tokens.specs.Ranges.{range_of}
-use Rattle.ob0_edits_tokens.proofs.Swaps.{Chain, AllClear, Swapped, swapped}
-use Rattle.ob0_edits_tokens.proofs.TextCuts.{AreSame, same_cut, patched_by_same}
+use Rattle.ob0_edits_tokens.proofs.Swaps.{Chain, AllClear, HasClearEnds, Swapped, swapped}
+use Rattle.ob0_edits_tokens.proofs.TextCuts.{AreSame, IsBorder, chained, same_cut, patched_by_same}
 
 -- the scan that lexemes give
 abbrev pub scan_of : List ℕ → List Lexeme → Scanned
 scan_of text ls = record { text = text; tokens = tokens_from 0 ls; comments = comments_from 0 ls }
+
+-- what is taken out begins and ends at a border
+pub first_border : (text : List ℕ) (c : Cut) → IsCharBoundary text c.from → HasClearEnds text c → IsBorder text c.from
+first_border text c place clear = record { place = place; clear = λ ending. clear.first ending.lf }
+
+pub last_border : (text : List ℕ) (c : Cut) → IsCharBoundary text c.to → HasClearEnds text c → IsBorder text c.to
+last_border text c place clear = record { place = place; clear = λ ending. clear.last ending.cr }
 
 module _ (unit : counting.Unit) (s : Scanned) (scan : IsScan s) (new : List ℕ) (ws : List Word) (replaces : ReplacesName new ws) (good : IsUtf8 new) (places : List ℕ) (names : AreNames s.tokens 0 places) where
   result : Swapped s.text s.tokens new ws replaces 0 0 scan.lexemes places
@@ -37,10 +44,11 @@ module _ (unit : counting.Unit) (s : Scanned) (scan : IsScan s) (new : List ℕ)
   same_cuts least at [] here chain clear = tt
   same_cuts least at (q ∷ qs) here chain clear =
       let range : IsRangeOf s.text (span_at s.tokens q) = scan_token_ranges s scan q _ here.1 in
-      (same_cut unit s.text scan.utf8 (span_at s.tokens q) new good range.start range.end chain.1 clear.0, same_cuts (suc q) (span_at s.tokens q).end qs here.3 chain.2 clear.1)
+      let c : Cut = cut_of s.tokens new q in
+      (same_cut unit s.text scan.utf8 c.from c.to new good (first_border s.text c range.start clear.0) (last_border s.text c range.end clear.0) range.ordered (range_of (width_of unit) (chars s.text) (span_at s.tokens q)) refl refl, same_cuts (suc q) (span_at s.tokens q).end qs here.3 chain.2 clear.1)
 
   made : IsUtf8 (with_text_at s places new) × (patched_by_cuts (chars s.text) (map char_cut places) ≡ Some (chars (with_text_at s places new)))
-  made = patched_by_same unit s.text scan.utf8 (map (cut_of s.tokens new) places) (map char_cut places) (same_cuts 0 0 places names result.chain result.clear) result.chain
+  made = patched_by_same unit s.text scan.utf8 (map (cut_of s.tokens new) places) (map char_cut places) (same_cuts 0 0 places names result.chain result.clear) (chained 0 (map (cut_of s.tokens new) places) result.chain)
 
   pub cuts_of_parts : (edits : List Edit) (qs : List ℕ) → map parts edits ≡ map (edit_at unit (chars s.text) s.tokens new) qs → cuts_of (width_of unit) (chars s.text) edits ≡ map char_cut qs
   cuts_of_parts [] [] e = refl

@@ -16,9 +16,9 @@ use Rattle.ob0_edits_tokens.specs.Changed.{words_of, changed_words, at_each}
 use Rattle.ob0_edits_tokens.specs.Replaced.{AreNames, span_at, cut_of, ReplacesName, parts, edit_at, LeavesWords}
 use Rattle.ob0_edits_tokens.specs.Ranges.{range_of}
 use Rattle.ob0_edits_tokens.specs.Removed.{without_words, IsDeclaration, span_over, removal, without_text}
-use Rattle.ob0_edits_tokens.proofs.TextCuts.{AreSame, same_cut, patched_by_same}
+use Rattle.ob0_edits_tokens.proofs.TextCuts.{AreSame, chained, same_cut, patched_by_same}
 use Rattle.ob0_edits_tokens.proofs.Removals.{Cleared, cleared}
-use Rattle.ob0_edits_tokens.proofs.Made.{scan_of, char_cut, same_cuts, cuts_of_parts}
+use Rattle.ob0_edits_tokens.proofs.Made.{scan_of, first_border, last_border, char_cut, same_cuts, cuts_of_parts}
 
 pub lower : (tokens : List Token) (least low : ℕ) (places : List ℕ) → low ≤ least → AreNames tokens least places → AreNames tokens low places
 lower tokens least low [] h names = tt
@@ -41,13 +41,15 @@ module _ (unit : counting.Unit) (s : Scanned) (scan : IsScan s) (new : List ℕ)
   unfolding AreSame first_cut
   same_all =
       let from : IsRangeOf s.text (span_at s.tokens first) = scan_token_ranges s scan first _ (omega (arith, decl.order, decl.inside)) in
-      let to : IsRangeOf s.text (span_at s.tokens last) = scan_token_ranges s scan last _ decl.inside in (
-        same_cut unit s.text scan.utf8 (span_over s.tokens first last) [] ([], (refl, refl)) from.start to.end result.chain.1 result.clear.0,
+      let to : IsRangeOf s.text (span_at s.tokens last) = scan_token_ranges s scan last _ decl.inside in
+      let c : Cut = removal s.tokens first last in (
+        same_cut unit s.text scan.utf8 c.from c.to [] ([], (refl, refl)) (first_border s.text c from.start result.clear.0) (last_border s.text c to.end result.clear.0) (omega (arith, result.chain.1)) (range_of (width_of unit) (chars s.text) (span_over s.tokens first last)) refl refl,
         same_cuts unit s scan new ws replaces good places all_names (suc last) (span_at s.tokens last).end places names result.chain.2 result.clear.1,
       )
 
   made : IsUtf8 (without_text s first last places new) × (patched_by_cuts (chars s.text) (first_cut ∷ map (char_cut unit s scan new ws replaces good places all_names) places) ≡ Some (chars (without_text s first last places new)))
-  made = patched_by_same unit s.text scan.utf8 (removal s.tokens first last ∷ map (cut_of s.tokens new) places) (first_cut ∷ map (char_cut unit s scan new ws replaces good places all_names) places) same_all result.chain
+  made = patched_by_same unit s.text scan.utf8 (removal s.tokens first last ∷ map (cut_of s.tokens new) places) (first_cut ∷ map (char_cut unit s scan new ws replaces good places all_names) places) same_all
+      (chained 0 (removal s.tokens first last ∷ map (cut_of s.tokens new) places) result.chain)
 
   cuts_are : (edits : List Edit) → map parts edits ≡ (range_of (width_of unit) (chars s.text) (span_over s.tokens first last), []) ∷ map (edit_at unit (chars s.text) s.tokens new) places
       → cuts_of (width_of unit) (chars s.text) edits ≡ first_cut ∷ map (char_cut unit s scan new ws replaces good places all_names) places

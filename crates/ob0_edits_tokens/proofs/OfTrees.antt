@@ -1,52 +1,38 @@
--- The words of a text with some changed are spelled by its tree with names or factors changed.
-use Rattle.std.proofs.Common.{◌≡◌, ℕ, zero, suc, ◌<◌, ◌==◌, Bool, true, false, ◌||◌, List, [], ◌∷◌, ◌++◌, length, map, refl, sym, ap, ap₂, ◌∙◌, arith, length-append, append_assoc, eqb-true, Option, Some, None}
+-- The words of a text with some changed are the tokens of its tree with names changed, and are spelled by it where names alone are.
+use Rattle.std.proofs.Common.{◌≡◌, ℕ, zero, suc, ◌==◌, Bool, true, false, ◌||◌, List, [], ◌∷◌, ◌++◌, length, map, refl, sym, ap, ap₂, ◌∙◌, arith, length-append, append_assoc, eqb-true, Some, None, append-nil}
 use Rattle.std.specs.Prelude.{if◌then◌else◌}
 use Rattle.std.proofs.Math.Seq.{get_or-append_seam}
 use Rattle.std.proofs.lemmas.List.{map-append}
+use Rattle.std.specs.List.{flat_map}
 use Rattle.ob0_scan.specs.declared.lexeme.TokenKind.{TokenKind}
 use Rattle.ob0_scan.specs.declared.lexeme.TokenKind.TheVariants as token
 use Rattle.ob0_scan.specs.declared.lexeme.Token.{Token}
 use Rattle.ob0_scan.specs.Scanned.{Word, Scanned, read_in}
-use Rattle.ob0_tree.specs.Lexeme.{Terminal, Name, Number, kind_lexeme, relabelled}
+use Rattle.ob0_tree.specs.Lexeme.{Terminal, Name, Number, Mark, EndOfText, kind_lexeme, relabelled}
 use Rattle.ob0_tree.specs.Places.{lexeme_of, value_of}
 use Rattle.ob0_edits_tokens.specs.Words.{word_lexeme}
-use Rattle.ob0_tree.specs.Tree.{Tree, factor, spell}
-use Rattle.ob0_edits_tokens.specs.Inlined.{or_named, token_with, inlined_tokens, spelled}
+use Rattle.ob0_tree.specs.Tree.{spell}
 use Rattle.ob0_tree.proofs.Mapped.{spell_mapped}
-use Rattle.ob0_edits_tokens.proofs.Inlined.{spell_inlined}
 use Rattle.ob0_edits_tokens.specs.Changed.{Changes, words_of, changed_words, at_each, is_among, or_itself}
 use Rattle.ob0_edits_tokens.specs.Replaced as place
 use Rattle.ob0_edits_tokens.specs.Replaced.{AreNames}
 use Rattle.ob0_edits_tokens.specs.Written.{name_word}
-use Rattle.ob0_edits_tokens.specs.OfTrees.{numbered_tokens, word_at, text_of_word, number_at, renamed_at, factor_at, RenamedWordsSpell, InlinedWordsSpell}
+use Rattle.ob0_edits_tokens.specs.OfTrees.{numbered_tokens, word_at, text_of_word, number_at, renamed_at, RenamedWordsSpell}
 
--- what is true of each word with its number is true of all
-module _ (all : List Word) (ch : Changes) (f : Terminal ℕ → List (Terminal (List ℕ))) (each : (j : ℕ) → j < length all → f (lexeme_of j (word_at all j).kind) ≡ map word_lexeme (or_itself (word_at all j) (ch j))) where
-  pub joined_with : List (Terminal ℕ) → List (Terminal (List ℕ))
-  joined_with [] = []
-  joined_with (x ∷ xs) = f x ++ joined_with xs
-
-  pub of_each : (k : ℕ) (done ws : List Word) → all ≡ done ++ ws → length done ≡ k → joined_with (numbered_tokens k ws) ≡ map word_lexeme (changed_words ch k ws)
-  unfolding joined_with
-  of_each k done [] e count = refl
-  of_each k done (w ∷ ws) e count =
-      let here : word_at all k ≡ w = (λ i. word_at (e i) (sym count i)) ∙ get_or-append_seam done w ws _ in
-      let inside : k < length all = omega (arith, ap length e, length-append done (w ∷ ws), count) in
+-- what is true of each word with its number is true of words between others
+module _ (all : List Word) (ch : Changes) (f : Terminal ℕ → List (Terminal (List ℕ))) (each : (j : ℕ) → f (lexeme_of j (word_at all j).kind) ≡ map word_lexeme (or_itself (word_at all j) (ch j))) where
+  pub of_each : (k : ℕ) (done ws rest : List Word) → all ≡ done ++ (ws ++ rest) → length done ≡ k → flat_map f (numbered_tokens k ws) ≡ map word_lexeme (changed_words ch k ws)
+  of_each k done [] rest e count = refl
+  of_each k done (w ∷ ws) rest e count =
+      let here : word_at all k ≡ w = (λ i. word_at (e i) (sym count i)) ∙ get_or-append_seam done w (ws ++ rest) _ in
       let this : f (lexeme_of k w.kind) ≡ map word_lexeme (or_itself w (ch k)) =
-      ap (λ (v : Word). f (lexeme_of k v.kind)) (sym here) ∙ each k inside ∙ ap (λ v. map word_lexeme (or_itself v (ch k))) here in
+      ap (λ (v : Word). f (lexeme_of k v.kind)) (sym here) ∙ each k ∙ ap (λ v. map word_lexeme (or_itself v (ch k))) here in
       let more : length (done ++ (w ∷ [])) ≡ suc k = length-append done (w ∷ []) ∙ omega (arith, count) in
-      ap₂ (λ xs ys. xs ++ ys) this (of_each (suc k) (done ++ (w ∷ [])) ws (e ∙ sym (append_assoc done (w ∷ []) ws)) more)
+      ap₂ (λ xs ys. xs ++ ys) this (of_each (suc k) (done ++ (w ∷ [])) ws rest (e ∙ sym (append_assoc done (w ∷ []) (ws ++ rest))) more)
       ∙ sym (map-append word_lexeme (or_itself w (ch k)) (changed_words ch (suc k) ws))
 
--- a token that stays
-same_token : (w : Word) (f : ℕ → List ℕ) (g : ℕ → ℕ) (j : ℕ) → f j ≡ w.text → g j ≡ value_of w.kind → relabelled f g (lexeme_of j w.kind) ≡ word_lexeme w
-same_token w f g j e h = by_kind w.kind h
-  where
-    by_kind : (kind : TokenKind) → g j ≡ value_of kind → relabelled f g (lexeme_of j kind) ≡ kind_lexeme w.text kind
-    by_kind token.Identifier h = ap Name e
-    by_kind (token.Reserved r) h = refl
-    by_kind (token.Integer n) h = ap Number h
-    by_kind (token.Symbol s) h = refl
+  pub of_all : flat_map f (numbered_tokens 0 all) ≡ map word_lexeme (changed_words ch 0 all)
+  of_all = of_each 0 [] all [] (sym (append-nil all)) refl
 
 -- identifiers are at the places
 names_at : (tokens : List Token) (least : ℕ) (places : List ℕ) (k : ℕ) → AreNames tokens least places → is_among k places ≡ true → (place.token_or_empty tokens k).kind ≡ token.Identifier
@@ -57,7 +43,7 @@ names_at tokens least (p ∷ ps) k names e = by_test (k == p) refl e (names_at t
     by_test true h e later = ap (λ q. (place.token_or_empty tokens q).kind) (eqb-true k p h) ∙ names.2
     by_test false h e later = later e
 
-word_kind : (s : Scanned) (k : ℕ) → (word_at (words_of s) k).kind ≡ (place.token_or_empty s.tokens k).kind
+pub word_kind : (s : Scanned) (k : ℕ) → (word_at (words_of s) k).kind ≡ (place.token_or_empty s.tokens k).kind
 word_kind s k = of_list s.tokens k
   where
     of_list : (ts : List Token) (k : ℕ) → (word_at (map (read_in s.text) ts) k).kind ≡ (place.token_or_empty ts k).kind
@@ -65,85 +51,60 @@ word_kind s k = of_list s.tokens k
     of_list (t ∷ ts) zero = refl
     of_list (t ∷ ts) (suc k) = of_list ts k
 
--- a token that stays, where others give way
-same_with : (w : Word) (c : ℕ → Option (List (Terminal (List ℕ)))) (f : ℕ → List ℕ) (g : ℕ → ℕ) (j : ℕ) → c j ≡ None → f j ≡ w.text → g j ≡ value_of w.kind
-    → token_with c f g (lexeme_of j w.kind) ≡ word_lexeme w ∷ []
-same_with w c f g j none e h = by_kind w.kind h
+-- a token of the tree: other tokens in place of a name that gives way
+abbrev pub replaced : (ℕ → Bool) → List (Terminal (List ℕ)) → (ℕ → List ℕ) → (ℕ → ℕ) → Terminal ℕ → List (Terminal (List ℕ))
+replaced gives others f g (Name i) = if gives i then others else Name (f i) ∷ []
+replaced gives others f g (Number i) = Number (g i) ∷ []
+replaced gives others f g (Mark k) = Mark k ∷ []
+replaced gives others f g EndOfText = EndOfText ∷ []
+
+-- a token that stays
+stays : (w : Word) (gives : ℕ → Bool) (others : List (Terminal (List ℕ))) (f : ℕ → List ℕ) (g : ℕ → ℕ) (j : ℕ) → gives j ≡ false → f j ≡ w.text → g j ≡ value_of w.kind
+    → replaced gives others f g (lexeme_of j w.kind) ≡ word_lexeme w ∷ []
+stays w gives others f g j left e h = by_kind w.kind h
   where
-    by_kind : (kind : TokenKind) → g j ≡ value_of kind → token_with c f g (lexeme_of j kind) ≡ kind_lexeme w.text kind ∷ []
-    by_kind token.Identifier h = ap (or_named (f j)) none ∙ ap (λ n. Name n ∷ []) e
+    by_kind : (kind : TokenKind) → g j ≡ value_of kind → replaced gives others f g (lexeme_of j kind) ≡ kind_lexeme w.text kind ∷ []
+    by_kind token.Identifier h = ap (λ b. if b then others else Name (f j) ∷ []) left ∙ ap (λ n. Name n ∷ []) e
     by_kind (token.Reserved r) h = refl
     by_kind (token.Integer n) h = ap (λ m. Number m ∷ []) h
     by_kind (token.Symbol s) h = refl
 
-module _ (s : Scanned) (places : List ℕ) (names : AreNames s.tokens 0 places) where
-  name_here : (k : ℕ) → is_among k places ≡ true → (word_at (words_of s) k).kind ≡ token.Identifier
-  name_here k e = word_kind s k ∙ names_at s.tokens 0 places k names e
+-- the words of a text, with others at some places
+module _ (s : Scanned) (places : List ℕ) (vs : List Word) where
+  abbrev pub put : Terminal ℕ → List (Terminal (List ℕ))
+  put = replaced (λ k. is_among k places) (map word_lexeme vs) (text_of_word (words_of s)) (number_at (words_of s))
 
-  -- renaming
-  module _ (new : List ℕ) where
-    named : Terminal ℕ → List (Terminal (List ℕ))
-    named x = relabelled (renamed_at (words_of s) places new) (number_at (words_of s)) x ∷ []
+  pub each_put : (least : ℕ) → AreNames s.tokens least places → (j : ℕ) → put (lexeme_of j (word_at (words_of s) j).kind) ≡ map word_lexeme (or_itself (word_at (words_of s) j) (at_each places vs j))
+  each_put least names j = by_test (is_among j places) refl
+    where
+      by_test : (b : Bool) → is_among j places ≡ b
+          → put (lexeme_of j (word_at (words_of s) j).kind)
+          ≡ map word_lexeme (or_itself (word_at (words_of s) j) (if is_among j places then Some vs else None))
+      by_test true e =
+          ap (λ k. put (lexeme_of j k)) (word_kind s j ∙ names_at s.tokens least places j names e)
+          ∙ ap (λ b. if b then map word_lexeme vs else Name (text_of_word (words_of s) j) ∷ []) e
+          ∙ ap (λ b. map word_lexeme (or_itself (word_at (words_of s) j) (if b then Some vs else None))) (sym e)
+      by_test false e =
+          stays (word_at (words_of s) j) (λ k. is_among k places) (map word_lexeme vs) (text_of_word (words_of s)) (number_at (words_of s)) j e refl refl
+          ∙ ap (λ b. map word_lexeme (or_itself (word_at (words_of s) j) (if b then Some vs else None))) (sym e)
 
-    each_renamed : (j : ℕ) → j < length (words_of s)
-        → named (lexeme_of j (word_at (words_of s) j).kind) ≡ map word_lexeme (or_itself (word_at (words_of s) j) (at_each places (name_word new ∷ []) j))
-    unfolding named
-    each_renamed j inside = by_test (is_among j places) refl
-      where
-        by_test : (b : Bool) → is_among j places ≡ b
-            → relabelled (renamed_at (words_of s) places new) (number_at (words_of s)) (lexeme_of j (word_at (words_of s) j).kind) ∷ []
-            ≡ map word_lexeme (or_itself (word_at (words_of s) j) (if is_among j places then Some (name_word new ∷ []) else None))
-        by_test true e =
-            ap (λ k. relabelled (renamed_at (words_of s) places new) (number_at (words_of s)) (lexeme_of j k) ∷ []) (name_here j e)
-            ∙ ap (λ b. Name (if b then new else text_of_word (words_of s) j) ∷ []) e
-            ∙ ap (λ b. map word_lexeme (or_itself (word_at (words_of s) j) (if b then Some (name_word new ∷ []) else None))) (sym e)
-        by_test false e =
-            ap (λ x. x ∷ []) (same_token (word_at (words_of s) j) (renamed_at (words_of s) places new) (number_at (words_of s)) j (ap (λ b. if b then new else text_of_word (words_of s) j) e) refl)
-            ∙ ap (λ b. map word_lexeme (or_itself (word_at (words_of s) j) (if b then Some (name_word new ∷ []) else None))) (sym e)
+  pub all_put : AreNames s.tokens 0 places → flat_map put (numbered_tokens 0 (words_of s)) ≡ map word_lexeme (changed_words (at_each places vs) 0 (words_of s))
+  all_put names = of_all (words_of s) (at_each places vs) put (each_put 0 names)
 
-    all_named : (xs : List (Terminal ℕ)) → joined_with (words_of s) (at_each places (name_word new ∷ [])) named each_renamed xs ≡ map (relabelled (renamed_at (words_of s) places new) (number_at (words_of s))) xs
-    unfolding joined_with named
-    all_named [] = refl
-    all_named (x ∷ xs) = ap (λ t. relabelled (renamed_at (words_of s) places new) (number_at (words_of s)) x ∷ t) (all_named xs)
-
-    renamed_words : map (relabelled (renamed_at (words_of s) places new) (number_at (words_of s))) (numbered_tokens 0 (words_of s)) ≡ map word_lexeme (changed_words (at_each places (name_word new ∷ [])) 0 (words_of s))
-    renamed_words = sym (all_named (numbered_tokens 0 (words_of s))) ∙ of_each (words_of s) (at_each places (name_word new ∷ [])) named each_renamed 0 [] (words_of s) refl refl
-
-  -- inlining
-  module _ (v : Tree (List ℕ) factor) (vs : List Word) (same : map word_lexeme vs ≡ spell v) where
-    put : Terminal ℕ → List (Terminal (List ℕ))
-    put x = token_with (λ n. spelled (factor_at places v n)) (text_of_word (words_of s)) (number_at (words_of s)) x
-
-    each_put : (j : ℕ) → j < length (words_of s)
-        → put (lexeme_of j (word_at (words_of s) j).kind) ≡ map word_lexeme (or_itself (word_at (words_of s) j) (at_each places vs j))
-    unfolding put
-    each_put j inside = by_test (is_among j places) refl
-      where
-        by_test : (b : Bool) → is_among j places ≡ b
-            → token_with (λ n. spelled (factor_at places v n)) (text_of_word (words_of s)) (number_at (words_of s)) (lexeme_of j (word_at (words_of s) j).kind)
-            ≡ map word_lexeme (or_itself (word_at (words_of s) j) (if is_among j places then Some vs else None))
-        by_test true e =
-            ap (λ k. token_with (λ n. spelled (factor_at places v n)) (text_of_word (words_of s)) (number_at (words_of s)) (lexeme_of j k)) (name_here j e)
-            ∙ ap (λ b. or_named (text_of_word (words_of s) j) (spelled (if b then Some v else None))) e ∙ sym same
-            ∙ ap (λ b. map word_lexeme (or_itself (word_at (words_of s) j) (if b then Some vs else None))) (sym e)
-        by_test false e =
-            same_with (word_at (words_of s) j) (λ n. spelled (factor_at places v n)) (text_of_word (words_of s)) (number_at (words_of s)) j (ap (λ b. spelled (if b then Some v else None)) e) refl refl
-            ∙ ap (λ b. map word_lexeme (or_itself (word_at (words_of s) j) (if b then Some vs else None))) (sym e)
-
-    all_put : (xs : List (Terminal ℕ)) → joined_with (words_of s) (at_each places vs) put each_put xs ≡ inlined_tokens (λ n. spelled (factor_at places v n)) (text_of_word (words_of s)) (number_at (words_of s)) xs
-    unfolding joined_with put
-    all_put [] = refl
-    all_put (x ∷ xs) = ap (λ t. token_with (λ n. spelled (factor_at places v n)) (text_of_word (words_of s)) (number_at (words_of s)) x ++ t) (all_put xs)
-
-    inlined_words : inlined_tokens (λ n. spelled (factor_at places v n)) (text_of_word (words_of s)) (number_at (words_of s)) (numbered_tokens 0 (words_of s)) ≡ map word_lexeme (changed_words (at_each places vs) 0 (words_of s))
-    inlined_words = sym (all_put (numbered_tokens 0 (words_of s))) ∙ of_each (words_of s) (at_each places vs) put each_put 0 [] (words_of s) refl refl
+-- a name in place of names
+all_renamed : (ws : List Word) (places new : List ℕ) (xs : List (Terminal ℕ))
+    → map (relabelled (renamed_at ws places new) (number_at ws)) xs ≡ flat_map (replaced (λ k. is_among k places) (Name new ∷ []) (text_of_word ws) (number_at ws)) xs
+all_renamed ws places new [] = refl
+all_renamed ws places new (Name i ∷ xs) =
+    ap₂ (λ x ys. x ++ ys)
+    (elim (is_among i places) as (λ b. Name (if b then new else text_of_word ws i) ∷ [] ≡ (if b then Name new ∷ [] else Name (text_of_word ws i) ∷ [])) [ true ↦ refl | false ↦ refl ])
+    (all_renamed ws places new xs)
+all_renamed ws places new (Number i ∷ xs) = ap (λ ys. Number (number_at ws i) ∷ ys) (all_renamed ws places new xs)
+all_renamed ws places new (Mark k ∷ xs) = ap (λ ys. Mark k ∷ ys) (all_renamed ws places new xs)
+all_renamed ws places new (EndOfText ∷ xs) = ap (λ ys. EndOfText ∷ ys) (all_renamed ws places new xs)
 
 pub renamed_words_spell : RenamedWordsSpell
 renamed_words_spell s sort t places new names e =
     sym (spell_mapped (renamed_at (words_of s) places new) (number_at (words_of s)) t
-    ∙ ap (map (relabelled (renamed_at (words_of s) places new) (number_at (words_of s)))) e ∙ renamed_words s places names new)
-
-pub inlined_words_spell : InlinedWordsSpell
-inlined_words_spell s sort t places v vs names e factors same =
-    sym (spell_inlined (factor_at places v) (text_of_word (words_of s)) (number_at (words_of s)) t factors
-    ∙ ap (inlined_tokens (λ n. spelled (factor_at places v n)) (text_of_word (words_of s)) (number_at (words_of s))) e ∙ inlined_words s places names v vs same)
+    ∙ all_renamed (words_of s) places new (spell t) ∙ ap (flat_map (put s places (name_word new ∷ []))) e
+    ∙ all_put s places (name_word new ∷ []) names)

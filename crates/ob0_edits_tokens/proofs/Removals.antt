@@ -2,7 +2,7 @@
 use Rattle.std.proofs.Common.{◌≡◌, ℕ, suc, ◌+◌, ◌-◌, ◌<◌, ◌≤◌, ◌==◌, Bool, true, false, ◌&&◌, inl, inr, List, [], ◌∷◌, ◌++◌, length, get_or, drop, map, refl, sym, ap, ◌∙◌, subst, arith, append_assoc, append-nil, length-append, add-zero, le-leb, ⊎_elim}
 use Rattle.std.specs.Prelude.{nat_le, if◌then◌else◌, Some, None}
 use Rattle.std.specs.Char.{is_ascii_alphanumeric}
-use Rattle.std.proofs.lemmas.Bool.{lt-leb, false_from_ne_true, eqb-true}
+use Rattle.std.proofs.lemmas.Bool.{lt-leb, eqb-true}
 use Rattle.std.proofs.lemmas.Bool.Decides.{nat_tests}
 use Rattle.ob0_scan.specs.declared.lexeme.Reserved.TheVariants as reserved
 use Rattle.ob0_scan.specs.declared.lexeme.Symbol.TheVariants as symbol
@@ -18,11 +18,11 @@ use Rattle.ob0_scan.specs.Scanned.{Word, word_of, words, span_from, token_at, to
 use Rattle.ob0_scan.proofs.Cuts.{nonempty}
 use Rattle.ob0_scan.proofs.Runs.{letter_or_digit}
 use Rattle.ob0_text.specs.Patches.{Cut, pieced}
-use Rattle.ob0_edits_tokens.specs.Changed.{Changes, changed_words, at_each, is_among, or_itself}
+use Rattle.ob0_edits_tokens.specs.Changed.{Changes, changed_words, at_each, or_itself}
 use Rattle.ob0_edits_tokens.specs.Replaced as place
 use Rattle.ob0_edits_tokens.specs.Replaced.{AreNames, span_at, cut_of, ReplacesName}
 use Rattle.ob0_edits_tokens.specs.Removed.{without_words, IsDeclaration, removal}
-use Rattle.ob0_edits_tokens.proofs.Swaps.{Chain, chain_from, AllClear, Swapped, swapped, pieced_keep, pieced_here, same_first, first_of, byte_at, further, here_token, make_token, make_word, no_break}
+use Rattle.ob0_edits_tokens.proofs.Swaps.{Chain, chain_from, AllClear, Swapped, swapped, pieced_keep, pieced_here, same_first, first_of, byte_at, further, here_token, make_token, make_word, no_break, not_among}
 use Rattle.ob0_edits_tokens.proofs.Merges.{begins_with_space, MeetsLoosely, merged}
 
 -- what may be before a declaration in a CONST section
@@ -35,7 +35,7 @@ OfBorder (lexeme.Token (token.Integer n)) = ⊥
 OfBorder (lexeme.Token (token.Symbol s)) = s ≡ symbol.Semicolon
 
 -- after the declaration only the other changes count
-past_last : (first last : ℕ) (ch : Changes) (j : ℕ) (xs : List Word) → last < j → changed_words (without_words first last ch) j xs ≡ changed_words ch j xs
+pub past_last : (first last : ℕ) (ch : Changes) (j : ℕ) (xs : List Word) → last < j → changed_words (without_words first last ch) j xs ≡ changed_words ch j xs
 past_last first last ch j [] h = refl
 past_last first last ch j (x ∷ xs) h =
     let out : (nat_le first j && nat_le j last) ≡ false = ap (λ b. nat_le first j && b) (lt-leb j last h) ∙ none (nat_le first j) in
@@ -50,12 +50,6 @@ gone first last k ch h e = rw (le-leb first k h, le-leb k last e) refl
 
 not_gone : (first last k : ℕ) (ch : Changes) → k < first → without_words first last ch k ≡ ch k
 not_gone first last k ch h = rw (lt-leb first k h) refl
-
-not_among : (tokens : List Token) (least k : ℕ) (places : List ℕ) → AreNames tokens least places → k < least → is_among k places ≡ false
-not_among tokens least k [] names below = refl
-not_among tokens least k (p ∷ ps) names below =
-    let other : (k == p) ≡ false = false_from_ne_true (k == p) (λ e. absurd (omega (arith, eqb-true k p e, names.0))) in
-    rw (other) (not_among tokens (suc p) k ps names.3 (omega (arith, names.0)))
 
 module _ (text : List ℕ) (tokens : List Token) (new : List ℕ) (ws : List Word) (replaces : ReplacesName new ws) (first last : ℕ) (decl : IsDeclaration tokens first last) (places : List ℕ) (names : AreNames tokens (suc last) places) where
   abbrev changes : Changes

@@ -31,7 +31,7 @@ words-append [] ys = refl
 words-append (x ∷ xs) ys = ap (λ t. word_of x x.kind ++ t) (words-append xs ys) ∙ sym (append_assoc (word_of x x.kind) (words xs) (words ys))
 
 -- no place below the least is among the places
-not_among : (tokens : List Token) (least k : ℕ) (places : List ℕ) → AreNames tokens least places → k < least → is_among k places ≡ false
+pub not_among : (tokens : List Token) (least k : ℕ) (places : List ℕ) → AreNames tokens least places → k < least → is_among k places ≡ false
 not_among tokens least k [] names below = refl
 not_among tokens least k (p ∷ ps) names below =
     let other : (k == p) ≡ false = false_from_ne_true (k == p) (λ e. absurd (omega (arith, eqb-true k p e, names.0))) in

@@ -1,4 +1,4 @@
--- Edits whose ranges are those of spans, in order: the text that they make, in bytes and in characters.
+-- Edits at places of a text, in order: the text that they make, in bytes and in characters.
 use Rattle.std.proofs.Common.{◌≡◌, ℕ, ◌+◌, ◌-◌, ◌<◌, ◌≤◌, Bool, true, false, List, [], ◌∷◌, ◌++◌, length, get_or, take, drop, min, max, refl, sym, ap, ap₂, ◌∙◌, subst, arith, length-append, get_or-append-add, le-leb}
 use Rattle.std.specs.Prelude.{nat_le, if◌then◌else◌, Some, None, encode_utf8_all}
 use Rattle.std.specs.List.{list_all}
@@ -7,18 +7,27 @@ use Rattle.std.proofs.Math.Seq.{take-append_seam, take-append-add}
 use Rattle.std.proofs.lemmas.Str.{chars-append, IsUtf8-append, IsUtf8-take, IsUtf8-drop, IsUtf8-between, encodes-append, encodes-chars, scalars-chars, encode_ascii}
 use Rattle.std.proofs.lemmas.List.{take-append-drop, length-take}
 use Rattle.std.proofs.lemmas.Bool.Decides.{nat_tests}
-use Rattle.ob0_scan.specs.declared.lexeme.Span.{Span}
+use Rattle.ob0_text.specs.declared.position_types.Range.{Range}
 use Rattle.ob0_text.specs.declared.position_types.Unit as counting
 use Rattle.ob0_text.specs.Units.{width_of}
 use Rattle.ob0_text.proofs.Widths.{wide}
 use Rattle.ob0_text.specs.Texts.{CR, LF, before, position_of, byte_len, IsInsideEnding}
 use Rattle.ob0_text.specs.Patches.{Cut, place, cut_at, are_apart, all_apart, is_before, put_in_order, in_text_order, pieced, patched_by_cuts}
 use Rattle.ob0_text.proofs.RoundTrip.{places_go_back}
-use Rattle.ob0_text.proofs.Prefixes.{bytes_up, border_at}
+use Rattle.ob0_text.proofs.Prefixes.{border_at}
 use Rattle.ob0_text.proofs.CutOrder.{bytes_further}
 use Rattle.ob0_text.proofs.Pieces.{middle_chars, last_chars}
-use Rattle.ob0_edits_tokens.specs.Ranges.{range_of}
-use Rattle.ob0_edits_tokens.proofs.Swaps.{Chain, HasClearEnds}
+use Rattle.ob0_edits_tokens.specs.Replaced.{AreInOrder}
+
+-- cuts one after another
+abbrev pub Chain : ℕ → List Cut → Type 0
+Chain at [] = Unit {0}
+Chain at (c ∷ cs) = (at ≤ c.from) × (c.from ≤ c.to) × Chain c.to cs
+
+-- so are those that each take something out
+pub chained : (at : ℕ) (cs : List Cut) → AreInOrder at cs → Chain at cs
+chained at [] order = tt
+chained at (c ∷ cs) order = (order.0, omega (arith, order.1), chained c.to cs order.2)
 
 -- the characters before a border
 pub record IsPlace (bytes : List ℕ) (offset : ℕ) (k : ℕ) : Type 0 where
@@ -41,9 +50,14 @@ place_at bytes u offset border =
     )
 
 -- between a CR and its LF are these two bytes
-record IsEnding (bytes : List ℕ) (offset : ℕ) : Type 0 where
+pub record IsEnding (bytes : List ℕ) (offset : ℕ) : Type 0 where
   pub cr : get_or bytes (offset - 1) 0 ≡ 13
   pub lf : get_or bytes offset 0 ≡ 10
+
+-- a place is between characters, and not inside a line's ending
+pub record IsBorder (bytes : List ℕ) (offset : ℕ) : Type 0 where
+  pub place : IsCharBoundary bytes offset
+  pub clear : IsEnding bytes offset → ⊥
 
 ascii_pair : (rest : List ℕ) → encode_utf8_all (CR ∷ LF ∷ rest) ≡ 13 ∷ 10 ∷ encode_utf8_all rest
 ascii_pair rest = λ i. encode_ascii 13 (omega arith) i ++ (encode_ascii 10 (omega arith) i ++ encode_utf8_all rest)
@@ -83,42 +97,6 @@ module _ (unit : counting.Unit) (bytes : List ℕ) (u : IsUtf8 bytes) where
     pub new : c.new ≡ chars b.new
     pub utf8 : IsUtf8 b.new
 
-  pub same_cut : (span : Span) (new : List ℕ) → IsUtf8 new → IsCharBoundary bytes span.start → IsCharBoundary bytes span.end → span.start < span.end
-      → HasClearEnds bytes (record { from = span.start; to = span.end; new = new })
-      → IsSameCut (record { from = span.start; to = span.end; new = new }) (cut_at (width_of unit) (chars bytes) (range_of (width_of unit) (chars bytes) span) (chars new))
-  unfolding cut_at
-  same_cut span new good start end some clear =
-      let p = place_at bytes u span.start start in
-      let q = place_at bytes u span.end end in
-      let a = goes_to span.start p.0 p.1 (λ ending. clear.first ending.lf) in
-      let b = goes_to span.end q.0 q.1 (λ ending. clear.last ending.cr) in
-      let up : p.0 ≤ q.0 = in_order p.0 q.0 p.1 q.1 some in
-      let low : min (place (width_of unit) (chars bytes) (position_of (width_of unit) (chars bytes) span.start)) (place (width_of unit) (chars bytes) (position_of (width_of unit) (chars bytes) span.end)) ≡ p.0 =
-      (λ i. min (a i) (b i)) ∙ omega (arith, up) in
-      let high : max (place (width_of unit) (chars bytes) (position_of (width_of unit) (chars bytes) span.start)) (place (width_of unit) (chars bytes) (position_of (width_of unit) (chars bytes) span.end)) ≡ q.0 =
-      (λ i. max (a i) (b i)) ∙ omega (arith, up) in
-      record {
-        from = subst (IsPlace bytes span.start) (sym low) p.1;
-        to = subst (IsPlace bytes span.end) (sym high) q.1;
-        new = refl;
-        utf8 = good;
-      }
-    where
-      in_order : (k m : ℕ) → IsPlace bytes span.start k → IsPlace bytes span.end m → span.start < span.end → k ≤ m
-      in_order k m p q some = by_test (nat_le k m) refl
-        where
-          by_test : (t : Bool) → nat_le k m ≡ t → k ≤ m
-          by_test true h = grind (arith, nat_tests)
-          by_test false h =
-              let down : m ≤ k = grind (arith, nat_tests) in
-              absurd (omega (arith, bytes_up (chars bytes) m k down, p.here, q.here, some))
-
-  unfoldable pub AreSame : List Cut → List Cut → Type 0
-  AreSame [] [] = Unit {0}
-  AreSame [] (c ∷ cs) = ⊥
-  AreSame (b ∷ bs) [] = ⊥
-  AreSame (b ∷ bs) (c ∷ cs) = IsSameCut b c × AreSame bs cs
-
   -- a place further on in bytes is further on in characters
   up_in_chars : (x y k m : ℕ) → IsPlace bytes x k → IsPlace bytes y m → x ≤ y → k ≤ m
   up_in_chars x y k m p q h = by_test (nat_le k m) refl
@@ -129,14 +107,30 @@ module _ (unit : counting.Unit) (bytes : List ℕ) (u : IsUtf8 bytes) where
           let down : m < k = grind (arith, nat_tests) in
           absurd (omega (arith, bytes_further (chars bytes) m k down p.inside, p.here, q.here, h))
 
-  less_in_chars : (x y k m : ℕ) → IsPlace bytes x k → IsPlace bytes y m → x < y → k < m
-  less_in_chars x y k m p q h = by_test (nat_le m k) refl
-    where
-      by_test : (t : Bool) → nat_le m k ≡ t → k < m
-      by_test true e =
-          let down : m ≤ k = grind (arith, nat_tests) in
-          absurd (omega (arith, bytes_up (chars bytes) m k down, p.here, q.here, h))
-      by_test false e = grind (arith, nat_tests)
+  pub same_cut : (from to : ℕ) (new : List ℕ) → IsUtf8 new → IsBorder bytes from → IsBorder bytes to → from ≤ to
+      → (range : Range) → range.start ≡ position_of (width_of unit) (chars bytes) from → range.end ≡ position_of (width_of unit) (chars bytes) to
+      → IsSameCut (record { from = from; to = to; new = new }) (cut_at (width_of unit) (chars bytes) range (chars new))
+  unfolding cut_at
+  same_cut from to new good start end up range starts ends =
+      let p = place_at bytes u from start.place in
+      let q = place_at bytes u to end.place in
+      let a = ap (place (width_of unit) (chars bytes)) starts ∙ goes_to from p.0 p.1 start.clear in
+      let b = ap (place (width_of unit) (chars bytes)) ends ∙ goes_to to q.0 q.1 end.clear in
+      let order : p.0 ≤ q.0 = up_in_chars from to p.0 q.0 p.1 q.1 up in
+      let low : min (place (width_of unit) (chars bytes) range.start) (place (width_of unit) (chars bytes) range.end) ≡ p.0 = (λ i. min (a i) (b i)) ∙ omega (arith, order) in
+      let high : max (place (width_of unit) (chars bytes) range.start) (place (width_of unit) (chars bytes) range.end) ≡ q.0 = (λ i. max (a i) (b i)) ∙ omega (arith, order) in
+      record {
+        from = subst (IsPlace bytes from) (sym low) p.1;
+        to = subst (IsPlace bytes to) (sym high) q.1;
+        new = refl;
+        utf8 = good;
+      }
+
+  unfoldable pub AreSame : List Cut → List Cut → Type 0
+  AreSame [] [] = Unit {0}
+  AreSame [] (c ∷ cs) = ⊥
+  AreSame (b ∷ bs) [] = ⊥
+  AreSame (b ∷ bs) (c ∷ cs) = IsSameCut b c × AreSame bs cs
 
   chain_in_chars : (at k : ℕ) (bs cs : List Cut) → IsPlace bytes at k → AreSame bs cs → Chain at bs → Chain k cs
   unfolding AreSame
@@ -144,7 +138,7 @@ module _ (unit : counting.Unit) (bytes : List ℕ) (u : IsUtf8 bytes) where
   chain_in_chars at k [] (c ∷ cs) p same chain = absurd same
   chain_in_chars at k (b ∷ bs) [] p same chain = absurd same
   chain_in_chars at k (b ∷ bs) (c ∷ cs) p same chain =
-      (up_in_chars at b.from k c.from p same.0.from chain.0, less_in_chars b.from b.to c.from c.to same.0.from same.0.to chain.1, chain_in_chars b.to c.to bs cs same.0.to same.1 chain.2)
+      (up_in_chars at b.from k c.from p same.0.from chain.0, up_in_chars b.from b.to c.from c.to same.0.from same.0.to chain.1, chain_in_chars b.to c.to bs cs same.0.to same.1 chain.2)
 
   -- the pieces in bytes and in characters
   pub record IsTextOf (made text : List ℕ) : Type 0 where
@@ -176,7 +170,7 @@ module _ (unit : counting.Unit) (bytes : List ℕ) (u : IsUtf8 bytes) where
       }
 
 -- cuts that are in order are in the text's order, and apart
-first_stays : (c : Cut) (cs : List Cut) → c.from < c.to → Chain c.to cs → put_in_order c cs ≡ c ∷ cs
+first_stays : (c : Cut) (cs : List Cut) → c.from ≤ c.to → Chain c.to cs → put_in_order c cs ≡ c ∷ cs
 first_stays c [] some chain = refl
 first_stays c (d ∷ ds) some chain =
     let after : is_before d c ≡ false = grind (arith, nat_tests) in

@@ -3,7 +3,5 @@ pub mod Ranges
 pub mod Replaced
 pub mod Written
 pub mod OfTrees
-pub mod Factors
 pub mod Removed
 pub mod Words
-pub mod Inlined

@@ -1,12 +1,11 @@
 -- What the words of a text and a tree over their numbers have to do with one another.
 -- Rule: none; for contracts of edit makers.
-use Rattle.std.specs.Prelude.{◌≡◌, ℕ, suc, if◌then◌else◌, Option, Some, None, List, [], ◌∷◌, map, slice_index_or}
+use Rattle.std.specs.Prelude.{◌≡◌, ℕ, suc, if◌then◌else◌, List, [], ◌∷◌, map, slice_index_or}
 use Rattle.ob0_scan.specs.Scanned.{Word, Scanned}
 use Rattle.ob0_tree.specs.Lexeme.{Terminal}
 use Rattle.ob0_tree.specs.Places.{lexeme_of, value_of}
 use Rattle.ob0_edits_tokens.specs.Words.{word_lexeme}
-use Rattle.ob0_tree.specs.Tree.{Tree, Sort, factor, spell, mapped}
-use Rattle.ob0_edits_tokens.specs.Inlined.{inlined, ReplacesFactors}
+use Rattle.ob0_tree.specs.Tree.{Tree, Sort, spell, mapped}
 use Rattle.ob0_edits_tokens.specs.Changed.{words_of, changed_words, at_each, is_among}
 use Rattle.ob0_edits_tokens.specs.Replaced.{AreNames}
 use Rattle.ob0_edits_tokens.specs.Written.{name_word}
@@ -33,10 +32,6 @@ number_at ws k = value_of (word_at ws k).kind
 abbrev pub renamed_at : List Word → List ℕ → List ℕ → ℕ → List ℕ
 renamed_at ws places new k = if is_among k places then new else text_of_word ws k
 
--- a factor at these places
-abbrev pub factor_at : List ℕ → Tree (List ℕ) factor → ℕ → Option (Tree (List ℕ) factor)
-factor_at places v k = if is_among k places then Some v else None
-
 -- Where a tree has the words' numbers for its names, the words with a name at some places are
 -- spelled by the tree with that name there.
 abbrev pub RenamedWordsSpell : Type 0
@@ -46,15 +41,3 @@ RenamedWordsSpell =
     → spell t ≡ numbered_tokens 0 (words_of s)
     → map word_lexeme (changed_words (at_each places (name_word new ∷ [])) 0 (words_of s))
     ≡ spell (mapped (renamed_at (words_of s) places new) (number_at (words_of s)) t)
-
--- The same for the words of a factor at places that are whole factors.
-abbrev pub InlinedWordsSpell : Type 0
-InlinedWordsSpell =
-    (s : Scanned) (sort : Sort) (t : Tree ℕ sort) (places : List ℕ) (v : Tree (List ℕ) factor)
-    (vs : List Word)
-    → AreNames s.tokens 0 places
-    → spell t ≡ numbered_tokens 0 (words_of s)
-    → ReplacesFactors (factor_at places v) t
-    → map word_lexeme vs ≡ spell v
-    → map word_lexeme (changed_words (at_each places vs) 0 (words_of s))
-    ≡ spell (inlined (factor_at places v) (text_of_word (words_of s)) (number_at (words_of s)) t)

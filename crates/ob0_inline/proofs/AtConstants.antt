@@ -1,17 +1,15 @@
 -- What is answered at a name of a constant.
--- As at uses, `Made` and `Refused` carry what the edits say over to the module of the contract; `all_seen` turns "no
+-- As at uses, `Made` and `IsRefused` carry what the edits say over to the module of the contract; `all_seen` turns "no
 -- use is hidden" into what the law of inlining everywhere requires.
-use Rattle.std.proofs.Common.{zero, arith, ◌≡◌, ◌⊎◌, ℕ, ℤ, suc, ◌+◌, ◌-◌, ◌<◌, ◌≤◌, ◌&&◌, ◌||◌, not, Bool, true, false, nat_lt, if◌then◌else◌, Option, Some, None, List, [], ◌∷◌, length, map, refl, sym, ap, ◌∙◌, inl, inr, IsSomeAnd, MatchOption, option_and_then, slice_get, eq-eqb, true≢false}
-use Rattle.std.proofs.lemmas.Bool.{le-ltb, lt-ltb}
+use Rattle.std.proofs.Common.{zero, arith, ◌≡◌, ◌⊎◌, ℕ, ℤ, suc, ◌+◌, ◌-◌, ◌<◌, ◌&&◌, ◌||◌, not, Bool, true, false, if◌then◌else◌, Option, Some, None, List, [], ◌∷◌, length, map, refl, sym, ap, ◌∙◌, IsSomeAnd, MatchOption, option_and_then, slice_get, eq-eqb, true≢false}
 use Rattle.std.specs.List.{list_any, range_with_len}
-use Rattle.ob0_scan.specs.Scanned.{max_text}
 use Rattle.ob0_text.specs.declared.edits.Edit.{Edit}
 use Rattle.ob0_text.specs.declared.position_types.Unit as counting
 use Rattle.ob0_text.specs.declared.refusals.EditRefusal.{EditRefusal}
-use Rattle.ob0_text.specs.declared.refusals.EditRefusal.TheVariants.{CommentInside, Memory, Shadowed, TooDeep, TooLong}
+use Rattle.ob0_text.specs.declared.refusals.EditRefusal.TheVariants.{CommentInside, Memory, Shadowed}
 use Rattle.ob0_text.specs.Units.{width_of}
 use Rattle.ob0_tree.specs.Parsed.{Parsed, named_tree_of}
-use Rattle.ob0_tree.specs.Tree.{Tree, module_text, nesting}
+use Rattle.ob0_tree.specs.Tree.{Tree, module_text}
 use Rattle.ob0_edits_tokens.specs.Ranges.{range_of}
 use Rattle.ob0_edits_tokens.specs.Removed.{span_over}
 use Rattle.ob0_edits_tokens.specs.Replaced.{edit_at, parts}
@@ -28,10 +26,10 @@ use Rattle.ob0_language_values.specs.declared.scalar.Scalar.TheVariants as scala
 use Rattle.ob0_language_values.specs.Scalars.{scalar_value}
 use Rattle.ob0_inline.specs.declared.constants.NamedConstant.{NamedConstant}
 use Rattle.ob0_inline.specs.Everywhere.{InlinesEverywhere, IsConstant, IsConstantAt, NoConstantAt, IsAlone, any_hidden, has_comment, inlined_all, is_hidden, refusal_everywhere, text_without, uses_of}
-use Rattle.ob0_inline.specs.Inlined.{LeavesModule}
 use Rattle.ob0_inline.specs.Uses.{is_predeclared_truth}
 use Rattle.ob0_inline.specs.Values.{value_factor, value_text}
 use Rattle.ob0_inline.proofs.AtUses.{literal_of, shown_is}
+use Rattle.ob0_inline.proofs.Refusals.{MakeText, Refused, other_is_first, refused_first}
 
 -- where none of the numbers from one on passes
 
@@ -90,43 +88,17 @@ constant_named m offset found e None h = absurd h
 constant_named m offset found e (Some c) h =
     record { token = found.token; named = sym e ∙ ap (λ n. Some (let a : named.Named = record { token = found.token; ordinal = n } in a)) (sym h.0); is_constant = h.1 }
 
--- the first refusal
-
-module _ (m : Parsed) (c : NamedConstant) where
-  pub too_long_there : max_text < length (text_without m c) → refusal_everywhere m c ≡ Some TooLong
-  too_long_there h =
-      ap (λ a. if a then Some TooLong else if nat_lt 100 (nesting (inlined_all m c)) then Some TooDeep else if any_hidden (named_tree_of m) c then Some Shadowed else if has_comment m c then Some CommentInside else None)
-      (lt-ltb max_text (length (text_without m c)) h)
-
-  short_there : length (text_without m c) ≤ max_text
-      → refusal_everywhere m c ≡ (if nat_lt 100 (nesting (inlined_all m c)) then Some TooDeep else if any_hidden (named_tree_of m) c then Some Shadowed else if has_comment m c then Some CommentInside else None)
-  short_there h =
-      ap (λ a. if a then Some TooLong else if nat_lt 100 (nesting (inlined_all m c)) then Some TooDeep else if any_hidden (named_tree_of m) c then Some Shadowed else if has_comment m c then Some CommentInside else None)
-      (le-ltb max_text (length (text_without m c)) h)
-
-  pub too_deep_there : length (text_without m c) ≤ max_text → 100 < nesting (inlined_all m c) → refusal_everywhere m c ≡ Some TooDeep
-  too_deep_there h d =
-      short_there h
-      ∙ ap (λ a. if a then Some TooDeep else if any_hidden (named_tree_of m) c then Some Shadowed else if has_comment m c then Some CommentInside else None) (lt-ltb 100 (nesting (inlined_all m c)) d)
-
-  pub rest_there : length (text_without m c) ≤ max_text → nesting (inlined_all m c) ≤ 100 → (hidden comment : Bool) → any_hidden (named_tree_of m) c ≡ hidden → has_comment m c ≡ comment
-      → refusal_everywhere m c ≡ (if hidden then Some Shadowed else if comment then Some CommentInside else None)
-  rest_there h d hidden comment e f =
-      short_there h
-      ∙ (ap (λ a. if a then Some TooDeep else if any_hidden (named_tree_of m) c then Some Shadowed else if has_comment m c then Some CommentInside else None) (le-ltb 100 (nesting (inlined_all m c)) d)
-      ∙ (λ i. if e i then Some Shadowed else if f i then Some CommentInside else None))
-
 -- what is known of the edits of a constant, or of their refusal, by any reading of the module
+
 pub record Made (r : Resolution) (c : NamedConstant) (unit : counting.Unit) (text : List ℕ) (edits : List Edit) : Type 0 where
   pub edits_are : map parts edits ≡ (range_of (width_of unit) text (span_over r.module_read.source.tokens c.first c.last), []) ∷ map (edit_at unit text r.module_read.source.tokens (value_text c.value)) (uses_of r.module_read c.ordinal)
-  pub leaves : IsAlone r.module_read c.ordinal → LeavesModule unit text edits (inlined_all r.module_read c)
-  pub short : length (text_without r.module_read c) ≤ max_text
+  pub make_text : MakeText (IsAlone r.module_read c.ordinal) (text_without r.module_read c) (inlined_all r.module_read c) unit text edits
 
-pub record Refused (r : Resolution) (c : NamedConstant) (refusal : EditRefusal) : Type 0 where
-  pub too_long : refusal ≡ TooLong → max_text < length (text_without r.module_read c)
-  pub too_deep : IsAlone r.module_read c.ordinal → refusal ≡ TooDeep → 100 < nesting (inlined_all r.module_read c)
-  pub deep_and_short : refusal ≡ TooDeep → length (text_without r.module_read c) ≤ max_text
-  pub one_of : (refusal ≡ TooLong) ⊎ ((refusal ≡ TooDeep) ⊎ (refusal ≡ Memory))
+abbrev pub IsRefused : Resolution → NamedConstant → EditRefusal → Type 0
+IsRefused r c refusal = Refused (IsAlone r.module_read c.ordinal) (text_without r.module_read c) (inlined_all r.module_read c) refusal
+
+abbrev others : Bool → Bool → Option EditRefusal
+others hidden comment = if hidden then Some Shadowed else if comment then Some CommentInside else None
 
 module _ (r : Resolution) (well : IsWellTyped r) (c : NamedConstant) (constant : IsConstant r.module_read c) (law : ConstantsAreAlone) (scalar_so : IsScalar (scalar_value c.value)) where
   written_there : IsConstantWritten (named_tree_of r.module_read) c.ordinal (scalar_value c.value) (value_factor c.value)
@@ -136,31 +108,27 @@ module _ (r : Resolution) (well : IsWellTyped r) (c : NamedConstant) (constant :
   unfolding written_there
   alone_there = law (named_tree_of r.module_read) c.ordinal (scalar_value c.value) (value_factor c.value) written_there well.well_typed
 
-  low_there : (unit : counting.Unit) (text : List ℕ) (edits : List Edit) → Made r c unit text edits → nesting (inlined_all r.module_read c) ≤ 100
-  low_there unit text edits h = (h.leaves alone_there).module_of.shallow
+  made_first : (unit : counting.Unit) (text : List ℕ) (edits : List Edit) → Made r c unit text edits → (hidden comment : Bool) → any_hidden (named_tree_of r.module_read) c ≡ hidden → has_comment r.module_read c ≡ comment
+      → refusal_everywhere r.module_read c ≡ others hidden comment
+  made_first unit text edits h hidden comment e f =
+      other_is_first (IsAlone r.module_read c.ordinal) alone_there (text_without r.module_read c) (inlined_all r.module_read c) (others (any_hidden (named_tree_of r.module_read) c) (has_comment r.module_read c)) unit text edits h.make_text
+      ∙ (λ i. others (e i) (f i))
 
   pub answer_made : InliningEverywhereKeepsModules → (unit : counting.Unit) (text : List ℕ) (edits : List Edit) → Made r c unit text edits
       → any_hidden (named_tree_of r.module_read) c ≡ false → has_comment r.module_read c ≡ false → (refusal_everywhere r.module_read c ≡ None) × InlinesEverywhere unit text r.module_read c edits
   answer_made keeps unit text edits h shown bare =
       let kept = keeps (named_tree_of r.module_read) c.ordinal (scalar_value c.value) (value_factor c.value) written_there (all_seen (named_tree_of r.module_read) c shown) well.well_typed in (
-        rest_there r.module_read c h.short (low_there unit text edits h) false false shown bare,
-        record { everywhere = h.edits_are; leaves = h.leaves alone_there; well_typed = kept.0; same_runs = kept.1 },
+        made_first unit text edits h false false shown bare,
+        record { everywhere = h.edits_are; leaves = h.make_text.leaves alone_there; well_typed = kept.0; same_runs = kept.1 },
       )
 
   pub answer_hidden : (unit : counting.Unit) (text : List ℕ) (edits : List Edit) → Made r c unit text edits → any_hidden (named_tree_of r.module_read) c ≡ true → refusal_everywhere r.module_read c ≡ Some Shadowed
-  answer_hidden unit text edits h hidden = rest_there r.module_read c h.short (low_there unit text edits h) true (has_comment r.module_read c) hidden refl
+  answer_hidden unit text edits h hidden = made_first unit text edits h true (has_comment r.module_read c) hidden refl
 
   pub answer_comment : (unit : counting.Unit) (text : List ℕ) (edits : List Edit) → Made r c unit text edits
       → any_hidden (named_tree_of r.module_read) c ≡ false → has_comment r.module_read c ≡ true → refusal_everywhere r.module_read c ≡ Some CommentInside
-  answer_comment unit text edits h shown comment = rest_there r.module_read c h.short (low_there unit text edits h) false true shown comment
+  answer_comment unit text edits h shown comment = made_first unit text edits h false true shown comment
 
-  pub answer_not_made : (refusal : EditRefusal) → Refused r c refusal → (refusal_everywhere r.module_read c ≡ Some refusal) ⊎ (refusal ≡ Memory)
-  answer_not_made refusal h =
-      elim h.one_of [
-        | inl e ↦ inl (too_long_there r.module_read c (h.too_long e) ∙ ap Some (sym e))
-        | inr other ↦
-            elim other [
-              | inl e ↦ inl (too_deep_there r.module_read c (h.deep_and_short e) (h.too_deep alone_there e) ∙ ap Some (sym e))
-              | inr e ↦ inr e
-            ]
-      ]
+  pub answer_not_made : (refusal : EditRefusal) → IsRefused r c refusal → (refusal_everywhere r.module_read c ≡ Some refusal) ⊎ (refusal ≡ Memory)
+  answer_not_made =
+      refused_first (IsAlone r.module_read c.ordinal) alone_there (text_without r.module_read c) (inlined_all r.module_read c) (others (any_hidden (named_tree_of r.module_read) c) (has_comment r.module_read c))

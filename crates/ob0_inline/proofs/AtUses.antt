@@ -1,21 +1,21 @@
 -- What is answered at a use.
--- What the edits say is carried over to the module of the contract as one record (`Made`, `Refused`), by one `subst`.
-use Rattle.std.proofs.Common.{cond, zero, arith, eq-eqb, ◌≡◌, ◌⊎◌, ℕ, suc, ◌+◌, ◌<◌, ◌≤◌, ◌==◌, ◌||◌, Bool, true, false, nat_lt, if◌then◌else◌, Option, Some, None, List, [], ◌∷◌, length, map, refl, sym, ap, ◌∙◌, subst, inl, inr, option_and_then, option_map, slice_get, eqb-true, true≢false}
-use Rattle.std.proofs.lemmas.Bool.{le-ltb, lt-ltb}
-use Rattle.std.specs.List.{position_from}
-use Rattle.ob0_scan.specs.Scanned.{max_text}
+-- What the edits say is carried over to the module of the contract as one record (`Made`, `IsRefused`), by one `subst`.
+use Rattle.std.proofs.Common.{cond, zero, arith, eq-eqb, ◌≡◌, ◌⊎◌, ℕ, suc, ◌+◌, ◌==◌, ◌||◌, Bool, true, false, if◌then◌else◌, Option, Some, None, List, [], ◌∷◌, length, map, refl, sym, ap, ◌∙◌, subst, option_and_then, option_map, slice_get, eqb-true, true≢false}
+use Rattle.std.specs.List.{flat_map, position_from}
 use Rattle.ob0_text.specs.declared.edits.Edit.{Edit}
 use Rattle.ob0_text.specs.declared.position_types.Unit as counting
 use Rattle.ob0_text.specs.declared.refusals.EditRefusal.{EditRefusal}
-use Rattle.ob0_text.specs.declared.refusals.EditRefusal.TheVariants.{Memory, Shadowed, TooDeep, TooLong}
-use Rattle.ob0_tree.specs.Parsed.{Parsed, named_tree_of}
-use Rattle.ob0_tree.specs.Tree.{Tree, module_text, nesting}
+use Rattle.ob0_text.specs.declared.refusals.EditRefusal.TheVariants.{Memory, Shadowed}
+use Rattle.ob0_tree.specs.Parsed.{named_tree_of}
+use Rattle.ob0_tree.specs.Tree.{Tree, module_text, spell}
+use Rattle.ob0_edits_tokens.specs.Changed.{at_each, changed_words, words_of}
+use Rattle.ob0_edits_tokens.specs.Words.{word_lexeme}
+use Rattle.ob0_edits_tokens.proofs.OfTrees.{all_put, put}
 use Rattle.ob0_edits_tokens.specs.Replaced.{AreNames, edit_at, parts, with_text_at}
 use Rattle.ob0_language_names.specs.Inlining.{only}
 use Rattle.ob0_language_names.specs.Names.{Name}
 use Rattle.ob0_language_names.specs.Occurrences.{binds}
 use Rattle.ob0_scope_table.specs.Resolution.{IsResolution, Resolution, ordinal_in}
-use Rattle.ob0_language_names.specs.Scopes.{same_ordinal}
 use Rattle.ob0_scope_table.proofs.Bound.{bound_at}
 use Rattle.ob0_scope.specs.declared.naming.Named as named
 use Rattle.ob0_scope.specs.Listing.{is_name_on}
@@ -29,24 +29,21 @@ use Rattle.ob0_language_runs.specs.EditLaws.{InliningKeepsModules}
 use Rattle.ob0_language_values.specs.declared.scalar.Scalar.{Scalar}
 use Rattle.ob0_language_values.specs.declared.scalar.Scalar.TheVariants as scalar
 use Rattle.ob0_language_values.specs.Scalars.{scalar_value}
-use Rattle.std.specs.Prelude.{pos, negsuc}
 use Rattle.ob0_inline.specs.declared.uses.Use.{Use}
-use Rattle.ob0_inline.specs.Inlined.{LeavesModule, AreAlone, inlined_at}
+use Rattle.ob0_inline.specs.Everywhere.{IsAlone}
+use Rattle.ob0_inline.specs.Inlined.{LeavesModule}
 use Rattle.ob0_inline.specs.Uses.{InlinesHere, IsUse, IsUseAt, inlined_here, is_predeclared_truth, refusal_here}
-use Rattle.ob0_inline.specs.Values.{value_factor, value_text}
-use Rattle.ob0_inline.proofs.UsesAreIdentifiers.{AreBound, inlined_by_number, inside, one_identifier, one_place, are_alone, uses_are_identifiers, uses_ascend}
+use Rattle.ob0_inline.specs.Values.{value_factor, value_text, value_words}
+use Rattle.ob0_inline.proofs.ModuleTexts.{spelled_by_words, value_spelled}
+use Rattle.ob0_inline.proofs.Refusals.{MakeText, Refused, other_is_first, refused_first}
+use Rattle.ob0_inline.proofs.UsesAreIdentifiers.{AreBound, inside, one_identifier, one_place, same_true, uses_are_identifiers, uses_ascend, uses_spelled}
 
 -- what is written for a value, and whether it is seen
 
 pub literal_of : (value : Scalar) → written_value (scalar_value value) ≡ Some (value_factor value)
-literal_of (scalar.Number (pos n)) = refl
-literal_of (scalar.Number (negsuc n)) = refl
+literal_of (scalar.Number n) = refl
 literal_of (scalar.Truth true) = refl
 literal_of (scalar.Truth false) = refl
-
-same_true : (o : Option ℕ) (d : ℕ) → same_ordinal o d ≡ true → o ≡ Some d
-same_true None d e = absurd (true≢false (sym e))
-same_true (Some j) d e = ap Some (eqb-true j d e)
 
 pub shown_is : (m : Tree Name module_text) (k : ℕ) (value : Scalar) → is_predeclared_truth m k value ≡ true → IsPredeclaredTruth m k (scalar_value value)
 shown_is m k (scalar.Number n) e = tt
@@ -78,36 +75,41 @@ use_is r is offset u h =
       has_value = h.has_value;
     }
 
-module _ (r : Resolution) (well : IsWellTyped r) (u : Use) (use_so : IsUse r.module_read u) where
+module _ (r : Resolution) (is : IsResolution r) (u : Use) (use_so : IsUse r.module_read u) where
   there : slice_get r.uses u.occurrence ≡ Some u.token
-  there = ap (λ us. slice_get us u.occurrence) well.resolved.occurring ∙ use_so.occurs
+  there = ap (λ us. slice_get us u.occurrence) is.occurring ∙ use_so.occurs
 
   pub are_names : AreNames r.module_read.source.tokens 0 (u.token ∷ [])
   unfolding there
   are_names =
-      let one = one_identifier r.module_read.source.tokens r.uses u.occurrence u.token (uses_are_identifiers r well.resolved) there in
+      let one = one_identifier r.module_read.source.tokens r.uses u.occurrence u.token (uses_are_identifiers r is) there in
       (omega arith, one.0, one.1 _, tt)
 
   are_bound : AreBound r u.constant (u.token ∷ [])
   unfolding there
-  are_bound = (((u.occurrence, there), bound_at r well.resolved u.occurrence (Some u.token) (sym there) ∙ use_so.bound), tt)
-
-  written : IsScalar (scalar_value u.value) → IsConstantWritten (named_tree_of r.module_read) u.constant (scalar_value u.value) (value_factor u.value)
-  written fits_so = record { value = use_so.has_value; scalar = fits_so; literal = literal_of u.value }
-
-  pub is_alone : ConstantsAreAlone → IsScalar (scalar_value u.value) → AreAlone r.module_read (u.token ∷ []) u.value
-  is_alone law fits_so =
-      are_alone r well.resolved u.constant (value_factor u.value) (u.token ∷ []) are_bound
-      (law (named_tree_of r.module_read) u.constant (scalar_value u.value) (value_factor u.value) (written fits_so) well.well_typed)
+  are_bound = (((u.occurrence, there), bound_at r is u.occurrence (Some u.token) (sym there) ∙ use_so.bound), tt)
 
   or_false : (b : Bool) → (b || false) ≡ b
   or_false true = refl
   or_false false = refl
 
-  pub inlined_is : inlined_at r.module_read (u.token ∷ []) u.value ≡ inlined_here r.module_read u
-  inlined_is =
-      inlined_by_number r (u.token ∷ []) (only u.occurrence) (value_factor u.value) well.resolved
-      (λ j i e. or_false (i == u.token) ∙ one_place 0 (length r.module_read.source.tokens) r.uses j u.occurrence i u.token (uses_ascend r well.resolved) e there)
+  -- the words with those of the value at the use spell the inlined module
+  pub here_spelled : IsAlone r.module_read u.constant
+      → map word_lexeme (changed_words (at_each (u.token ∷ []) (value_words u.value)) 0 (words_of r.module_read.source)) ≡ spell (inlined_here r.module_read u)
+  here_spelled alone =
+      let s = r.module_read.source in
+      let places = u.token ∷ [] in
+      let vs = value_words u.value in
+      sym (all_put s places vs are_names) ∙ ap (flat_map (put s places vs)) (sym (spelled_by_words r.module_read is.parsed))
+      ∙ uses_spelled r is u.constant (value_factor u.value) places are_bound (only u.occurrence)
+      (λ j i e. or_false (i == u.token) ∙ one_place 0 (length s.tokens) r.uses j u.occurrence i u.token (uses_ascend r is) e there) alone vs (value_spelled u.value)
+
+module _ (r : Resolution) (well : IsWellTyped r) (u : Use) (use_so : IsUse r.module_read u) where
+  written : IsScalar (scalar_value u.value) → IsConstantWritten (named_tree_of r.module_read) u.constant (scalar_value u.value) (value_factor u.value)
+  written fits_so = record { value = use_so.has_value; scalar = fits_so; literal = literal_of u.value }
+
+  pub is_alone : ConstantsAreAlone → IsScalar (scalar_value u.value) → IsAlone r.module_read u.constant
+  is_alone law fits_so = law (named_tree_of r.module_read) u.constant (scalar_value u.value) (value_factor u.value) (written fits_so) well.well_typed
 
   shown_so : is_predeclared_truth (named_tree_of r.module_read) u.occurrence u.value ≡ true → IsPredeclaredTruth (named_tree_of r.module_read) u.occurrence (scalar_value u.value)
   shown_so e = shown_is (named_tree_of r.module_read) u.occurrence u.value e
@@ -123,77 +125,46 @@ module _ (r : Resolution) (well : IsWellTyped r) (u : Use) (use_so : IsUse r.mod
   -- the edits that leave the inlined module
   pub inlines : InliningKeepsModules → IsScalar (scalar_value u.value) → (unit : counting.Unit) (text : List ℕ) (edits : List Edit)
       → map parts edits ≡ edit_at unit text r.module_read.source.tokens (value_text u.value) u.token ∷ []
-      → LeavesModule unit text edits (inlined_at r.module_read (u.token ∷ []) u.value)
+      → LeavesModule unit text edits (inlined_here r.module_read u)
       → is_predeclared_truth (named_tree_of r.module_read) u.occurrence u.value ≡ true → InlinesHere unit text r.module_read u edits
   inlines law fits_so unit text edits made leaves shown =
       let kept = law (named_tree_of r.module_read) u.constant (scalar_value u.value) (value_factor u.value) (only u.occurrence) (written fits_so) (uses_so shown) well.well_typed in
-      record { here = made; leaves = subst (LeavesModule unit text edits) inlined_is leaves; well_typed = kept.0; same_runs = kept.1 }
-
--- the first refusal
-
-module _ (m : Parsed) (u : Use) where
-  pub too_long_here : max_text < length (with_text_at m.source (u.token ∷ []) (value_text u.value)) → refusal_here m u ≡ Some TooLong
-  too_long_here h =
-      ap (λ a. if a then Some TooLong else if nat_lt 100 (nesting (inlined_here m u)) then Some TooDeep else if is_predeclared_truth (named_tree_of m) u.occurrence u.value then None else Some Shadowed)
-      (lt-ltb max_text (length (with_text_at m.source (u.token ∷ []) (value_text u.value))) h)
-
-  short_here : length (with_text_at m.source (u.token ∷ []) (value_text u.value)) ≤ max_text
-      → refusal_here m u ≡ (if nat_lt 100 (nesting (inlined_here m u)) then Some TooDeep else if is_predeclared_truth (named_tree_of m) u.occurrence u.value then None else Some Shadowed)
-  short_here h =
-      ap (λ a. if a then Some TooLong else if nat_lt 100 (nesting (inlined_here m u)) then Some TooDeep else if is_predeclared_truth (named_tree_of m) u.occurrence u.value then None else Some Shadowed)
-      (le-ltb max_text (length (with_text_at m.source (u.token ∷ []) (value_text u.value))) h)
-
-  pub too_deep_here : length (with_text_at m.source (u.token ∷ []) (value_text u.value)) ≤ max_text → 100 < nesting (inlined_here m u) → refusal_here m u ≡ Some TooDeep
-  too_deep_here h d =
-      short_here h ∙ ap (λ a. if a then Some TooDeep else if is_predeclared_truth (named_tree_of m) u.occurrence u.value then None else Some Shadowed) (lt-ltb 100 (nesting (inlined_here m u)) d)
-
-  pub shown_here : length (with_text_at m.source (u.token ∷ []) (value_text u.value)) ≤ max_text → nesting (inlined_here m u) ≤ 100 → (shown : Bool)
-      → is_predeclared_truth (named_tree_of m) u.occurrence u.value ≡ shown → refusal_here m u ≡ (if shown then None else Some Shadowed)
-  shown_here h d shown e =
-      short_here h
-      ∙ (ap (λ a. if a then Some TooDeep else if is_predeclared_truth (named_tree_of m) u.occurrence u.value then None else Some Shadowed) (le-ltb 100 (nesting (inlined_here m u)) d)
-      ∙ ap (λ a. if a then None else Some Shadowed) e)
+      record { here = made; leaves = leaves; well_typed = kept.0; same_runs = kept.1 }
 
 -- what is known of the edits of a use, or of their refusal, by any reading of the module
+
+abbrev pub new_text : Resolution → Use → List ℕ
+new_text r u = with_text_at r.module_read.source (u.token ∷ []) (value_text u.value)
+
 pub record Made (r : Resolution) (u : Use) (unit : counting.Unit) (text : List ℕ) (edits : List Edit) : Type 0 where
   pub edits_are : map parts edits ≡ edit_at unit text r.module_read.source.tokens (value_text u.value) u.token ∷ []
-  pub leaves : AreAlone r.module_read (u.token ∷ []) u.value → LeavesModule unit text edits (inlined_at r.module_read (u.token ∷ []) u.value)
-  pub short : length (with_text_at r.module_read.source (u.token ∷ []) (value_text u.value)) ≤ max_text
+  pub make_text : MakeText (IsAlone r.module_read u.constant) (new_text r u) (inlined_here r.module_read u) unit text edits
 
-pub record Refused (r : Resolution) (u : Use) (refusal : EditRefusal) : Type 0 where
-  pub too_long : refusal ≡ TooLong → max_text < length (with_text_at r.module_read.source (u.token ∷ []) (value_text u.value))
-  pub too_deep : AreAlone r.module_read (u.token ∷ []) u.value → refusal ≡ TooDeep → 100 < nesting (inlined_at r.module_read (u.token ∷ []) u.value)
-  pub deep_and_short : refusal ≡ TooDeep → length (with_text_at r.module_read.source (u.token ∷ []) (value_text u.value)) ≤ max_text
-  pub one_of : (refusal ≡ TooLong) ⊎ ((refusal ≡ TooDeep) ⊎ (refusal ≡ Memory))
+abbrev pub IsRefused : Resolution → Use → EditRefusal → Type 0
+IsRefused r u refusal = Refused (IsAlone r.module_read u.constant) (new_text r u) (inlined_here r.module_read u) refusal
 
 module _ (r : Resolution) (well : IsWellTyped r) (u : Use) (use_so : IsUse r.module_read u) (law : ConstantsAreAlone) (scalar_so : IsScalar (scalar_value u.value)) where
-  pub low_here : (unit : counting.Unit) (text : List ℕ) (edits : List Edit) → Made r u unit text edits → nesting (inlined_here r.module_read u) ≤ 100
-  low_here unit text edits h =
-      subst (λ (t : Tree Name module_text). nesting t ≤ 100) (inlined_is r well u use_so) (h.leaves (is_alone r well u use_so law scalar_so)).module_of.shallow
+  abbrev hidden : Bool → Option EditRefusal
+  hidden shown = if shown then None else Some Shadowed
+
+  made_first : (unit : counting.Unit) (text : List ℕ) (edits : List Edit) → Made r u unit text edits → (shown : Bool) → is_predeclared_truth (named_tree_of r.module_read) u.occurrence u.value ≡ shown
+      → refusal_here r.module_read u ≡ hidden shown
+  made_first unit text edits h shown e =
+      other_is_first (IsAlone r.module_read u.constant) (is_alone r well u use_so law scalar_so) (new_text r u) (inlined_here r.module_read u) (hidden (is_predeclared_truth (named_tree_of r.module_read) u.occurrence u.value)) unit text edits h.make_text
+      ∙ ap hidden e
 
   pub answer_ok : InliningKeepsModules → (unit : counting.Unit) (text : List ℕ) (edits : List Edit) → Made r u unit text edits → is_predeclared_truth (named_tree_of r.module_read) u.occurrence u.value ≡ true
       → (refusal_here r.module_read u ≡ None) × InlinesHere unit text r.module_read u edits
-  answer_ok keeps unit text edits h shown = (
-    shown_here r.module_read u h.short (low_here unit text edits h) true shown,
-    inlines r well u use_so keeps scalar_so unit text edits h.edits_are (h.leaves (is_alone r well u use_so law scalar_so)) shown,
-  )
+  answer_ok keeps unit text edits h shown =
+      (made_first unit text edits h true shown, inlines r well u use_so keeps scalar_so unit text edits h.edits_are (h.make_text.leaves (is_alone r well u use_so law scalar_so)) shown)
 
   pub answer_shadowed : (unit : counting.Unit) (text : List ℕ) (edits : List Edit) → Made r u unit text edits → is_predeclared_truth (named_tree_of r.module_read) u.occurrence u.value ≡ false
       → refusal_here r.module_read u ≡ Some Shadowed
-  answer_shadowed unit text edits h shown = shown_here r.module_read u h.short (low_here unit text edits h) false shown
+  answer_shadowed unit text edits h shown = made_first unit text edits h false shown
 
-  pub answer_refused : (refusal : EditRefusal) → Refused r u refusal → (refusal_here r.module_read u ≡ Some refusal) ⊎ (refusal ≡ Memory)
-  answer_refused refusal h =
-      elim h.one_of [
-        | inl e ↦ inl (too_long_here r.module_read u (h.too_long e) ∙ ap Some (sym e))
-        | inr other ↦
-            elim other [
-              | inl e ↦
-                  let deep = subst (λ (t : Tree Name module_text). 100 < nesting t) (inlined_is r well u use_so) (h.too_deep (is_alone r well u use_so law scalar_so) e) in
-                  inl (too_deep_here r.module_read u (h.deep_and_short e) deep ∙ ap Some (sym e))
-              | inr e ↦ inr e
-            ]
-      ]
+  pub answer_refused : (refusal : EditRefusal) → IsRefused r u refusal → (refusal_here r.module_read u ≡ Some refusal) ⊎ (refusal ≡ Memory)
+  answer_refused =
+      refused_first (IsAlone r.module_read u.constant) (is_alone r well u use_so law scalar_so) (new_text r u) (inlined_here r.module_read u) (hidden (is_predeclared_truth (named_tree_of r.module_read) u.occurrence u.value))
 
 -- the occurrence at a token
 pub found_there : (token j k : ℕ) (is : List ℕ) → position_from (λ i. i == token) j is ≡ Some k → (n : ℕ) × (k ≡ j + n) × (slice_get is n ≡ Some token)

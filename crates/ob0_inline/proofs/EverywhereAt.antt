@@ -1,43 +1,34 @@
 -- The uses of a constant, and the words that are left where its value is in place of all of them and its declaration is gone.
-use Rattle.std.proofs.Common.{◌≡◌, ◌≢◌, ℕ, zero, suc, ◌+◌, ◌<◌, ◌≤◌, ◌==◌, ◌||◌, ◌&&◌, Bool, true, false, cond, Option, Some, None, List, [], ◌∷◌, map, length, refl, sym, ap, ◌∙◌, arith, slice_get, eqb-true, eq-eqb, true≢false}
-use Rattle.std.specs.List.{All, filter}
+use Rattle.std.proofs.Common.{◌≡◌, ℕ, zero, suc, ◌+◌, ◌<◌, ◌==◌, ◌||◌, ◌&&◌, Bool, true, false, cond, Option, Some, None, List, [], ◌∷◌, map, length, refl, sym, ap, ◌∙◌, arith, slice_get, eqb-true, eq-eqb}
+use Rattle.std.specs.List.{filter}
 use Rattle.ob0_scan.specs.declared.lexeme.Token.{Token}
 use Rattle.ob0_scan.specs.Scanned.{Word}
 use Rattle.ob0_tree.specs.Order.{AreIdentifiers, Ascending}
 use Rattle.ob0_tree.specs.Parsed.{named_tree_of, tree_of}
 use Rattle.ob0_tree.specs.Tree.{Tree, factor, occurrences, spell}
 use Rattle.ob0_edits_tokens.specs.Changed.{at_each, changed_words, is_among, words_of}
-use Rattle.ob0_edits_tokens.specs.Inlined.{inlined}
-use Rattle.ob0_edits_tokens.specs.OfTrees.{factor_at, number_at, numbered_tokens, text_of_word}
+use Rattle.ob0_edits_tokens.specs.OfTrees.{numbered_tokens}
 use Rattle.ob0_edits_tokens.specs.Removed.{without_words}
 use Rattle.ob0_edits_tokens.specs.Replaced.{AreNames}
 use Rattle.ob0_edits_tokens.specs.Words.{word_lexeme}
-use Rattle.ob0_language_names.specs.Elsewhere.{names_elsewhere}
-use Rattle.ob0_language_names.specs.Inlining.{all_bound_to, inlined_everywhere, module_without}
-use Rattle.ob0_language_names.specs.Names.{Name, declared}
+use Rattle.ob0_language_names.specs.Inlining.{all_bound_to, inlined_everywhere}
+use Rattle.ob0_language_names.specs.Names.{Name}
 use Rattle.ob0_language_names.specs.Parts.{module_block}
 use Rattle.ob0_scope_table.specs.Resolution.{IsResolution, Resolution, ordinal_in}
-use Rattle.ob0_language_names.specs.Scopes.{numbered, same_ordinal}
+use Rattle.ob0_language_names.specs.Scopes.{same_ordinal}
 use Rattle.ob0_scope_table.proofs.Bound.{bound_at}
 use Rattle.ob0_language_types.specs.ConstantValues.{value_of_constant}
 use Rattle.ob0_language_values.specs.Values.{Value}
+use Rattle.ob0_inline.specs.Everywhere.{IsAlone}
 use Rattle.ob0_inline.proofs.UsesFollow.{late_of, uses_following}
 use Rattle.ob0_inline.proofs.Late.{Late}
-use Rattle.ob0_inline.proofs.TakenOut.{block_declares, gone_module, gone_module_inlined, replaces_module}
-use Rattle.ob0_inline.proofs.UsesAreIdentifiers.{AreBound, inlined_by_number, names_from, are_alone, uses_are_identifiers, uses_ascend}
+use Rattle.ob0_inline.proofs.TakenOut.{block_declares, gone_module}
+use Rattle.ob0_inline.proofs.UsesAreIdentifiers.{AreBound, lowered, names_from, others_spelled, same_true, uses_are_identifiers, uses_ascend}
 use Rattle.ob0_inline.proofs.WordsLeft.{first_token, last_token, words_left}
 
 -- the tokens that are bound to d
 abbrev pub bound_tokens : List (Option ℕ) → ℕ → List ℕ → List ℕ
 bound_tokens ordinals d is = filter (λ i. same_ordinal (ordinal_in ordinals i) d) is
-
-same_true : (o : Option ℕ) (d : ℕ) → same_ordinal o d ≡ true → o ≡ Some d
-same_true None d e = absurd (true≢false (sym e))
-same_true (Some j) d e = ap Some (eqb-true j d e)
-
-lowered : (low higher high : ℕ) (xs : List ℕ) → low ≤ higher → Ascending higher xs high → Ascending low xs high
-lowered low higher high [] le a = omega (arith, le, a)
-lowered low higher high (x ∷ xs) le a = (omega (arith, le, a.0), a.1)
 
 bound_ascend : (ordinals : List (Option ℕ)) (d low high : ℕ) (is : List ℕ) → Ascending low is high → Ascending low (bound_tokens ordinals d is) high
 bound_ascend ordinals d low high [] a = a
@@ -107,16 +98,6 @@ agree r is d j i e =
     and_true true = refl
     and_true false = refl
 
--- a factor at all uses of the tree without the declaration is the factor in place of them, and the declaration taken out
-pub inlined_is : (r : Resolution) → IsResolution r → (d : ℕ) (v : Tree Name factor)
-    → inlined (factor_at (bound_tokens r.ordinals d r.uses) v) (text_of_word (words_of r.module_read.source)) (number_at (words_of r.module_read.source)) (gone_module d (tree_of r.module_read))
-    ≡ inlined_everywhere (named_tree_of r.module_read) d v
-inlined_is r is d v =
-    let m = r.module_read in
-    let places = bound_tokens r.ordinals d r.uses in
-    gone_module_inlined (factor_at places v) (text_of_word (words_of m.source)) (number_at (words_of m.source)) d (tree_of m)
-    ∙ ap (module_without d) (inlined_by_number r places (all_bound_to (named_tree_of m) d) v is (agree r is d))
-
 module _ (r : Resolution) (is : IsResolution r) (d : ℕ) (w : Value) (has_value : value_of_constant (named_tree_of r.module_read) d ≡ Some w) (spelled : spell (tree_of r.module_read) ≡ numbered_tokens 0 (words_of r.module_read.source)) where
   -- the declaration of the constant
   abbrev pub late_here : Late d 7 (block_declares (module_block (tree_of r.module_read))) (numbered_tokens 0 (words_of r.module_read.source)) (spell (gone_module d (tree_of r.module_read))) (occurrences (tree_of r.module_read))
@@ -133,15 +114,12 @@ module _ (r : Resolution) (is : IsResolution r) (d : ℕ) (w : Value) (has_value
       (bound_are_identifiers ts r.ordinals d r.uses (uses_are_identifiers r is))
 
   -- the words that are left spell the module with the factor in place of all uses, without the declaration
-  pub words_everywhere : (v : Tree Name factor) (vs : List Word) → map word_lexeme vs ≡ spell v → All (λ l. l ≢ declared d) (names_elsewhere (numbered (named_tree_of r.module_read)))
+  pub words_everywhere : (v : Tree Name factor) (vs : List Word) → map word_lexeme vs ≡ spell v → IsAlone r.module_read d
       → AreNames r.module_read.source.tokens (suc (last_token late_here.taken)) (bound_tokens r.ordinals d r.uses)
       → map word_lexeme (changed_words (without_words (first_token late_here.taken) (last_token late_here.taken) (at_each (bound_tokens r.ordinals d r.uses) vs)) 0 (words_of r.module_read.source))
       ≡ spell (inlined_everywhere (named_tree_of r.module_read) d v)
   words_everywhere v vs same alone are_names =
       let m = r.module_read in
       let places = bound_tokens r.ordinals d r.uses in
-      let c = factor_at places v in
-      let bound = are_bound r d r.uses (λ j i e. (j, e)) in
-      let factors = replaces_module c d (tree_of m) (are_alone r is d v places bound alone) in
-      words_left m.source (suc (last_token late_here.taken)) places are_names v vs same d 7 (block_declares (module_block (tree_of m))) (gone_module d (tree_of m)) late_here.taken factors
-      ∙ ap spell (inlined_is r is d v)
+      words_left m.source (suc (last_token late_here.taken)) places are_names vs d 7 (block_declares (module_block (tree_of m))) (spell (gone_module d (tree_of m))) late_here.taken
+      ∙ others_spelled r is d v places (are_bound r d r.uses (λ j i e. (j, e))) (all_bound_to (named_tree_of m) d) (agree r is d) alone vs same

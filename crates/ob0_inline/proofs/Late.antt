@@ -11,11 +11,10 @@ use Rattle.ob0_tree.specs.declared.tree.Role.TheVariants as role
 use Rattle.ob0_tree.specs.Lexeme.{Terminal, Mark}
 use Rattle.ob0_tree.specs.Lexeme as lexeme
 use Rattle.ob0_tree.specs.Order.{names_only}
-use Rattle.ob0_tree.specs.Tree.{Sort, Tree, factor, block, body, constant, constants, declares, declares_constant, declares_constants, declares_procedure, end, formals, has_body, identifiers, is_module, item, items, maybe, module_text, more, none, occurrences, one, procedure, spell, type_names, variables}
+use Rattle.ob0_tree.specs.Tree.{Sort, Tree, block, body, constant, constants, declares, declares_constant, declares_constants, declares_procedure, end, formals, has_body, identifiers, is_module, item, items, mapped, maybe, module_text, more, none, occurrences, one, procedure, spell, type_names, variables}
 use Rattle.ob0_tree.proofs.Leaves.{leaves_spelled, lexeme_names, lexeme_names-append}
 use Rattle.ob0_tree.proofs.Occurring.{looked_up_only, looked_up-occurrences}
 use Rattle.ob0_edits_tokens.specs.Changed.{is_among}
-use Rattle.ob0_edits_tokens.specs.Inlined.{inlined}
 use Rattle.ob0_language_names.specs.Names.{Name, as_names}
 use Rattle.ob0_language_names.specs.Parts.{constant_names, formal_names, formal_sections, module_block, named_types, procedure_name, section_constants, section_types, section_variables, variable_names}
 use Rattle.ob0_language_names.specs.Scopes.{Scope, after_names, after_procedure, body_scope, declare_names, first_procedure, first_type, first_variable, predeclared_scope, procedures_scope, relabel_block, relabel_constant_section, relabel_constants, relabel_formals, relabel_procedure, relabel_procedures, relabel_type_section, relabel_uses, relabel_variable_section, relabelled, types_scope, variables_scope}
@@ -29,7 +28,8 @@ use Rattle.ob0_language_types.specs.Typing.{constant_value}
 use Rattle.ob0_language_types.specs.WellTyped.{bind_names}
 use Rattle.ob0_language_values.specs.Values.{Value}
 use Rattle.ob0_inline.proofs.Earlier.{AllLow, ScopeLow, constant_section_low, declared_low, forget, formals_low, low_append, procedure_low, raised, scope_raised, type_section_low, uses_low, variable_section_low}
-use Rattle.ob0_inline.proofs.TakenOut.{Taken, among_others, block_declares, expression_no_end, first_procedure_count, first_type_count, formals_count, get_first, get_later, gone_block, gone_constants, gone_here, gone_module, gone_procedure, gone_procedures, gone_section, high_procedure, high_section, low_procedures, names_counted, procedure_count, procedure_counted, procedure_declares, procedures_declare, put_before, put_following}
+use Rattle.ob0_inline.proofs.Spelled.{as_many}
+use Rattle.ob0_inline.proofs.TakenOut.{Taken, among_others, block_declares, expression_no_end, first_procedure_count, first_type_count, formals_count, get_first, get_later, gone_block, gone_constants, gone_here, gone_module, gone_procedure, gone_procedures, gone_section, kept_procedure, kept_procedures, kept_section, names_counted, procedure_count, procedure_counted, procedure_declares, procedures_declare, put_before, put_following}
 
 abbrev pub AllIn : List ℕ → List ℕ → Type 0
 AllIn [] xs = Unit {0}
@@ -160,20 +160,20 @@ late_suffix : {s : Sort} (d k : ℕ) (labels : List ℕ) (w l : List (Terminal �
     → Late d k labels (w ++ spell z) (l ++ spell z) (occ ++ occurrences z) (bound ++ zb)
 late_suffix d k labels w l z occ bound zb h = late_following d k labels w l (spell z) occ (occurrences z) bound zb (occurrences_in z) h
 
-module _ (c : ℕ → Option (Tree Name factor)) (f : ℕ → Name) (g : ℕ → ℕ) (d : ℕ) (w : Value) (as_many : (s : Sort) (t : Tree ℕ s) → length (occurrences (inlined c f g t)) ≡ length (occurrences t)) where
+module _ (f : ℕ → Name) (g : ℕ → ℕ) (d : ℕ) (w : Value) where
   late_constants : (known : Known) (scope : Scope Name) (k : ℕ) (cs : Tree ℕ (items constant)) (front : List (Terminal ℕ)) (border : TokenKind)
-      → (border ≡ kind.Reserved reserved.Const) ⊎ (border ≡ kind.Symbol symbol.Semicolon) → ScopeLow k scope → value_among known d k (inlined c f g cs) ≡ Some w
-      → Late d k (constant_names cs) (front ++ (Mark border ∷ spell cs)) (front ++ (Mark border ∷ spell (gone_constants d k cs))) (occurrences cs) (occurrences (relabel_constants as_names forget scope k (inlined c f g cs)))
+      → (border ≡ kind.Reserved reserved.Const) ⊎ (border ≡ kind.Symbol symbol.Semicolon) → ScopeLow k scope → value_among known d k (mapped f g cs) ≡ Some w
+      → Late d k (constant_names cs) (front ++ (Mark border ∷ spell cs)) (front ++ (Mark border ∷ spell (gone_constants d k cs))) (occurrences cs) (occurrences (relabel_constants as_names forget scope k (mapped f g cs)))
   unfolding value_among
   late_constants known scope k end front border opens below e = absurd (cc)
   late_constants known scope k (more (declares_constant x a) cs) front border opens below e =
-      by_value (constant_value (meanings as_names known) (inlined c f g a)) e
+      by_value (constant_value (meanings as_names known) (mapped f g a)) e
       (λ v h. late_constants ((f x, a_constant v) ∷ known) ((f x, k) ∷ scope) (suc k) cs (front ++ (Mark border ∷ lexeme.Name x ∷ Mark (kind.Symbol symbol.Equal) ∷ spell a)) (kind.Symbol symbol.Semicolon) (inr refl)
       (omega arith, scope_raised k (suc k) scope (omega arith) below) h)
     where
       here : (k == d) ≡ true
           → Late d k (x ∷ constant_names cs) (front ++ (Mark border ∷ spell (more (declares_constant x a) cs))) (front ++ (Mark border ∷ spell (gone_constants d k (more (declares_constant x a) cs))))
-          (occurrences a ++ occurrences cs) (occurrences (relabel_uses as_names forget scope (inlined c f g a)) ++ occurrences (relabel_constants as_names forget ((f x, k) ∷ scope) (suc k) (inlined c f g cs)))
+          (occurrences a ++ occurrences cs) (occurrences (relabel_uses as_names forget scope (mapped f g a)) ++ occurrences (relabel_constants as_names forget ((f x, k) ∷ scope) (suc k) (mapped f g cs)))
       here q =
           let same : k ≡ d = eqb-true k d q in
           record {
@@ -193,21 +193,21 @@ module _ (c : ℕ → Option (Tree Name factor)) (f : ℕ → Name) (g : ℕ →
             };
             front = occurrences a;
             following = occurrences cs;
-            front_bound = occurrences (relabel_uses as_names forget scope (inlined c f g a));
-            following_bound = occurrences (relabel_constants as_names forget ((f x, k) ∷ scope) (suc k) (inlined c f g cs));
+            front_bound = occurrences (relabel_uses as_names forget scope (mapped f g a));
+            following_bound = occurrences (relabel_constants as_names forget ((f x, k) ∷ scope) (suc k) (mapped f g cs));
             occ_is = refl;
             bound_is = refl;
-            count = as_many-uses as_names forget scope (inlined c f g a) ∙ as_many _ a;
-            low = raised k d (occurrences (relabel_uses as_names forget scope (inlined c f g a))) (omega (arith, same)) (uses_low k scope (inlined c f g a) below);
+            count = as_many-uses as_names forget scope (mapped f g a) ∙ as_many f g a;
+            low = raised k d (occurrences (relabel_uses as_names forget scope (mapped f g a))) (omega (arith, same)) (uses_low k scope (mapped f g a) below);
             among = occurrences_in cs;
           }
 
       there : (k == d) ≡ false
           → Late d (suc k) (constant_names cs) ((front ++ (Mark border ∷ lexeme.Name x ∷ Mark (kind.Symbol symbol.Equal) ∷ spell a)) ++ (Mark (kind.Symbol symbol.Semicolon) ∷ spell cs))
           ((front ++ (Mark border ∷ lexeme.Name x ∷ Mark (kind.Symbol symbol.Equal) ∷ spell a)) ++ (Mark (kind.Symbol symbol.Semicolon) ∷ spell (gone_constants d (suc k) cs)))
-          (occurrences cs) (occurrences (relabel_constants as_names forget ((f x, k) ∷ scope) (suc k) (inlined c f g cs)))
+          (occurrences cs) (occurrences (relabel_constants as_names forget ((f x, k) ∷ scope) (suc k) (mapped f g cs)))
           → Late d k (x ∷ constant_names cs) (front ++ (Mark border ∷ spell (more (declares_constant x a) cs))) (front ++ (Mark border ∷ spell (gone_constants d k (more (declares_constant x a) cs))))
-          (occurrences a ++ occurrences cs) (occurrences (relabel_uses as_names forget scope (inlined c f g a)) ++ occurrences (relabel_constants as_names forget ((f x, k) ∷ scope) (suc k) (inlined c f g cs)))
+          (occurrences a ++ occurrences cs) (occurrences (relabel_uses as_names forget scope (mapped f g a)) ++ occurrences (relabel_constants as_names forget ((f x, k) ∷ scope) (suc k) (mapped f g cs)))
       there q r =
           let moved = λ (l : List (Terminal ℕ)). append_assoc front (Mark border ∷ lexeme.Name x ∷ Mark (kind.Symbol symbol.Equal) ∷ spell a) (Mark (kind.Symbol symbol.Semicolon) ∷ l)
           ∙ ap (λ z. front ++ (Mark border ∷ lexeme.Name x ∷ Mark (kind.Symbol symbol.Equal) ∷ z)) (sym (append_assoc (spell a) (Mark (kind.Symbol symbol.Semicolon) ∷ []) l)) in
@@ -216,37 +216,37 @@ module _ (c : ℕ → Option (Tree Name factor)) (f : ℕ → Name) (g : ℕ →
           let l1 : List (Terminal ℕ) = done ++ (Mark (kind.Symbol symbol.Semicolon) ∷ spell (gone_constants d (suc k) cs)) in
           let w2 = front ++ (Mark border ∷ spell (more (declares_constant x a) cs)) in
           let l2 = front ++ (Mark border ∷ spell (gone_constants d k (more (declares_constant x a) cs))) in
-          let lb = occurrences (relabel_uses as_names forget scope (inlined c f g a)) in
-          let rest_bound = occurrences (relabel_constants as_names forget ((f x, k) ∷ scope) (suc k) (inlined c f g cs)) in
+          let lb = occurrences (relabel_uses as_names forget scope (mapped f g a)) in
+          let rest_bound = occurrences (relabel_constants as_names forget ((f x, k) ∷ scope) (suc k) (mapped f g cs)) in
           let e = r.taken.ordinal_is in
-          late_before d k (x ∷ constant_names cs) [] w2 l2 (occurrences a) (occurrences cs) lb rest_bound (as_many-uses as_names forget scope (inlined c f g a) ∙ as_many _ a)
-          (raised k d lb (omega (arith, e)) (uses_low k scope (inlined c f g a) below))
+          late_before d k (x ∷ constant_names cs) [] w2 l2 (occurrences a) (occurrences cs) lb rest_bound (as_many-uses as_names forget scope (mapped f g a) ∙ as_many f g a)
+          (raised k d lb (omega (arith, e)) (uses_low k scope (mapped f g a) below))
           (late_move d k (x ∷ constant_names cs) w1 w2 l1 l2 (occurrences cs) rest_bound (sym (moved (spell cs)))
           (ap (λ z. front ++ (Mark border ∷ spell z)) (gone_here d k (declares_constant x a) cs false q) ∙ sym (moved (spell (gone_constants d (suc k) cs))))
           (late_among d k (suc k) (constant_names cs) (x ∷ constant_names cs) w1 l1 (occurrences cs) rest_bound r (suc r.taken.place) (omega (arith, e)) refl))
 
-      by_test : (v : Value) (b : Bool) → (k == d) ≡ b → (if b then Some v else value_among ((f x, a_constant v) ∷ known) d (suc k) (inlined c f g cs)) ≡ Some w
-          → (value_among ((f x, a_constant v) ∷ known) d (suc k) (inlined c f g cs) ≡ Some w
+      by_test : (v : Value) (b : Bool) → (k == d) ≡ b → (if b then Some v else value_among ((f x, a_constant v) ∷ known) d (suc k) (mapped f g cs)) ≡ Some w
+          → (value_among ((f x, a_constant v) ∷ known) d (suc k) (mapped f g cs) ≡ Some w
           → Late d (suc k) (constant_names cs) ((front ++ (Mark border ∷ lexeme.Name x ∷ Mark (kind.Symbol symbol.Equal) ∷ spell a)) ++ (Mark (kind.Symbol symbol.Semicolon) ∷ spell cs))
           ((front ++ (Mark border ∷ lexeme.Name x ∷ Mark (kind.Symbol symbol.Equal) ∷ spell a)) ++ (Mark (kind.Symbol symbol.Semicolon) ∷ spell (gone_constants d (suc k) cs)))
-          (occurrences cs) (occurrences (relabel_constants as_names forget ((f x, k) ∷ scope) (suc k) (inlined c f g cs))))
+          (occurrences cs) (occurrences (relabel_constants as_names forget ((f x, k) ∷ scope) (suc k) (mapped f g cs))))
           → Late d k (x ∷ constant_names cs) (front ++ (Mark border ∷ spell (more (declares_constant x a) cs))) (front ++ (Mark border ∷ spell (gone_constants d k (more (declares_constant x a) cs))))
-          (occurrences a ++ occurrences cs) (occurrences (relabel_uses as_names forget scope (inlined c f g a)) ++ occurrences (relabel_constants as_names forget ((f x, k) ∷ scope) (suc k) (inlined c f g cs)))
+          (occurrences a ++ occurrences cs) (occurrences (relabel_uses as_names forget scope (mapped f g a)) ++ occurrences (relabel_constants as_names forget ((f x, k) ∷ scope) (suc k) (mapped f g cs)))
       by_test v true q e later = here q
       by_test v false q e later = there q (later e)
 
-      by_value : (o : Option Value) → option_and_then (λ v. if k == d then Some v else value_among ((f x, a_constant v) ∷ known) d (suc k) (inlined c f g cs)) o ≡ Some w
-          → ((v : Value) → value_among ((f x, a_constant v) ∷ known) d (suc k) (inlined c f g cs) ≡ Some w
+      by_value : (o : Option Value) → option_and_then (λ v. if k == d then Some v else value_among ((f x, a_constant v) ∷ known) d (suc k) (mapped f g cs)) o ≡ Some w
+          → ((v : Value) → value_among ((f x, a_constant v) ∷ known) d (suc k) (mapped f g cs) ≡ Some w
           → Late d (suc k) (constant_names cs) ((front ++ (Mark border ∷ lexeme.Name x ∷ Mark (kind.Symbol symbol.Equal) ∷ spell a)) ++ (Mark (kind.Symbol symbol.Semicolon) ∷ spell cs))
           ((front ++ (Mark border ∷ lexeme.Name x ∷ Mark (kind.Symbol symbol.Equal) ∷ spell a)) ++ (Mark (kind.Symbol symbol.Semicolon) ∷ spell (gone_constants d (suc k) cs)))
-          (occurrences cs) (occurrences (relabel_constants as_names forget ((f x, k) ∷ scope) (suc k) (inlined c f g cs))))
+          (occurrences cs) (occurrences (relabel_constants as_names forget ((f x, k) ∷ scope) (suc k) (mapped f g cs))))
           → Late d k (x ∷ constant_names cs) (front ++ (Mark border ∷ spell (more (declares_constant x a) cs))) (front ++ (Mark border ∷ spell (gone_constants d k (more (declares_constant x a) cs))))
-          (occurrences a ++ occurrences cs) (occurrences (relabel_uses as_names forget scope (inlined c f g a)) ++ occurrences (relabel_constants as_names forget ((f x, k) ∷ scope) (suc k) (inlined c f g cs)))
+          (occurrences a ++ occurrences cs) (occurrences (relabel_uses as_names forget scope (mapped f g a)) ++ occurrences (relabel_constants as_names forget ((f x, k) ∷ scope) (suc k) (mapped f g cs)))
       by_value None e later = absurd (cc)
       by_value (Some v) e later = by_test v (k == d) refl e (later v)
 
-  late_section : (known : Known) (scope : Scope Name) (k : ℕ) (cs : Tree ℕ (maybe constants)) → ScopeLow k scope → value_among known d k (section_constants (inlined c f g cs)) ≡ Some w
-      → Late d k (constant_names (section_constants cs)) (spell cs) (spell (gone_section d k cs)) (occurrences cs) (occurrences (relabel_constant_section as_names forget scope k (inlined c f g cs)))
+  late_section : (known : Known) (scope : Scope Name) (k : ℕ) (cs : Tree ℕ (maybe constants)) → ScopeLow k scope → value_among known d k (section_constants (mapped f g cs)) ≡ Some w
+      → Late d k (constant_names (section_constants cs)) (spell cs) (spell (gone_section d k cs)) (occurrences cs) (occurrences (relabel_constant_section as_names forget scope k (mapped f g cs)))
   unfolding value_among
   late_section known scope k none below e = absurd (cc)
   late_section known scope k (one (declares_constants cs)) below e = late_constants known scope k cs [] (kind.Reserved reserved.Const) (inl refl) below e
@@ -265,7 +265,7 @@ module _ (c : ℕ → Option (Tree Name factor)) (f : ℕ → Name) (g : ℕ →
       let labels = block_declares b in
       let up2 = le-after_names (after_names k (constant_names (section_constants cs))) (named_types (section_types ts)) in
       let up3 = le-after_names (after_names (after_names k (constant_names (section_constants cs))) (named_types (section_types ts))) (variable_names (section_variables vs)) in
-      let kept = low_procedures d (first_procedure k b) ps (omega (arith, h, up2, up3)) in
+      let kept = kept_procedures d (first_procedure k b) ps (λ j l u. omega (arith, h, up2, up3, l)) in
       let there = late_among d k k (constant_names (section_constants cs)) labels (spell cs) (spell (gone_section d k cs)) (occurrences cs) lc t t.taken.place t.taken.ordinal_is
       (get_first (constant_names (section_constants cs)) (named_types (section_types ts) ++ (variable_names (section_variables vs) ++ procedures_declare ps)) t.taken.place t.taken.name t.taken.named_there) in
       let rest : List (Terminal ℕ) = spell ts ++ (spell vs ++ spell ps) in
@@ -296,7 +296,7 @@ module _ (c : ℕ → Option (Tree Name factor)) (f : ℕ → Name) (g : ℕ →
       (get_later xs (ys ++ (zs ++ procedures_declare ps)) (length ys + (length zs + t.taken.place)) ∙ (get_later ys (zs ++ procedures_declare ps) (length zs + t.taken.place) ∙ get_later zs (procedures_declare ps) t.taken.place)) in
       let l1 : List (Terminal ℕ) = (spell cs ++ (spell ts ++ (spell vs ++ left))) ++ spell statements in
       late_move d k labels (spell b) (spell b) l1 (spell (gone_block d k b)) (occurrences b) ((lc ++ (lt ++ (lv ++ lp))) ++ ls) refl
-      (ap (λ (qs : Tree ℕ (maybe constants)). (spell qs ++ (spell ts ++ (spell vs ++ left))) ++ spell statements) (high_section d k cs h))
+      (ap (λ (qs : Tree ℕ (maybe constants)). (spell qs ++ (spell ts ++ (spell vs ++ left))) ++ spell statements) (kept_section d k cs (λ j l u. omega (arith, h, u))))
       (late_suffix d k labels (spell cs ++ (spell ts ++ (spell vs ++ spell ps))) (spell cs ++ (spell ts ++ (spell vs ++ left))) statements (occurrences cs ++ (occurrences ts ++ (occurrences vs ++ occurrences ps))) (lc ++ (lt ++ (lv ++ lp))) ls
       (late_before d k labels (spell cs) (spell ts ++ (spell vs ++ spell ps)) (spell ts ++ (spell vs ++ left)) (occurrences cs) (occurrences ts ++ (occurrences vs ++ occurrences ps)) lc (lt ++ (lv ++ lp)) nc hc
       (late_before d k labels (spell ts) (spell vs ++ spell ps) (spell vs ++ left) (occurrences ts) (occurrences vs ++ occurrences ps) lt (lv ++ lp) nt ht
@@ -310,7 +310,7 @@ module _ (c : ℕ → Option (Tree Name factor)) (f : ℕ → Name) (g : ℕ →
       let there = late_among d k (suc k) (procedure_declares q) labels (spell q) (spell (gone_procedure d (suc k) q)) (occurrences q) lq t (suc t.taken.place) (omega (arith, t.taken.ordinal_is))
       (get_first (procedure_declares q) (procedures_declare rest) t.taken.place t.taken.name t.taken.named_there) in
       late_move d k labels (spell (more q rest)) (spell (more q rest)) (spell (gone_procedure d (suc k) q) ++ spell rest) (spell (gone_procedures d k (more q rest))) (occurrences (more q rest)) (lq ++ lr) refl
-      (ap (λ (qs : Tree ℕ (items procedure)). spell (gone_procedure d (suc k) q) ++ spell qs) (low_procedures d (after_procedure (suc k) q) rest h))
+      (ap (λ (qs : Tree ℕ (items procedure)). spell (gone_procedure d (suc k) q) ++ spell qs) (kept_procedures d (after_procedure (suc k) q) rest (λ j l u. omega (arith, h, l))))
       (late_suffix d k labels (spell q) (spell (gone_procedure d (suc k) q)) rest (occurrences q) lq lr there)
 
   late_by_rest : (q : Tree ℕ (item procedure)) (rest : Tree ℕ (items procedure)) (k : ℕ) (lq lr : List (Option ℕ)) → after_procedure (suc k) q ≤ d → length lq ≡ length (occurrences q) → AllLow d lq
@@ -324,7 +324,7 @@ module _ (c : ℕ → Option (Tree Name factor)) (f : ℕ → Name) (g : ℕ →
       let there = late_among d k (after_procedure (suc k) q) (procedures_declare rest) labels (spell rest) left (occurrences rest) lr t (length front + t.taken.place) (omega (arith, t.taken.ordinal_is, count))
       (get_later front (procedures_declare rest) t.taken.place) in
       late_move d k labels (spell (more q rest)) (spell (more q rest)) (spell q ++ left) (spell (gone_procedures d k (more q rest))) (occurrences (more q rest)) (lq ++ lr) refl
-      (ap (λ (p : Tree ℕ (item procedure)). spell p ++ left) (high_procedure d (suc k) q h))
+      (ap (λ (p : Tree ℕ (item procedure)). spell p ++ left) (kept_procedure d (suc k) q (λ j l u. omega (arith, h, u))))
       (late_before d k labels (spell q) (spell rest) left (occurrences q) (occurrences rest) lq lr n hq there)
 
   late_in_procedure : (x closing : ℕ) (fs : Tree ℕ (maybe formals)) (b : Tree ℕ block) (k : ℕ) (lf lb : List (Option ℕ)) → length lf ≡ length (occurrences fs) → AllLow d lf
@@ -347,115 +347,115 @@ module _ (c : ℕ → Option (Tree Name factor)) (f : ℕ → Name) (g : ℕ →
   mutual
     unfolding value_in_block
 
-    late_block : (known : Known) (scope : Scope Name) (k n : ℕ) → n ≡ k → ScopeLow n scope → (b : Tree ℕ block) → value_in_block known d n (inlined c f g b) ≡ Some w
-        → Late d k (block_declares b) (spell b) (spell (gone_block d k b)) (occurrences b) (occurrences (relabel_block as_names forget scope n (inlined c f g b)))
+    late_block : (known : Known) (scope : Scope Name) (k n : ℕ) → n ≡ k → ScopeLow n scope → (b : Tree ℕ block) → value_in_block known d n (mapped f g b) ≡ Some w
+        → Late d k (block_declares b) (spell b) (spell (gone_block d k b)) (occurrences b) (occurrences (relabel_block as_names forget scope n (mapped f g b)))
     late_block known scope k n same below (has_body (declares cs ts vs ps) statements) e =
         let b : Tree ℕ block = has_body (declares cs ts vs ps) statements in
-        let b' = inlined c f g b in
-        let lc = occurrences (relabel_constant_section as_names forget scope n (inlined c f g cs)) in
-        let lt = occurrences (relabel_type_section as_names forget (types_scope n b' scope) (first_type n b') (inlined c f g ts)) in
-        let lv = occurrences (relabel_variable_section as_names forget (variables_scope n b' scope) (first_variable n b') (inlined c f g vs)) in
-        let lp = occurrences (relabel_procedures as_names forget (procedures_scope n b' scope) (first_procedure n b') (inlined c f g ps)) in
-        let ls = occurrences (relabel_uses as_names forget (body_scope n b' scope) (inlined c f g statements)) in
-        let xs = constant_names (section_constants (inlined c f g cs)) in
-        let ys = named_types (section_types (inlined c f g ts)) in
-        let zs = variable_names (section_variables (inlined c f g vs)) in
+        let b' = mapped f g b in
+        let lc = occurrences (relabel_constant_section as_names forget scope n (mapped f g cs)) in
+        let lt = occurrences (relabel_type_section as_names forget (types_scope n b' scope) (first_type n b') (mapped f g ts)) in
+        let lv = occurrences (relabel_variable_section as_names forget (variables_scope n b' scope) (first_variable n b') (mapped f g vs)) in
+        let lp = occurrences (relabel_procedures as_names forget (procedures_scope n b' scope) (first_procedure n b') (mapped f g ps)) in
+        let ls = occurrences (relabel_uses as_names forget (body_scope n b' scope) (mapped f g statements)) in
+        let xs = constant_names (section_constants (mapped f g cs)) in
+        let ys = named_types (section_types (mapped f g ts)) in
+        let zs = variable_names (section_variables (mapped f g vs)) in
         let h1 = declared_low n xs scope below in
         let h2 = declared_low (after_names n xs) ys (types_scope n b' scope) h1 in
         let h3 = declared_low (after_names (after_names n xs) ys) zs (variables_scope n b' scope) h2 in
         let up2 = le-after_names (after_names n xs) ys in
         let up3 = le-after_names (after_names (after_names n xs) ys) zs in
         elim (nat_lt d (first_type n b')) as (λ x. nat_lt d (first_type n b') ≡ x
-        → (if x then value_among known d n (section_constants (inlined c f g cs))
+        → (if x then value_among known d n (section_constants (mapped f g cs))
         else if nat_lt d (first_procedure n b') then None
-        else option_and_then (λ inner. value_in_procedures (bind_names (named_types (section_types (inlined c f g ts)) ++ variable_names (section_variables (inlined c f g vs))) no_constant inner) d (first_procedure n b') (inlined c f g ps))
-        (declare_constants as_names known (section_constants (inlined c f g cs)))) ≡ Some w
+        else option_and_then (λ inner. value_in_procedures (bind_names (named_types (section_types (mapped f g ts)) ++ variable_names (section_variables (mapped f g vs))) no_constant inner) d (first_procedure n b') (mapped f g ps))
+        (declare_constants as_names known (section_constants (mapped f g cs)))) ≡ Some w
         → Late d k (block_declares b) (spell b) (spell (gone_block d k b)) (occurrences b) ((lc ++ (lt ++ (lv ++ lp))) ++ ls)) [
           | true ↦ λ q h.
-              late_by_section cs ts vs ps statements k lc (lt ++ (lv ++ lp)) ls (subst (λ m. d < m) (first_type_count c f g n b ∙ ap (λ m. first_type m b) same) (ltb-true d (first_type n b') q))
+              late_by_section cs ts vs ps statements k lc (lt ++ (lv ++ lp)) ls (subst (λ m. d < m) (first_type_count f g n b ∙ ap (λ m. first_type m b) same) (ltb-true d (first_type n b') q))
               (subst (λ m. Late d m (constant_names (section_constants cs)) (spell cs) (spell (gone_section d m cs)) (occurrences cs) lc) same (late_section known scope n cs below h))
           | false ↦ λ q h.
               let high = ltb-false d (first_type n b') q in
               elim (nat_lt d (first_procedure n b')) as (λ y. nat_lt d (first_procedure n b') ≡ y → (if y then None
-              else option_and_then (λ inner. value_in_procedures (bind_names (named_types (section_types (inlined c f g ts)) ++ variable_names (section_variables (inlined c f g vs))) no_constant inner) d (first_procedure n b') (inlined c f g ps))
-              (declare_constants as_names known (section_constants (inlined c f g cs)))) ≡ Some w
+              else option_and_then (λ inner. value_in_procedures (bind_names (named_types (section_types (mapped f g ts)) ++ variable_names (section_variables (mapped f g vs))) no_constant inner) d (first_procedure n b') (mapped f g ps))
+              (declare_constants as_names known (section_constants (mapped f g cs)))) ≡ Some w
               → Late d k (block_declares b) (spell b) (spell (gone_block d k b)) (occurrences b) ((lc ++ (lt ++ (lv ++ lp))) ++ ls)) [
                 | true ↦ λ r g0. absurd (cc)
                 | false ↦ λ r.
                     let all = ltb-false d (first_procedure n b') r in
-                    elim (declare_constants as_names known (section_constants (inlined c f g cs))) as (λ o. option_and_then (λ inner. value_in_procedures (bind_names (named_types (section_types (inlined c f g ts)) ++ variable_names (section_variables (inlined c f g vs))) no_constant inner) d (first_procedure n b') (inlined c f g ps)) o ≡ Some w
+                    elim (declare_constants as_names known (section_constants (mapped f g cs))) as (λ o. option_and_then (λ inner. value_in_procedures (bind_names (named_types (section_types (mapped f g ts)) ++ variable_names (section_variables (mapped f g vs))) no_constant inner) d (first_procedure n b') (mapped f g ps)) o ≡ Some w
                     → Late d k (block_declares b) (spell b) (spell (gone_block d k b)) (occurrences b) ((lc ++ (lt ++ (lv ++ lp))) ++ ls)) [
                       | None ↦ λ g0. absurd (cc)
                       | Some inner ↦ λ g0.
-                          late_by_procedures cs ts vs ps statements k lc lt lv lp ls (subst (λ m. m ≤ d) (first_type_count c f g n b ∙ ap (λ m. first_type m b) same) high)
-                          (as_many-constant_section as_names forget scope n (inlined c f g cs) ∙ as_many _ cs)
-                          (as_many-type_section as_names forget (types_scope n b' scope) (first_type n b') (inlined c f g ts) ∙ as_many _ ts)
-                          (as_many-variable_section as_names forget (variables_scope n b' scope) (first_variable n b') (inlined c f g vs) ∙ as_many _ vs)
-                          (raised (after_names n xs) d lc high (constant_section_low scope n (inlined c f g cs) below))
-                          (raised (after_names (after_names n xs) ys) d lt (omega (arith, all, up3)) (type_section_low (types_scope n b' scope) (first_type n b') (inlined c f g ts) h1))
-                          (raised (first_procedure n b') d lv all (variable_section_low (variables_scope n b' scope) (first_variable n b') (inlined c f g vs) h2))
-                          (late_procedures (bind_names (named_types (section_types (inlined c f g ts)) ++ variable_names (section_variables (inlined c f g vs))) no_constant inner) (procedures_scope n b' scope)
-                          (first_procedure k b) (first_procedure n b') (first_procedure_count c f g n b ∙ ap (λ m. first_procedure m b) same) h3 ps g0)
+                          late_by_procedures cs ts vs ps statements k lc lt lv lp ls (subst (λ m. m ≤ d) (first_type_count f g n b ∙ ap (λ m. first_type m b) same) high)
+                          (as_many-constant_section as_names forget scope n (mapped f g cs) ∙ as_many f g cs)
+                          (as_many-type_section as_names forget (types_scope n b' scope) (first_type n b') (mapped f g ts) ∙ as_many f g ts)
+                          (as_many-variable_section as_names forget (variables_scope n b' scope) (first_variable n b') (mapped f g vs) ∙ as_many f g vs)
+                          (raised (after_names n xs) d lc high (constant_section_low scope n (mapped f g cs) below))
+                          (raised (after_names (after_names n xs) ys) d lt (omega (arith, all, up3)) (type_section_low (types_scope n b' scope) (first_type n b') (mapped f g ts) h1))
+                          (raised (first_procedure n b') d lv all (variable_section_low (variables_scope n b' scope) (first_variable n b') (mapped f g vs) h2))
+                          (late_procedures (bind_names (named_types (section_types (mapped f g ts)) ++ variable_names (section_variables (mapped f g vs))) no_constant inner) (procedures_scope n b' scope)
+                          (first_procedure k b) (first_procedure n b') (first_procedure_count f g n b ∙ ap (λ m. first_procedure m b) same) h3 ps g0)
                     ]
               ] refl h
         ] refl e
 
-    late_procedures : (known : Known) (scope : Scope Name) (k n : ℕ) → n ≡ k → ScopeLow n scope → (ps : Tree ℕ (items procedure)) → value_in_procedures known d n (inlined c f g ps) ≡ Some w
-        → Late d k (procedures_declare ps) (spell ps) (spell (gone_procedures d k ps)) (occurrences ps) (occurrences (relabel_procedures as_names forget scope n (inlined c f g ps)))
+    late_procedures : (known : Known) (scope : Scope Name) (k n : ℕ) → n ≡ k → ScopeLow n scope → (ps : Tree ℕ (items procedure)) → value_in_procedures known d n (mapped f g ps) ≡ Some w
+        → Late d k (procedures_declare ps) (spell ps) (spell (gone_procedures d k ps)) (occurrences ps) (occurrences (relabel_procedures as_names forget scope n (mapped f g ps)))
     late_procedures known scope k n same below end e = absurd (cc)
     late_procedures known scope k n same below (more q rest) e =
-        let q' = inlined c f g q in
+        let q' = mapped f g q in
         let lq = occurrences (relabel_procedure as_names forget scope n q') in
-        let lr = occurrences (relabel_procedures as_names forget ((procedure_name q', n) ∷ scope) (after_procedure (suc n) q') (inlined c f g rest)) in
+        let lr = occurrences (relabel_procedures as_names forget ((procedure_name q', n) ∷ scope) (after_procedure (suc n) q') (mapped f g rest)) in
         let up = le-after_procedure (suc n) q' in
-        let counted = procedure_count c f g (suc n) q ∙ ap (λ m. after_procedure (suc m) q) same in
+        let counted = procedure_count f g (suc n) q ∙ ap (λ m. after_procedure (suc m) q) same in
         elim (nat_lt d (after_procedure (suc n) q')) as (λ x. nat_lt d (after_procedure (suc n) q') ≡ x
         → (if x then value_in_procedure ((procedure_name q', no_constant) ∷ known) d (suc n) q'
-        else value_in_procedures ((procedure_name q', no_constant) ∷ known) d (after_procedure (suc n) q') (inlined c f g rest)) ≡ Some w
+        else value_in_procedures ((procedure_name q', no_constant) ∷ known) d (after_procedure (suc n) q') (mapped f g rest)) ≡ Some w
         → Late d k (procedures_declare (more q rest)) (spell (more q rest)) (spell (gone_procedures d k (more q rest))) (occurrences (more q rest)) (lq ++ lr)) [
           | true ↦ λ t h.
               late_by_procedure q rest k lq lr (subst (λ m. d < m) counted (ltb-true d (after_procedure (suc n) q') t))
               (late_procedure ((procedure_name q', no_constant) ∷ known) scope k n same below q h)
           | false ↦ λ t h.
               let high = ltb-false d (after_procedure (suc n) q') t in
-              late_by_rest q rest k lq lr (subst (λ m. m ≤ d) counted high) (as_many-procedure as_names forget scope n q' ∙ as_many _ q)
+              late_by_rest q rest k lq lr (subst (λ m. m ≤ d) counted high) (as_many-procedure as_names forget scope n q' ∙ as_many f g q)
               (raised (after_procedure (suc n) q') d lq high (procedure_low scope n q' below))
               (late_procedures ((procedure_name q', no_constant) ∷ known) ((procedure_name q', n) ∷ scope) (after_procedure (suc k) q) (after_procedure (suc n) q') counted
               (omega (arith, up), scope_raised n (after_procedure (suc n) q') scope (omega (arith, up)) below) rest h)
         ] refl e
 
-    late_procedure : (known : Known) (scope : Scope Name) (k n : ℕ) → n ≡ k → ScopeLow n scope → (q : Tree ℕ (item procedure)) → value_in_procedure known d (suc n) (inlined c f g q) ≡ Some w
-        → Late d (suc k) (procedure_declares q) (spell q) (spell (gone_procedure d (suc k) q)) (occurrences q) (occurrences (relabel_procedure as_names forget scope n (inlined c f g q)))
+    late_procedure : (known : Known) (scope : Scope Name) (k n : ℕ) → n ≡ k → ScopeLow n scope → (q : Tree ℕ (item procedure)) → value_in_procedure known d (suc n) (mapped f g q) ≡ Some w
+        → Late d (suc k) (procedure_declares q) (spell q) (spell (gone_procedure d (suc k) q)) (occurrences q) (occurrences (relabel_procedure as_names forget scope n (mapped f g q)))
     late_procedure known scope k n same below (declares_procedure x fs b closing) e =
-        let xs = formal_names (formal_sections (inlined c f g fs)) in
+        let xs = formal_names (formal_sections (mapped f g fs)) in
         let first = after_names (suc n) xs in
-        let lf = occurrences (relabel_formals as_names forget scope (suc n) (inlined c f g fs)) in
+        let lf = occurrences (relabel_formals as_names forget scope (suc n) (mapped f g fs)) in
         let h1 = scope_raised n (suc n) scope (omega arith) below in
         let h2 = declared_low (suc n) xs ((f x, n) ∷ scope) (omega arith, h1) in
         elim (nat_lt d first) as (λ y. nat_lt d first ≡ y → (if y then None
-        else value_in_block (bind_names xs no_constant known) d first (inlined c f g b)) ≡ Some w
+        else value_in_block (bind_names xs no_constant known) d first (mapped f g b)) ≡ Some w
         → Late d (suc k) (procedure_declares (declares_procedure x fs b closing)) (spell (declares_procedure x fs b closing)) (spell (gone_procedure d (suc k) (declares_procedure x fs b closing))) (occurrences (declares_procedure x fs b closing))
-        (lf ++ occurrences (relabel_block as_names forget (declare_names (suc n) xs ((f x, n) ∷ scope)) first (inlined c f g b)))) [
+        (lf ++ occurrences (relabel_block as_names forget (declare_names (suc n) xs ((f x, n) ∷ scope)) first (mapped f g b)))) [
           | true ↦ λ r h. absurd (cc)
           | false ↦ λ r h.
               let high = ltb-false d first r in
-              late_in_procedure x closing fs b (suc k) lf (occurrences (relabel_block as_names forget (declare_names (suc n) xs ((f x, n) ∷ scope)) first (inlined c f g b)))
-              (as_many-formals as_names forget scope (suc n) (inlined c f g fs) ∙ as_many _ fs)
-              (raised first d lf high (formals_low scope (suc n) (inlined c f g fs) h1))
+              late_in_procedure x closing fs b (suc k) lf (occurrences (relabel_block as_names forget (declare_names (suc n) xs ((f x, n) ∷ scope)) first (mapped f g b)))
+              (as_many-formals as_names forget scope (suc n) (mapped f g fs) ∙ as_many f g fs)
+              (raised first d lf high (formals_low scope (suc n) (mapped f g fs) h1))
               (late_block (bind_names xs no_constant known) (declare_names (suc n) xs ((f x, n) ∷ scope)) (after_names (suc k) (formal_names (formal_sections fs))) first
-              (formals_count c f g (suc n) fs ∙ ap (λ m. after_names (suc m) (formal_names (formal_sections fs))) same) h2 b h)
+              (formals_count f g (suc n) fs ∙ ap (λ m. after_names (suc m) (formal_names (formal_sections fs))) same) h2 b h)
         ] refl e
 
-  pub late_module : (m : Tree ℕ module_text) → value_of_constant (inlined c f g m) d ≡ Some w
-      → Late d 7 (block_declares (module_block m)) (spell m) (spell (gone_module d m)) (occurrences m) (occurrences (relabelled as_names forget (inlined c f g m)))
+  pub late_module : (m : Tree ℕ module_text) → value_of_constant (mapped f g m) d ≡ Some w
+      → Late d 7 (block_declares (module_block m)) (spell m) (spell (gone_module d m)) (occurrences m) (occurrences (relabelled as_names forget (mapped f g m)))
   unfolding value_of_constant
   late_module (is_module x b closing) e =
       let labels = block_declares b in
       let left = spell (gone_block d 7 b) in
       let tail : List (Terminal ℕ) = Mark (kind.Reserved reserved.End) ∷ lexeme.Name closing ∷ (Mark (kind.Symbol symbol.Dot) ∷ []) in
-      let lb = occurrences (relabel_block as_names forget (predeclared_scope as_names) 7 (inlined c f g b)) in
+      let lb = occurrences (relabel_block as_names forget (predeclared_scope as_names) 7 (mapped f g b)) in
       let seven : ScopeLow 7 (predeclared_scope as_names) = (omega arith, (omega arith, (omega arith, (omega arith, (omega arith, (omega arith, (omega arith, tt))))))) in
-      elim (nat_lt d 7) as (λ y. (if y then None else value_in_block predeclared_known d 7 (inlined c f g b)) ≡ Some w
+      elim (nat_lt d 7) as (λ y. (if y then None else value_in_block predeclared_known d 7 (mapped f g b)) ≡ Some w
       → Late d 7 labels (spell (is_module x b closing)) (spell (gone_module d (is_module x b closing))) (occurrences b) lb) [
         | true ↦ λ h. absurd (cc)
         | false ↦ λ h.

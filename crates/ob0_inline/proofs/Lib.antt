@@ -1,9 +1,9 @@
 pub mod Depths
 pub mod ModuleTexts
-pub mod OnOccurrences
-pub mod Alone
+pub mod Spelled
 pub mod UsesAreIdentifiers
 pub mod OccurrenceAt
+pub mod Refusals
 pub mod AtUses
 pub mod TakenOut
 pub mod WordsLeft

@@ -1,5 +1,6 @@
 -- The words that are in a text once a value is written in place of identifiers are those of the inlined module.
-use Rattle.std.proofs.Common.{◌≡◌, ℕ, suc, ◌+◌, ◌≤◌, List, [], ◌∷◌, ◌++◌, map, refl, ap, ◌∙◌, arith}
+use Rattle.std.specs.Prelude.{pos, negsuc}
+use Rattle.std.proofs.Common.{◌≡◌, ℕ, suc, ◌+◌, ◌≤◌, Bool, true, false, if◌then◌else◌, nat_lt, List, [], ◌∷◌, ◌++◌, map, refl, ap, ◌∙◌, arith}
 use Rattle.std.proofs.lemmas.List.{append_cancel_right}
 use Rattle.ob0_scan.specs.declared.lexeme.Token.{Token}
 use Rattle.ob0_scan.specs.Scanned.{Word, read_in}
@@ -8,16 +9,14 @@ use Rattle.ob0_text.specs.declared.position_types.Unit as counting
 use Rattle.ob0_tree.specs.Lexeme.{EndOfText}
 use Rattle.ob0_tree.specs.Parsed.{Parsed, IsParsed, tree_of}
 use Rattle.ob0_tree.specs.Places.{lexeme_of, lexemes_from}
-use Rattle.ob0_tree.specs.Tree.{Tree, module_text, nesting, spell}
-use Rattle.ob0_edits_tokens.specs.Changed.{words_of, changed_words, at_each}
+use Rattle.ob0_tree.specs.Tree.{Tree, factor, module_text, nesting, spell}
+use Rattle.ob0_edits_tokens.specs.Changed.{words_of}
 use Rattle.ob0_edits_tokens.specs.OfTrees.{numbered_tokens}
-use Rattle.ob0_edits_tokens.specs.Replaced.{AreNames, LeavesWords}
+use Rattle.ob0_edits_tokens.specs.Replaced.{LeavesWords}
 use Rattle.ob0_edits_tokens.specs.Words.{word_lexeme}
-use Rattle.ob0_edits_tokens.proofs.Factors.{number_spelled, truth_spelled}
-use Rattle.ob0_edits_tokens.proofs.OfTrees.{inlined_words_spell}
 use Rattle.ob0_language_values.specs.declared.scalar.Scalar.{Scalar}
 use Rattle.ob0_language_values.specs.declared.scalar.Scalar.TheVariants as scalar
-use Rattle.ob0_inline.specs.Inlined.{LeavesModule, AreAlone, inlined_at}
+use Rattle.ob0_inline.specs.Inlined.{LeavesModule}
 use Rattle.ob0_inline.specs.Values.{value_factor, value_words}
 use Rattle.ob0_inline.proofs.Depths.{lexemes_of_words}
 
@@ -32,14 +31,15 @@ lexemes_placed text i (t ∷ ts) =
 pub spelled_by_words : (m : Parsed) → IsParsed m → spell (tree_of m) ≡ numbered_tokens 0 (words_of m.source)
 spelled_by_words m parsed = append_cancel_right (spell (tree_of m)) (numbered_tokens 0 (words_of m.source)) (EndOfText ∷ []) (parsed.places ∙ lexemes_placed m.source.text 0 m.source.tokens)
 
-pub value_spelled : (value : Scalar) → map word_lexeme (value_words value) ≡ spell (value_factor value)
-value_spelled (scalar.Number n) = number_spelled n
-value_spelled (scalar.Truth b) = truth_spelled b
+-- by the sign, and whether the number is the least one
+either_spelled : (b : Bool) (vs ws : List Word) (v w : Tree (List ℕ) factor) → map word_lexeme vs ≡ spell v → map word_lexeme ws ≡ spell w → map word_lexeme (if b then vs else ws) ≡ spell (if b then v else w)
+either_spelled true vs ws v w e f = e
+either_spelled false vs ws v w e f = f
 
-pub inlined_spelled : (m : Parsed) → IsParsed m → (places : List ℕ) → AreNames m.source.tokens 0 places → (value : Scalar) → AreAlone m places value
-    → map word_lexeme (changed_words (at_each places (value_words value)) 0 (words_of m.source)) ≡ spell (inlined_at m places value)
-inlined_spelled m parsed places names value alone =
-    inlined_words_spell m.source _ (tree_of m) places (value_factor value) (value_words value) names (spelled_by_words m parsed) alone (value_spelled value)
+pub value_spelled : (value : Scalar) → map word_lexeme (value_words value) ≡ spell (value_factor value)
+value_spelled (scalar.Number (pos n)) = refl
+value_spelled (scalar.Number (negsuc n)) = either_spelled (nat_lt n 2147483647) _ _ _ _ refl refl
+value_spelled (scalar.Truth b) = refl
 
 -- where the tree that they spell isn't too deep, edits that leave these words leave its text
 pub leaves_module : (unit : counting.Unit) (text : List ℕ) (edits : List Edit) (ws : List Word) (t : Tree (List ℕ) module_text)

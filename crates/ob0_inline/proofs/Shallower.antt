@@ -1,78 +1,136 @@
 -- The inlined module is nested at most one level deeper than the module.
 -- So the new text is parsed only where the module is nested as deep as a module may be; taking a declaration out makes
 -- no tree deeper.
-use Rattle.std.proofs.Common.{ℕ, suc, ◌+◌, ◌≤◌, ◌==◌, Bool, true, false, List, if◌then◌else◌, subst, arith}
-use Rattle.ob0_tree.specs.Parsed.{Parsed, tree_of}
-use Rattle.ob0_tree.specs.Tree.{Tree, block, constant, constants, declares, declares_constants, declares_procedure, end, has_body, is_module, item, items, maybe, module_text, more, nesting, none, one, procedure}
-use Rattle.ob0_edits_tokens.specs.Changed.{words_of}
-use Rattle.ob0_edits_tokens.specs.Factors.{truth_factor}
-use Rattle.ob0_edits_tokens.specs.OfTrees.{number_at, text_of_word}
-use Rattle.ob0_edits_tokens.proofs.Factors.{nesting_at, number_shallow}
+use Rattle.std.proofs.Common.{◌≡◌, ℕ, suc, ◌+◌, ◌≤◌, ◌==◌, Bool, true, false, length, if◌then◌else◌, nat_lt, arith}
+use Rattle.std.specs.Prelude.{pos, negsuc}
+use Rattle.ob0_tree.specs.Parsed.{Parsed, named_tree_of, tree_of}
+use Rattle.ob0_tree.specs.Places as leaf
+use Rattle.ob0_tree.specs.Tree.{Sort, Tree, block, constant, constants, factor, item, items, maybe, module_text, nesting, occurrences, procedure, adds, array_type, assigns, begins, branches, calls, compares, declares, declares_constant, declares_constants, declares_procedure, declares_type, declares_types, declares_variable, declares_variables, designator, else_branch, elsif_branch, empty, end, field, has_body, index, integer, is_module, listed, more, multiplies, named_type, negation, no_arguments, no_fields, no_formals, none, one, parenthesised, product, record_type, relates, repeat_loop, runs, some_arguments, some_fields, some_formals, sum, then_argument, then_fields, then_name, then_section, then_statement, value_section, variable_section, while_loop}
+use Rattle.ob0_tree.proofs.Mapped.{nesting_mapped}
+use Rattle.ob0_language_names.specs.Inlining.{Uses, all_bound_to, block_without, inline_in, inlined, module_without, procedure_without, procedures_without, section_without, without}
 use Rattle.ob0_language_names.specs.Names.{Name}
 use Rattle.ob0_language_names.specs.Parts.{formal_names, formal_sections}
-use Rattle.ob0_scope_table.specs.Resolution.{IsResolution, Resolution}
 use Rattle.ob0_language_names.specs.Scopes.{after_names, after_procedure, first_procedure}
 use Rattle.ob0_language_values.specs.declared.scalar.Scalar.{Scalar}
 use Rattle.ob0_language_values.specs.declared.scalar.Scalar.TheVariants as scalar
 use Rattle.ob0_inline.specs.declared.constants.NamedConstant.{NamedConstant}
 use Rattle.ob0_inline.specs.Everywhere.{inlined_all}
-use Rattle.ob0_inline.specs.Inlined.{inlined_at}
 use Rattle.ob0_inline.specs.Values.{value_factor}
-use Rattle.ob0_inline.proofs.EverywhereAt.{bound_tokens, inlined_is}
-use Rattle.ob0_inline.proofs.TakenOut.{gone_block, gone_constants, gone_module, gone_procedure, gone_procedures, gone_section}
 
-truth_shallow : (b : Bool) → nesting (truth_factor b) ≤ 1
-truth_shallow true = omega arith
-truth_shallow false = omega arith
+either_shallow : (b : Bool) (v w : Tree Name factor) → nesting v ≤ 1 → nesting w ≤ 1 → nesting (if b then v else w) ≤ 1
+either_shallow true v w h g = h
+either_shallow false v w h g = g
 
 value_shallow : (value : Scalar) → nesting (value_factor value) ≤ 1
-value_shallow (scalar.Number n) = number_shallow n
-value_shallow (scalar.Truth b) = truth_shallow b
+value_shallow (scalar.Number (pos n)) = omega arith
+value_shallow (scalar.Number (negsuc n)) = either_shallow (nat_lt n 2147483647) _ _ (omega arith) (omega arith)
+value_shallow (scalar.Truth b) = omega arith
 
-pub inlined_shallow : (m : Parsed) (places : List ℕ) (value : Scalar) → nesting (inlined_at m places value) ≤ nesting (tree_of m) + 1
-inlined_shallow m places value =
-    let deeper = nesting_at module_text (tree_of m) places (value_factor value) (text_of_word (words_of m.source)) (number_at (words_of m.source)) in
+module _ (uses : Uses) (v : Tree Name factor) where
+  name_low : (x : Name) (b : Bool) → nesting (if b then v else designator x end) ≤ nesting v
+  name_low x true = omega arith
+  name_low x false = omega arith
+
+  -- a factor in place of names makes a tree deeper by no more than its own nesting
+  inlined_low : {s : Sort} (k : ℕ) (t : Tree Name s) → nesting (inline_in uses v k t) ≤ nesting t + nesting v
+  inlined_low k none = omega arith
+  inlined_low k (one t) = omega (arith, inlined_low k t)
+  inlined_low k end = omega arith
+  inlined_low k (more t u) = omega (arith, inlined_low k t, inlined_low (k + length (occurrences t)) u)
+  inlined_low k (compares t u) = omega (arith, inlined_low k t, inlined_low (k + length (occurrences t)) u)
+  inlined_low k (relates o t) = omega (arith, inlined_low k t)
+  inlined_low k (sum o t u) = omega (arith, inlined_low k t, inlined_low (k + length (occurrences t)) u)
+  inlined_low k (adds o t) = omega (arith, inlined_low k t)
+  inlined_low k (product t u) = omega (arith, inlined_low k t, inlined_low (k + length (occurrences t)) u)
+  inlined_low k (multiplies o t) = omega (arith, inlined_low k t)
+  inlined_low k (designator x end) = omega (arith, name_low x (uses k))
+  inlined_low k (designator x (more t u)) = omega (arith, inlined_low (suc k) t, inlined_low (suc k + length (occurrences t)) u)
+  inlined_low k (integer n) = omega arith
+  inlined_low k (parenthesised t) = omega (arith, inlined_low k t)
+  inlined_low k (negation t) = omega (arith, inlined_low k t)
+  inlined_low k (field x) = omega arith
+  inlined_low k (index t) = omega (arith, inlined_low k t)
+  inlined_low k empty = omega arith
+  inlined_low k (assigns x t u) = omega (arith, inlined_low (suc k) t, inlined_low (suc k + length (occurrences t)) u)
+  inlined_low k (calls x t) = omega (arith, inlined_low (suc k) t)
+  inlined_low k (branches t u w z) = omega (arith, inlined_low k t, inlined_low (k + length (occurrences t)) u, inlined_low (k + length (occurrences t) + length (occurrences u)) w, inlined_low (k + length (occurrences t) + length (occurrences u) + length (occurrences w)) z)
+  inlined_low k (while_loop t u) = omega (arith, inlined_low k t, inlined_low (k + length (occurrences t)) u)
+  inlined_low k (repeat_loop t u) = omega (arith, inlined_low k t, inlined_low (k + length (occurrences t)) u)
+  inlined_low k no_arguments = omega arith
+  inlined_low k (some_arguments t u) = omega (arith, inlined_low k t, inlined_low (k + length (occurrences t)) u)
+  inlined_low k (then_argument t) = omega (arith, inlined_low k t)
+  inlined_low k (runs t u) = omega (arith, inlined_low k t, inlined_low (k + length (occurrences t)) u)
+  inlined_low k (then_statement t) = omega (arith, inlined_low k t)
+  inlined_low k (elsif_branch t u) = omega (arith, inlined_low k t, inlined_low (k + length (occurrences t)) u)
+  inlined_low k (else_branch t) = omega (arith, inlined_low k t)
+  inlined_low k (listed x rest) = omega arith
+  inlined_low k (then_name x) = omega arith
+  inlined_low k (named_type x) = omega arith
+  inlined_low k (array_type t u) = omega (arith, inlined_low k t, inlined_low (k + length (occurrences t)) u)
+  inlined_low k (record_type t u) = omega (arith, inlined_low k t, inlined_low (k + length (occurrences t)) u)
+  inlined_low k no_fields = omega arith
+  inlined_low k (some_fields ns t) = omega (arith, inlined_low k t)
+  inlined_low k (then_fields t) = omega (arith, inlined_low k t)
+  inlined_low k no_formals = omega arith
+  inlined_low k (some_formals t u) = omega (arith, inlined_low k t, inlined_low (k + length (occurrences t)) u)
+  inlined_low k (value_section ns t) = omega (arith, inlined_low k t)
+  inlined_low k (variable_section ns t) = omega (arith, inlined_low k t)
+  inlined_low k (then_section t) = omega (arith, inlined_low k t)
+  inlined_low k (declares_constant x t) = omega (arith, inlined_low k t)
+  inlined_low k (declares_constants t) = omega (arith, inlined_low k t)
+  inlined_low k (declares_type x t) = omega (arith, inlined_low k t)
+  inlined_low k (declares_types t) = omega (arith, inlined_low k t)
+  inlined_low k (declares_variable ns t) = omega (arith, inlined_low k t)
+  inlined_low k (declares_variables t) = omega (arith, inlined_low k t)
+  inlined_low k (declares_procedure x t u y) = omega (arith, inlined_low k t, inlined_low (k + length (occurrences t)) u)
+  inlined_low k (declares t u w z) = omega (arith, inlined_low k t, inlined_low (k + length (occurrences t)) u, inlined_low (k + length (occurrences t) + length (occurrences u)) w, inlined_low (k + length (occurrences t) + length (occurrences u) + length (occurrences w)) z)
+  inlined_low k (begins t) = omega (arith, inlined_low k t)
+  inlined_low k (has_body t u) = omega (arith, inlined_low k t, inlined_low (k + length (occurrences t)) u)
+  inlined_low k (is_module x t y) = omega (arith, inlined_low k t)
+
+pub inlined_shallow : (m : Parsed) (uses : Uses) (value : Scalar) → nesting (inlined (named_tree_of m) uses (value_factor value)) ≤ nesting (tree_of m) + 1
+inlined_shallow m uses value =
+    let deeper = inlined_low uses (value_factor value) 0 (named_tree_of m) in
+    let same : nesting (named_tree_of m) ≡ nesting (tree_of m) = nesting_mapped (leaf.text_at m.source) (leaf.value_at m.source) (tree_of m) in
     let low = value_shallow value in
-    omega (arith, deeper, low)
+    omega (arith, deeper, same, low)
 
 -- a tree without a declaration is no deeper
-constants_low : {N : Type 0} (d k : ℕ) (cs : Tree N (items constant)) → nesting (gone_constants d k cs) ≤ nesting cs
+constants_low : (d k : ℕ) (cs : Tree Name (items constant)) → nesting (without d k cs) ≤ nesting cs
 constants_low d k end = omega arith
 constants_low d k (more c cs) =
     let rest = constants_low d (suc k) cs in
-    elim (k == d) as (λ b. nesting (if b then cs else more c (gone_constants d (suc k) cs)) ≤ nesting (more c cs)) [ true ↦ omega arith | false ↦ omega (arith, rest) ]
+    elim (k == d) as (λ b. nesting (if b then cs else more c (without d (suc k) cs)) ≤ nesting (more c cs)) [ true ↦ omega arith | false ↦ omega (arith, rest) ]
 
-section_low : {N : Type 0} (d k : ℕ) (cs : Tree N (maybe constants)) → nesting (gone_section d k cs) ≤ nesting cs
+section_low : (d k : ℕ) (cs : Tree Name (maybe constants)) → nesting (section_without d k cs) ≤ nesting cs
 section_low d k none = omega arith
 section_low d k (one (declares_constants cs)) = constants_low d k cs
 
 mutual
-  block_low : {N : Type 0} (d k : ℕ) (b : Tree N block) → nesting (gone_block d k b) ≤ nesting b
+  block_low : (d k : ℕ) (b : Tree Name block) → nesting (block_without d k b) ≤ nesting b
   block_low d k (has_body (declares cs ts vs ps) statements) =
       let first = section_low d k cs in
       let last = procedures_low d (first_procedure k (has_body (declares cs ts vs ps) statements)) ps in
       omega (arith, first, last)
 
-  procedures_low : {N : Type 0} (d k : ℕ) (ps : Tree N (items procedure)) → nesting (gone_procedures d k ps) ≤ nesting ps
+  procedures_low : (d k : ℕ) (ps : Tree Name (items procedure)) → nesting (procedures_without d k ps) ≤ nesting ps
   procedures_low d k end = omega arith
   procedures_low d k (more p rest) =
       let first = procedure_low d (suc k) p in
       let others = procedures_low d (after_procedure (suc k) p) rest in
       omega (arith, first, others)
 
-  procedure_low : {N : Type 0} (d k : ℕ) (p : Tree N (item procedure)) → nesting (gone_procedure d k p) ≤ nesting p
+  procedure_low : (d k : ℕ) (p : Tree Name (item procedure)) → nesting (procedure_without d k p) ≤ nesting p
   procedure_low d k (declares_procedure x fs b closing) =
       let inner = block_low d (after_names k (formal_names (formal_sections fs))) b in
       omega (arith, inner)
 
-module_low : {N : Type 0} (d : ℕ) (m : Tree N module_text) → nesting (gone_module d m) ≤ nesting m
+module_low : (d : ℕ) (m : Tree Name module_text) → nesting (module_without d m) ≤ nesting m
 module_low d (is_module x b closing) = block_low d 7 b
 
-pub everywhere_shallow : (r : Resolution) → IsResolution r → (c : NamedConstant) → nesting (inlined_all r.module_read c) ≤ nesting (tree_of r.module_read) + 1
-everywhere_shallow r is c =
-    let m = r.module_read in
-    let gone : Tree ℕ module_text = gone_module c.ordinal (tree_of m) in
-    let deeper = nesting_at module_text gone (bound_tokens r.ordinals c.ordinal r.uses) (value_factor c.value) (text_of_word (words_of m.source)) (number_at (words_of m.source)) in
-    let less = module_low c.ordinal (tree_of m) in
-    let low = value_shallow c.value in
-    subst (λ (t : Tree Name module_text). nesting t ≤ nesting (tree_of m) + 1) (inlined_is r is c.ordinal (value_factor c.value)) (omega (arith, deeper, less, low))
+pub everywhere_shallow : (m : Parsed) (c : NamedConstant) → nesting (inlined_all m c) ≤ nesting (tree_of m) + 1
+everywhere_shallow m c =
+    let uses = all_bound_to (named_tree_of m) c.ordinal in
+    let less = module_low c.ordinal (inlined (named_tree_of m) uses (value_factor c.value)) in
+    let shallow = inlined_shallow m uses c.value in
+    omega (arith, less, shallow)

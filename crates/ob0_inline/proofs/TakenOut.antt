@@ -1,8 +1,7 @@
 -- The declaration of a constant taken out of a tree: what is left, over any names, and which tokens are gone.
--- `gone_module` is the module without the declaration over any names. Taking out and putting factors in place of names
--- come to the same in either order (`gone_module_inlined`). `Taken`: the tokens of the tree are those before (with
--- CONST or a semicolon), then the declaration from its name to its semicolon, then the rest; no semicolon is inside.
-use Rattle.std.proofs.Common.{zero, slice_get, length-append, ◌≡◌, ◌⊎◌, ℕ, suc, ◌+◌, ◌<◌, ◌≤◌, ◌==◌, Bool, true, false, if◌then◌else◌, Option, Some, None, List, [], ◌∷◌, ◌++◌, length, refl, sym, ap, ◌∙◌, arith, append_assoc, append-nil, ne_eqb}
+-- `gone_module` is the module without the declaration over any names. `Taken`: the tokens of the tree are those before
+-- (with CONST or a semicolon), then the declaration from its name to its semicolon, then the rest; no semicolon is inside.
+use Rattle.std.proofs.Common.{zero, slice_get, length-append, ◌≡◌, ◌≢◌, ◌⊎◌, ℕ, suc, ◌+◌, ◌<◌, ◌≤◌, ◌==◌, Bool, true, false, if◌then◌else◌, Option, Some, None, List, [], ◌∷◌, ◌++◌, length, refl, sym, ap, ◌∙◌, arith, append_assoc, append-nil, ne_eqb}
 use Rattle.ob0_scan.specs.declared.lexeme.Reserved.TheVariants as reserved
 use Rattle.ob0_scan.specs.declared.lexeme.Symbol.TheVariants as symbol
 use Rattle.ob0_scan.specs.declared.lexeme.TokenKind.{TokenKind}
@@ -17,17 +16,16 @@ use Rattle.ob0_tree.specs.declared.tree.Sign.{Sign}
 use Rattle.ob0_tree.specs.declared.tree.Sign.TheVariants as sign
 use Rattle.ob0_tree.specs.Lexeme.{Terminal, Mark, add_mark, multiply_mark, relation_mark, sign_marks}
 use Rattle.ob0_tree.specs.Lexeme as lexeme
-use Rattle.ob0_tree.specs.Tree.{Sort, Tree, identifiers, addend, adds, compares, designator, expression, factor, field, index, integer, multiplier, multiplies, negation, parenthesised, product, relates, selector, simple, sum, term, block, constant, constants, declares, declares_constant, declares_constants, declares_procedure, declares_type, declares_types, declares_variable, declares_variables, end, formals, further_name, further_section, has_body, is_module, item, items, listed, maybe, module_text, more, names, no_formals, none, one, procedure, section, some_formals, spell, then_name, then_section, type_name, type_names, value_section, variable, variable_section, variables}
-use Rattle.ob0_edits_tokens.specs.Inlined.{ReplacesFactors, inlined}
-use Rattle.ob0_language_names.specs.Inlining.{block_without, module_without, procedure_without, procedures_without, section_without, without}
+use Rattle.ob0_tree.specs.Tree.{Sort, Tree, identifiers, addend, adds, compares, designator, expression, factor, field, index, integer, multiplier, multiplies, negation, parenthesised, product, relates, selector, simple, sum, term, block, constant, constants, declares, declares_constant, declares_constants, declares_procedure, declares_type, declares_types, declares_variable, declares_variables, end, formals, further_name, further_section, has_body, is_module, item, items, listed, mapped, maybe, module_text, more, names, no_formals, none, one, procedure, some_formals, spell, then_name, then_section, type_name, type_names, value_section, variable, variable_section, variables}
 use Rattle.ob0_language_names.specs.Names.{Name}
-use Rattle.ob0_language_names.specs.Parts.{constant_names, formal_names, formal_sections, further_names, named_types, names_listed, section_constants, section_names, section_types, section_variables, variable_names, procedure_name, module_block}
+use Rattle.ob0_language_names.specs.Parts.{constant_names, formal_names, formal_sections, further_names, named_types, names_listed, section_constants, section_types, section_variables, variable_names, procedure_name, module_block}
 use Rattle.ob0_tree.specs.declared.tree.Role.{Role}
 use Rattle.ob0_tree.specs.declared.tree.Role.TheVariants as role
 use Rattle.ob0_scope_table.specs.Resolution.{declaring_only}
 use Rattle.ob0_scope_table.proofs.Plain.{IsPlain, declares_nothing, declaring_only-append}
 use Rattle.ob0_language_names.specs.Scopes.{after_block, after_names, after_procedure, after_procedures, first_procedure, first_type}
-use Rattle.ob0_language_names.proofs.Ordinals.{after_names-append, le-after_names, le-after_procedure, le-after_procedures}
+use Rattle.ob0_types_check.proofs.DeclaredNames.{after_block-mapped, after_names-map, after_procedure-mapped, formals-names}
+use Rattle.ob0_language_names.proofs.Ordinals.{le-after_names, le-after_procedure, le-after_procedures}
 
 -- as the module without a declaration, over any names
 abbrev pub gone_constants : {N : Type 0} → ℕ → ℕ → Tree N (items constant) → Tree N (items constant)
@@ -53,116 +51,19 @@ abbrev mutual
 abbrev pub gone_module : {N : Type 0} → ℕ → Tree N module_text → Tree N module_text
 gone_module d (is_module x b closing) = is_module x (gone_block d 7 b) closing
 
--- with factors in place of names a tree declares as much as before
-module _ (c : ℕ → Option (Tree Name factor)) (f : ℕ → Name) (g : ℕ → ℕ) where
-  further_count : (k : ℕ) (ns : Tree ℕ (items further_name)) → after_names k (further_names (inlined c f g ns)) ≡ after_names k (further_names ns)
-  further_count k end = refl
-  further_count k (more (then_name x) rest) = further_count (suc k) rest
+-- with other names a tree declares as much as before; sections are counted as those of a block that has no others
+module _ (f : ℕ → Name) (g : ℕ → ℕ) where
+  pub formals_count : (k : ℕ) (fs : Tree ℕ (maybe formals)) → after_names k (formal_names (formal_sections (mapped f g fs))) ≡ after_names k (formal_names (formal_sections fs))
+  formals_count k fs = ap (after_names k) (formals-names f g fs) ∙ after_names-map f k (formal_names (formal_sections fs))
 
-  names_count : (k : ℕ) (ns : Tree ℕ names) → after_names k (names_listed (inlined c f g ns)) ≡ after_names k (names_listed ns)
-  names_count k (listed x rest) = further_count (suc k) rest
+  pub first_type_count : (k : ℕ) (b : Tree ℕ block) → first_type k (mapped f g b) ≡ first_type k b
+  first_type_count k (has_body (declares cs ts vs ps) statements) = after_block-mapped f g k k refl (has_body (declares cs none none end) statements)
 
-  constants_count : (k : ℕ) (cs : Tree ℕ (items constant)) → after_names k (constant_names (inlined c f g cs)) ≡ after_names k (constant_names cs)
-  constants_count k end = refl
-  constants_count k (more (declares_constant x e) cs) = constants_count (suc k) cs
+  pub first_procedure_count : (k : ℕ) (b : Tree ℕ block) → first_procedure k (mapped f g b) ≡ first_procedure k b
+  first_procedure_count k (has_body (declares cs ts vs ps) statements) = after_block-mapped f g k k refl (has_body (declares cs ts vs end) statements)
 
-  pub constant_section_count : (k : ℕ) (cs : Tree ℕ (maybe constants)) → after_names k (constant_names (section_constants (inlined c f g cs))) ≡ after_names k (constant_names (section_constants cs))
-  constant_section_count k none = refl
-  constant_section_count k (one (declares_constants cs)) = constants_count k cs
-
-  types_count : (k : ℕ) (ts : Tree ℕ (items type_name)) → after_names k (named_types (inlined c f g ts)) ≡ after_names k (named_types ts)
-  types_count k end = refl
-  types_count k (more (declares_type x t) ts) = types_count (suc k) ts
-
-  type_section_count : (k : ℕ) (ts : Tree ℕ (maybe type_names)) → after_names k (named_types (section_types (inlined c f g ts))) ≡ after_names k (named_types (section_types ts))
-  type_section_count k none = refl
-  type_section_count k (one (declares_types ts)) = types_count k ts
-
-  variables_count : (k : ℕ) (vs : Tree ℕ (items variable)) → after_names k (variable_names (inlined c f g vs)) ≡ after_names k (variable_names vs)
-  variables_count k end = refl
-  variables_count k (more (declares_variable ns t) vs) =
-      after_names-append k (names_listed (inlined c f g ns)) (variable_names (inlined c f g vs))
-      ∙ (ap (λ n. after_names n (variable_names (inlined c f g vs))) (names_count k ns)
-      ∙ (variables_count (after_names k (names_listed ns)) vs ∙ sym (after_names-append k (names_listed ns) (variable_names vs))))
-
-  variable_section_count : (k : ℕ) (vs : Tree ℕ (maybe variables)) → after_names k (variable_names (section_variables (inlined c f g vs))) ≡ after_names k (variable_names (section_variables vs))
-  variable_section_count k none = refl
-  variable_section_count k (one (declares_variables vs)) = variables_count k vs
-
-  section_count : (k : ℕ) (s : Tree ℕ section) → after_names k (section_names (inlined c f g s)) ≡ after_names k (section_names s)
-  section_count k (value_section ns t) = names_count k ns
-  section_count k (variable_section ns t) = names_count k ns
-
-  sections_count : (k : ℕ) (fs : Tree ℕ (items further_section)) → after_names k (formal_names (inlined c f g fs)) ≡ after_names k (formal_names fs)
-  sections_count k end = refl
-  sections_count k (more (then_section s) fs) =
-      after_names-append k (section_names (inlined c f g s)) (formal_names (inlined c f g fs))
-      ∙ (ap (λ n. after_names n (formal_names (inlined c f g fs))) (section_count k s)
-      ∙ (sections_count (after_names k (section_names s)) fs ∙ sym (after_names-append k (section_names s) (formal_names fs))))
-
-  pub formals_count : (k : ℕ) (fs : Tree ℕ (maybe formals)) → after_names k (formal_names (formal_sections (inlined c f g fs))) ≡ after_names k (formal_names (formal_sections fs))
-  formals_count k none = refl
-  formals_count k (one no_formals) = refl
-  formals_count k (one (some_formals s fs)) = sections_count k (more (then_section s) fs)
-
-  pub first_type_count : (k : ℕ) (b : Tree ℕ block) → first_type k (inlined c f g b) ≡ first_type k b
-  first_type_count k (has_body (declares cs ts vs ps) statements) = constant_section_count k cs
-
-  pub first_procedure_count : (k : ℕ) (b : Tree ℕ block) → first_procedure k (inlined c f g b) ≡ first_procedure k b
-  first_procedure_count k (has_body (declares cs ts vs ps) statements) =
-      ap (λ n. after_names (after_names n (named_types (section_types (inlined c f g ts)))) (variable_names (section_variables (inlined c f g vs)))) (constant_section_count k cs)
-      ∙ (ap (λ n. after_names n (variable_names (section_variables (inlined c f g vs)))) (type_section_count (after_names k (constant_names (section_constants cs))) ts)
-      ∙ variable_section_count (after_names (after_names k (constant_names (section_constants cs))) (named_types (section_types ts))) vs)
-
-  mutual
-    block_count : (k : ℕ) (b : Tree ℕ block) → after_block k (inlined c f g b) ≡ after_block k b
-    block_count k (has_body (declares cs ts vs ps) statements) =
-        ap (λ n. after_procedures n (inlined c f g ps)) (first_procedure_count k (has_body (declares cs ts vs ps) statements))
-        ∙ procedures_count (first_procedure k (has_body (declares cs ts vs ps) statements)) ps
-
-    procedures_count : (k : ℕ) (ps : Tree ℕ (items procedure)) → after_procedures k (inlined c f g ps) ≡ after_procedures k ps
-    procedures_count k end = refl
-    procedures_count k (more p rest) =
-        ap (λ n. after_procedures n (inlined c f g rest)) (procedure_count (suc k) p) ∙ procedures_count (after_procedure (suc k) p) rest
-
-    pub procedure_count : (k : ℕ) (p : Tree ℕ (item procedure)) → after_procedure k (inlined c f g p) ≡ after_procedure k p
-    procedure_count k (declares_procedure x fs b closing) =
-        ap (λ n. after_block n (inlined c f g b)) (formals_count k fs) ∙ block_count (after_names k (formal_names (formal_sections fs))) b
-
-  -- taking out and putting factors in place of names: in either order
-  gone_constants_inlined : (d k : ℕ) (cs : Tree ℕ (items constant)) → inlined c f g (gone_constants d k cs) ≡ without d k (inlined c f g cs)
-  gone_constants_inlined d k end = refl
-  gone_constants_inlined d k (more x cs) =
-      elim (k == d) as (λ b. inlined c f g (if b then cs else more x (gone_constants d (suc k) cs)) ≡ (if b then inlined c f g cs else more (inlined c f g x) (without d (suc k) (inlined c f g cs))))
-      [ true ↦ refl | false ↦ λ i. more (inlined c f g x) (gone_constants_inlined d (suc k) cs i) ]
-
-  gone_section_inlined : (d k : ℕ) (cs : Tree ℕ (maybe constants)) → inlined c f g (gone_section d k cs) ≡ section_without d k (inlined c f g cs)
-  gone_section_inlined d k none = refl
-  gone_section_inlined d k (one (declares_constants cs)) = λ i. one (declares_constants (gone_constants_inlined d k cs i))
-
-  mutual
-    gone_block_inlined : (d k : ℕ) (b : Tree ℕ block) → inlined c f g (gone_block d k b) ≡ block_without d k (inlined c f g b)
-    gone_block_inlined d k (has_body (declares cs ts vs ps) statements) =
-        let b : Tree ℕ block = has_body (declares cs ts vs ps) statements in
-        λ i. has_body
-        (declares (gone_section_inlined d k cs i) (inlined c f g ts) (inlined c f g vs)
-        ((gone_procedures_inlined d (first_procedure k b) ps ∙ ap (λ n. procedures_without d n (inlined c f g ps)) (sym (first_procedure_count k b))) i))
-        (inlined c f g statements)
-
-    gone_procedures_inlined : (d k : ℕ) (ps : Tree ℕ (items procedure)) → inlined c f g (gone_procedures d k ps) ≡ procedures_without d k (inlined c f g ps)
-    gone_procedures_inlined d k end = refl
-    gone_procedures_inlined d k (more p rest) = λ i.
-        more (gone_procedure_inlined d (suc k) p i)
-        ((gone_procedures_inlined d (after_procedure (suc k) p) rest ∙ ap (λ n. procedures_without d n (inlined c f g rest)) (sym (procedure_count (suc k) p))) i)
-
-    gone_procedure_inlined : (d k : ℕ) (p : Tree ℕ (item procedure)) → inlined c f g (gone_procedure d k p) ≡ procedure_without d k (inlined c f g p)
-    gone_procedure_inlined d k (declares_procedure x fs b closing) = λ i.
-        declares_procedure (f x) (inlined c f g fs)
-        ((gone_block_inlined d (after_names k (formal_names (formal_sections fs))) b ∙ ap (λ n. block_without d n (inlined c f g b)) (sym (formals_count k fs))) i)
-        (f closing)
-
-  pub gone_module_inlined : (d : ℕ) (m : Tree ℕ module_text) → inlined c f g (gone_module d m) ≡ module_without d (inlined c f g m)
-  gone_module_inlined d (is_module x b closing) = λ i. is_module (f x) (gone_block_inlined d 7 b i) (f closing)
+  pub procedure_count : (k : ℕ) (p : Tree ℕ (item procedure)) → after_procedure k (mapped f g p) ≡ after_procedure k p
+  procedure_count k p = after_procedure-mapped f g k k refl p
 
 -- no `;` among these tokens
 abbrev pub is_end : TokenKind → Bool
@@ -298,63 +199,46 @@ mutual
       let xs = formal_names (formal_sections fs) in
       omega (arith, block_counted (after_names k xs) b, names_counted k xs, length-append xs (block_declares b))
 
--- a declaration that isn't there leaves the tree as it is: one before its ordinals, or after them
-low_constants : {N : Type 0} (d k : ℕ) (cs : Tree N (items constant)) → d < k → gone_constants d k cs ≡ cs
-low_constants d k end h = refl
-low_constants d k (more c cs) h =
-    ap (λ b. if b then cs else more c (gone_constants d (suc k) cs)) (ne_eqb k d (λ e. omega (arith, e, h))) ∙ (λ i. more c (low_constants d (suc k) cs (omega (arith, h)) i))
+-- a declaration that isn't there leaves the tree as it is: none of the ordinals from one on up to another is that
+abbrev pub Outside : ℕ → ℕ → ℕ → Type 0
+Outside d k after = (j : ℕ) → k ≤ j → j < after → j ≢ d
 
-pub low_section : {N : Type 0} (d k : ℕ) (cs : Tree N (maybe constants)) → d < k → gone_section d k cs ≡ cs
-low_section d k none h = refl
-low_section d k (one (declares_constants cs)) h = λ i. one (declares_constants (low_constants d k cs h i))
+pub kept_constants : {N : Type 0} (d k : ℕ) (cs : Tree N (items constant)) → Outside d k (after_names k (constant_names cs)) → gone_constants d k cs ≡ cs
+kept_constants d k end h = refl
+kept_constants d k (more (declares_constant x e) cs) h =
+    let up = le-after_names (suc k) (constant_names cs) in
+    ap (λ b. if b then cs else more (declares_constant x e) (gone_constants d (suc k) cs)) (ne_eqb k d (h k (omega arith) (omega (arith, up))))
+    ∙ (λ i. more (declares_constant x e) (kept_constants d (suc k) cs (λ j l u. h j (omega (arith, l)) u) i))
+
+pub kept_section : {N : Type 0} (d k : ℕ) (cs : Tree N (maybe constants)) → Outside d k (after_names k (constant_names (section_constants cs))) → gone_section d k cs ≡ cs
+kept_section d k none h = refl
+kept_section d k (one (declares_constants cs)) h = λ i. one (declares_constants (kept_constants d k cs h i))
 
 mutual
-  low_block : {N : Type 0} (d k : ℕ) (b : Tree N block) → d < k → gone_block d k b ≡ b
-  low_block {N} d k (has_body (declares cs ts vs ps) statements) h =
+  kept_block : {N : Type 0} (d k : ℕ) (b : Tree N block) → Outside d k (after_block k b) → gone_block d k b ≡ b
+  kept_block {N} d k (has_body (declares cs ts vs ps) statements) h =
       let b : Tree N block = has_body (declares cs ts vs ps) statements in
       let up = le-after_names k (constant_names (section_constants cs)) in
       let up2 = le-after_names (after_names k (constant_names (section_constants cs))) (named_types (section_types ts)) in
       let up3 = le-after_names (after_names (after_names k (constant_names (section_constants cs))) (named_types (section_types ts))) (variable_names (section_variables vs)) in
-      λ i. has_body (declares (low_section d k cs h i) ts vs (low_procedures d (first_procedure k b) ps (omega (arith, h, up, up2, up3)) i)) statements
-
-  pub low_procedures : {N : Type 0} (d k : ℕ) (ps : Tree N (items procedure)) → d < k → gone_procedures d k ps ≡ ps
-  low_procedures d k end h = refl
-  low_procedures d k (more p rest) h =
-      let up = le-after_procedure (suc k) p in
-      λ i. more (low_procedure d (suc k) p (omega (arith, h)) i) (low_procedures d (after_procedure (suc k) p) rest (omega (arith, h, up)) i)
-
-  low_procedure : {N : Type 0} (d k : ℕ) (p : Tree N (item procedure)) → d < k → gone_procedure d k p ≡ p
-  low_procedure d k (declares_procedure x fs b closing) h =
-      let up = le-after_names k (formal_names (formal_sections fs)) in
-      λ i. declares_procedure x fs (low_block d (after_names k (formal_names (formal_sections fs))) b (omega (arith, h, up)) i) closing
-
-high_constants : {N : Type 0} (d k : ℕ) (cs : Tree N (items constant)) → after_names k (constant_names cs) ≤ d → gone_constants d k cs ≡ cs
-high_constants d k end h = refl
-high_constants d k (more (declares_constant x e) cs) h =
-    let up = le-after_names (suc k) (constant_names cs) in
-    ap (λ b. if b then cs else more (declares_constant x e) (gone_constants d (suc k) cs)) (ne_eqb k d (λ e. omega (arith, e, h, up))) ∙ (λ i. more (declares_constant x e) (high_constants d (suc k) cs h i))
-
-pub high_section : {N : Type 0} (d k : ℕ) (cs : Tree N (maybe constants)) → after_names k (constant_names (section_constants cs)) ≤ d → gone_section d k cs ≡ cs
-high_section d k none h = refl
-high_section d k (one (declares_constants cs)) h = λ i. one (declares_constants (high_constants d k cs h i))
-
-mutual
-  high_block : {N : Type 0} (d k : ℕ) (b : Tree N block) → after_block k b ≤ d → gone_block d k b ≡ b
-  high_block {N} d k (has_body (declares cs ts vs ps) statements) h =
-      let b : Tree N block = has_body (declares cs ts vs ps) statements in
-      let up2 = le-after_names (after_names k (constant_names (section_constants cs))) (named_types (section_types ts)) in
-      let up3 = le-after_names (after_names (after_names k (constant_names (section_constants cs))) (named_types (section_types ts))) (variable_names (section_variables vs)) in
       let up4 = le-after_procedures (first_procedure k b) ps in
-      λ i. has_body (declares (high_section d k cs (omega (arith, h, up2, up3, up4)) i) ts vs (high_procedures d (first_procedure k b) ps h i)) statements
+      λ i. has_body
+      (declares (kept_section d k cs (λ j l u. h j l (omega (arith, u, up2, up3, up4))) i) ts vs
+      (kept_procedures d (first_procedure k b) ps (λ j l u. h j (omega (arith, l, up, up2, up3)) u) i))
+      statements
 
-  high_procedures : {N : Type 0} (d k : ℕ) (ps : Tree N (items procedure)) → after_procedures k ps ≤ d → gone_procedures d k ps ≡ ps
-  high_procedures d k end h = refl
-  high_procedures d k (more p rest) h =
-      let up = le-after_procedures (after_procedure (suc k) p) rest in
-      λ i. more (high_procedure d (suc k) p (omega (arith, h, up)) i) (high_procedures d (after_procedure (suc k) p) rest h i)
+  pub kept_procedures : {N : Type 0} (d k : ℕ) (ps : Tree N (items procedure)) → Outside d k (after_procedures k ps) → gone_procedures d k ps ≡ ps
+  kept_procedures d k end h = refl
+  kept_procedures d k (more p rest) h =
+      let up = le-after_procedure (suc k) p in
+      let up2 = le-after_procedures (after_procedure (suc k) p) rest in
+      λ i. more (kept_procedure d (suc k) p (λ j l u. h j (omega (arith, l)) (omega (arith, u, up2))) i)
+      (kept_procedures d (after_procedure (suc k) p) rest (λ j l u. h j (omega (arith, l, up)) u) i)
 
-  pub high_procedure : {N : Type 0} (d k : ℕ) (p : Tree N (item procedure)) → after_procedure k p ≤ d → gone_procedure d k p ≡ p
-  high_procedure d k (declares_procedure x fs b closing) h = λ i. declares_procedure x fs (high_block d (after_names k (formal_names (formal_sections fs))) b h i) closing
+  pub kept_procedure : {N : Type 0} (d k : ℕ) (p : Tree N (item procedure)) → Outside d k (after_procedure k p) → gone_procedure d k p ≡ p
+  kept_procedure d k (declares_procedure x fs b closing) h =
+      let up = le-after_names k (formal_names (formal_sections fs)) in
+      λ i. declares_procedure x fs (kept_block d (after_names k (formal_names (formal_sections fs))) b (λ j l u. h j (omega (arith, l, up)) u) i) closing
 
 -- an expression has no `;`
 no_end_append : {N : Type 0} (xs ys : List (Terminal N)) → NoEnd xs → NoEnd ys → NoEnd (xs ++ ys)
@@ -504,29 +388,3 @@ mutual
 pub module_declared : (m : Tree ℕ module_text) → declaring_only (identifiers role.Declaring m) ≡ block_declares (module_block m)
 module_declared (is_module x b closing) =
     declaring_only-append (identifiers role.Declaring b) ((role.ModuleName, closing) ∷ []) ∙ (append-nil (declaring_only (identifiers role.Declaring b)) ∙ block_declared b)
-
--- a tree without a declaration has factors for no other names
-module _ {M : Type 0} (c : ℕ → Option (Tree M factor)) (d : ℕ) where
-  replaces_constants : (k : ℕ) (cs : Tree ℕ (items constant)) → ReplacesFactors c cs → ReplacesFactors c (gone_constants d k cs)
-  replaces_constants k end h = tt
-  replaces_constants k (more x cs) h =
-      elim (k == d) as (λ b. ReplacesFactors c (if b then cs else more x (gone_constants d (suc k) cs))) [ true ↦ h.1 | false ↦ (h.0, replaces_constants (suc k) cs h.1) ]
-
-  replaces_section : (k : ℕ) (cs : Tree ℕ (maybe constants)) → ReplacesFactors c cs → ReplacesFactors c (gone_section d k cs)
-  replaces_section k none h = tt
-  replaces_section k (one (declares_constants cs)) h = replaces_constants k cs h
-
-  mutual
-    replaces_block : (k : ℕ) (b : Tree ℕ block) → ReplacesFactors c b → ReplacesFactors c (gone_block d k b)
-    replaces_block k (has_body (declares cs ts vs ps) statements) h =
-        ((replaces_section k cs h.0.0, h.0.1, h.0.2, replaces_procedures (first_procedure k (has_body (declares cs ts vs ps) statements)) ps h.0.3), h.1)
-
-    replaces_procedures : (k : ℕ) (ps : Tree ℕ (items procedure)) → ReplacesFactors c ps → ReplacesFactors c (gone_procedures d k ps)
-    replaces_procedures k end h = tt
-    replaces_procedures k (more p rest) h = (replaces_procedure (suc k) p h.0, replaces_procedures (after_procedure (suc k) p) rest h.1)
-
-    replaces_procedure : (k : ℕ) (p : Tree ℕ (item procedure)) → ReplacesFactors c p → ReplacesFactors c (gone_procedure d k p)
-    replaces_procedure k (declares_procedure x fs b closing) h = (h.0, h.1, replaces_block (after_names k (formal_names (formal_sections fs))) b h.2, h.3)
-
-  pub replaces_module : (m : Tree ℕ module_text) → ReplacesFactors c m → ReplacesFactors c (gone_module d m)
-  replaces_module (is_module x b closing) h = (h.0, replaces_block 7 b h.1, h.2)

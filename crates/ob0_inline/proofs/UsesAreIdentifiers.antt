@@ -1,29 +1,33 @@
--- Tokens of occurrences that are bound to a constant: they are names in text order, and are alone as factors.
-use Rattle.std.proofs.Common.{◌≡◌, ◌≢◌, ℕ, zero, suc, ◌+◌, ◌≤◌, ◌==◌, ◌||◌, Bool, true, false, if◌then◌else◌, Option, Some, None, List, [], ◌∷◌, map, length, refl, sym, ap, ◌∙◌, subst, arith, slice_get, eqb-true, eq-eqb, true≢false}
-use Rattle.std.specs.List.{All}
+-- Tokens of occurrences that are bound to a constant: they are names in text order, and with other words in their place
+-- the tokens are those of the inlined tree.
+use Rattle.std.proofs.Common.{◌≡◌, ◌≢◌, ℕ, zero, suc, ◌+◌, ◌≤◌, ◌==◌, ◌||◌, Bool, true, false, Option, Some, None, List, [], ◌∷◌, map, length, refl, sym, ap, ◌∙◌, subst, arith, slice_get, eqb-true, eq-eqb, true≢false}
+use Rattle.std.specs.List.{All, flat_map}
 use Rattle.std.proofs.lemmas.List.Elements.{All-head, All-tail}
 use Rattle.ob0_scan.specs.declared.lexeme.Token.{Token}
-use Rattle.ob0_scan.specs.Scanned.{read_in}
+use Rattle.ob0_scan.specs.Scanned.{Word, read_in}
 use Rattle.ob0_tree.specs.declared.tree.Role.{Role}
 use Rattle.ob0_tree.specs.declared.tree.Role.TheVariants as role
 use Rattle.ob0_tree.specs.Order.{AreIdentifiers, Ascending, IsIdentifierToken, names_only}
 use Rattle.ob0_tree.specs.Parsed.{named_tree_of, tree_of}
 use Rattle.ob0_tree.specs.Places as leaf
-use Rattle.ob0_tree.specs.Tree.{Tree, factor, identifiers, occurrences}
+use Rattle.ob0_tree.specs.Lexeme.{Terminal}
+use Rattle.ob0_tree.specs.Tree.{Tree, factor, identifiers, mapped, occurrences, spell}
 use Rattle.ob0_tree.proofs.Leaves.{leaves_are_identifiers, leaves_ascend}
 use Rattle.ob0_tree.proofs.Occurring.{looked_up_only, looked_up-occurrences}
-use Rattle.ob0_edits_tokens.specs.Changed.{is_among, words_of}
-use Rattle.ob0_edits_tokens.specs.Inlined.{ReplacesFactors, inlined}
-use Rattle.ob0_edits_tokens.specs.OfTrees.{factor_at, number_at, text_of_word}
+use Rattle.ob0_edits_tokens.specs.Changed.{is_among}
+use Rattle.ob0_edits_tokens.specs.OfTrees.{number_at, text_of_word}
 use Rattle.ob0_edits_tokens.specs.Replaced.{AreNames}
+use Rattle.ob0_edits_tokens.specs.Words.{word_lexeme}
+use Rattle.ob0_edits_tokens.proofs.OfTrees.{put, replaced}
 use Rattle.ob0_language_names.specs.Elsewhere.{names_elsewhere}
-use Rattle.ob0_language_names.specs.Inlining.{Uses, inline_in}
+use Rattle.ob0_language_names.specs.Inlining.{Uses, inline_in, module_without}
 use Rattle.ob0_language_names.specs.Names.{Label, Name, as_names, declared}
 use Rattle.ob0_scope_table.specs.Resolution.{IsResolution, Resolution, label_at, ordinal_in}
-use Rattle.ob0_language_names.specs.Scopes.{as_label, numbered}
+use Rattle.ob0_language_names.specs.Scopes.{as_label, same_ordinal}
 use Rattle.ob0_scope.proofs.SeenInPlaces.{AllMarked, occurrence_table, uses_reported}
-use Rattle.ob0_inline.proofs.Alone.{NoneFor, NoneOther, alone, elsewhere-mapped}
-use Rattle.ob0_inline.proofs.OnOccurrences.{agrees_each, same}
+use Rattle.ob0_inline.specs.Everywhere.{IsAlone}
+use Rattle.ob0_inline.proofs.Spelled.{Agrees, NoneIs, agrees_each, module_spelled, spelled}
+use Rattle.ob0_inline.proofs.TakenOut.{gone_module}
 
 -- identifiers in text order are names in text order
 pub names_from : (ts : List Token) (low high : ℕ) (is : List ℕ) → Ascending low is high → AreIdentifiers ts is → AreNames ts low is
@@ -32,7 +36,7 @@ names_from ts low high (i ∷ is) a h =
     let next : i + 1 ≡ suc i = omega arith in
     (a.0, h.0.0, h.0.1 _, subst (λ n. AreNames ts n is) next (names_from ts (i + 1) high is a.1 h.1))
 
-lowered : (low higher high : ℕ) (xs : List ℕ) → low ≤ higher → Ascending higher xs high → Ascending low xs high
+pub lowered : (low higher high : ℕ) (xs : List ℕ) → low ≤ higher → Ascending higher xs high → Ascending low xs high
 lowered low higher high [] le a = omega (arith, le, a)
 lowered low higher high (x ∷ xs) le a = (omega (arith, le, a.0), a.1)
 
@@ -69,6 +73,10 @@ uses_are_identifiers r is =
 
 pub inside : {a b : ℕ} → Some a ≡ Some b → a ≡ b
 inside {a} e = ap (λ (o : Option ℕ). elim o [ Some n ↦ n | None ↦ a ]) e
+
+pub same_true : (o : Option ℕ) (d : ℕ) → same_ordinal o d ≡ true → o ≡ Some d
+same_true None d e = absurd (true≢false (sym e))
+same_true (Some j) d e = ap Some (eqb-true j d e)
 
 pub one_identifier : (ts : List Token) (is : List ℕ) (k i : ℕ) → AreIdentifiers ts is → slice_get is k ≡ Some i → IsIdentifierToken ts i
 one_identifier ts [] k i h e = absurd (cc)
@@ -109,38 +117,12 @@ among_bound r is d i (p ∷ ps) h e = by_test (i == p) refl e (among_bound r is 
         }
     by_test false q e later = later e
 
-nothing_at : (places : List ℕ) (v : Tree Name factor) (i : ℕ) → (is_among i places ≡ true → ⊥) → factor_at places v i ≡ None
-nothing_at places v i h =
-    (elim (is_among i places) as (λ b. is_among i places ≡ b → (if b then Some v else None) ≡ None) [ true ↦ (λ e. absurd (h e)) | false ↦ (λ e. refl) ]) refl
+not_among : (i : ℕ) (places : List ℕ) → (is_among i places ≡ true → ⊥) → is_among i places ≡ false
+not_among i places h = (elim (is_among i places) as (λ b. is_among i places ≡ b → b ≡ false) [ true ↦ (λ e. absurd (h e)) | false ↦ (λ e. refl) ]) refl
 
-none_other : (r : Resolution) → IsResolution r → (d : ℕ) (v : Tree Name factor) (places : List ℕ) → AreBound r d places → (xs : List (Role × ℕ)) → AllMarked (occurrence_table r) xs → NoneOther (factor_at places v) xs
-none_other r is d v places h [] a = tt
-none_other r is d v places h ((role.LookedUp, i) ∷ xs) a = (tt, none_other r is d v places h xs a.1)
-none_other r is d v places h ((role.Declaring, i) ∷ xs) a = (nothing_at places v i (λ e. let z = among_bound r is d i places h e in let w = z.occurs in let u = a.0 in cc), none_other r is d v places h xs a.1)
-none_other r is d v places h ((role.ClosingName, i) ∷ xs) a = (nothing_at places v i (λ e. let z = among_bound r is d i places h e in let w = z.occurs in let u = a.0 in cc), none_other r is d v places h xs a.1)
-none_other r is d v places h ((role.FieldName, i) ∷ xs) a = (nothing_at places v i (λ e. let z = among_bound r is d i places h e in let w = z.occurs in let u = a.0 in cc), none_other r is d v places h xs a.1)
-none_other r is d v places h ((role.ModuleName, i) ∷ xs) a = (nothing_at places v i (λ e. let z = among_bound r is d i places h e in let w = z.occurs in let u = a.0 in cc), none_other r is d v places h xs a.1)
-
-none_elsewhere : (r : Resolution) → IsResolution r → (d : ℕ) (v : Tree Name factor) (places : List ℕ) → AreBound r d places → (xs : List ℕ)
-    → All (λ l. l ≢ declared d) (map (label_at r.module_read.source r.ordinals) xs) → NoneFor (factor_at places v) xs
-none_elsewhere r is d v places h [] a = tt
-none_elsewhere r is d v places h (i ∷ xs) a =
-    let m = r.module_read in
-    let here = All-head (λ (l : Label). l ≢ declared d) (label_at m.source r.ordinals i) (map (label_at m.source r.ordinals) xs) a in (
-      nothing_at places v i (λ e. here (ap (λ o. as_label as_names o (leaf.text_at m.source i)) (among_bound r is d i places h e).bound)),
-      none_elsewhere r is d v places h xs (All-tail (λ (l : Label). l ≢ declared d) (label_at m.source r.ordinals i) (map (label_at m.source r.ordinals) xs) a),
-    )
-
--- the uses of a constant, of which none is elsewhere, are alone as factors
-pub are_alone : (r : Resolution) → IsResolution r → (d : ℕ) (v : Tree Name factor) (places : List ℕ) → AreBound r d places → All (λ l. l ≢ declared d) (names_elsewhere (numbered (named_tree_of r.module_read)))
-    → ReplacesFactors (factor_at places v) (tree_of r.module_read)
-are_alone r is d v places h a =
-    let m = r.module_read in
-    let elsewhere : names_elsewhere (numbered (named_tree_of m)) ≡ map (label_at m.source r.ordinals) (names_elsewhere (tree_of m)) =
-    ap names_elsewhere is.numbering ∙ elsewhere-mapped (label_at m.source r.ordinals) (leaf.value_at m.source) (tree_of m) in
-    alone (factor_at places v) role.Declaring (λ i g. g) (tree_of m)
-    (none_other r is d v places h (identifiers role.Declaring (tree_of m)) (uses_reported r is))
-    (none_elsewhere r is d v places h (names_elsewhere (tree_of m)) (subst (All (λ l. l ≢ declared d)) elsewhere a))
+none_is : (d : ℕ) (ls : List Label) → All (λ l. l ≢ declared d) ls → NoneIs d ls
+none_is d [] a = tt
+none_is d (l ∷ ls) a = (All-head (λ (m : Label). m ≢ declared d) l ls a, none_is d ls (All-tail (λ (m : Label). m ≢ declared d) l ls a))
 
 -- the words of a text and its tokens
 word_text : (text : List ℕ) (ts : List Token) (k : ℕ) → text_of_word (map (read_in text) ts) k ≡ leaf.text_in text (slice_get ts k)
@@ -153,19 +135,44 @@ word_number text [] k = refl
 word_number text (t ∷ ts) zero = refl
 word_number text (t ∷ ts) (suc k) = word_number text ts k
 
--- a factor at the tokens of some occurrences is that factor in place of these occurrences
-pub inlined_by_number : (r : Resolution) (places : List ℕ) (uses : Uses) (v : Tree Name factor) → IsResolution r
-    → ((j i : ℕ) → slice_get r.uses j ≡ Some i → is_among i places ≡ uses j)
-    → inlined (factor_at places v) (text_of_word (words_of r.module_read.source)) (number_at (words_of r.module_read.source)) (tree_of r.module_read) ≡ inline_in uses v 0 (named_tree_of r.module_read)
-inlined_by_number r places uses v is agree =
-    let m = r.module_read in
-    let c = factor_at places v in
-    (λ i. inlined c (λ k. word_text m.source.text m.source.tokens k i) (λ k. word_number m.source.text m.source.tokens k i) (tree_of m))
-    ∙ same c uses v (leaf.text_at m.source) (leaf.value_at m.source) 0 (tree_of m)
-    (agrees_each c uses v 0 (occurrences (tree_of m)) (λ j i e.
-    let at : slice_get r.uses j ≡ Some i = ap (λ us. slice_get us j) is.occurring ∙ e in
-    let zero_more : j ≡ 0 + j = omega arith in
-    ap (λ (b : Bool). if b then Some v else None) (agree j i at ∙ ap uses zero_more)))
+-- With words at the tokens of uses of a constant, which are alone as factors, the tokens are those of the tree with the
+-- factor of these words in place of the uses.
+module _ (r : Resolution) (is : IsResolution r) (d : ℕ) (v : Tree Name factor) (places : List ℕ) (bound : AreBound r d places) (uses : Uses) (agree : (j i : ℕ) → slice_get r.uses j ≡ Some i → is_among i places ≡ uses j)
+    (alone : IsAlone r.module_read d) (vs : List Word) (same : map word_lexeme vs ≡ spell v) where
+  abbrev gives : ℕ → Bool
+  gives i = is_among i places
+
+  others : (i : ℕ) → ordinal_in (occurrence_table r) i ≡ None → gives i ≡ false
+  others i none = not_among i places (λ e. let z = among_bound r is d i places bound e in let w = z.occurs in cc)
+
+  apart : (i : ℕ) → label_at r.module_read.source r.ordinals i ≢ declared d → gives i ≡ false
+  apart i h = not_among i places (λ e. h (ap (λ o. as_label as_names o (leaf.text_at r.module_read.source i)) (among_bound r is d i places bound e).bound))
+
+  uses_agree : Agrees gives uses 0 (occurrences (tree_of r.module_read))
+  uses_agree = agrees_each gives uses 0 (occurrences (tree_of r.module_read)) (λ j i e.
+      let zero_more : j ≡ 0 + j = omega arith in
+      agree j i (ap (λ us. slice_get us j) is.occurring ∙ e) ∙ ap uses zero_more)
+
+  none_elsewhere : NoneIs d (names_elsewhere (mapped (label_at r.module_read.source r.ordinals) (leaf.value_at r.module_read.source) (tree_of r.module_read)))
+  none_elsewhere = none_is d (names_elsewhere (mapped (label_at r.module_read.source r.ordinals) (leaf.value_at r.module_read.source) (tree_of r.module_read))) (subst (All (λ l. l ≢ declared d)) (ap names_elsewhere is.numbering) alone)
+
+  puts : (xs : List (Terminal ℕ)) → flat_map (put r.module_read.source places vs) xs ≡ flat_map (replaced gives (spell v) (leaf.text_at r.module_read.source) (leaf.value_at r.module_read.source)) xs
+  puts xs =
+      let s = r.module_read.source in
+      λ i. flat_map (replaced gives (same i) (λ k. word_text s.text s.tokens k i) (λ k. word_number s.text s.tokens k i)) xs
+
+  pub uses_spelled : flat_map (put r.module_read.source places vs) (spell (tree_of r.module_read)) ≡ spell (inline_in uses v 0 (named_tree_of r.module_read))
+  uses_spelled =
+      let m = r.module_read in
+      puts (spell (tree_of m))
+      ∙ sym (spelled gives uses v (leaf.text_at m.source) (leaf.value_at m.source) (occurrence_table r) (label_at m.source r.ordinals) d others apart 0 role.Declaring others (tree_of m) (uses_agree, uses_reported r is, none_elsewhere))
+
+  -- the same without the declaration
+  pub others_spelled : flat_map (put r.module_read.source places vs) (spell (gone_module d (tree_of r.module_read))) ≡ spell (module_without d (inline_in uses v 0 (named_tree_of r.module_read)))
+  others_spelled =
+      let m = r.module_read in
+      puts (spell (gone_module d (tree_of m)))
+      ∙ sym (module_spelled gives uses v (leaf.text_at m.source) (leaf.value_at m.source) (occurrence_table r) (label_at m.source r.ordinals) d others apart d (tree_of m) (uses_agree, uses_reported r is, none_elsewhere))
 
 -- tokens of occurrences ascend, so each is that of one occurrence
 pub above : (low high : ℕ) (is : List ℕ) (j i : ℕ) → Ascending low is high → slice_get is j ≡ Some i → low ≤ i

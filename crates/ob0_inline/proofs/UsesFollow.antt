@@ -9,16 +9,14 @@ use Rattle.ob0_tree.specs.Lexeme as lexeme
 use Rattle.ob0_tree.specs.Parsed.{named_tree_of, tree_of}
 use Rattle.ob0_tree.specs.Places as leaf
 use Rattle.ob0_tree.specs.Places.{lexeme_of}
-use Rattle.ob0_tree.specs.Tree.{Sort, Tree, integer, mapped, occurrences, spell}
+use Rattle.ob0_tree.specs.Tree.{mapped, occurrences, spell}
 use Rattle.ob0_tree.proofs.Leaves.{lexeme_names}
 use Rattle.ob0_edits_tokens.specs.Changed.{is_among, words_of}
-use Rattle.ob0_edits_tokens.specs.Inlined.{inlined}
 use Rattle.ob0_edits_tokens.specs.OfTrees.{numbered_tokens}
 use Rattle.ob0_language_names.specs.Names.{Name, as_names}
 use Rattle.ob0_language_names.specs.Parts.{module_block}
 use Rattle.ob0_scope_table.specs.Resolution.{IsResolution, Resolution, bound_at, ordinal_in, with_ordinal}
 use Rattle.ob0_language_names.specs.Scopes.{relabelled}
-use Rattle.ob0_language_names.proofs.EditedTrees.{UsesNone, inline-nothing}
 use Rattle.ob0_scope.proofs.Fused.{mapped-mapped, relabelled-mapped}
 use Rattle.ob0_language_names.proofs.OccurrenceNames.{length-map}
 use Rattle.ob0_language_names.proofs.OccurrencesMapped.{occurrences-mapped}
@@ -26,22 +24,8 @@ use Rattle.ob0_language_types.specs.ConstantValues.{value_of_constant}
 use Rattle.ob0_language_values.specs.Values.{Value}
 use Rattle.ob0_inline.proofs.Earlier.{AllLow, IsLow, forget}
 use Rattle.ob0_inline.proofs.Late.{AllIn, Late, late_module, late_move}
-use Rattle.ob0_inline.proofs.OnOccurrences.{agrees_each, same}
 use Rattle.ob0_inline.proofs.TakenOut.{Taken, block_declares, gone_module}
 use Rattle.ob0_inline.proofs.WordsLeft.{cut_words, last_token}
-
--- with no factor the tree is that under its names
-none_used : (k : ℕ) (xs : List Name) → UsesNone (λ j. false) k xs
-none_used k [] = tt
-none_used k (x ∷ xs) = (refl, none_used (suc k) xs)
-
-pub plain_is : {s : Sort} (f : ℕ → Name) (g : ℕ → ℕ) (t : Tree ℕ s) → inlined (λ i. None) f g t ≡ mapped f g t
-plain_is f g t =
-    same (λ i. None) (λ j. false) (integer 0) f g 0 t (agrees_each (λ i. None) (λ j. false) (integer 0) 0 (occurrences t) (λ j i e. refl))
-    ∙ inline-nothing (λ j. false) (integer 0) 0 (mapped f g t) (none_used 0 (occurrences (mapped f g t)))
-
-as_many : (f : ℕ → Name) (g : ℕ → ℕ) (s : Sort) (t : Tree ℕ s) → length (occurrences (inlined (λ i. None) f g t)) ≡ length (occurrences t)
-as_many f g s t = ap (λ u. length (occurrences u)) (plain_is f g t) ∙ (ap length (occurrences-mapped f g t) ∙ length-map f (occurrences t))
 
 -- what the occurrences are bound to, by the table
 bound_by_table : (r : Resolution) → IsResolution r → occurrences (relabelled as_names forget (named_tree_of r.module_read)) ≡ map (ordinal_in r.ordinals) (occurrences (tree_of r.module_read))
@@ -61,9 +45,8 @@ late_of r is d w has_value spelled =
     let g = leaf.value_at m.source in
     let t = tree_of m in
     let labels = block_declares (module_block t) in
-    let plain = plain_is f g t in
-    let h = late_module (λ i. None) f g d w (as_many f g) t (ap (λ u. value_of_constant u d) plain ∙ has_value) in
-    let named = subst (λ (l : List (Option ℕ)). Late d 7 labels (spell t) (spell (gone_module d t)) (occurrences t) l) (ap (λ u. occurrences (relabelled as_names forget u)) plain ∙ bound_by_table r is) h in
+    let h = late_module f g d w t has_value in
+    let named = subst (λ (l : List (Option ℕ)). Late d 7 labels (spell t) (spell (gone_module d t)) (occurrences t) l) (bound_by_table r is) h in
     late_move d 7 labels (spell t) (numbered_tokens 0 (words_of m.source)) (spell (gone_module d t)) (spell (gone_module d t)) (occurrences t) (map (ordinal_in r.ordinals) (occurrences t)) (sym spelled) refl named
 
 -- the names of words from a number on have no lesser numbers

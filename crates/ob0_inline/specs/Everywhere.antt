@@ -1,19 +1,17 @@
 -- A constant that a place names, what inlining it everywhere makes of the module,
 -- and what refuses it.
 -- Rule: docs/PROTOCOL.md, Requests on documents 9, Refusals of edits.
-use Rattle.std.specs.Prelude.{◌≡◌, ◌≢◌, ◌⊎◌, ℕ, Bool, not, nat_lt, ◌&&◌, if◌then◌else◌, List, [], ◌∷◌, Option, Some, None, Result, Ok, Err, Vec, drop, length, map}
+use Rattle.std.specs.Prelude.{◌≡◌, ◌≢◌, ◌⊎◌, ℕ, Bool, not, ◌&&◌, if◌then◌else◌, List, [], ◌∷◌, Option, Some, None, Result, Ok, Err, Vec, drop, length, map}
 use Rattle.std.specs.List.{All, filter, list_any, position_from, range_with_len, zip}
 use Rattle.std.specs.declared.alloc.Global.{Global}
-use Rattle.ob0_scan.specs.Scanned.{max_text}
 use Rattle.ob0_text.specs.declared.edits.Edit.{Edit}
 use Rattle.ob0_text.specs.declared.position_types.Unit as counting
 use Rattle.ob0_text.specs.declared.refusals.EditRefusal.{EditRefusal}
-use Rattle.ob0_text.specs.declared.refusals.EditRefusal.TheVariants.{CommentInside, Memory, NoName, Shadowed, TooDeep, TooLong}
+use Rattle.ob0_text.specs.declared.refusals.EditRefusal.TheVariants.{CommentInside, Memory, NoName, Shadowed}
 use Rattle.ob0_text.specs.Units.{width_of}
 use Rattle.ob0_tree.specs.declared.tree.Role.TheVariants as role
-use Rattle.ob0_tree.specs.Module.{max_nesting}
 use Rattle.ob0_tree.specs.Parsed.{Parsed, named_tree_of, tree_of}
-use Rattle.ob0_tree.specs.Tree.{Tree, identifiers, module_text, nesting, occurrences}
+use Rattle.ob0_tree.specs.Tree.{Tree, identifiers, module_text, occurrences}
 use Rattle.ob0_edits_tokens.specs.Ranges.{range_of}
 use Rattle.ob0_edits_tokens.specs.Removed.{span_over, without_text}
 use Rattle.ob0_edits_tokens.specs.Replaced.{edit_at, parts}
@@ -31,7 +29,7 @@ use Rattle.ob0_language_types.specs.WellTyped.{WellTyped}
 use Rattle.ob0_language_runs.specs.EditLaws.{SameRuns}
 use Rattle.ob0_inline.specs.declared.constants.NamedConstant.{NamedConstant}
 use Rattle.ob0_inline.specs.Declarations.{is_inside, is_semicolon}
-use Rattle.ob0_inline.specs.Inlined.{LeavesModule}
+use Rattle.ob0_inline.specs.Inlined.{LeavesModule, first_refusal}
 use Rattle.ob0_inline.specs.Uses.{is_predeclared_truth}
 use Rattle.ob0_inline.specs.Values.{value_factor, value_text}
 
@@ -91,11 +89,9 @@ has_comment m c = list_any (is_inside (span_over m.source.tokens c.first c.last)
 -- the first of the refusals that apply to a constant; None where none applies
 abbrev pub refusal_everywhere : Parsed → NamedConstant → Option EditRefusal
 refusal_everywhere m c =
-    if nat_lt max_text (length (text_without m c)) then Some TooLong
-    else if nat_lt max_nesting (nesting (inlined_all m c)) then Some TooDeep
-    else if any_hidden (named_tree_of m) c then Some Shadowed
-    else if has_comment m c then Some CommentInside
-    else None
+    first_refusal (text_without m c) (inlined_all m c)
+    (if any_hidden (named_tree_of m) c then Some Shadowed
+    else if has_comment m c then Some CommentInside else None)
 
 -- These edits take the declaration out, from its name to its `;`, write the value in place of each
 -- use, and touch no other character. They leave the text of the inlined module,

@@ -1,16 +1,14 @@
 -- A use of a constant that a place is on, what its inlining makes of the module,
 -- and what refuses it.
 -- Rule: docs/PROTOCOL.md, Requests on documents 9, Refusals of edits.
-use Rattle.std.specs.Prelude.{◌≡◌, ◌⊎◌, ℕ, Bool, true, false, nat_lt, if◌then◌else◌, List, [], ◌∷◌, Option, Some, None, Result, Ok, Err, Vec, length, map, slice_get}
+use Rattle.std.specs.Prelude.{◌≡◌, ◌⊎◌, ℕ, Bool, true, false, if◌then◌else◌, List, [], ◌∷◌, Option, Some, None, Result, Ok, Err, Vec, map, slice_get}
 use Rattle.std.specs.declared.alloc.Global.{Global}
-use Rattle.ob0_scan.specs.Scanned.{max_text}
 use Rattle.ob0_text.specs.declared.edits.Edit.{Edit}
 use Rattle.ob0_text.specs.declared.position_types.Unit as counting
 use Rattle.ob0_text.specs.declared.refusals.EditRefusal.{EditRefusal}
-use Rattle.ob0_text.specs.declared.refusals.EditRefusal.TheVariants.{Memory, NoName, Shadowed, TooDeep, TooLong}
-use Rattle.ob0_tree.specs.Module.{max_nesting}
+use Rattle.ob0_text.specs.declared.refusals.EditRefusal.TheVariants.{Memory, NoName, Shadowed}
 use Rattle.ob0_tree.specs.Parsed.{Parsed, named_tree_of, tree_of}
-use Rattle.ob0_tree.specs.Tree.{Tree, module_text, nesting, occurrences}
+use Rattle.ob0_tree.specs.Tree.{Tree, module_text, occurrences}
 use Rattle.ob0_edits_tokens.specs.Replaced.{edit_at, parts, with_text_at}
 use Rattle.ob0_edits_tokens.specs.Written.{truth_text}
 use Rattle.ob0_language_names.specs.Inlining.{inlined, only}
@@ -26,7 +24,7 @@ use Rattle.ob0_language_types.specs.ConstantValues.{value_of_constant}
 use Rattle.ob0_language_types.specs.WellTyped.{WellTyped}
 use Rattle.ob0_language_runs.specs.EditLaws.{SameRuns}
 use Rattle.ob0_inline.specs.declared.uses.Use.{Use}
-use Rattle.ob0_inline.specs.Inlined.{LeavesModule}
+use Rattle.ob0_inline.specs.Inlined.{LeavesModule, first_refusal}
 use Rattle.ob0_inline.specs.Values.{value_factor, value_text}
 
 -- The place is on this use: its token is that of an occurrence,
@@ -60,11 +58,8 @@ inlined_here m u = inlined (named_tree_of m) (only u.occurrence) (value_factor u
 -- the first of the refusals that apply to a use; None where none applies
 abbrev pub refusal_here : Parsed → Use → Option EditRefusal
 refusal_here m u =
-    if nat_lt max_text (length (with_text_at m.source (u.token ∷ []) (value_text u.value)))
-    then Some TooLong
-    else if nat_lt max_nesting (nesting (inlined_here m u)) then Some TooDeep
-    else if is_predeclared_truth (named_tree_of m) u.occurrence u.value then None
-    else Some Shadowed
+    first_refusal (with_text_at m.source (u.token ∷ []) (value_text u.value)) (inlined_here m u)
+    (if is_predeclared_truth (named_tree_of m) u.occurrence u.value then None else Some Shadowed)
 
 -- These edits write the value in place of the use and touch no other character. They leave the text
 -- of the inlined module, which is well-typed and has the same runs.

@@ -2,11 +2,11 @@
 -- Rule: docs/PROTOCOL.md, Requests on documents 9.
 use Rattle.std.specs.Prelude.{ℕ, List}
 use Rattle.ob0_scan.specs.Scanned.{Word}
-use Rattle.ob0_tree.specs.Tree.{Tree, factor}
+use Rattle.ob0_tree.specs.Tree.{Tree, designator, end, factor}
 use Rattle.ob0_language_values.specs.declared.scalar.Scalar.{Scalar}
 use Rattle.ob0_language_values.specs.declared.scalar.Scalar.TheVariants as scalar
 use Rattle.ob0_edits_tokens.specs.Written.{number_text, number_words, truth_text, truth_words}
-use Rattle.ob0_edits_tokens.specs.Factors.{number_factor, truth_factor}
+use Rattle.ob0_language_types.specs.Written.{written_number}
 
 -- the text that is written for a value
 abbrev pub value_text : Scalar → List ℕ
@@ -20,5 +20,5 @@ value_words (scalar.Truth b) = truth_words b
 
 -- the factor that these words spell
 abbrev pub value_factor : Scalar → Tree (List ℕ) factor
-value_factor (scalar.Number n) = number_factor n
-value_factor (scalar.Truth b) = truth_factor b
+value_factor (scalar.Number n) = written_number n
+value_factor (scalar.Truth b) = designator (truth_text b) end

@@ -49,7 +49,7 @@ fn inline_use<T: TextStore>(
     inlining_keeps_modules();
     is_scalar(found.value);
     let names = module.resolved();
-    match edits_at(alloc, store, names, &[found.token], found.value) {
+    match edits_at(alloc, store, names, found) {
         Ok(edits) => {
             if is_predeclared_truth(alloc, names, found.occurrence, found.value)? {
                 Ok(edits)

@@ -1,5 +1,5 @@
 -- Each lexeme that is laid out ends where the next begins.
-use Rattle.std.proofs.Common.{◌≡◌, ℕ, Bool, true, false, ◌||◌, ◌==◌, ◌*◌, cond, List, [], ◌∷◌, ◌++◌, get_or, drop, map, refl, sym, ap, ◌∙◌, subst, arith, ◌⊎◌, inl, inr, ⊎_elim, eqb-true}
+use Rattle.std.proofs.Common.{◌≡◌, ℕ, ◌+◌, Bool, true, false, ◌||◌, ◌==◌, ◌*◌, cond, List, [], ◌∷◌, ◌++◌, get_or, drop, length, map, refl, sym, ap, ◌∙◌, subst, arith, ◌⊎◌, inl, inr, ⊎_elim, eqb-true}
 use Rattle.std.specs.List.{AllPass}
 use Rattle.std.specs.Char.{is_ascii_alphanumeric}
 use Rattle.std.proofs.lemmas.Bool.{false_from_ne_true}
@@ -8,6 +8,7 @@ use Rattle.std.proofs.lemmas.List.Elements.{All-cons, All-replicate}
 use Rattle.std.proofs.lemmas.List.Sums.{AllPass-from_list_all}
 use Rattle.ob0_scan.specs.declared.lexeme.Symbol.{Symbol}
 use Rattle.ob0_scan.specs.declared.lexeme.Symbol.TheVariants as symbol
+use Rattle.ob0_scan.specs.declared.lexeme.Span.{Span}
 use Rattle.ob0_scan.specs.declared.lexeme.TokenKind.{TokenKind}
 use Rattle.ob0_scan.specs.declared.lexeme.TokenKind.TheVariants as token
 use Rattle.ob0_scan.specs.declared.lexeme.LexemeKind.{LexemeKind}
@@ -15,7 +16,7 @@ use Rattle.ob0_scan.specs.declared.lexeme.LexemeKind.TheVariants as lexeme
 use Rattle.ob0_scan.specs.Classes.{symbol_text, is_space, IsRun, Belongs}
 use Rattle.ob0_scan.specs.Lexed.{Lexeme, joined}
 use Rattle.ob0_scan.specs.Ends.{joins, continues, AreApart}
-use Rattle.ob0_scan.specs.Scanned.{words}
+use Rattle.ob0_scan.specs.Scanned.{span_from, words}
 use Rattle.ob0_scan.proofs.Families.{Family, Blank, Letter, Digit, family, family_of, family-blank, head_family}
 use Rattle.ob0_scan.proofs.Families as families
 use Rattle.ob0_scan.proofs.Cuts.{nonempty}
@@ -198,7 +199,7 @@ both_false : (x y : Bool) → (x || y) ≡ false → y ≡ false
 both_false true y h = absurd (differ (sym h))
 both_false false y h = h
 
-indented : (indent : Indent) (level : ℕ) → AllPass is_space (indentation indent level)
+pub indented : (indent : Indent) (level : ℕ) → AllPass is_space (indentation indent level)
 indented indent_by.Tab level = All-replicate (λ x. is_space x ≡ true) level 9 refl
 indented (indent_by.Spaces n) level = All-replicate (λ x. is_space x ≡ true) (level * n) 32 refl
 
@@ -233,16 +234,16 @@ gap_in_line_fits : (indent : Indent) (a b : PlacedLexeme) → Neighbours a b
     → Fits a.lexeme.kind (get_or b.lexeme.text 0 0) (gap_text indent (gap_in_line a.lexeme.kind a.role b.lexeme.kind b.role))
 gap_in_line_fits indent a b n = in_line_fits indent a b n _ _ refl refl
 
-gap_between_fits : (indent : Indent) (a : PlacedLexeme) (l : Lexeme) (s : LineRole) → Neighbours a (record { lexeme = l; role = s })
+gap_between_fits : (indent : Indent) (a : PlacedLexeme) (l : Lexeme) (u : Span) (s : LineRole) → Neighbours a (record { lexeme = l; span = u; role = s })
     → Fits a.lexeme.kind (get_or l.text 0 0) (gap_text indent (gap_between a.lexeme.kind a.role l.kind s))
-gap_between_fits indent a l (Begins level) n = line_fits a.lexeme.kind (get_or l.text 0 0) indent level
-gap_between_fits indent a l Opening n = gap_in_line_fits indent a (record { lexeme = l; role = Opening }) n
-gap_between_fits indent a l Joining n = gap_in_line_fits indent a (record { lexeme = l; role = Joining }) n
-gap_between_fits indent a l Plain n = gap_in_line_fits indent a (record { lexeme = l; role = Plain }) n
+gap_between_fits indent a l u (Begins level) n = line_fits a.lexeme.kind (get_or l.text 0 0) indent level
+gap_between_fits indent a l u Opening n = gap_in_line_fits indent a (record { lexeme = l; span = u; role = Opening }) n
+gap_between_fits indent a l u Joining n = gap_in_line_fits indent a (record { lexeme = l; span = u; role = Joining }) n
+gap_between_fits indent a l u Plain n = gap_in_line_fits indent a (record { lexeme = l; span = u; role = Plain }) n
 
 gap_fits : (indent : Indent) (a b : PlacedLexeme) → Neighbours a b → Fits a.lexeme.kind (get_or b.lexeme.text 0 0) (gap indent a b)
 unfolding gap
-gap_fits indent a b n = gap_between_fits indent a b.lexeme b.role n
+gap_fits indent a b n = gap_between_fits indent a b.lexeme b.span b.role n
 
 first_of : (l : Lexeme) (ls : List Lexeme) → Belongs l.kind l.text → get_or (joined (l ∷ ls)) 0 0 ≡ get_or l.text 0 0
 first_of l ls h = get_or_append_left l.text (joined ls) 0 0 (nonempty l.kind l.text h)
@@ -277,30 +278,30 @@ paren_of : (k : TokenKind) (text : List ℕ) → lexeme.Token k ≡ left_paren �
 paren_of k text e = let same : k ≡ token.Symbol symbol.LeftParen = cc in ap (λ k. is_paren (kind_lexeme text k)) same
 
 abbrev Spread : Indent → List Lexeme → Type 0
-Spread indent ls = (level : ℕ) (broken : Bool) (ss : List LineRole) (a : PlacedLexeme) → IsSolid a.lexeme.kind → Belongs a.lexeme.kind a.lexeme.text
-    → (a.lexeme.kind ≡ left_paren → NoStar (spelled ls)) → Calm (spelled ls) → AreApart ls → AreApart (a.lexeme ∷ laid_after indent a (placed level broken ss ls))
+Spread indent ls = (at level : ℕ) (broken : Bool) (ss : List LineRole) (a : PlacedLexeme) → IsSolid a.lexeme.kind → Belongs a.lexeme.kind a.lexeme.text
+    → (a.lexeme.kind ≡ left_paren → NoStar (spelled ls)) → Calm (spelled ls) → AreApart ls → AreApart (a.lexeme ∷ laid_after indent a (placed at level broken ss ls))
 
 comment_spread : (indent : Indent) (text : List ℕ) (ls : List Lexeme) → Spread indent ls → Spread indent (record { kind = lexeme.Comment; text = text } ∷ ls)
-comment_spread indent text ls rest level broken ss a solid h after calm apart =
-    let c : PlacedLexeme = record { lexeme = record { kind = lexeme.Comment; text = text }; role = comment_role broken (next_line level ss) } in
+comment_spread indent text ls rest at level broken ss a solid h after calm apart =
+    let c : PlacedLexeme = record { lexeme = record { kind = lexeme.Comment; text = text }; span = span_from at (length text); role = comment_role broken (next_line level ss) } in
     let n : Neighbours a c = record { left = solid; right = tt; right_belongs = apart.0.belongs; starless = λ paren uncommented. absurd (differ (sym uncommented)) } in
-    fits_apart a c (laid_after indent c (placed level false ss ls)) (gap indent a c) n h (gap_fits indent a c n)
-    (rest level false ss c tt apart.0.belongs (λ e. cc) calm apart.1)
+    fits_apart a c (laid_after indent c (placed (at + length text) level false ss ls)) (gap indent a c) n h (gap_fits indent a c n)
+    (rest (at + length text) level false ss c tt apart.0.belongs (λ e. cc) calm apart.1)
 
 token_spread : (indent : Indent) (k : TokenKind) (text : List ℕ) (ls : List Lexeme) → Spread indent ls → Spread indent (record { kind = lexeme.Token k; text = text } ∷ ls)
-token_spread indent k text ls rest level broken ss a solid h after calm apart =
-    let t : PlacedLexeme = record { lexeme = record { kind = lexeme.Token k; text = text }; role = next_role ss } in
+token_spread indent k text ls rest at level broken ss a solid h after calm apart =
+    let t : PlacedLexeme = record { lexeme = record { kind = lexeme.Token k; text = text }; span = span_from at (length text); role = next_role ss } in
     let n : Neighbours a t = record { left = solid; right = tt; right_belongs = apart.0.belongs; starless = λ paren uncommented. token_first k text apart.0.belongs (after paren) } in
-    fits_apart a t (laid_after indent t (placed (next_line level ss) false (drop 1 ss) ls)) (gap indent a t) n h (gap_fits indent a t n)
-    (rest (next_line level ss) false (drop 1 ss) t tt apart.0.belongs (λ e. calm_first calm (paren_of k text e)) (calm_following calm) apart.1)
+    fits_apart a t (laid_after indent t (placed (at + length text) (next_line level ss) false (drop 1 ss) ls)) (gap indent a t) n h (gap_fits indent a t n)
+    (rest (at + length text) (next_line level ss) false (drop 1 ss) t tt apart.0.belongs (λ e. calm_first calm (paren_of k text e)) (calm_following calm) apart.1)
 
 kind_spread : (indent : Indent) (k : LexemeKind) (text : List ℕ) (ls : List Lexeme) → Spread indent ls → Spread indent (record { kind = k; text = text } ∷ ls)
-kind_spread indent lexeme.Space text ls rest = λ level broken ss a solid h after calm apart. rest level (broken || has_break text) ss a solid h after calm apart.1
+kind_spread indent lexeme.Space text ls rest = λ at level broken ss a solid h after calm apart. rest (at + length text) level (broken || has_break text) ss a solid h after calm apart.1
 kind_spread indent lexeme.Comment text ls rest = comment_spread indent text ls rest
 kind_spread indent (lexeme.Token k) text ls rest = token_spread indent k text ls rest
 
 nothing_spread : (indent : Indent) → Spread indent []
-nothing_spread indent level broken ss a solid h after calm apart = (
+nothing_spread indent at level broken ss a solid h after calm apart = (
   record { belongs = h; ends = quiet_ends a.lexeme.kind 10 solid (record { alone = refl; unequal = refl; starless = refl }) },
   (record { belongs = record { nonempty = omega arith; all = AllPass-from_list_all is_space (10 ∷ []) refl }; ends = refl }, tt),
 )
@@ -310,21 +311,21 @@ following_spread indent [] = nothing_spread indent
 following_spread indent (l ∷ ls) = kind_spread indent l.kind l.text ls (following_spread indent ls)
 
 abbrev FirstSpread : Indent → List Lexeme → Type 0
-FirstSpread indent ls = (level : ℕ) (broken : Bool) (ss : List LineRole) → Calm (spelled ls) → AreApart ls → AreApart (laid indent (placed level broken ss ls))
+FirstSpread indent ls = (at level : ℕ) (broken : Bool) (ss : List LineRole) → Calm (spelled ls) → AreApart ls → AreApart (laid indent (placed at level broken ss ls))
 
 kind_first_spread : (indent : Indent) (k : LexemeKind) (text : List ℕ) (ls : List Lexeme) → FirstSpread indent ls → FirstSpread indent (record { kind = k; text = text } ∷ ls)
-kind_first_spread indent lexeme.Space text ls rest = λ level broken ss calm apart. rest level (broken || has_break text) ss calm apart.1
-kind_first_spread indent lexeme.Comment text ls rest = λ level broken ss calm apart.
-    let c : PlacedLexeme = record { lexeme = record { kind = lexeme.Comment; text = text }; role = comment_role broken (next_line level ss) } in
-    following_spread indent ls level false ss c tt apart.0.belongs (λ e. cc) calm apart.1
-kind_first_spread indent (lexeme.Token k) text ls rest = λ level broken ss calm apart.
-    let t : PlacedLexeme = record { lexeme = record { kind = lexeme.Token k; text = text }; role = next_role ss } in
-    following_spread indent ls (next_line level ss) false (drop 1 ss) t tt apart.0.belongs (λ e. calm_first calm (paren_of k text e)) (calm_following calm) apart.1
+kind_first_spread indent lexeme.Space text ls rest = λ at level broken ss calm apart. rest (at + length text) level (broken || has_break text) ss calm apart.1
+kind_first_spread indent lexeme.Comment text ls rest = λ at level broken ss calm apart.
+    let c : PlacedLexeme = record { lexeme = record { kind = lexeme.Comment; text = text }; span = span_from at (length text); role = comment_role broken (next_line level ss) } in
+    following_spread indent ls (at + length text) level false ss c tt apart.0.belongs (λ e. cc) calm apart.1
+kind_first_spread indent (lexeme.Token k) text ls rest = λ at level broken ss calm apart.
+    let t : PlacedLexeme = record { lexeme = record { kind = lexeme.Token k; text = text }; span = span_from at (length text); role = next_role ss } in
+    following_spread indent ls (at + length text) (next_line level ss) false (drop 1 ss) t tt apart.0.belongs (λ e. calm_first calm (paren_of k text e)) (calm_following calm) apart.1
 
 first_spread : (indent : Indent) (ls : List Lexeme) → FirstSpread indent ls
-first_spread indent [] = λ level broken ss calm apart. tt
+first_spread indent [] = λ at level broken ss calm apart. tt
 first_spread indent (l ∷ ls) = kind_first_spread indent l.kind l.text ls (first_spread indent ls)
 
 pub laid_out_apart : {s : Sort} (indent : Indent) (tree : Tree (List ℕ) s) (ls : List Lexeme) → spelled ls ≡ spell tree → AreApart ls → AreApart (laid_out indent tree ls)
 unfolding laid_out
-laid_out_apart indent tree ls e apart = first_spread indent ls 0 true (line_roles 0 tree) (subst Calm (sym e) (calm_spelled tree)) apart
+laid_out_apart indent tree ls e apart = first_spread indent ls 0 0 true (line_roles 0 tree) (subst Calm (sym e) (calm_spelled tree)) apart

@@ -6,7 +6,12 @@ use Rattle.ob0_text.specs.declared.edits.Indent.{Indent}
 use Rattle.ob0_text.specs.declared.position_types.Position.{Position}
 use Rattle.ob0_text.specs.Texts.{position_of}
 use Rattle.ob0_layout.specs.declared.sites.GapSite.{GapSite}
-use Rattle.ob0_layout.specs.Sites.{edit_text, edit_of}
+use Rattle.ob0_layout.specs.Cuts.{gap_cut}
+use Rattle.ob0_layout.specs.Gaps.{EditText, edit_text, edit_of}
+
+-- the edit of a gap that the code found
+abbrev pub edit_of_site : (ℕ → ℕ) → List ℕ → Indent → GapSite → EditText
+edit_of_site width content indent g = edit_of width content (gap_cut indent g)
 
 module _ (width : ℕ → ℕ) (content : List ℕ) (gs : List GapSite) (i : ℕ) (low : i < length gs) (d : GapSite) where
   pub position_at : (part : GapSite → ℕ) (offsets : List ℕ) (ps : List Position) (p : Position) → ps ≡ map (position_of width content) offsets → offsets ≡ map part gs → get_or ps i p ≡ position_of width content (part (get_or gs i d))
@@ -15,7 +20,7 @@ module _ (width : ℕ → ℕ) (content : List ℕ) (gs : List GapSite) (i : ℕ
       ap (λ qs. get_or qs i p) (e ∙ ap (map (position_of width content)) f) ∙ get_or-map (position_of width content) (map part gs) i 0 p long
       ∙ ap (position_of width content) (get_or-map part gs i d 0 low)
 
-  pub edit_further : (indent : Indent) (edits : List Edit) (e : Edit) → map edit_text edits ≡ map (edit_of indent width content) (take i gs)
-      → edit_text e ≡ edit_of indent width content (get_or gs i d) → map edit_text (edits ++ (e ∷ [])) ≡ map (edit_of indent width content) (take (i + 1) gs)
+  pub edit_further : (indent : Indent) (edits : List Edit) (e : Edit) → map edit_text edits ≡ map (edit_of_site width content indent) (take i gs)
+      → edit_text e ≡ edit_of_site width content indent (get_or gs i d) → map edit_text (edits ++ (e ∷ [])) ≡ map (edit_of_site width content indent) (take (i + 1) gs)
   edit_further indent edits e so_far is =
-      map-append edit_text edits (e ∷ []) ∙ (λ j. so_far j ++ (is j ∷ [])) ∙ sym (map_more (edit_of indent width content) gs i d low)
+      map-append edit_text edits (e ∷ []) ∙ (λ j. so_far j ++ (is j ∷ [])) ∙ sym (map_more (edit_of_site width content indent) gs i d low)

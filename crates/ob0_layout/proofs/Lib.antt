@@ -8,9 +8,9 @@ pub mod Ahead
 pub mod EditSteps
 pub mod Pieced
 pub mod LastBytes
-pub mod TextCuts
+pub mod InText
+pub mod Gaps
 pub mod Patched
-pub mod White
 pub mod Written
 mod Walks
 pub mod Unnamed

@@ -1,18 +1,51 @@
--- Gaps as cuts of the text's bytes.
+-- What the code finds of a text's gaps, one after another.
 -- Rule: none; for private contracts: gaps as cuts of bytes, and runs of a byte.
-use Rattle.std.specs.Prelude.{ℕ, Bool, true, ◌&&◌, ◌==◌, List, [], ◌∷◌, map}
+use Rattle.std.specs.Prelude.{◌≤◌, ℕ, Bool, true, ◌&&◌, ◌==◌, if◌then◌else◌, nat_lt, Option, Some, None, List, [], ◌∷◌, filter}
+use Rattle.ob0_scan.specs.declared.lexeme.LexemeKind.{LexemeKind}
+use Rattle.ob0_scan.specs.declared.lexeme.Span.{Span}
+use Rattle.ob0_scan.specs.declared.lexeme.Token.{Token}
 use Rattle.ob0_text.specs.declared.edits.Indent.{Indent}
-use Rattle.ob0_text.specs.Patches.{Cut, pieced}
+use Rattle.ob0_text.specs.Patches.{Cut}
+use Rattle.ob0_layout.specs.declared.gap.Gap.{Gap}
+use Rattle.ob0_layout.specs.declared.gap.Gap.TheVariants.{Nothing, Line}
+use Rattle.ob0_layout.specs.declared.line_role.LineRole.{LineRole}
 use Rattle.ob0_layout.specs.declared.sites.GapSite.{GapSite}
-use Rattle.ob0_layout.specs.Layout.{gap_text}
+use Rattle.ob0_layout.specs.declared.sites.NextLexeme.{NextLexeme}
+use Rattle.ob0_layout.specs.declared.sites.NextLexeme.TheVariants as next
+use Rattle.ob0_layout.specs.declared.sites.Solid.{Solid}
+use Rattle.ob0_layout.specs.Gaps.{is_changed}
+use Rattle.ob0_layout.specs.Layout.{gap_between, gap_text}
+
+-- of a list of tokens and a list of comments, which begins first
+abbrev pub next_of : List Token → List Span → Option NextLexeme
+next_of [] [] = None
+next_of [] (c ∷ cs) = Some (next.Comment c)
+next_of (t ∷ ts) [] = Some (next.Token t)
+next_of (t ∷ ts) (c ∷ cs) =
+    if nat_lt c.start t.span.start then Some (next.Comment c) else Some (next.Token t)
+
+-- the gap before a token or comment: nothing at the text's start
+abbrev pub gap_before : Option Solid → LexemeKind → LineRole → Gap
+gap_before None kind role = Nothing
+gap_before (Some b) kind role = gap_between b.kind b.role kind role
+
+-- the gap after the last token or comment: a line feed
+abbrev pub last_gap : Option Solid → Gap
+last_gap None = Nothing
+last_gap (Some b) = Line 0
 
 -- a gap is taken out, and what is to be there is put in its place
 abbrev pub gap_cut : Indent → GapSite → Cut
 gap_cut indent g = record { from = g.start; to = g.end; new = gap_text indent g.gap }
 
--- what these gaps make of a text's bytes
-abbrev pub text_with_gaps : Indent → List ℕ → List GapSite → List ℕ
-text_with_gaps indent text gs = pieced text 0 (map (gap_cut indent) gs)
+-- those that change of the gaps that were found
+abbrev pub changed_sites : Indent → List ℕ → List GapSite → List GapSite
+changed_sites indent text gs = filter (λ (g : GapSite). is_changed text (gap_cut indent g)) gs
+
+-- a gap lies in a text of this length
+pub record LiesIn (len : ℕ) (g : GapSite) : Type 0 where
+  pub ordered : g.start ≤ g.end
+  pub within : g.end ≤ len
 
 -- each of these bytes is this one
 abbrev pub all_are : ℕ → List ℕ → Bool

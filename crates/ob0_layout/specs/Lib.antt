@@ -1,4 +1,4 @@
 pub mod Layout
-pub mod Sites
+pub mod Gaps
 pub mod Cuts
 pub mod LineRoles

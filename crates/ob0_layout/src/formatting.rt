@@ -10,7 +10,8 @@ ghost use Rattle.ob0_text.specs.declared.refusals.EditRefusal.TheVariants.{TooLo
 ghost use Rattle.ob0_tree.specs.Parsed.{named_tree_of};
 ghost use Rattle.ob0_layout.specs.Layout.{layout};
 ghost use Rattle.ob0_layout.specs.LineRoles.{line_roles};
-ghost use Rattle.ob0_layout.specs.Sites.{all_sites, changed_sites, edit_text, edit_of, LiesIn, laid_len};
+ghost use Rattle.ob0_layout.specs.Cuts.{gap_cut, LiesIn};
+ghost use Rattle.ob0_layout.specs.Gaps.{all_gaps, changed_gaps, edit_text, edit_of, laid_len};
 
 use crate::sites::{GapSite, changed_sites};
 use crate::walk::line_roles;
@@ -30,9 +31,9 @@ pub fn format<T: TextStore>(
 ) -> Result<Vec<Edit>, EditRefusal>
     ensures edits { (scan : IsScan module.now.source)
         → IfOk result (λ edits. map edit_text edits.items ≡
-        map (edit_of indent (width_of (T.unit_of store.now)) (T.content store.now))
-        (changed_sites indent module.now.source.text
-        (all_sites (line_roles 0 (named_tree_of module.now)) scan.lexemes))) }
+        map (edit_of (width_of (T.unit_of store.now)) (T.content store.now))
+        (changed_gaps module.now.source.text (all_gaps indent module.now.source.text
+        (line_roles 0 (named_tree_of module.now)) scan.lexemes))) }
     ensures fits { (scan : IsScan module.now.source)
         → IfOk result
         (λ _. length (layout indent (named_tree_of module.now) scan.lexemes) ≤ max_text) }
@@ -58,7 +59,8 @@ pub fn format<T: TextStore>(
 fn fits(sites: &[GapSite], len: usize, indent: Indent) -> bool
     requires length { len ≤ max_text }
     requires within { All (LiesIn len) sites.now }
-    ensures { IsTrue result ↔ laid_len indent len 0 sites.now ≤ max_text }
+    ensures { IsTrue result
+        ↔ laid_len len 0 (map (gap_cut indent) sites.now) ≤ max_text }
 {
     let mut made = 0;
     let mut at = 0;
@@ -80,7 +82,8 @@ fn edits<T: TextStore>(
     indent: Indent,
 ) -> Result<Vec<Edit>, AllocError>
     ensures { IfOk result (λ edits. map edit_text edits.items
-        ≡ map (edit_of indent (width_of (T.unit_of store.now)) (T.content store.now)) sites.now) }
+        ≡ map (λ site. edit_of (width_of (T.unit_of store.now)) (T.content store.now)
+        (gap_cut indent site)) sites.now) }
 {
     let starts = starts(alloc, sites)?;
     let ends = ends(alloc, sites)?;

@@ -6,13 +6,12 @@ ghost use Rattle.std.specs.Str.{IsUtf8};
 ghost use Rattle.ob0_scan.specs.Classes.{is_space};
 ghost use Rattle.ob0_scan.specs.Lexed.{Lexed};
 ghost use Rattle.ob0_scan.specs.Scanned.{Scanned, IsScan};
+ghost use Rattle.ob0_text.specs.Patches.{Cut, pieced};
 ghost use Rattle.ob0_text.specs.declared.edits.Indent.{Indent};
 ghost use Rattle.ob0_tree.specs.Tree.{Tree, module_text};
 ghost use Rattle.ob0_tree.specs.Module.{ModuleOf};
-ghost use Rattle.ob0_layout.specs.Cuts.{text_with_gaps};
-ghost use Rattle.ob0_layout.specs.declared.gap.Gap.{Gap};
-ghost use Rattle.ob0_layout.specs.Layout.{gap_text, solid, laid_out, layout};
-ghost use Rattle.ob0_layout.specs.Sites.{IsWhite, all_sites, changed_sites, laid_len};
+ghost use Rattle.ob0_layout.specs.Layout.{solid, laid_out, layout};
+ghost use Rattle.ob0_layout.specs.Gaps.{IsWhite, all_gaps, changed_gaps, laid_len};
 ghost use Rattle.ob0_layout.specs.LineRoles.{line_roles};
 
 /// The layout of a module's text is cut into the lexemes that are laid out, and its tokens and comments are those of
@@ -51,18 +50,23 @@ pub fn gaps_make_the_layout()
         → IsUtf8 (layout indent tree scan.lexemes) }
     ensures made { (indent : Indent) (s : Scanned) (scan : IsScan s)
         (tree : Tree (List ℕ) module_text)
-        → text_with_gaps indent s.text
-        (changed_sites indent s.text (all_sites (line_roles 0 tree) scan.lexemes))
+        → pieced s.text 0
+        (changed_gaps s.text (all_gaps indent s.text (line_roles 0 tree) scan.lexemes))
         ≡ layout indent tree scan.lexemes }
     ensures length { (indent : Indent) (s : Scanned) (scan : IsScan s)
         (tree : Tree (List ℕ) module_text)
-        → laid_len indent (length s.text) 0 (all_sites (line_roles 0 tree) scan.lexemes)
+        → laid_len (length s.text) 0
+        (all_gaps indent s.text (line_roles 0 tree) scan.lexemes)
         ≡ length (layout indent tree scan.lexemes) }
 {}
 
 /// The edits of a layout touch white space alone: nothing else is in the gaps of a text, and nothing else is put there.
 pub fn gaps_are_white_space()
-    ensures before { (s : Scanned) (scan : IsScan s) (tree : Tree (List ℕ) module_text)
-        → All (IsWhite s.text) (all_sites (line_roles 0 tree) scan.lexemes) }
-    ensures after { (indent : Indent) (gap : Gap) → AllPass is_space (gap_text indent gap) }
+    ensures before { (indent : Indent) (s : Scanned) (scan : IsScan s)
+        (tree : Tree (List ℕ) module_text)
+        → All (IsWhite s.text) (all_gaps indent s.text (line_roles 0 tree) scan.lexemes) }
+    ensures after { (indent : Indent) (s : Scanned) (scan : IsScan s)
+        (tree : Tree (List ℕ) module_text)
+        → All (λ (c : Cut). AllPass is_space c.new)
+        (all_gaps indent s.text (line_roles 0 tree) scan.lexemes) }
 {}

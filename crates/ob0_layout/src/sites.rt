@@ -3,10 +3,11 @@
 //! One pass over tokens and comments keeps the gaps that change alone: of the others nothing is stored, and no text is
 //! made to compare.
 
-ghost use Rattle.std.specs.Prelude.{◌≡◌, ◌||◌, ◌==◌, ◌++◌, ◌∷◌, [], IfOk, OnOk, is_none, drop, length};
+ghost use Rattle.std.specs.Prelude.{◌≡◌, ◌||◌, ◌==◌, ◌++◌, ◌∷◌, [], IfOk, OnOk, is_none, drop, length, map};
 ghost use Rattle.ob0_scan.specs.Scanned.{IsScan};
+ghost use Rattle.ob0_layout.specs.Cuts.{changed_sites, gap_cut, next_of, gap_before, last_gap, LiesIn};
+ghost use Rattle.ob0_layout.specs.Gaps.{all_gaps, changed_gaps, is_changed};
 ghost use Rattle.ob0_layout.specs.Layout.{next_line, next_role, comment_role, has_break};
-ghost use Rattle.ob0_layout.specs.Sites.{all_sites, changed_sites, is_changed, next_of, gap_before, last_gap, LiesIn};
 
 use crate::LineRole;
 use crate::gap::{Gap, gap_between};
@@ -43,8 +44,9 @@ pub fn changed_sites(
     roles: &[LineRole],
     indent: Indent,
 ) -> Result<Vec<GapSite>, AllocError>
-    ensures { (scan : IsScan tokens.now) → IfOk result (λ sites. sites.items
-        ≡ changed_sites indent tokens.now.text (all_sites roles.now scan.lexemes)) }
+    ensures { (scan : IsScan tokens.now) → IfOk result (λ sites. map (gap_cut indent) sites.items
+        ≡ changed_gaps tokens.now.text
+        (all_gaps indent tokens.now.text roles.now scan.lexemes)) }
 {
     let text = tokens.text().as_bytes();
     let mut left = tokens.tokens();
@@ -107,7 +109,7 @@ fn add(
 /// Whether what is in a gap isn't what is to be there.
 fn is_changed(text: &[u8], site: GapSite, indent: Indent) -> bool
     requires { LiesIn (length text.now) site }
-    ensures { result ≡ is_changed indent text.now site }
+    ensures { result ≡ is_changed text.now (gap_cut indent site) }
 {
     !site.gap.is_text(&text[site.start..site.end], indent)
 }

@@ -52,11 +52,11 @@ times (suc n) ks = ks ++ times n ks
 
 -- the rows of syntax faults in docs/LANGUAGE.md
 pub record ExpectedRows : Type 0 where
-  pub empty : DescendsKinds [] (Expects 0 (expected.Token (w reserved.Module)))
+  pub empty : DescendsKinds [] (Expects 0 (expected.Word reserved.Module))
   -- MODULE M; BEGIN x = 1 END M.
   pub equals : DescendsKinds
       (module_begins ++ (w reserved.Begin ∷ ident ∷ s symbol.Equal ∷ one ∷ module_ends))
-      (Expects 5 (expected.Token (w reserved.End)))
+      (Expects 5 (expected.Word reserved.End))
   -- MODULE M; BEGIN x[0] END M.
   pub selected : DescendsKinds (module_begins
       ++ (w reserved.Begin
@@ -64,11 +64,11 @@ pub record ExpectedRows : Type 0 where
       ∷ s symbol.LeftBracket
       ∷ one
       ∷ s symbol.RightBracket
-      ∷ module_ends)) (Expects 8 (expected.Token (s symbol.Becomes)))
+      ∷ module_ends)) (Expects 8 (expected.Symbol symbol.Becomes))
   -- MODULE M; VAR x INTEGER; END M.
   pub no_colon : DescendsKinds
       (module_begins ++ (w reserved.Var ∷ ident ∷ ident ∷ s symbol.Semicolon ∷ module_ends))
-      (Expects 5 (expected.Token (s symbol.Colon)))
+      (Expects 5 (expected.Symbol symbol.Colon))
   -- MODULE M; VAR x: ; END M.
   pub no_type : DescendsKinds (module_begins
       ++ (w reserved.Var ∷ ident ∷ s symbol.Colon ∷ s symbol.Semicolon ∷ module_ends))
@@ -79,7 +79,7 @@ pub record ExpectedRows : Type 0 where
   -- MODULE M; BEGIN WriteLn END M
   pub no_dot : DescendsKinds
       (module_begins ++ (w reserved.Begin ∷ ident ∷ w reserved.End ∷ ident ∷ []))
-      (Expects 7 (expected.Token (s symbol.Dot)))
+      (Expects 7 (expected.Symbol symbol.Dot))
   -- MODULE M; VAR UNTIL: INTEGER; END M.
   pub reserved_name : DescendsKinds (module_begins
       ++ (w reserved.Var
@@ -87,7 +87,7 @@ pub record ExpectedRows : Type 0 where
       ∷ s symbol.Colon
       ∷ ident
       ∷ s symbol.Semicolon
-      ∷ module_ends)) (Expects 4 (expected.Token (w reserved.End)))
+      ∷ module_ends)) (Expects 4 (expected.Word reserved.End))
   -- MODULE M; BEGIN WriteLn END M.
   pub whole : DescendsKinds (module_begins ++ (w reserved.Begin ∷ ident ∷ module_ends)) Done
 

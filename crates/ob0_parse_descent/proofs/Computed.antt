@@ -164,9 +164,9 @@ stop_of (suc n) [] i tokens = Some Done
 stop_of (suc n) (node s room ∷ ps) i tokens =
     elim (chosen s room tokens) as (λ c. Option Stop) [ parts qs ↦ stop_of n (qs ++ ps) i tokens | missing e ↦ Some (Expects i e) | too_deep ↦ Some (Deep i) ]
 stop_of (suc n) (token (kind.Reserved w) ∷ ps) i (x ∷ tokens) =
-    elim (is_word w x) as (λ b. Option Stop) [ true ↦ stop_of n ps (i + 1) tokens | false ↦ Some (Expects i (expected.Token (kind.Reserved w))) ]
+    elim (is_word w x) as (λ b. Option Stop) [ true ↦ stop_of n ps (i + 1) tokens | false ↦ Some (Expects i (expected.Word w)) ]
 stop_of (suc n) (token (kind.Symbol w) ∷ ps) i (x ∷ tokens) =
-    elim (is_sign w x) as (λ b. Option Stop) [ true ↦ stop_of n ps (i + 1) tokens | false ↦ Some (Expects i (expected.Token (kind.Symbol w))) ]
+    elim (is_sign w x) as (λ b. Option Stop) [ true ↦ stop_of n ps (i + 1) tokens | false ↦ Some (Expects i (expected.Symbol w)) ]
 stop_of (suc n) (name ∷ ps) i (Name m ∷ tokens) = stop_of n ps (i + 1) tokens
 stop_of (suc n) (name ∷ ps) i (Number m ∷ tokens) = Some (Expects i expected.Identifier)
 stop_of (suc n) (name ∷ ps) i (Mark k ∷ tokens) = Some (Expects i expected.Identifier)
@@ -206,12 +206,12 @@ module _ (n : ℕ) (further : (ps : List Part) (i : ℕ) (tokens : List (Termina
   by_choice s room ps i tokens o too_deep c e = subst (λ y. Descends (node s room ∷ ps) i tokens y) (same_stop e) (deep c)
 
   by_word : (w : Reserved) (ps : List Part) (i : ℕ) (x : Terminal ℕ) (tokens : List (Terminal ℕ)) (o : Stop) (b : Bool) → is_word w x ≡ b
-      → elim b as (λ b. Option Stop) [ true ↦ stop_of n ps (i + 1) tokens | false ↦ Some (Expects i (expected.Token (kind.Reserved w))) ] ≡ Some o → Descends (token (kind.Reserved w) ∷ ps) i (x ∷ tokens) o
+      → elim b as (λ b. Option Stop) [ true ↦ stop_of n ps (i + 1) tokens | false ↦ Some (Expects i (expected.Word w)) ] ≡ Some o → Descends (token (kind.Reserved w) ∷ ps) i (x ∷ tokens) o
   by_word w ps i x tokens o true is e = taken (word_is w x is) (further ps (i + 1) tokens o e)
   by_word w ps i x tokens o false is e = subst (λ y. Descends (token (kind.Reserved w) ∷ ps) i (x ∷ tokens) y) (same_stop e) (other (word_isnt w x is) refl)
 
   by_sign : (w : Symbol) (ps : List Part) (i : ℕ) (x : Terminal ℕ) (tokens : List (Terminal ℕ)) (o : Stop) (b : Bool) → is_sign w x ≡ b
-      → elim b as (λ b. Option Stop) [ true ↦ stop_of n ps (i + 1) tokens | false ↦ Some (Expects i (expected.Token (kind.Symbol w))) ] ≡ Some o → Descends (token (kind.Symbol w) ∷ ps) i (x ∷ tokens) o
+      → elim b as (λ b. Option Stop) [ true ↦ stop_of n ps (i + 1) tokens | false ↦ Some (Expects i (expected.Symbol w)) ] ≡ Some o → Descends (token (kind.Symbol w) ∷ ps) i (x ∷ tokens) o
   by_sign w ps i x tokens o true is e = taken (sign_is w x is) (further ps (i + 1) tokens o e)
   by_sign w ps i x tokens o false is e = subst (λ y. Descends (token (kind.Symbol w) ∷ ps) i (x ∷ tokens) y) (same_stop e) (other (sign_isnt w x is) refl)
 

@@ -1,5 +1,5 @@
 -- Where a rank has one token only: what is, or doesn't, by that token.
-use Rattle.std.proofs.Common.{◌≡◌, ℕ, ◌+◌, ◌≤◌, ◌<◌, ◌++◌, ◌==◌, Option, Some, None, List, [], ◌∷◌, length, refl, sym, ◌∙◌, ap, subst, arith, if◌then◌else◌}
+use Rattle.std.proofs.Common.{◌≡◌, ℕ, ◌+◌, ◌≤◌, ◌<◌, ◌++◌, ◌==◌, Option, Some, None, option_map, List, [], ◌∷◌, length, refl, sym, ◌∙◌, ap, subst, arith, if◌then◌else◌}
 use Rattle.ob0_scan.specs.declared.lexeme.TokenKind.{TokenKind}
 use Rattle.ob0_scan.specs.declared.lexeme.TokenKind.TheVariants as kind
 use Rattle.ob0_scan.specs.declared.lexeme.Reserved.TheVariants as reserved
@@ -13,7 +13,7 @@ use Rattle.ob0_tree.specs.Tree.{Sort, Tree, spell}
 use Rattle.ob0_parse_descent.specs.Follow.{rank, kind_rank, level, Starts, Stops}
 use Rattle.ob0_parse_descent.proofs.Unique.{same}
 use Rattle.ob0_parse_descent.specs.Reading.{rest, Part, token, name, Begins, StopsIn, FailsToRead, Other, NoName}
-use Rattle.ob0_parse_descent.specs.Descent.{IsPart, expected_part, Expects, Descends, other}
+use Rattle.ob0_parse_descent.specs.Descent.{IsPart, expected_part, expected_token, Expects, Descends, other}
 use Rattle.ob0_parse_descent.specs.declared.refusal.Expected.TheVariants as expected
 use Rattle.ob0_parse_descent.proofs.Refusals.{at_once, fails_by, in_name, in_token}
 
@@ -99,15 +99,25 @@ fails_here x l here reads never = record { why = (l, at_once here never); reads 
 pub stops_here : {p : Part} {x : Terminal ℕ} {e : Expected} (ts : List Token) (at : ℕ) → rest ts at ≡ x ∷ rest ts (at + 1) → ¬ IsPart p x → expected_part p ≡ Some e → StopsIn (p ∷ []) ts at (Expects at e)
 stops_here {p = p} {e = e} ts at here differs is more = subst (λ w. Descends (p ∷ more) at w (Expects at e)) (sym here) (other differs is)
 
-pub fails_token : {k : TokenKind} {ts : List Token} {at : ℕ} → Other (Mark k) ts at → FailsToRead (token k ∷ []) ts at (Syntax at (expected.Token k))
-fails_token o = fails_here o.fault o.within o.here (stops_here _ _ o.here o.differs refl) (λ u b. o.differs (cc (b.1)))
+pub fails_token : {k : TokenKind} {ts : List Token} {at : ℕ} {x : Expected} → expected_token k ≡ Some x → Other (Mark k) ts at → FailsToRead (token k ∷ []) ts at (Syntax at x)
+fails_token is o = fails_here o.fault o.within o.here (stops_here _ _ o.here o.differs is) (λ u b. o.differs (cc (b.1)))
 
 pub fails_name : {ts : List Token} {at : ℕ} → NoName ts at → FailsToRead (name ∷ []) ts at (Syntax at expected.Identifier)
 fails_name o = fails_here o.fault o.within o.here (stops_here _ _ o.here (λ p. o.ranked (ap rank p.1)) refl) (λ u b. let is : o.fault ≡ Name b.0 = cc (b.2) in o.ranked (ap rank is))
 
+some_none : {e : ParseRefusal} → ◌≡◌ {A = Option ParseRefusal} (Some e) None → ⊥
+some_none q = cc
+
+inside : {a b : ParseRefusal} → Some a ≡ Some b → a ≡ b
+inside q = cc
+
 -- a token that is missing is missing from all parts that begin with it
-pub fails_in_token : {k : TokenKind} {ps : List Part} {ts : List Token} {at : ℕ} {e : ParseRefusal} → Other (Mark k) ts at × (e ≡ Syntax at (expected.Token k)) → FailsToRead (token k ∷ ps) ts at e
-fails_in_token {k = k} {ps = ps} {ts = ts} {at = at} q = subst (λ e. FailsToRead (token k ∷ ps) ts at e) (sym q.1) (fails_by (λ o r more. r (ps ++ more)) (λ after r. in_token r) (fails_token q.0))
+pub fails_in_token : {k : TokenKind} {ps : List Part} {ts : List Token} {at : ℕ} {e : ParseRefusal} → Other (Mark k) ts at × (Some e ≡ option_map (Syntax at) (expected_token k)) → FailsToRead (token k ∷ ps) ts at e
+fails_in_token {k = k} {ps = ps} {ts = ts} {at = at} {e = e} q = go (expected_token k) refl q.1
+  where
+    go : (x : Option Expected) → expected_token k ≡ x → Some e ≡ option_map (Syntax at) x → FailsToRead (token k ∷ ps) ts at e
+    go None is same = absurd (some_none same)
+    go (Some x) is same = subst (λ e. FailsToRead (token k ∷ ps) ts at e) (sym (inside same)) (fails_by (λ o r more. r (ps ++ more)) (λ after r. in_token r) (fails_token is q.0))
 
 pub fails_in_name : {ps : List Part} {ts : List Token} {at : ℕ} {e : ParseRefusal} → NoName ts at × (e ≡ Syntax at expected.Identifier) → FailsToRead (name ∷ ps) ts at e
 fails_in_name {ps = ps} {ts = ts} {at = at} q = subst (λ e. FailsToRead (name ∷ ps) ts at e) (sym q.1) (fails_by (λ o r more. r (ps ++ more)) (λ after r. in_name r) (fails_name q.0))

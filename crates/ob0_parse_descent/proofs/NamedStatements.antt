@@ -161,8 +161,8 @@ following_selectors room x f fs w (calls k a, z, e, n, s, b) = record {
   begins = λ same is. absurd (no_selectors same);
 }
 
-pub becomes_missing : {room : ℕ} {ts : List Token} {at m : ℕ} (x : ℕ) (f : Tree ℕ (item selector)) (fs : Tree ℕ (items selector)) → Taken (designator x (more f fs)) room ts at m → Other (Mark (kind.Symbol symbol.Becomes)) ts m → FailsToRead (node statement room ∷ []) ts at (Syntax m (expected.Token (kind.Symbol symbol.Becomes)))
-becomes_missing {room = room} {ts = ts} {m = m} x f fs p o = fails_known (token (kind.Symbol symbol.Becomes) ∷ []) (λ s r following. (target_read (more f fs) x p (selector_next f fs (rest ts m))).on s following (r (node expression room ∷ following))) (designator x (more f fs)) p (λ w h b. following_selectors room x f fs w b) (fails_token o)
+pub becomes_missing : {room : ℕ} {ts : List Token} {at m : ℕ} (x : ℕ) (f : Tree ℕ (item selector)) (fs : Tree ℕ (items selector)) → Taken (designator x (more f fs)) room ts at m → Other (Mark (kind.Symbol symbol.Becomes)) ts m → FailsToRead (node statement room ∷ []) ts at (Syntax m (expected.Symbol symbol.Becomes))
+becomes_missing {room = room} {ts = ts} {m = m} x f fs p o = fails_known (token (kind.Symbol symbol.Becomes) ∷ []) (λ s r following. (target_read (more f fs) x p (selector_next f fs (rest ts m))).on s following (r (node expression room ∷ following))) (designator x (more f fs)) p (λ w h b. following_selectors room x f fs w b) (fails_token refl o)
 
 -- the arguments of a call are refused
 
@@ -246,7 +246,7 @@ pub call_made : {room : ℕ} {ts : List Token} {at m n : ℕ} {a : Tree ℕ (may
 call_made {a = a} x [] l p o q = taken_call a x p.0 p.1 o q
 call_made x (s ∷ ss) l p o q = absurd (omega arith)
 
-pub becomes_missing_listed : {room : ℕ} {ts : List Token} {at m : ℕ} (x : ℕ) (ss : List Selector) → (length ss ≡ 0 → ⊥) → Taken (designator x (items_of selector_of ss)) room ts at m → Other (Mark (kind.Symbol symbol.Becomes)) ts m → FailsToRead (node statement room ∷ []) ts at (Syntax m (expected.Token (kind.Symbol symbol.Becomes)))
+pub becomes_missing_listed : {room : ℕ} {ts : List Token} {at m : ℕ} (x : ℕ) (ss : List Selector) → (length ss ≡ 0 → ⊥) → Taken (designator x (items_of selector_of ss)) room ts at m → Other (Mark (kind.Symbol symbol.Becomes)) ts m → FailsToRead (node statement room ∷ []) ts at (Syntax m (expected.Symbol symbol.Becomes))
 becomes_missing_listed x [] l p o = absurd (l refl)
 becomes_missing_listed x (s ∷ ss) l p o = becomes_missing x (selector_of s) (items_of selector_of ss) p o
 

@@ -266,11 +266,19 @@ IsPart number x = (n : ℕ) × (x ≡ Number n)
 IsPart (node s room) x = ⊥
 IsPart finish x = x ≡ EndOfText
 
--- what is expected when a part that is one token is missing
+-- a reserved word or symbol is expected as such
+abbrev pub expected_token : TokenKind → Option Expected
+expected_token (kind.Reserved word) = Some (expected.Word word)
+expected_token (kind.Symbol symbol) = Some (expected.Symbol symbol)
+expected_token kind.Identifier = None
+expected_token (kind.Integer value) = None
+
+-- What is expected when this part is missing. An integer is a part only where one is next, and a construct is taken
+-- apart, so of these nothing is said.
 abbrev pub expected_part : Part → Option Expected
-expected_part (token k) = Some (expected.Token k)
+expected_part (token k) = expected_token k
 expected_part name = Some expected.Identifier
-expected_part number = Some expected.Expression
+expected_part number = None
 expected_part (node s room) = None
 expected_part finish = Some expected.EndOfText
 

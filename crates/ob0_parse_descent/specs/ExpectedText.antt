@@ -1,7 +1,6 @@
 -- What follows `expected` in the message of a syntax fault.
 -- Rule: docs/LANGUAGE.md, Syntax faults 2.
 use Rattle.std.specs.Prelude.{ℕ, List, codes}
-use Rattle.ob0_scan.specs.declared.lexeme.TokenKind.TheVariants as kind
 use Rattle.ob0_scan.specs.Classes.{reserved_text, symbol_text}
 use Rattle.ob0_parse_descent.specs.declared.refusal.Expected.{Expected}
 use Rattle.ob0_parse_descent.specs.declared.refusal.Expected.TheVariants as expected
@@ -12,7 +11,5 @@ expected_text expected.Type = codes "type"
 expected_text expected.Expression = codes "expression"
 expected_text expected.Identifier = codes "identifier"
 expected_text expected.EndOfText = codes "end of text"
-expected_text (expected.Token kind.Identifier) = codes "identifier"
-expected_text (expected.Token (kind.Integer value)) = codes "integer"
-expected_text (expected.Token (kind.Reserved word)) = reserved_text word
-expected_text (expected.Token (kind.Symbol symbol)) = symbol_text symbol
+expected_text (expected.Word word) = reserved_text word
+expected_text (expected.Symbol symbol) = symbol_text symbol

@@ -2,7 +2,7 @@
 -- Rule: none; for contracts of the parser.
 use Rattle.std.specs.declared.vec.Vec.{Vec}
 use Rattle.std.specs.declared.alloc.Global.{Global}
-use Rattle.std.specs.Prelude.{◌≡◌, ℕ, ◌+◌, ◌<◌, ◌≤◌, List, [], ◌∷◌, ◌++◌, Option, Some, None, IfNone, Result, Ok, Err, length, drop, ◌≢◌, Bool, true, false}
+use Rattle.std.specs.Prelude.{◌≡◌, ℕ, ◌+◌, ◌<◌, ◌≤◌, List, [], ◌∷◌, ◌++◌, Option, Some, None, IfNone, option_map, Result, Ok, Err, length, drop, ◌≢◌, Bool, true, false}
 use Rattle.ob0_scan.specs.declared.lexeme.TokenKind.{TokenKind}
 use Rattle.ob0_scan.specs.declared.lexeme.TokenKind.TheVariants as kind
 use Rattle.ob0_scan.specs.declared.lexeme.Symbol.TheVariants as symbol
@@ -17,7 +17,7 @@ use Rattle.ob0_tree.specs.Tree.{Item, Sort, item, items, selector, factor, names
 use Rattle.ob0_tree.specs.Places.{lexeme_of, lexemes}
 use Rattle.ob0_tree.specs.View.{items_of, selector_of, names_of, type_of}
 pub use Rattle.ob0_parse_descent.specs.Descent.{Part, token, name, number, node, finish}
-use Rattle.ob0_parse_descent.specs.Descent.{Stop, Expects, Deep, Descends, is_section_next}
+use Rattle.ob0_parse_descent.specs.Descent.{Stop, Expects, Deep, Descends, expected_token, is_section_next}
 use Rattle.ob0_parse_descent.specs.Follow.{rank, kind_rank, item_rank, level, Stops, Starts}
 use Rattle.ob0_parse_descent.specs.declared.refusal.Expected.TheVariants as expected
 use Rattle.ob0_parse_descent.specs.declared.refusal.ParseRefusal.{ParseRefusal}
@@ -143,7 +143,8 @@ NameIs ts at false = NoName ts at
 abbrev pub ReadsToken : TokenKind → List Token → ℕ → Result ℕ ParseRefusal → Type 0
 ReadsToken k ts at (Ok next) =
     (rest ts at ≡ Mark k ∷ rest ts next) × (at < length ts) × (next ≡ at + 1)
-ReadsToken k ts at (Err e) = Other (Mark k) ts at × (e ≡ Syntax at (expected.Token k))
+ReadsToken k ts at (Err e) =
+    Other (Mark k) ts at × (Some e ≡ option_map (Syntax at) (expected_token k))
 
 -- An identifier at this place, and the index after it. Where another token is here, the refusal says that an
 -- identifier is expected here.

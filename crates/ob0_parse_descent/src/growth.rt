@@ -1,6 +1,6 @@
 //! Lists that grow from room for one item.
 
-ghost use Rattle.std.specs.Prelude.{◌≡◌, ◌≤◌, ◌++◌, ◌∷◌, [], OnErr, OnOk};
+ghost use Rattle.std.specs.Prelude.{◌≡◌, ◌≤◌, ◌++◌, ◌∷◌, [], ◌<◌, OnErr, OnOk, vec_capacity, vec_len};
 
 use std::alloc::AllocError;
 
@@ -8,6 +8,7 @@ use std::alloc::AllocError;
 pub fn add<T: Drop>(list: &mut Vec<T>, item: T) -> Result<(), AllocError>
     ensures added { OnOk result (list.new.items ≡ list.old.items ++ item ∷ []) }
     ensures same { OnErr result (list.new.items ≡ list.old.items) }
+    ensures full { OnErr result (vec_capacity list.old ≤ vec_len list.old) }
 {
     let room = room_to_add(list.len(), list.capacity());
     list.reserve_exact(room)?;
@@ -17,7 +18,7 @@ pub fn add<T: Drop>(list: &mut Vec<T>, item: T) -> Result<(), AllocError>
 
 /// For how many items there must be room where one is added: as many again where there is none.
 fn room_to_add(len: usize, capacity: usize) -> usize
-    ensures { 1 ≤ result }
+    ensures { (1 ≤ result) × (len < capacity → result ≡ 1) }
 {
     if len < capacity || len == 0 { 1 } else { len }
 }

@@ -74,7 +74,7 @@ impl<'t> Parser<'t> {
         if self.at_word(at, word) {
             Ok(at + 1)
         } else {
-            missing(at, Expected::Token(TokenKind::Reserved(word)))
+            missing(at, Expected::Word(word))
         }
     }
 
@@ -86,7 +86,7 @@ impl<'t> Parser<'t> {
         if self.at_symbol(at, symbol) {
             Ok(at + 1)
         } else {
-            missing(at, Expected::Token(TokenKind::Symbol(symbol)))
+            missing(at, Expected::Symbol(symbol))
         }
     }
 

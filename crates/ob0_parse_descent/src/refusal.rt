@@ -3,7 +3,7 @@
 ghost use Rattle.std.specs.Prelude.{◌≡◌};
 ghost use Rattle.ob0_parse_descent.specs.declared.refusal.ParseRefusal.TheVariants.{Memory};
 
-use ob0_scan::TokenKind;
+use ob0_scan::{Reserved, Symbol};
 use std::alloc::{AllocError, AllocFailed};
 use thiserror::Error;
 
@@ -14,7 +14,8 @@ pub enum Expected {
     Expression,
     Identifier,
     EndOfText,
-    Token(TokenKind),
+    Word(Reserved),
+    Symbol(Symbol),
 }
 
 impl Expected {
@@ -29,10 +30,8 @@ impl Expected {
             Expected::Expression => "expression",
             Expected::Identifier => "identifier",
             Expected::EndOfText => "end of text",
-            Expected::Token(TokenKind::Identifier) => "identifier",
-            Expected::Token(TokenKind::Integer(_)) => "integer",
-            Expected::Token(TokenKind::Reserved(word)) => word.text(),
-            Expected::Token(TokenKind::Symbol(symbol)) => symbol.text(),
+            Expected::Word(word) => word.text(),
+            Expected::Symbol(symbol) => symbol.text(),
         }
     }
 }

@@ -48,7 +48,7 @@ impl<'t> Parser<'t> {
             return Ok((Statement::Assign(boxed), end));
         }
         if !target.selectors.is_empty() {
-            return missing(next, Expected::Token(TokenKind::Symbol(Symbol::Becomes)));
+            return missing(next, Expected::Symbol(Symbol::Becomes));
         }
         let procedure = target.name;
         let Some((arguments, end)) = self.arguments(next, room)? else {

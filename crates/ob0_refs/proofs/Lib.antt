@@ -2,3 +2,4 @@ pub mod AtFields
 pub mod Counted
 pub mod Parameters
 pub mod ParametersFollow
+mod ByMeaning

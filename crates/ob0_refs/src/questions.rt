@@ -1,22 +1,24 @@
 //! Questions about a place: about the name that is there, or else about the field.
 //!
-//! A place is on a name where `name_at` of `ob0_scope` returns one, else on a field where `field_at` of `ob0_types`
-//! does. Renaming uses the same two, so what can be renamed at a place is what is answered there, and the references to
-//! a field are the identifiers that its renaming writes. At names a search by halving in the tokens takes no memory,
-//! and references take one pass over the table of ordinals, from the declaring token on; at fields a search by halving
-//! in the module's fields, which are kept with it.
+//! Each is a match on what the identifier there means (`meant_at` of `ob0_types`). Renaming asks the same, so what can
+//! be renamed at a place is what is answered there, and the references to a field are the identifiers that its renaming
+//! writes. References take one pass over the table of ordinals, from the declaring token on, or over the module's
+//! fields.
 
 ghost use Rattle.std.specs.Prelude.{◌≡◌, IfOk, Some};
+ghost use Rattle.ob0_refs.specs.ByMeaning.{at_meant, declared_meant, named_meant};
 ghost use Rattle.ob0_refs.specs.Questions.{AreReferencesAt, at_field, definition_at, field_declared, field_named_at, field_references, index_of, identified_at, other_tokens};
 
 use crate::answers::{At, Of};
 use crate::declaration_spans::{declared_at, references_to, spans_of};
 use crate::names::at_name;
 use ob0_scan::Span;
-use ob0_scope::name_at;
+use ob0_scope::Named;
 use ob0_scope_table::token_span;
 use ob0_tree::text_at;
-use ob0_types::{WellTyped, declaring_field, field_at, field_place, field_tokens};
+use ob0_types::{
+    Identified, Meant, WellTyped, declaring_field, field_place, field_tokens, meant_at,
+};
 use std::alloc::{AllocError, Global};
 
 /// What a place is on, where it lies in an identifier or at its end: a name, or a field, at the identifier that
@@ -25,13 +27,19 @@ use std::alloc::{AllocError, Global};
 pub fn at(well_typed: &WellTyped<'_>, offset: usize) -> Option<At>
     ensures { result ≡ identified_at well_typed.now offset }
 {
-    let names = well_typed.resolved();
-    match name_at(names, offset) {
-        Some(name) => Some(at_name(names, name)),
-        None => match field_at(well_typed, offset) {
-            None => None,
-            Some(field) => Some(at_field(well_typed, field)),
-        },
+    match meant_at(well_typed, offset) {
+        None => None,
+        Some(found) => Some(at_meant(well_typed, found)),
+    }
+}
+
+fn at_meant(well_typed: &WellTyped<'_>, found: Identified) -> At
+    ensures { result ≡ at_meant well_typed.now.module_read found.token found.means }
+{
+    let token = found.token;
+    match found.means {
+        Meant::Name(ordinal) => at_name(well_typed.resolved(), Named { token, ordinal }),
+        Meant::Field(owner) => at_field(well_typed, (token, owner)),
     }
 }
 
@@ -64,13 +72,18 @@ fn index_of(well_typed: &WellTyped<'_>, field: (usize, usize)) -> usize
 pub fn definition(well_typed: &WellTyped<'_>, offset: usize) -> Option<Span>
     ensures { result ≡ definition_at well_typed.now offset }
 {
-    let names = well_typed.resolved();
-    match name_at(names, offset) {
-        Some(name) => declared_at(names, name.ordinal),
-        None => match field_at(well_typed, offset) {
-            None => None,
-            Some(field) => field_declared(well_typed, field),
-        },
+    match meant_at(well_typed, offset) {
+        None => None,
+        Some(found) => declared_meant(well_typed, found),
+    }
+}
+
+fn declared_meant(well_typed: &WellTyped<'_>, found: Identified) -> Option<Span>
+    ensures { result ≡ declared_meant well_typed.now.module_read found.token found.means }
+{
+    match found.means {
+        Meant::Name(ordinal) => declared_at(well_typed.resolved(), ordinal),
+        Meant::Field(owner) => field_declared(well_typed, (found.token, owner)),
     }
 }
 
@@ -95,32 +108,39 @@ pub fn references(
 ) -> Result<Vec<Span>, AllocError>
     ensures { IfOk result (λ spans. AreReferencesAt well_typed.now offset include spans.items) }
 {
-    let names = well_typed.resolved();
-    match name_at(names, offset) {
-        Some(name) => Ok(references_to(alloc, names, name.ordinal, include)?),
-        None => {
-            let field = field_at(well_typed, offset);
-            Ok(field_named_at(alloc, well_typed, include, field)?)
-        }
+    match meant_at(well_typed, offset) {
+        None => Ok(Vec::new(alloc)),
+        Some(found) => named_meant(alloc, well_typed, found, include),
     }
 }
 
-fn field_named_at(
+fn named_meant(
     alloc: Global,
     well_typed: &WellTyped<'_>,
+    found: Identified,
     include: bool,
-    field: Option<(usize, usize)>,
 ) -> Result<Vec<Span>, AllocError>
-    ensures { IfOk result (λ spans. spans.items ≡ field_named_at well_typed.now include field) }
+    ensures { IfOk result
+        (λ spans. spans.items ≡ named_meant well_typed.now include found.token found.means) }
 {
-    match field {
-        None => Ok(Vec::new(alloc)),
-        Some(field) => {
-            let tokens = field_references(alloc, well_typed, field, include)?;
-            let spans = spans_of(alloc, well_typed.resolved().tokens(), &tokens)?;
-            Ok(spans)
-        }
+    match found.means {
+        Meant::Name(ordinal) => references_to(alloc, well_typed.resolved(), ordinal, include),
+        Meant::Field(owner) => field_named(alloc, well_typed, (found.token, owner), include),
     }
+}
+
+fn field_named(
+    alloc: Global,
+    well_typed: &WellTyped<'_>,
+    field: (usize, usize),
+    include: bool,
+) -> Result<Vec<Span>, AllocError>
+    ensures { IfOk result
+        (λ spans. spans.items ≡ field_named_at well_typed.now include (Some field)) }
+{
+    let tokens = field_references(alloc, well_typed, field, include)?;
+    let spans = spans_of(alloc, well_typed.resolved().tokens(), &tokens)?;
+    Ok(spans)
 }
 
 /// The tokens of a field, in text order: with the one that declares it or without.

@@ -17,7 +17,7 @@ use Rattle.ob0_tree.specs.Places as place
 use Rattle.ob0_tree.specs.Tree.{mapped}
 use Rattle.ob0_language_names.specs.Names.{Name, same_name}
 use Rattle.ob0_scope_table.specs.Resolution.{Resolution}
-use Rattle.ob0_analysis.specs.CheckedModules.{IsWellTyped}
+use Rattle.ob0_types.specs.CheckedModules.{IsWellTyped}
 use Rattle.ob0_edits_tokens.specs.Changed.{is_among, words_of}
 use Rattle.ob0_edits_tokens.specs.OfTrees.{RenamedWordsSpell, number_at, renamed_at}
 use Rattle.ob0_edits_tokens.specs.Replaced.{AreNames, ReplacesName, with_text_at}

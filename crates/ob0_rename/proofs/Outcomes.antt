@@ -1,6 +1,6 @@
 -- What is answered for a declaration: by what conflicts with the new name, or by the edits.
 use Rattle.std.proofs.Common.{◌≡◌, ◌⊎◌, ℕ, ◌≤◌, ◌<◌, Bool, true, false, if◌then◌else◌, Option, Some, None, Result, Ok, Err, Vec, List, [], ◌∷◌, length, map, slice_get, option_map, option_and_then, inl, inr, refl, sym, ap, ◌∙◌, subst, arith}
-use Rattle.std.proofs.lemmas.Bool.{ltb-true}
+use Rattle.std.proofs.lemmas.Bool.{ltb-false, ltb-true}
 use Rattle.std.specs.Prelude.{IfErr, IfOk, IsErrOf, nat_lt}
 use Rattle.std.specs.declared.alloc.Global.{Global}
 use Rattle.ob0_scan.specs.Classes.{IsIdentifier}
@@ -21,7 +21,12 @@ use Rattle.ob0_scope_table.specs.Resolution.{IsResolution, Resolution}
 use Rattle.ob0_language_names.specs.Scopes.{renamed}
 use Rattle.ob0_scope.specs.declared.capturing.FirstCapture as reported
 use Rattle.ob0_scope.specs.declared.capturing.FirstCapture.TheVariants as reports
-use Rattle.ob0_analysis.specs.CheckedModules.{IsWellTyped}
+use Rattle.ob0_tree.specs.Places.{text_at}
+use Rattle.ob0_types.specs.CheckedModules.{IsWellTyped}
+use Rattle.ob0_types.specs.MeantAtPlaces as identified
+use Rattle.ob0_types.specs.declared.meant.Identified.{Identified}
+use Rattle.ob0_types.specs.declared.meant.Meant.{Meant}
+use Rattle.ob0_types.specs.declared.meant.Meant.TheVariants.{Name as name_of, Field}
 use Rattle.ob0_language_types.specs.WellTyped.{WellTyped}
 use Rattle.ob0_language_runs.specs.EditLaws.{FreeKeepsModules, SameRuns}
 use Rattle.ob0_edits_tokens.specs.Changed.{at_each, changed_words, words_of}
@@ -33,8 +38,8 @@ use Rattle.ob0_scope.specs.declared.naming.Named as named
 use Rattle.ob0_types_fields.specs.Identifiers.{field_at}
 use Rattle.ob0_scope.proofs.Written.{renamed_there}
 use Rattle.ob0_tree.specs.Module.{ModuleOf}
-use Rattle.ob0_rename.specs.Answers.{RenameAnswers, AnswersDeclaration, IsRefused, IsRefusedTo, WritesName}
-use Rattle.ob0_rename.specs.Renaming.{NamesDeclaration, Renaming, by_ordinal, by_token, declaration, meant_at, meant_by, declaring_token, is_declared_as, predeclared, token_range, tokens_to_rename}
+use Rattle.ob0_rename.specs.Answers.{RenameAnswers, AnswersDeclaration, IsRefused, IsRefusedTo, OnlyMemory, TakesOwnName, WritesName}
+use Rattle.ob0_rename.specs.Renaming.{MeansField, NamesDeclaration, Renaming, Target, by_ordinal, declaration, field_of, meant, meant_at, meant_by, module_of, nothing, declaring_token, is_declared_as, predeclared, token_range, tokens_to_rename}
 use Rattle.ob0_rename.proofs.Owned.{other_is_declared}
 use Rattle.ob0_rename.proofs.Rewritten.{of_renamed}
 use Rattle.ob0_rename.proofs.Occurring.{occurrence_is_there}
@@ -157,12 +162,22 @@ answered_there a d means (Err why) h = elim h [ inl e ↦ inl e | inr e ↦ inr 
 
 -- ---- what is at the place
 
-pub meant_named : (r : Resolution) (offset : ℕ) (n : named.Named) → name_on r.module_read offset ≡ Some n → meant_at r offset ≡ by_ordinal n.ordinal
-meant_named r offset n is = ap (λ o. meant_by r.module_read.source o (field_at r offset)) is
+-- what an identifier is as what is to be renamed
+abbrev pub target_of : Scanned → ℕ → Meant → Target
+target_of source token (name_of ordinal) = by_ordinal ordinal
+target_of source token (Field k) = field_of k (text_at source token)
 
-pub meant_unnamed : (r : Resolution) (offset : ℕ) (found : Option (ℕ × ℕ)) → name_on r.module_read offset ≡ None → field_at r offset ≡ found
-    → meant_at r offset ≡ by_token r.module_read.source found
-meant_unnamed r offset found is there = (λ i. meant_by r.module_read.source (is i) (there i))
+abbrev pub target_in : Scanned → Option Identified → Target
+target_in source None = nothing
+target_in source (Some x) = target_of source x.token x.means
+
+pub target_there : (r : Resolution) (offset : ℕ) (found : Option Identified) → found ≡ identified.meant_at r offset → meant_at r offset ≡ target_in r.module_read.source found
+target_there r offset found is = one (name_on r.module_read offset) (field_at r offset) ∙ ap (target_in r.module_read.source) (sym is)
+  where
+    one : (n : Option named.Named) (f : Option (ℕ × ℕ)) → meant_by r.module_read.source n f ≡ target_in r.module_read.source (identified.meant_by n f)
+    one (Some n) f = refl
+    one None None = refl
+    one None (Some x) = refl
 
 pub is_declaration : (ordinal : ℕ) → 7 ≤ ordinal → by_ordinal ordinal ≡ declaration ordinal
 is_declaration ordinal high = one (nat_lt ordinal 7) refl
@@ -170,3 +185,30 @@ is_declaration ordinal high = one (nat_lt ordinal 7) refl
     one : (b : Bool) → nat_lt ordinal 7 ≡ b → (if b then predeclared else declaration ordinal) ≡ declaration ordinal
     one true e = absurd (omega (arith, high, ltb-true ordinal 7 e))
     one false e = refl
+
+pub is_predeclared : (ordinal : ℕ) → ordinal < 7 → by_ordinal ordinal ≡ predeclared
+is_predeclared ordinal low = one (nat_lt ordinal 7) refl
+  where
+    one : (b : Bool) → nat_lt ordinal 7 ≡ b → (if b then predeclared else declaration ordinal) ≡ predeclared
+    one true e = refl
+    one false e = absurd (omega (arith, low, ltb-false ordinal 7 e))
+
+-- ---- the name that is there already
+
+pub takes_declaration : (a : Renaming) (d : ℕ) (result : Result (Vec Edit Global) EditRefusal) → NamesDeclaration a d → (is_declared_as (module_of a) d a.new ≡ true → OnlyMemory result) → TakesOwnName a result
+takes_declaration a d result means own = (
+  (λ e other is. let both : declaration d ≡ declaration e = sym means ∙ other in let same : d ≡ e = cc in own (subst (λ (x : ℕ). is_declared_as (module_of a) x a.new ≡ true) (sym same) is)),
+  (λ k f other is. let both : declaration d ≡ field_of k f = sym means ∙ other in absurd (cc)),
+)
+
+pub takes_field : (a : Renaming) (k : ℕ) (f : Name) (result : Result (Vec Edit Global) EditRefusal) → MeansField a k f → (a.new ≡ f → OnlyMemory result) → TakesOwnName a result
+takes_field a k f result means own = (
+  (λ e other is. let both : field_of k f ≡ declaration e = sym means ∙ other in absurd (cc)),
+  (λ l g other is. let both : field_of k f ≡ field_of l g = sym means ∙ other in let same : f ≡ g = cc in own (is ∙ sym same)),
+)
+
+pub takes_none : (a : Renaming) (result : Result (Vec Edit Global) EditRefusal) → (meant a ≡ nothing) ⊎ (meant a ≡ predeclared) → TakesOwnName a result
+takes_none a result (inl means) =
+    ((λ e other is. let both : nothing ≡ declaration e = sym means ∙ other in absurd (cc)), (λ l g other is. let both : nothing ≡ field_of l g = sym means ∙ other in absurd (cc)))
+takes_none a result (inr means) =
+    ((λ e other is. let both : predeclared ≡ declaration e = sym means ∙ other in absurd (cc)), (λ l g other is. let both : predeclared ≡ field_of l g = sym means ∙ other in absurd (cc)))

@@ -23,6 +23,8 @@ use Rattle.ob0_scope_table.specs.Resolution.{declaring_only}
 use Rattle.ob0_edits_tokens.specs.Changed.{words_of}
 use Rattle.ob0_edits_tokens.specs.OfTrees.{text_of_word, word_at}
 use Rattle.ob0_edits_tokens.specs.Replaced as edit
+use Rattle.ob0_types.specs.MeantAtPlaces.{IsField}
+use Rattle.ob0_types.specs.declared.meant.Identified.{Identified}
 use Rattle.ob0_rename.specs.Renaming.{is_declared_as}
 use Rattle.ob0_rename.proofs.Owned.{IsDeclaredBy, declared_by, declaring_tokens}
 use Rattle.ob0_rename.proofs.Rewritten.{text_same}
@@ -85,6 +87,6 @@ own_identifier m d new is scan e =
     subst IsIdentifier by.written (spelled_at m found.0 scan is_there)
 
 -- so is a field that a place is on
-pub field_spelled : (m : Parsed) (found : Option (ℕ × ℕ)) → IsScan m.source → IfSome found (λ x. order.IsIdentifierToken m.source.tokens x.0) → IfSome found (λ x. IsIdentifier (place.text_at m.source x.0))
+pub field_spelled : (m : Parsed) (found : Option Identified) → IsScan m.source → IfSome found (λ x. IsField x.means → order.IsIdentifierToken m.source.tokens x.token) → IfSome found (λ x. IsField x.means → IsIdentifier (place.text_at m.source x.token))
 field_spelled m None scan identified = tt
-field_spelled m (Some x) scan identified = spelled_at m x.0 scan identified
+field_spelled m (Some x) scan identified = λ field. spelled_at m x.token scan (identified field)

@@ -41,35 +41,35 @@ named_tree r = read.named_tree_of (module_of r)
 -- ---- what is named at a place
 
 -- what is to be renamed: nothing, a predeclared name, a declaration or a field
-pub data Meant : Type 0 where
-  nothing : Meant
-  predeclared : Meant
+pub data Target : Type 0 where
+  nothing : Target
+  predeclared : Target
   -- the declaration with this ordinal
-  declaration : ℕ → Meant
+  declaration : ℕ → Target
   -- the field of this name of the record with this ordinal
-  field_of : ℕ → Name → Meant
+  field_of : ℕ → Name → Target
 
 -- a name by its ordinal: predeclared below 7, else a declaration
-abbrev pub by_ordinal : ℕ → Meant
+abbrev pub by_ordinal : ℕ → Target
 by_ordinal ordinal = if nat_lt ordinal 7 then predeclared else declaration ordinal
 
 -- a field, by its record and the token that names it
-abbrev pub by_token : Scanned → Option (ℕ × ℕ) → Meant
+abbrev pub by_token : Scanned → Option (ℕ × ℕ) → Target
 by_token source None = nothing
 by_token source (Some x) = field_of x.1 (text_at source x.0)
 
 -- the name at the place, or else the field
-abbrev pub meant_by : Scanned → Option named.Named → Option (ℕ × ℕ) → Meant
+abbrev pub meant_by : Scanned → Option named.Named → Option (ℕ × ℕ) → Target
 meant_by source (Some n) f = by_ordinal n.ordinal
 meant_by source None f = by_token source f
 
 -- what an identifier at an offset names: a name of the module, or else a field
-abbrev pub meant_at : Resolution → ℕ → Meant
+abbrev pub meant_at : Resolution → ℕ → Target
 meant_at names offset =
     meant_by names.module_read.source (name_on names.module_read offset) (field_at names offset)
 
 -- what is to be renamed at the place
-abbrev pub meant : Renaming → Meant
+abbrev pub meant : Renaming → Target
 meant r = meant_at r.names (offset_of (width_of r.unit) r.text r.place)
 
 -- it is a name of the declaration with this ordinal

@@ -1,6 +1,6 @@
 //! The edits that give a record's field another name.
 
-ghost use Rattle.std.specs.Prelude.{◌≡◌, Err, IfOk, IfSome, None, if◌then◌else◌};
+ghost use Rattle.std.specs.Prelude.{◌≡◌, Err, IfOk, None, if◌then◌else◌};
 ghost use Rattle.std.specs.Str.{chars};
 ghost use Rattle.ob0_scan.specs.Classes.{IsIdentifier};
 ghost use Rattle.ob0_text.specs.declared.position_types.Position as positions;
@@ -8,38 +8,28 @@ ghost use Rattle.ob0_text.specs.declared.refusals.EditRefusal.TheVariants as ref
 ghost use Rattle.ob0_tree.specs.Places.{text_at};
 ghost use Rattle.ob0_language_names.specs.Names.{same_name};
 ghost use Rattle.ob0_edits_tokens.specs.Replaced.{AreNames};
-ghost use Rattle.ob0_types_fields.specs.Identifiers.{declaring_field, field_at};
+ghost use Rattle.ob0_types_fields.specs.Identifiers.{declaring_field};
 ghost use Rattle.ob0_rename.specs.Answers.{AnswersForField, OnlyMemory};
 ghost use Rattle.ob0_rename.specs.Renaming.{field_tokens_to_rename};
 
 use crate::places::token_range;
-use ob0_analysis::{WellTyped, declaring_field, field_at, field_tokens};
 use ob0_edits_tokens::edits_for;
 use ob0_edits_tokens::laws::{names_replace_names, renamed_words_spell};
 use ob0_language_field_laws::laws::free_field_keeps_modules;
 use ob0_scan::is_identifier;
 use ob0_text::{Edit, EditRefusal, TextStore};
 use ob0_tree::text_at;
+use ob0_types::{WellTyped, declaring_field, field_tokens};
 use ob0_types_fields::laws::{duplicate_by_token, renamed_at_tokens};
 use std::alloc::{AllocError, Global};
-
-/// The field that a place is on: the identifier's token, and the ordinal of the field's record.
-pub(crate) fn field_named_at(well_typed: &WellTyped<'_>, offset: usize) -> Option<(usize, usize)>
-    ensures found { result ≡ field_at well_typed.now offset }
-    ensures spelled { IfSome result
-        (λ x. IsIdentifier (text_at well_typed.now.module_read.source x.0)) }
-{
-    // For the proof: what the contract of this call says.
-    let _text = well_typed.resolved().tokens().text();
-    field_at(well_typed, offset)
-}
 
 /// The edits for the field that is named at a token, of the record with an ordinal.
 pub(crate) fn rename_field<T: TextStore>(
     alloc: Global,
     store: &T,
     well_typed: &WellTyped<'_>,
-    field: (usize, usize),
+    token: usize,
+    owner: usize,
     new: &str,
 ) -> Result<Vec<Edit>, EditRefusal>
     requires { T.content store.now ≡ chars well_typed.now.module_read.source.text }
@@ -50,11 +40,11 @@ pub(crate) fn rename_field<T: TextStore>(
           names = well_typed.now;
           place = place;
           new = new.now;
-        }) field.1
-        (text_at well_typed.now.module_read.source field.0) result }
+        }) owner
+        (text_at well_typed.now.module_read.source token) result }
     ensures memory { result ≡ Err refused.Memory → IsIdentifier new.now }
     ensures own_name { IsIdentifier new.now
-        → new.now ≡ text_at well_typed.now.module_read.source field.0
+        → new.now ≡ text_at well_typed.now.module_read.source token
         → OnlyMemory result }
 {
     names_replace_names();
@@ -68,13 +58,13 @@ pub(crate) fn rename_field<T: TextStore>(
     if !is_identifier(new) {
         return Err(EditRefusal::BadName);
     }
-    let old = text_at(names.tokens(), field.0);
-    match other_field(well_typed, field.1, old, new) {
-        Some(token) => Err(EditRefusal::Duplicate {
-            range: token_range(store, names.tokens(), Some(token)),
+    let old = text_at(names.tokens(), token);
+    match other_field(well_typed, owner, old, new) {
+        Some(other) => Err(EditRefusal::Duplicate {
+            range: token_range(store, names.tokens(), Some(other)),
         }),
         None => {
-            let tokens = field_tokens_to_rename(alloc, well_typed, field.1, old, new)?;
+            let tokens = field_tokens_to_rename(alloc, well_typed, owner, old, new)?;
             edits_for(alloc, store, names.tokens(), &tokens, new)
         }
     }

@@ -1,12 +1,15 @@
-//! Places of a text: the tokens at which a new name is to be written, and ranges of tokens.
+//! Places of a text: what the identifier there means, the tokens at which a new name is to be written, and ranges of
+//! tokens.
 
-ghost use Rattle.std.specs.Prelude.{◌≡◌, ℕ, IfOk, Some};
+ghost use Rattle.std.specs.Prelude.{◌≡◌, ℕ, IfOk, IfSome, Some};
+ghost use Rattle.ob0_scan.specs.Classes.{IsIdentifier};
 ghost use Rattle.ob0_language_names.specs.Names.{same_name};
 ghost use Rattle.ob0_scope_table.specs.Resolution.{span_at};
 ghost use Rattle.ob0_text.specs.Units.{width_of};
 ghost use Rattle.ob0_tree.specs.Places.{text_at};
 ghost use Rattle.ob0_edits_tokens.specs.Ranges.{range_of};
 ghost use Rattle.ob0_edits_tokens.specs.Replaced.{AreNames};
+ghost use Rattle.ob0_types.specs.MeantAtPlaces.{IsField, meant_at};
 ghost use Rattle.ob0_rename.specs.Renaming.{is_declared_as, tokens_to_rename};
 
 use ob0_edits_tokens::range_of;
@@ -14,7 +17,19 @@ use ob0_scan::{Span, Tokens};
 use ob0_scope::renamed_tokens;
 use ob0_scope_table::{Resolved, token_span};
 use ob0_text::{Range, TextStore};
+use ob0_types::{Identified, WellTyped, meant_at};
 use std::alloc::{AllocError, Global};
+
+/// The identifier that a place is on, and what it means. That of a field is written as an identifier.
+pub(crate) fn identified(well_typed: &WellTyped<'_>, offset: usize) -> Option<Identified>
+    ensures found { result ≡ meant_at well_typed.now offset }
+    ensures spelled { IfSome result (λ x. IsField x.means
+        → IsIdentifier (text_at well_typed.now.module_read.source x.token)) }
+{
+    // For the proof: what the contract of this call says.
+    let _text = well_typed.resolved().tokens().text();
+    meant_at(well_typed, offset)
+}
 
 /// The tokens of a declaration's name, in text order; none where it has the new name.
 pub(crate) fn tokens_to_rename(

@@ -14,16 +14,16 @@ ghost use Rattle.ob0_edits_tokens.specs.Ranges.{range_of};
 ghost use Rattle.ob0_rename.specs.Answers.{RenameAnswers, AnswersDeclaration, AllocatesOnly, OnlyMemory, TakesOwnName};
 ghost use Rattle.ob0_rename.specs.Renaming.{declaring_token, is_declared_as};
 
-use crate::fields::{field_named_at, rename_field};
-use crate::places::{token_range, tokens_to_rename};
-use ob0_analysis::WellTyped;
+use crate::fields::rename_field;
+use crate::places::{identified, token_range, tokens_to_rename};
 use ob0_edits_tokens::edits_for;
 use ob0_edits_tokens::laws::{names_replace_names, renamed_words_spell};
 use ob0_language_runs::laws::free_keeps_modules;
 use ob0_scan::is_identifier;
-use ob0_scope::{FirstCapture, captures, name_at};
+use ob0_scope::{FirstCapture, captures};
 use ob0_scope_table::{PREDECLARED, Resolved};
 use ob0_text::{Edit, EditRefusal, Position, TextStore};
+use ob0_types::{Meant, WellTyped};
 use std::alloc::Global;
 
 /// The edits that write `new` for the declaration or the field that is named at a place, in text order: one for each
@@ -64,17 +64,20 @@ pub fn rename<T: TextStore>(
     }) result }
 {
     let offset = store.offset(place);
-    match name_at(well_typed.resolved(), offset) {
-        Some(name) => {
-            if name.ordinal < PREDECLARED {
-                Err(EditRefusal::Predeclared)
-            } else {
-                rename_declaration(alloc, store, well_typed, name.ordinal, new)
+    match identified(well_typed, offset) {
+        None => Err(EditRefusal::NoName),
+        Some(found) => match found.means {
+            Meant::Name(ordinal) => {
+                if ordinal < PREDECLARED {
+                    Err(EditRefusal::Predeclared)
+                } else {
+                    rename_declaration(alloc, store, well_typed, ordinal, new)
+                }
             }
-        }
-        None => match field_named_at(well_typed, offset) {
-            Some(field) => rename_field(alloc, store, well_typed, field, new),
-            None => Err(EditRefusal::NoName),
+            Meant::Field(owner) => {
+                let token = found.token;
+                rename_field(alloc, store, well_typed, token, owner, new)
+            }
         },
     }
 }

@@ -1,6 +1,6 @@
 -- What requests mean, by their method and params (LSP 3.17).
 -- Rule: docs/PROTOCOL.md, JSON shapes 4, Capabilities; LSP 3.17, requests.
-use Rattle.std.specs.Prelude.{ℕ, List, [], ◌∷◌, Bool, false, Option, Some, None, is_some, if◌then◌else◌, ◌||◌, max, min, option_map, option_and_then, unwrap_or, codes, Result, Ok, Err}
+use Rattle.std.specs.Prelude.{ℕ, List, [], ◌∷◌, Bool, false, Option, Some, None, is_some, if◌then◌else◌, ◌||◌, option_map, option_and_then, unwrap_or, codes, Result, Ok, Err}
 use Rattle.std.specs.Str.{bytes_eq}
 use Rattle.serde_json.specs.Data.{Data, Items, no_items, item}
 use Rattle.serde_json.specs.Find.{get, as_str, as_bool, as_array, as_object}
@@ -8,6 +8,7 @@ use Rattle.ob0_text.specs.declared.position_types.Position.{Position}
 use Rattle.ob0_text.specs.declared.position_types.Range.{Range}
 use Rattle.ob0_text.specs.declared.edits.Indent.{Indent}
 use Rattle.ob0_text.specs.declared.edits.Indent.TheVariants.{Tab, Spaces}
+use Rattle.ob0_text.specs.Indents.{level_spaces}
 use Rattle.ob0_rpc.specs.Members.{is_absent, text_member, truth_member, count_member, document_uri, position_member, range_member}
 use Rattle.ob0_rpc.specs.declared.clients.Client.{Client}
 use Rattle.ob0_rpc.specs.declared.incoming.RpcFault.{RpcFault}
@@ -155,13 +156,13 @@ code_action_of params =
     code_action_by (document_uri params) (range_member (codes "range") params)
     (option_and_then only_of (get (codes "context") params))
 
--- a level is one tab, or 1 to 16 spaces
+-- a level is one tab, or some spaces
 abbrev pub indent_by : Option ℕ → Option Bool → Option Indent
-indent_by (Some size) (Some spaces) = Some (if spaces then Spaces (max 1 (min size 16)) else Tab)
+indent_by (Some size) (Some spaces) = Some (if spaces then Spaces (level_spaces size) else Tab)
 indent_by (Some size) None = None
 indent_by None spaces = None
 
--- the indent in formatting options: a tab, or 1 to 16 spaces
+-- the indent in formatting options
 abbrev pub indent_of : Data → Option Indent
 indent_of options =
     indent_by (count_member (codes "tabSize") options) (truth_member (codes "insertSpaces") options)

@@ -17,7 +17,7 @@ use std::alloc::AllocError;
 /// No more capacity is reserved at once for the items of a list, in bytes.
 const MAX_CAPACITY: usize = 1 << 26;
 
-/// What is written as a JSON value.
+/// What is written as a JSON value. No contract says what `out` has after an error: whoever made it drops it.
 pub trait Written {
     /// The value that is written.
     ghost value: { Self → Data };

@@ -1,7 +1,8 @@
 //! Requests of the client (LSP 3.17), by method and params.
-ghost use Rattle.std.specs.Prelude.{◌≡◌, IfOk, max, min, option_map, option_and_then, map, string_bytes, codes};
+ghost use Rattle.std.specs.Prelude.{◌≡◌, IfOk, option_map, option_and_then, map, string_bytes, codes};
 ghost use Rattle.serde_json.specs.Find.{get};
 ghost use Rattle.serde_json.specs.View.{view, items_view};
+ghost use Rattle.ob0_text.specs.Indents.{level_spaces};
 ghost use Rattle.ob0_rpc.specs.Requesting as asks;
 ghost use Rattle.ob0_rpc.specs.Requesting.{at_of, request_by_method, references_of, rename_of, code_action_of, formatting_of, language_call_of, only_by, only_of, texts_of as texts_in, indent_of as indent_in, or_bad, initialize_of};
 ghost use Rattle.ob0_rpc.specs.Members.{truth_member};
@@ -10,7 +11,7 @@ ghost use Rattle.ob0_rpc.specs.Seen.{Requests, at_seen, kinds_seen};
 use crate::clients::{Client, client_of};
 use crate::incoming::RpcFault;
 use crate::members::{count_in, position_in, range_in, text_in, truth_in, uri_of};
-use ob0_text::{Indent, Position, Range};
+use ob0_text::{Indent, MAX_INDENT, Position, Range};
 use serde_json::Value;
 use std::alloc::{AllocError, Global};
 
@@ -203,7 +204,7 @@ fn includes_declaration(params: &Value) -> Option<bool>
     truth_in(params.get("context")?, "includeDeclaration")
 }
 
-/// The indent of formatting options: a tab, or from 1 to 16 spaces.
+/// The indent of formatting options.
 fn indent_of(params: &Value) -> Option<Indent>
     ensures { result ≡ option_and_then indent_in (get (codes "options") (view params.now)) }
 {
@@ -217,10 +218,11 @@ fn indent_of(params: &Value) -> Option<Indent>
     })
 }
 
+/// The spaces of a level where this many are requested: from 1 to [`MAX_INDENT`].
 fn spaces_of(size: u64) -> u8
-    ensures { result ≡ max 1 (min size 16) }
+    ensures { result ≡ level_spaces size }
 {
-    size.min(16).max(1) as u8
+    size.min(MAX_INDENT as u64).max(1) as u8
 }
 
 /// The kinds that a context requests; None where it can't be read.

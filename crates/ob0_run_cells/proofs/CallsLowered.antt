@@ -16,8 +16,7 @@ use Rattle.ob0_language_runs.proofs.SoundCalls.{from-fit, names-fit, parameters-
 use Rattle.ob0_run_machine.specs.Evaluation.{Level, Levels}
 use Rattle.ob0_run_machine.specs.Execution as execution
 use Rattle.ob0_run_machine.specs.Lowered as lowered
-use Rattle.ob0_run_cells.specs.ActivationLaws.{CallsLowered}
-use Rattle.ob0_run_cells.specs.Activations.{RoutineTable, BodyMeans, IsPlaced, Placed, Placing, PlacingFits, ProcedureMeans, Whereabouts, at_target, entered_placing, first_target, from_name, inward, label_table, own_target, target_of, targets_in}
+use Rattle.ob0_run_cells.specs.Activations.{RoutineTable, BodyMeans, IsPlaced, Placed, Placing, PlacingFits, ProcedureMeans, Whereabouts, at_target, entered_placing, first_target, from_name, inward, own_target, target_of, targets_in}
 use Rattle.ob0_run_cells.specs.Cells.{all_cells, sizes}
 use Rattle.ob0_run_cells.specs.LoweredStatements.{Body, CallsRepresent, HaveNumbers, ProgressRepresents, Represents, Target, argument_addresses, argument_cells}
 use Rattle.ob0_run_cells.specs.Lowering.{held}
@@ -140,6 +139,3 @@ module _ {N : Type 0} (table : RoutineTable N) where
   calls-known zero t typing ls checked placing active env placed few x signature e args low s p h fit cells there numbers = (refl, h.same_output)
   calls-known (suc c) t typing ls checked placing active env placed few x signature e args low s p h fit cells there numbers =
       activate-represents c t (calls-known c t) typing ls (from_binding table.naming checked x) (from_name table.naming placing x) (from_binding table.naming active x) signature args low s p (from-fit table.naming typing checked active x env) (from-placed table typing ls checked placing active x placed) few e h fit cells there numbers
-
-pub calls_lowered-holds : CallsLowered
-calls_lowered-holds table bound c t typing ls checked placing active env placed few = calls-known (label_table table bound) c t typing ls checked placing active env placed few

@@ -1,7 +1,6 @@
 pub mod Splits
 pub mod Parts
 pub mod Places
-pub mod Same
 pub mod Variables
 pub mod LoweredOutcomes
 pub mod LoweredNumbers

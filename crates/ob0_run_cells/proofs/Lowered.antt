@@ -8,7 +8,7 @@ use Rattle.ob0_tree.specs.Tree.{end}
 use Rattle.ob0_language_types.specs.Expressions.{evaluate}
 use Rattle.ob0_run_machine.specs.Lowered as lowered
 use Rattle.ob0_run_cells.specs.Lowering.{addends_left, multipliers_left}
-use Rattle.ob0_run_cells.specs.LoweringLaws.{AddendsLower, BlocksLower, CellsLower, ConjunctionsLower, ConstantsLower, DisjunctionsLower, ExpressionsLower, FieldsLower, IndexesLower, IntegersLower, NegationsLower, OperatorsEnd, ParenthesesLower, ProductsLower, RelationsLower, SelectorsEnd, SumsLower, TermsLower, VariablesLower}
+use Rattle.ob0_run_cells.specs.LoweringLaws.{AddendsLower, BlocksLower, CellsLower, ConjunctionsLower, ConstantsLower, DisjunctionsLower, ExpressionsLower, FieldsLower, IndexesLower, IntegersLower, NegationsLower, OperatorsEnd, ProductsLower, RelationsLower, SelectorsEnd, SumsLower, TermsLower, VariablesLower}
 use Rattle.ob0_run_cells.proofs.LoweredNumbers as numbers
 use Rattle.ob0_run_cells.proofs.LoweredOutcomes.{difference-operates, product-operates, quotient-operates, remainder-operates, sum-operates}
 use Rattle.ob0_run_cells.proofs.LoweredPlaces as places
@@ -34,9 +34,6 @@ constants_lower-holds checked slots x = (places.number-constant checked slots x,
 
 pub cells_lower-holds : CellsLower
 cells_lower-holds checked slots x v path q e = (places.cell-means checked slots x v path q e, places.flag-means checked slots x v path q e)
-
-pub parentheses_lower-holds : ParenthesesLower
-parentheses_lower-holds checked slots e = (numbers.parenthesised-means checked slots e, truths.parenthesised-means checked slots e)
 
 pub negations_lower-holds : NegationsLower
 negations_lower-holds = truths.negation-means

@@ -1,5 +1,6 @@
 -- Places of lowered code mean the designators that they mean, and cells at them the value of those.
-use Rattle.std.proofs.Common.{◌≡◌, ℕ, zero, suc, ◌+◌, ◌*◌, ◌<◌, ◌^◌, Bool, true, false, List, [], ◌∷◌, ◌++◌, ℤ, pos, negsuc, if◌then◌else◌, nat_lt, slice_get, Some, None, Option, option_map, option_and_then, unwrap_or, sym, refl, ap, ◌∙◌, subst, subst₂, arith, append_assoc, append-nil}
+use Rattle.std.proofs.Common.{◌≡◌, ℕ, zero, suc, ◌+◌, ◌*◌, ◌<◌, ◌%◌, ◌^◌, Bool, true, false, List, [], ◌∷◌, ◌++◌, ℤ, pos, negsuc, if◌then◌else◌, nat_lt, slice_get, Some, None, Option, option_map, option_and_then, unwrap_or, sym, refl, ap, ◌∙◌, subst, subst₂, arith, append_assoc, append-nil}
+use Rattle.std.proofs.Math.Nat.{add_assoc, add_comm, add-zero, add-mod-mod, mod-add-mod}
 use Rattle.std.proofs.lemmas.Option.{get_or_from_slice_get}
 use Rattle.ob0_tree.specs.Tree.{Tree, compares, designator, end, expression, factor, field, index, items, more, none, parenthesised, product, selector, sum}
 use Rattle.ob0_language_types.specs.Expressions.{Meanings, Object, a_constant, a_procedure, a_standard, a_type, a_variable, designate, element_step, evaluate, follow, object_place, object_value}
@@ -12,7 +13,7 @@ use Rattle.ob0_run_machine.specs.Evaluation as machine
 use Rattle.ob0_run_machine.specs.Evaluation.{Levels}
 use Rattle.ob0_run_machine.specs.Lowered as lowered
 use Rattle.ob0_run_cells.specs.Cells.{address, all_cells, field_offset, offset, size, sizes, step_offset, truth_cell}
-use Rattle.ob0_run_cells.specs.Lowering.{Evaluated, GivesPlace, Has32Bits, Moment, NumberMeans, PlaceLeads, PlaceMeans, Shows, Slot, TruthMeans, ValueAt, cells_in, further, held, by_reference, of_module, outcome_of, place_of_designator, selectors_left, slot_address, slot_place, value_of_expression, value_of_factor}
+use Rattle.ob0_run_cells.specs.Lowering.{Evaluated, GivesPlace, Has32Bits, Moment, NumberMeans, PlaceLeads, PlaceMeans, Shows, Slot, TruthMeans, ValueAt, cells_in, further, held, by_reference, of_module, outcome_of, part_at, place_of_designator, selectors_left, slot_address, slot_place, value_of_expression, value_of_factor}
 use Rattle.ob0_run_cells.proofs.LoweredNumbers.{each-then}
 use Rattle.ob0_run_cells.proofs.LoweredOutcomes.{Led, addresses, forward-same, given-same, gives-then, grouped-then, led-then, same, stuck-then, followed_by}
 use Rattle.ob0_run_cells.proofs.Places.{numbers_are_cells-holds, parts_have_addresses-holds, place-lies, places_are_slices-holds, truths_are_cells-holds}
@@ -79,7 +80,53 @@ pub slot-found : (ls : Levels) (cells : List ℤ) (slot : Slot) → slot_address
 slot-found ls cells (of_module at) h = refl
 slot-found ls cells (held zero at) h = ap machine.gives (forward-same (machine.innermost ls).base at h)
 slot-found ls cells (held (suc up) at) h = ap machine.gives (forward-same (machine.level_at ls (suc up)).base at h)
-slot-found ls cells (by_reference up i) h = refl
+slot-found ls cells (by_reference up i) h = ap machine.gives (forward-same (slot_address ls (by_reference up i)) 0 (subst (λ n. n < 2 ^ 64) (sym (add-zero (slot_address ls (by_reference up i)))) h) ∙ add-zero (slot_address ls (by_reference up i)))
+
+-- addresses of parts
+
+forward-twice : (a k j : ℕ) → machine.forward a (machine.forward k j) ≡ machine.forward (machine.forward a k) j
+forward-twice a k j = add-mod-mod a (k + j) (2 ^ 64) ∙ (ap (λ n. n % 2 ^ 64) (sym (add_assoc a k j)) ∙ sym (mod-add-mod (a + k) (2 ^ 64) j))
+
+forward-swapped : (a k j : ℕ) → machine.forward (machine.forward a k) j ≡ machine.forward (machine.forward a j) k
+forward-swapped a k j =
+    mod-add-mod (a + k) (2 ^ 64) j
+    ∙ (ap (λ n. n % 2 ^ 64) (add_assoc a k j ∙ (ap (λ n. a + n) (add_comm k j) ∙ sym (add_assoc a j k))) ∙ sym (mod-add-mod (a + j) (2 ^ 64) k))
+
+-- an element of an array that is somewhat further on is as much further on
+further-element : (x : machine.StepResult ℕ) (y : machine.StepResult ℤ) (n s at k : ℕ)
+    → followed_by x (λ a. followed_by y (machine.element_at (machine.forward a (machine.forward at k)) n s))
+    ≡ followed_by (followed_by x (λ a. followed_by y (machine.element_at (machine.forward a at) n s))) (λ a. machine.gives (machine.forward a k))
+further-element (machine.gives a) (machine.gives (pos j)) n s at k = chosen (nat_lt j n)
+  where
+    chosen : (b : Bool) → (if b then machine.gives (machine.forward (machine.forward a (machine.forward at k)) (j * s)) else machine.ends machine.Index)
+        ≡ followed_by (if b then machine.gives (machine.forward (machine.forward a at) (j * s)) else machine.ends machine.Index) (λ a. machine.gives (machine.forward a k))
+    chosen true = ap machine.gives (ap (λ b. machine.forward b (j * s)) (forward-twice a at k) ∙ forward-swapped (machine.forward a at) k (j * s))
+    chosen false = refl
+further-element (machine.gives a) (machine.gives (negsuc j)) n s at k = refl
+further-element (machine.gives a) (machine.ends e) n s at k = refl
+further-element (machine.ends e) y n s at k = refl
+
+-- a part is as much further on as its offset says
+pub part-address : (ls : Levels) (cells : List ℤ) (q : lowered.Place) (k : ℕ) → machine.address ls cells (part_at q k) ≡ followed_by (machine.address ls cells q) (λ a. machine.gives (machine.forward a k))
+part-address ls cells (lowered.in_module at) k = refl
+part-address ls cells (lowered.here at) k = ap machine.gives (forward-twice (machine.innermost ls).base at k)
+part-address ls cells (lowered.outside up at) k = ap machine.gives (forward-twice (machine.level_at ls up).base at k)
+part-address ls cells (lowered.passed up i at) k = ap machine.gives (forward-twice (slot_address ls (by_reference up i)) at k)
+part-address ls cells (lowered.element q i n s at) k = further-element (machine.address ls cells q) (machine.number ls cells i) n s at k
+
+-- an element without an offset
+from-start : (a : ℕ) (y : machine.StepResult ℤ) (n s : ℕ) → followed_by y (machine.element_at (machine.forward a 0) n s) ≡ followed_by y (machine.element_at a n s)
+from-start a (machine.gives (pos j)) n s = ap (λ b. if nat_lt j n then machine.gives b else machine.ends machine.Index) (mod-add-mod (a + 0) (2 ^ 64) (j * s) ∙ ap (λ b. machine.forward b (j * s)) (add-zero a))
+from-start a (machine.gives (negsuc j)) n s = refl
+from-start a (machine.ends e) n s = refl
+
+pub element-address : (ls : Levels) (cells : List ℤ) (q : lowered.Place) (i : lowered.Number) (n s : ℕ)
+    → machine.address ls cells (lowered.element q i n s 0) ≡ followed_by (machine.address ls cells q) (λ a. followed_by (machine.number ls cells i) (machine.element_at a n s))
+element-address ls cells q i n s = go (machine.address ls cells q)
+  where
+    go : (x : machine.StepResult ℕ) → followed_by x (λ a. followed_by (machine.number ls cells i) (machine.element_at (machine.forward a 0) n s)) ≡ followed_by x (λ a. followed_by (machine.number ls cells i) (machine.element_at a n s))
+    go (machine.gives a) = from-start a (machine.number ls cells i) n s
+    go (machine.ends e) = refl
 
 -- one step further, at a moment
 
@@ -204,14 +251,14 @@ module _ {N : Type 0} (checked : Typed N) (slots : N → Slot) where
   )
 
   pub field-leads : (q : lowered.Place) (k : ℕ) (fs : FieldShapes) (x : N) (t : Shape) (rest : Tree N (items selector)) (whole : Evaluated N Place)
-      → PlaceLeads checked slots q (record_shape k fs) (more (field x) rest) whole → shape_of_field fs (checked.written x) ≡ Some t → PlaceLeads checked slots (lowered.part q (field_offset fs (checked.written x))) t rest whole
+      → PlaceLeads checked slots q (record_shape k fs) (more (field x) rest) whole → shape_of_field fs (checked.written x) ≡ Some t → PlaceLeads checked slots (part_at q (field_offset fs (checked.written x))) t rest whole
   unfolding evaluate
   field-leads q k fs x t rest whole h e =
       let (v, hv, ev) = h in (
         (λ z. v z >>= (λ p. gives (further p (at_field (checked.written x) ∷ [])))),
         (λ z shown. let l = led-then z.typing (record_shape k fs) t (machine.address z.levels (cells_in z) q) (v z) (λ a. machine.gives (machine.forward a (field_offset fs (checked.written x)))) (λ p. gives (further p (at_field (checked.written x) ∷ [])))
             (led-at q (record_shape k fs) v hv z shown) (λ p fit. step-led z.typing z.store shown.store_fits shown.has_addresses p (record_shape k fs) t (at_field (checked.written x)) fit e) in
-            (l.is_same, l.is_place)),
+            (ap (outcome_of same) (part-address z.levels (cells_in z) q (field_offset fs (checked.written x))) ∙ l.is_same, l.is_place)),
         λ z shown. grouped-then (v z) (λ p. gives (further p (at_field (checked.written x) ∷ []))) (selectors_left rest z)
             ∙ (each-then (v z) (λ p. selectors_left rest z (further p (at_field (checked.written x) ∷ []))) (selectors_left (more (field x) rest) z)
             (λ p. left-further z p (at_field (checked.written x)) rest
@@ -221,14 +268,14 @@ module _ {N : Type 0} (checked : Typed N) (slots : N → Slot) where
       )
 
   pub index-leads : (q : lowered.Place) (k n : ℕ) (t : Shape) (e : Tree N expression) (i : lowered.Number) (rest : Tree N (items selector)) (whole : Evaluated N Place)
-      → PlaceLeads checked slots q (array_shape k n t) (more (index e) rest) whole → NumberMeans checked slots i (value_of_expression e) → PlaceLeads checked slots (lowered.element q i n (size t)) t rest whole
+      → PlaceLeads checked slots q (array_shape k n t) (more (index e) rest) whole → NumberMeans checked slots i (value_of_expression e) → PlaceLeads checked slots (lowered.element q i n (size t) 0) t rest whole
   unfolding evaluate
   index-leads q k n t e i rest whole h hi =
       let (v, hv, ev) = h in (
         (λ z. v z >>= (λ p. value_of_expression e z >>= (λ x. or_stuck (read_place z.store p) >>= (λ u. element_step u x >>= (λ s. gives (further p (s ∷ []))))))),
         (λ z shown. let l = led-then z.typing (array_shape k n t) t (machine.address z.levels (cells_in z) q) (v z) (λ a. followed_by (machine.number z.levels (cells_in z) i) (machine.element_at a n (size t))) (λ p. value_of_expression e z >>= (λ x. or_stuck (read_place z.store p) >>= (λ u. element_step u x >>= (λ s. gives (further p (s ∷ []))))))
             (led-at q (array_shape k n t) v hv z shown) (λ p fit. index-led z.typing z.store shown.store_fits shown.has_addresses p k n t fit (machine.number z.levels (cells_in z) i) (value_of_expression e z) (hi z shown).0) in
-            (l.is_same, l.is_place)),
+            (ap (outcome_of same) (element-address z.levels (cells_in z) q i n (size t)) ∙ l.is_same, l.is_place)),
         λ z shown. grouped-then (v z) (λ p. value_of_expression e z >>= (λ x. or_stuck (read_place z.store p) >>= (λ u. element_step u x >>= (λ s. gives (further p (s ∷ [])))))) (selectors_left rest z)
             ∙ (each-place z.typing (array_shape k n t) (v z) (λ p. (value_of_expression e z >>= (λ x. or_stuck (read_place z.store p) >>= (λ u. element_step u x >>= (λ s. gives (further p (s ∷ [])))))) >>= selectors_left rest z) (selectors_left (more (index e) rest) z) (hv z shown).1
             (λ p fit. let (u, eu, hu, write, made, keeps, lies) = place-lies z.typing z.store p (array_shape k n t) shown.store_fits fit in index-left z p e rest u eu) ∙ ev z shown),

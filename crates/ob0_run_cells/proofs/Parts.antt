@@ -1,16 +1,13 @@
 -- Parts of values lie in the cells of their wholes.
 use Rattle.std.proofs.Common.{◌≡◌, ℕ, zero, suc, ◌+◌, ◌*◌, ◌<◌, ◌≤◌, true, false, List, [], ◌∷◌, ◌++◌, length, ℤ, if◌then◌else◌, nat_lt, Some, None, option_map, option_and_then, unwrap_or, sym, refl, ap, ◌∙◌, subst, arith, length-append}
-use Rattle.std.proofs.Math.Nat.{mul-le-mul_left}
 use Rattle.ob0_language_names.specs.Names.{Name, same_name}
-use Rattle.ob0_language_types.specs.Typing.{field_scalars, shape_of_field}
+use Rattle.ob0_language_types.specs.Typing.{shape_of_field}
 use Rattle.ob0_language_values.specs.Values.{FieldShapes, Members, Shape, Step, Value, Values, array_shape, at_field, at_index, at_path, boolean_shape, count_values, elements, integer_shape, members, named_member, next_field_shape, next_member, next_value, no_field_shape, no_member, no_value, nth_value, number, part, record_shape, truth, with_at_path, with_named_member, with_nth_value, with_part}
 use Rattle.ob0_language_runs.specs.Fitting.{EachHasShape, HasShape, HaveShapes, part_shape, shape_at_path}
 use Rattle.ob0_language_types.proofs.Conditions.{of_some}
 use Rattle.ob0_language_runs.proofs.Sound.{below_of, some-gives}
-use Rattle.ob0_language_runs.proofs.SoundStatements.{with_path-fits}
-use Rattle.ob0_run_cells.specs.CellLaws.{PartsAreSlices, SizesAreLimited, WritingPartsWritesSlices}
-use Rattle.ob0_run_cells.specs.Cells.{cells_at, cells_of, cells_with, element_cells, field_offset, field_sizes, member_cells, offset, size, step_offset}
-use Rattle.ob0_run_cells.proofs.Splits.{Lies, lies-alone, lies-following, lies-first, lies-within, split-at, split-with}
+use Rattle.ob0_run_cells.specs.Cells.{cells_of, element_cells, field_offset, field_sizes, member_cells, offset, size, step_offset}
+use Rattle.ob0_run_cells.proofs.Splits.{Lies, lies-alone, lies-following, lies-first, lies-within}
 
 -- how many cells
 
@@ -35,17 +32,6 @@ mutual
   members-size (next_member x v rest) (next_field_shape y s others) h =
       length-append (cells_of v) (member_cells rest) ∙ (ap (λ n. n + length (member_cells rest)) (cells-size v s h.1) ∙ ap (λ n. size s + n) (members-size rest others h.2))
   members-size _ _ h = absurd h
-
-mutual
-  pub sizes_are_limited-holds : SizesAreLimited
-  sizes_are_limited-holds integer_shape = omega arith
-  sizes_are_limited-holds boolean_shape = omega arith
-  sizes_are_limited-holds (array_shape k n s) = mul-le-mul_left n (sizes_are_limited-holds s)
-  sizes_are_limited-holds (record_shape k fs) = let h = fields-limited fs in omega (arith, h)
-
-  pub fields-limited : (fs : FieldShapes) → field_sizes fs ≤ field_scalars fs
-  fields-limited no_field_shape = omega arith
-  fields-limited (next_field_shape x s rest) = let h = sizes_are_limited-holds s in let g = fields-limited rest in omega (arith, h, g)
 
 -- elements and members
 
@@ -132,24 +118,3 @@ lies-inside cells whole old write a n m h en em =
     let e : length (cells whole) ≡ length h.before + (length (cells_of old) + length h.after) = ap length h.is_split ∙ (length-append h.before (cells_of old ++ h.after) ∙ ap (λ n. length h.before + n) (length-append (cells_of old) h.after)) in
     let b : length h.before ≡ a = h.begins in
     omega (arith, e, b, en, em)
-
-pub parts_are_slices-holds : PartsAreSlices
-parts_are_slices-holds path v s t h e =
-    let (w, ew, hw, write, made, l) = path-lies path v s t h e in record {
-      within = lies-inside cells_of v w write (offset path s) (size t) (size s) l (cells-size w t hw) (cells-size v s h);
-      value = w;
-      is_part = ew;
-      has_shape = hw;
-      same_cells = split-at l.before (cells_of w) l.after (offset path s) (size t) l.begins (cells-size w t hw) ∙ ap (cells_at (offset path s) (size t)) (sym l.is_split);
-    }
-
-pub writing_parts_writes_slices-holds : WritingPartsWritesSlices
-writing_parts_writes_slices-holds path v new s t h e hn =
-    let (w, ew, hw, write, made, l) = path-lies path v s t h e in
-    let (u, eu, hu) = with_path-fits path v s t new h e hn in
-    let same : write new ≡ u = ap (λ o. unwrap_or o u) (sym (made new) ∙ eu) in record {
-      after = u;
-      is_written = eu;
-      has_shape = hu;
-      same_cells = ap cells_of (sym same) ∙ (l.is_written new ∙ (split-with l.before (cells_of w) (cells_of new) l.after (offset path s) l.begins (cells-size new t hn ∙ sym (cells-size w t hw)) ∙ ap (cells_with (offset path s) (cells_of new)) (sym l.is_split)));
-    }

@@ -5,7 +5,7 @@ use Rattle.ob0_language_runs.specs.Fitting.{HasShape, PlaceFits, StoreFits, Stor
 use Rattle.ob0_language_types.proofs.Conditions.{of_some}
 use Rattle.ob0_language_runs.proofs.Sound.{is_number, is_truth, some-gives}
 use Rattle.ob0_language_runs.proofs.SoundStatements.{PlaceFits-grows, set-fits, slice_get-grows, with_path-fits}
-use Rattle.ob0_run_cells.specs.CellLaws.{AddressesStay, NumbersAreCells, PartsHaveAddresses, PlacesAreSlices, TruthsAreCells, TypesGiveSizes, WritingPlacesWritesSlices}
+use Rattle.ob0_run_cells.specs.CellLaws.{AddressesStay, NumbersAreCells, PartsHaveAddresses, PlacesAreSlices, TruthsAreCells, WritingPlacesWritesSlices}
 use Rattle.ob0_run_cells.specs.Cells.{address, all_cells, cells_at, cells_of, cells_with, offset, size, sizes, truth_cell}
 use Rattle.ob0_run_cells.proofs.Parts.{cells-size, lies-inside, path-lies}
 use Rattle.ob0_run_cells.proofs.Splits.{Lies, lies-following, lies-first, lies-within, split-at, split-get, split-set, split-with}
@@ -16,9 +16,6 @@ store-size [] (v ∷ store) h = absurd h
 store-size (s ∷ typing) [] h = absurd h
 store-size (s ∷ typing) (v ∷ store) h =
     length-append (cells_of v) (all_cells store) ∙ (ap (λ n. n + length (all_cells store)) (cells-size v s h.0) ∙ ap (λ n. size s + n) (store-size typing store h.1))
-
-pub types_tell_sizes-holds : TypesGiveSizes
-types_tell_sizes-holds = (cells-size, store-size)
 
 -- a variable lies after the older ones
 pub variable-lies : (typing : StoreTyping) (store : Store) (n : ℕ) (s : Shape) → StoreFits typing store → slice_get typing n ≡ Some s

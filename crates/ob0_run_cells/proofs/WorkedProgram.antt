@@ -40,7 +40,7 @@ worked_module =
     (as_written [])
 
 abbrev pub worked_entry : lowered.Routine
-worked_entry = record { cells = 0; body = lowered.before (lowered.stores_number (lowered.passed 0 0) (lowered.cell (lowered.here 0))) lowered.no_statement }
+worked_entry = record { cells = 0; body = lowered.before (lowered.stores_number (lowered.passed 0 0 0) (lowered.cell (lowered.here 0))) lowered.no_statement }
 
 abbrev pub worked_program : lowered.LoweredCode
 worked_program = record {
@@ -87,8 +87,8 @@ procedure-body =
     let checked : Typed Label = meanings as_labels inside_checked in
     let slots : Label → Slot = slots_in as_labels inside_placed.placing in
     let targets : Label → Target = targets_in as_labels inside_placed.placing in
-    ((sequences_lower-holds checked slots targets end lowered.no_statement (sequences_end-holds checked slots targets)).0 (assigns (declared 10) end (written_name (declared 9))) (lowered.stores_number (lowered.passed 0 0) (lowered.cell (lowered.here 0)))
-    ((assignments_lower-holds checked slots targets (declared 10) end (written_name (declared 9)) (lowered.passed 0 0)).0 (lowered.cell (lowered.here 0)) (place-alone checked slots (declared 10) integer_shape refl) (number-alone checked slots (declared 9) refl))).0
+    ((sequences_lower-holds checked slots targets end lowered.no_statement (sequences_end-holds checked slots targets)).0 (assigns (declared 10) end (written_name (declared 9))) (lowered.stores_number (lowered.passed 0 0 0) (lowered.cell (lowered.here 0)))
+    ((assignments_lower-holds checked slots targets (declared 10) end (written_name (declared 9)) (lowered.passed 0 0 0)).0 (lowered.cell (lowered.here 0)) (place-alone checked slots (declared 10) integer_shape refl) (number-alone checked slots (declared 9) refl))).0
 
 abbrev module_checked : TypeEnvironment Label
 module_checked = heading (declared 8) worked_parameters worked_checked

@@ -1,55 +1,9 @@
 -- Laws of cells: values, places and the store of a checked module against one list of cells.
 -- Rule: none; laws of cells.
 use Rattle.std.specs.Prelude.{◌≡◌, ◌+◌, ◌≤◌, Bool, List, [], ◌∷◌, ◌++◌, length, replicate, take, ℤ, pos, slice_get, slice_set, Some}
-use Rattle.ob0_language_types.specs.Typing.{scalars}
-use Rattle.ob0_language_values.specs.Values.{Place, Shape, Step, Store, Value, at_path, boolean_shape, initial, integer_shape, number, read_place, truth, with_at_path, write_place}
+use Rattle.ob0_language_values.specs.Values.{Place, Shape, Step, Store, Value, boolean_shape, initial, integer_shape, number, read_place, truth, write_place}
 use Rattle.ob0_language_runs.specs.Fitting.{HasShape, PlaceFits, StoreFits, StoreTyping, shape_at_path}
 use Rattle.ob0_run_cells.specs.Cells.{address, all_cells, cells_at, cells_of, cells_with, offset, size, sizes, truth_cell}
-
--- a value of a type has as many cells as the type says, and a store as many as its types say
-abbrev pub TypesGiveSizes : Type 0
-TypesGiveSizes =
-    ((v : Value) (s : Shape) → HasShape v s → length (cells_of v) ≡ size s)
-    × ((typing : StoreTyping) (store : Store)
-    → StoreFits typing store
-    → length (all_cells store) ≡ sizes typing)
-
--- no type has more cells than scalars, which a checked type has few of
-abbrev pub SizesAreLimited : Type 0
-SizesAreLimited = (s : Shape) → size s ≤ scalars s
-
--- a value has a part at a path, with the type at the path's end, whose cells are those of the whole
--- from the offset of the path on
-pub record HoldsPart (path : List Step) (v : Value) (s t : Shape) : Type 0 where
-  pub within : offset path s + size t ≤ size s
-  pub value : Value
-  pub is_part : at_path path v ≡ Some value
-  pub has_shape : HasShape value t
-  pub same_cells : cells_of value ≡ cells_at (offset path s) (size t) (cells_of v)
-
--- a part lies within its whole, from its offset on
-abbrev pub PartsAreSlices : Type 0
-PartsAreSlices =
-    (path : List Step) (v : Value) (s t : Shape)
-    → HasShape v s
-    → shape_at_path path s ≡ Some t
-    → HoldsPart path v s t
-
--- a value with a new part, whose cells are written over those of the old one
-pub record WritesPart (path : List Step) (v new : Value) (s : Shape) : Type 0 where
-  pub after : Value
-  pub is_written : with_at_path path new v ≡ Some after
-  pub has_shape : HasShape after s
-  pub same_cells : cells_of after ≡ cells_with (offset path s) (cells_of new) (cells_of v)
-
--- a part written is its cells written, and no others
-abbrev pub WritingPartsWritesSlices : Type 0
-WritingPartsWritesSlices =
-    (path : List Step) (v new : Value) (s t : Shape)
-    → HasShape v s
-    → shape_at_path path s ≡ Some t
-    → HasShape new t
-    → WritesPart path v new s
 
 -- a place holds a value of a type, whose cells are those of the store from the place's address on
 pub record HoldsSlice (typing : StoreTyping) (store : Store) (p : Place) (s : Shape)
@@ -127,16 +81,6 @@ abbrev pub AddressesStay : Type 0
 AddressesStay =
     (typing others : StoreTyping) (p : Place) (s : Shape) → PlaceFits typing p s
     → PlaceFits (typing ++ others) p s × (address (typing ++ others) p ≡ address typing p)
-
--- values of one type, and stores of the same types, are the same where their cells are
-abbrev pub CellsDetermineValues : Type 0
-CellsDetermineValues =
-    ((v w : Value) (s : Shape) → HasShape v s → HasShape w s → cells_of v ≡ cells_of w → v ≡ w)
-    × ((typing : StoreTyping) (a b : Store)
-    → StoreFits typing a
-    → StoreFits typing b
-    → all_cells a ≡ all_cells b
-    → a ≡ b)
 
 -- variables begin with cells that are all 0
 abbrev pub InitialCellsAreZero : Type 0

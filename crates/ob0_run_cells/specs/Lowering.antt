@@ -39,7 +39,15 @@ abbrev pub slot_place : Slot → lowered.Place
 slot_place (of_module offset) = lowered.in_module offset
 slot_place (held zero offset) = lowered.here offset
 slot_place (held (suc up) offset) = lowered.outside (suc up) offset
-slot_place (by_reference up index) = lowered.passed up index
+slot_place (by_reference up index) = lowered.passed up index 0
+
+-- a part at an offset of what is at a place: offsets are added up
+abbrev pub part_at : lowered.Place → ℕ → lowered.Place
+part_at (lowered.in_module at) k = lowered.in_module (machine.forward at k)
+part_at (lowered.here at) k = lowered.here (machine.forward at k)
+part_at (lowered.outside up at) k = lowered.outside up (machine.forward at k)
+part_at (lowered.passed up index at) k = lowered.passed up index (machine.forward at k)
+part_at (lowered.element q i n s at) k = lowered.element q i n s (machine.forward at k)
 
 -- a moment of a run: the store and its types, the cells of the arguments that a call has been
 -- passed so far, what names mean, and the activations that lowered code sees

@@ -16,7 +16,7 @@ use Rattle.ob0_language_values.specs.Values.{FieldShapes, Place, Shape, Value, a
 use Rattle.ob0_run_machine.specs.Evaluation as machine
 use Rattle.ob0_run_machine.specs.Lowered as lowered
 use Rattle.ob0_run_cells.specs.Cells.{field_offset, size}
-use Rattle.ob0_run_cells.specs.Lowering.{Evaluated, NumberLeads, NumberMeans, PlaceLeads, PlaceMeans, Slot, TruthLeads, TruthMeans, ValueAt, addends_left, multipliers_left, place_of_designator, relation_of, slot_place, value_of_expression, value_of_factor, value_of_simple, value_of_term}
+use Rattle.ob0_run_cells.specs.Lowering.{Evaluated, NumberLeads, NumberMeans, PlaceLeads, PlaceMeans, Slot, TruthLeads, TruthMeans, ValueAt, addends_left, multipliers_left, part_at, place_of_designator, relation_of, slot_place, value_of_expression, value_of_factor, value_of_simple, value_of_term}
 
 -- a variable is at its slot
 abbrev pub VariablesLower : Type 0
@@ -33,7 +33,7 @@ FieldsLower =
     (x : Label) (t : Shape) (rest : Tree Label (items selector)) (whole : Evaluated Label Place)
     → PlaceLeads checked slots q (record_shape k fs) (more (field x) rest) whole
     → shape_of_field fs (checked.written x) ≡ Some t
-    → PlaceLeads checked slots (lowered.part q (field_offset fs (checked.written x))) t rest whole
+    → PlaceLeads checked slots (part_at q (field_offset fs (checked.written x))) t rest whole
 
 -- an element is one whose index lies below the length, as many cells on for each as its type says
 abbrev pub IndexesLower : Type 0
@@ -43,7 +43,7 @@ IndexesLower =
     (whole : Evaluated Label Place)
     → PlaceLeads checked slots q (array_shape k n t) (more (index e) rest) whole
     → NumberMeans checked slots i (value_of_expression e)
-    → PlaceLeads checked slots (lowered.element q i n (size t)) t rest whole
+    → PlaceLeads checked slots (lowered.element q i n (size t) 0) t rest whole
 
 -- where no selector is left, the place so far is the whole
 abbrev pub SelectorsEnd : Type 0
@@ -81,17 +81,6 @@ CellsLower =
     → NumberMeans checked slots (lowered.cell q) (value_of_factor (designator x path)))
     × (PlaceMeans checked slots q boolean_shape (place_of_designator x path)
     → TruthMeans checked slots (lowered.flag q) (value_of_factor (designator x path)))
-
--- an expression in parentheses means what it means without them
-abbrev pub ParenthesesLower : Type 0
-ParenthesesLower =
-    (checked : Typed Label) (slots : Label → Slot) (e : Tree Label expression)
-    → ((n : lowered.Number)
-    → NumberMeans checked slots n (value_of_expression e)
-    → NumberMeans checked slots n (value_of_factor (parenthesised e)))
-    × ((t : lowered.Truth)
-    → TruthMeans checked slots t (value_of_expression e)
-    → TruthMeans checked slots t (value_of_factor (parenthesised e)))
 
 -- `~` of a truth value
 abbrev pub NegationsLower : Type 0

@@ -125,8 +125,9 @@ some_otherwise scene r o ss made there h =
     subst P (sym there) (else-lowers scene (in_labels r (sequence_listed ss.items)) (sequence_of made) h)
 
 -- IF, made of its branches
-pub if_rolled : (x : _) → if_of (roll-Conditional x) ≡ lowered.chooses (all_branches x.branches.items) (sequence_of x.otherwise.items)
+pub if_rolled : (x : _) → if_of (roll-Conditional x) ≡ lowered.chooses (lowered.branch (truth_of x.condition) (sequence_of x.body.items) (all_branches x.others.items)) (sequence_of x.otherwise.items)
 if_rolled x =
     let e = out-roll-Conditional x in
-    let parts : branches_in (roll-Conditional x) ≡ lowered.chooses (all_branches x.branches.items) (sequence_of x.otherwise.items) = λ k. lowered.chooses (all_branches (e k).branches.items) (sequence_of (e k).otherwise.items) in
+    let parts : branches_in (roll-Conditional x) ≡ lowered.chooses (lowered.branch (truth_of x.condition) (sequence_of x.body.items) (all_branches x.others.items)) (sequence_of x.otherwise.items) =
+    λ k. lowered.chooses (lowered.branch (truth_of (e k).condition) (sequence_of (e k).body.items) (all_branches (e k).others.items)) (sequence_of (e k).otherwise.items) in
     if_made (roll-Conditional x) ∙ parts

@@ -13,14 +13,14 @@ use Rattle.ob0_run_machine.specs.Evaluation as machine
 use Rattle.ob0_run_machine.specs.Lowered as lowered
 use Rattle.ob0_run_cells.specs.Cells.{field_offset, size}
 use Rattle.ob0_run_cells.specs.LoweredStatements.{Target}
-use Rattle.ob0_run_cells.specs.Lowering.{Evaluated, PlaceLeads, PlaceMeans, Slot, place_of_designator, slot_place, value_of_expression, value_of_factor, value_of_simple, value_of_term}
+use Rattle.ob0_run_cells.specs.Lowering.{Evaluated, PlaceLeads, PlaceMeans, Slot, part_at, place_of_designator, slot_place, value_of_expression, value_of_factor, value_of_simple, value_of_term}
 use Rattle.ob0_run_cells.specs.Lowering as lowering
 use Rattle.ob0_run_cells.proofs.Lowered.{blocks_lower-holds, cells_lower-holds, constants_lower-holds, fields_lower-holds, indexes_lower-holds, integers_lower-holds, selectors_end-holds, variables_lower-holds}
-use Rattle.ob0_run_lowering.specs.Codes.{ExpressionCode, CodeMeans, FoundPlace, a_number, a_truth, added, constant_code, element_at_place, element_found, element_of, field_found, multiplied, named_code, part_at, signed, code_at_place}
+use Rattle.ob0_run_lowering.specs.Codes.{ExpressionCode, CodeMeans, FoundPlace, a_number, a_truth, added, constant_code, element_at_place, element_found, element_of, field_found, multiplied, named_code, signed, code_at_place}
 use Rattle.ob0_run_lowering.specs.Scenes.{HasSmall, Sees, object_at, slot_at}
 use Rattle.ob0_run_lowering.specs.Trees.{addends_code, base_found, expression_code, factor_code, multipliers_code, selected_place, simple_code, term_code, variable_found}
 use Rattle.ob0_run_lowering.specs.declared.scene.Scene.{Scene}
-use Rattle.ob0_run_lowering.proofs.PartsFound.{element-same, leads-from, part-same}
+use Rattle.ob0_run_lowering.proofs.PartsFound.{element-same, leads-from}
 use Rattle.ob0_run_lowering.proofs.CodesMean.{CodeLeads, added-leads, addends-end, alone-means, multiplied-leads, multipliers-end, negated-means, number-code, parenthesised-means, related-means, some_inj, sum-begins, term-begins}
 
 abbrev found_at : lowered.Place → Shape → FoundPlace
@@ -80,8 +80,7 @@ module _ (checked : Typed Label) (slots : Label → Slot) where
       let same : checked.written x ≡ label_text x = ap (λ w. w x) written in (
         part_at q (field_offset fs (label_text x)),
         ap (option_map (λ t. found_at (part_at q (field_offset fs (label_text x))) t)) (ap (field_type (record_shape k fs)) (sym same) ∙ h),
-        leads-from checked slots (part_at q (field_offset fs (label_text x))) (lowered.part q (field_offset fs (label_text x))) t rest whole (part-same q (field_offset fs (label_text x)))
-            (subst (λ y. PlaceLeads checked slots (lowered.part q (field_offset fs y)) t rest whole) same (fields_lower-holds checked slots q k fs x t rest whole leads h)),
+        subst (λ y. PlaceLeads checked slots (part_at q (field_offset fs y)) t rest whole) same (fields_lower-holds checked slots q k fs x t rest whole leads h),
       )
   field-step written q integer_shape x t rest whole leads h = absurd (cc)
   field-step written q boolean_shape x t rest whole leads h = absurd (cc)
@@ -94,8 +93,8 @@ module _ (checked : Typed Label) (slots : Label → Slot) where
       let (m, em, hm) = number-code checked slots c (value_of_expression e) hc in (
         element_at_place q m n (size u),
         ap (λ c. element_found c q (array_shape k n u)) em ∙ ap (λ t. Some (found_at (element_at_place q m n (size u)) t)) (some_inj h),
-        leads-from checked slots (element_at_place q m n (size u)) (lowered.element q m n (size u)) t rest whole (element-same q m n (size u))
-            (subst (λ t. PlaceLeads checked slots (lowered.element q m n (size u)) t rest whole) (some_inj h) (indexes_lower-holds checked slots q k n u e m rest whole leads hm)),
+        leads-from checked slots (element_at_place q m n (size u)) (lowered.element q m n (size u) 0) t rest whole (element-same q m n (size u))
+            (subst (λ t. PlaceLeads checked slots (lowered.element q m n (size u) 0) t rest whole) (some_inj h) (indexes_lower-holds checked slots q k n u e m rest whole leads hm)),
       )
   element-step c q (array_shape k n u) boolean_shape t e rest whole leads h hc = absurd (cc)
   element-step c q (array_shape k n u) (array_shape j m v) t e rest whole leads h hc = absurd (cc)

@@ -13,10 +13,9 @@ use Rattle.ob0_language_names.specs.Names.{Label, Name}
 use Rattle.ob0_language_types.specs.Typing.{field_type}
 use Rattle.ob0_language_types.specs.WellTyped.{Typed}
 use Rattle.ob0_language_values.specs.Values.{Shape, Value, array_shape, at_field, boolean_shape, elements, integer_shape, members, number, record_shape, truth}
-use Rattle.ob0_run_machine.specs.Evaluation as machine
 use Rattle.ob0_run_machine.specs.Lowered as lowered
 use Rattle.ob0_run_cells.specs.Cells.{size, step_offset}
-use Rattle.ob0_run_cells.specs.Lowering.{Evaluated, NumberMeans, Slot, TruthMeans, ValueAt, relation_of}
+use Rattle.ob0_run_cells.specs.Lowering.{Evaluated, NumberMeans, Slot, TruthMeans, ValueAt, part_at, relation_of}
 
 -- a number, a truth, the cells of an array or a record,
 -- or nothing that an expression of a well-typed module is
@@ -112,32 +111,6 @@ related relation.Equal (a_truth t) (a_truth u) = a_truth (lowered.same t u)
 related relation.NotEqual (a_truth t) (a_truth u) = a_truth (lowered.different t u)
 related _ _ _ = no_code
 
--- a part at an offset of an element of the array at a place: where the array's own place has an
--- offset, it is the element of a part
-abbrev pub part_of_element : lowered.Place → lowered.Number → (length stride offset : ℕ)
-    → lowered.Place
-part_of_element (lowered.in_module at) i n s k =
-    lowered.element (lowered.in_module (machine.forward at k)) i n s
-part_of_element (lowered.here at) i n s k =
-    lowered.element (lowered.here (machine.forward at k)) i n s
-part_of_element (lowered.outside up at) i n s k =
-    lowered.element (lowered.outside up (machine.forward at k)) i n s
-part_of_element (lowered.part q at) i n s k =
-    lowered.element (lowered.part q (machine.forward at k)) i n s
-part_of_element (lowered.passed up index) i n s k =
-    lowered.part (lowered.element (lowered.passed up index) i n s) k
-part_of_element (lowered.element q j m t) i n s k =
-    lowered.part (lowered.element (lowered.element q j m t) i n s) k
-
--- a part at an offset of what is at a place: offsets are added up
-abbrev pub part_at : lowered.Place → ℕ → lowered.Place
-part_at (lowered.in_module at) k = lowered.in_module (machine.forward at k)
-part_at (lowered.here at) k = lowered.here (machine.forward at k)
-part_at (lowered.outside up at) k = lowered.outside up (machine.forward at k)
-part_at (lowered.part q at) k = lowered.part q (machine.forward at k)
-part_at (lowered.passed up index) k = lowered.part (lowered.passed up index) k
-part_at (lowered.element q i n s) k = part_of_element q i n s k
-
 -- where an element at a literal index begins in its array, if the index is there
 abbrev pub known_offset : lowered.Number → (length stride : ℕ) → Option ℕ
 known_offset (lowered.literal (pos i)) n s =
@@ -150,7 +123,7 @@ known_offset (lowered.operation o l m) n s = None
 -- an element that begins at a known offset is a part of its array
 abbrev pub element_from : Option ℕ → lowered.Place → lowered.Number → (length stride : ℕ)
     → lowered.Place
-element_from None q i n s = lowered.element q i n s
+element_from None q i n s = lowered.element q i n s 0
 element_from (Some k) q i n s = part_at q k
 
 -- an element of the array at a place

@@ -17,8 +17,10 @@ and_depth (truth.Either' pointer left right) = 0
 and_depth (truth.All' pointer first shape row) = suc (and_depth first)
 and_depth (truth.Any' pointer first shape row) = 0
 and_depth (truth.Related r o) = 0
+and_depth (truth.LessThanLiteral v n) = 0
 and_depth (truth.ComparedToLiteral r v n) = 0
 and_depth (truth.ComparedToVariable r v w) = 0
+and_depth (truth.RowToVariable r q v) = 0
 and_depth (truth.Same' pointer left right) = 0
 and_depth (truth.Different' pointer left right) = 0
 
@@ -33,8 +35,10 @@ or_depth (truth.Either' pointer left right) = suc (or_depth left)
 or_depth (truth.All' pointer first shape row) = 0
 or_depth (truth.Any' pointer first shape row) = suc (or_depth first)
 or_depth (truth.Related r o) = 0
+or_depth (truth.LessThanLiteral v n) = 0
 or_depth (truth.ComparedToLiteral r v n) = 0
 or_depth (truth.ComparedToVariable r v w) = 0
+or_depth (truth.RowToVariable r q v) = 0
 or_depth (truth.Same' pointer left right) = 0
 or_depth (truth.Different' pointer left right) = 0
 

@@ -5,11 +5,13 @@ ghost use Rattle.std.specs.Prelude.{◌≡◌, IfOk};
 ghost use Rattle.ob0_tree.specs.View.{assignment_of};
 ghost use Rattle.ob0_scope_table.specs.InLabels.{in_labels};
 ghost use Rattle.ob0_run_machine.specs.Lowered as machine;
-ghost use Rattle.ob0_run_machine.specs.View.{number_of, operation_of, place_of, statement_of, variable_of};
+ghost use Rattle.ob0_run_machine.specs.View.{applied, number_of, operation_of, place_of, statement_of, truth_of, variable_of};
 ghost use Rattle.ob0_run_lowering.specs.LoweredBodies.{StatementLowers};
 
 use crate::{Lowered, Scene};
-use ob0_run_machine::code::{FirstOperand, Instruction, Number, Operation, Place, Variable};
+use ob0_run_machine::code::{
+    FirstOperand, Instruction, Link, Number, Operation, Place, Truth, Variable,
+};
 use ob0_tree::Assignment;
 use std::alloc::{AllocError, Global};
 
@@ -33,7 +35,19 @@ fn store_variable(alloc: Global, variable: Variable, n: Number) -> Result<Instru
         Number::Operation(operation) => {
             store_operation(alloc, variable, Box::into_inner(operation))
         }
+        Number::Chain(chain) => Ok(Instruction::StoreChain(variable, chain)),
         other => Ok(Instruction::StoreVariable(variable, other)),
+    }
+}
+
+/// The code of an assignment of an operation on a variable to that variable.
+fn update(variable: Variable, link: Link) -> Instruction
+    ensures { statement_of result ≡ machine.stores_number (variable_of variable)
+        (applied link (machine.cell (variable_of variable))) }
+{
+    match link {
+        Link::SumLiteral(n) => Instruction::Increase(variable, n),
+        link => Instruction::Update(variable, link),
     }
 }
 
@@ -50,7 +64,7 @@ fn store_operation(
     match first {
         FirstOperand::Variable(left) => {
             if left == variable {
-                return Ok(Instruction::Update(variable, link));
+                return Ok(update(variable, link));
             }
             let operation = Operation {
                 first: FirstOperand::Variable(left),
@@ -66,6 +80,26 @@ fn store_operation(
     }
 }
 
+/// The code of an assignment of TRUE or FALSE: to an element it is one node.
+fn store_constant(place: Place, b: bool) -> Instruction
+    ensures { statement_of result ≡ machine.stores_truth (place_of place) (machine.constant b) }
+{
+    match place {
+        Place::Row(row) => Instruction::StoreConstant(row, b),
+        other => Instruction::StoreTruth(other, Truth::Constant(b)),
+    }
+}
+
+/// The code of an assignment of a truth value.
+fn store_truth(place: Place, t: Truth) -> Instruction
+    ensures { statement_of result ≡ machine.stores_truth (place_of place) (truth_of t) }
+{
+    match t {
+        Truth::Constant(b) => store_constant(place, b),
+        other => Instruction::StoreTruth(place, other),
+    }
+}
+
 /// The code of an assignment: of a number, of a truth, or of the cells of an array or a record.
 pub(crate) fn assignment(
     alloc: Global,
@@ -78,7 +112,7 @@ pub(crate) fn assignment(
     let target = scene.place(alloc, &a.target)?;
     match scene.expression(alloc, &a.value)? {
         Lowered::Number(n) => store_number(alloc, target.place, n),
-        Lowered::Truth(t) => Ok(Instruction::StoreTruth(target.place, t)),
+        Lowered::Truth(t) => Ok(store_truth(target.place, t)),
         Lowered::Block(from, cells) => Ok(Instruction::Copy(target.place, from, cells)),
         Lowered::Nothing => Ok(Instruction::WriteLine),
     }

@@ -272,6 +272,11 @@ pub(crate) fn both(alloc: Global, left: Truth, right: Truth) -> Result<Truth, Al
             Truth::Related(relation, operands),
             right,
         ),
+        Truth::LessThanLiteral(variable, n) => pair_of_both(
+            alloc,
+            Truth::LessThanLiteral(variable, n),
+            right,
+        ),
         Truth::ComparedToLiteral(relation, variable, n) => pair_of_both(
             alloc,
             Truth::ComparedToLiteral(relation, variable, n),
@@ -280,6 +285,11 @@ pub(crate) fn both(alloc: Global, left: Truth, right: Truth) -> Result<Truth, Al
         Truth::ComparedToVariable(relation, variable, other) => pair_of_both(
             alloc,
             Truth::ComparedToVariable(relation, variable, other),
+            right,
+        ),
+        Truth::RowToVariable(relation, row, variable) => pair_of_both(
+            alloc,
+            Truth::RowToVariable(relation, row, variable),
             right,
         ),
         Truth::Same(truths) => pair_of_both(alloc, Truth::Same(truths), right),
@@ -314,6 +324,11 @@ pub(crate) fn either(alloc: Global, left: Truth, right: Truth) -> Result<Truth, 
             Truth::Related(relation, operands),
             right,
         ),
+        Truth::LessThanLiteral(variable, n) => pair_of_either(
+            alloc,
+            Truth::LessThanLiteral(variable, n),
+            right,
+        ),
         Truth::ComparedToLiteral(relation, variable, n) => pair_of_either(
             alloc,
             Truth::ComparedToLiteral(relation, variable, n),
@@ -322,6 +337,11 @@ pub(crate) fn either(alloc: Global, left: Truth, right: Truth) -> Result<Truth, 
         Truth::ComparedToVariable(relation, variable, other) => pair_of_either(
             alloc,
             Truth::ComparedToVariable(relation, variable, other),
+            right,
+        ),
+        Truth::RowToVariable(relation, row, variable) => pair_of_either(
+            alloc,
+            Truth::RowToVariable(relation, row, variable),
             right,
         ),
         Truth::Same(truths) => pair_of_either(alloc, Truth::Same(truths), right),

@@ -97,13 +97,17 @@ impl<'s, 'k, 't> Scene<'s, 'k, 't> {
     }
 
     /// The whole of a variable.
-    fn base(&self, name: usize) -> Option<TypedPlace>
-        ensures { option_map (found_of (shapes_of self.now.types.now)) result
-            ≡ base_found self.now (label_in self.now.resolved.now name) }
+    fn base(&self, alloc: Global, name: usize) -> Result<Option<TypedPlace>, AllocError>
+        ensures { IfOk result (λ o. option_map (found_of (shapes_of self.now.types.now)) o
+            ≡ base_found self.now (label_in self.now.resolved.now name)) }
     {
-        let of = self.variable_type(name)?;
-        let place = self.variable(name);
-        Some(TypedPlace { place, of })
+        match self.variable_type(name) {
+            None => Ok(None),
+            Some(of) => {
+                let place = self.variable(alloc, name)?;
+                Ok(Some(TypedPlace { place, of }))
+            }
+        }
     }
 
     /// What is at a place.
@@ -331,7 +335,7 @@ impl<'s, 'k, 't> Scene<'s, 'k, 't> {
             (base_found self.now (label_in self.now.resolved.now (out-Designator d.now).name))
             (in_labels self.now.resolved.now (selectors_in d.now))) }
     {
-        let mut at = self.base(d.name);
+        let mut at = self.base(alloc, d.name)?;
         for selector in &d.selectors {
             at = self.select(alloc, at, selector)?;
         }

@@ -14,7 +14,7 @@ ghost use Rattle.ob0_run_lowering.specs.Trees.{code_of};
 use crate::chains::{both, either, negation, operation};
 use crate::lowered::Lowered;
 use ob0_run_machine::code;
-use ob0_run_machine::code::{Number, Operands, Operator, Truth, Truths, Variable};
+use ob0_run_machine::code::{Number, Operands, Operator, Place, Row, Truth, Truths, Variable};
 use ob0_tree::{AddOperator, MultiplyOperator, Relation, Sign};
 use std::alloc::{AllocError, Global};
 
@@ -197,6 +197,17 @@ fn relation_in(relation: Relation) -> code::Comparator
     }
 }
 
+/// A relation of a variable with a literal.
+fn compare_to_literal(relation: code::Comparator, variable: Variable, n: i32) -> Truth
+    ensures code { truth_of result ≡ view.compared_by relation variable (machine.literal n) }
+    ensures flat { (and_depth result ≡ 0) × (or_depth result ≡ 0) }
+{
+    match relation {
+        code::Comparator::Less => Truth::LessThanLiteral(variable, n),
+        other => Truth::ComparedToLiteral(other, variable, n),
+    }
+}
+
 /// A relation of a variable with a number: with a literal and with a variable it is one node.
 fn compare_variable(
     alloc: Global,
@@ -209,10 +220,55 @@ fn compare_variable(
     ensures flat { IfOk result (λ t. (and_depth t ≡ 0) × (or_depth t ≡ 0)) }
 {
     match right {
-        Number::Literal(n) => Ok(Truth::ComparedToLiteral(relation, variable, n)),
+        Number::Literal(n) => Ok(compare_to_literal(relation, variable, n)),
         Number::Variable(other) => Ok(Truth::ComparedToVariable(relation, variable, other)),
         right => {
             let left = Number::Variable(variable);
+            let operands = Box::new(alloc, Operands { left, right })?;
+            Ok(Truth::Related(relation, operands))
+        }
+    }
+}
+
+/// A relation of what is at a place with a number: an element that one variable is the index of is compared with a
+/// variable in one node.
+fn compare_cell(
+    alloc: Global,
+    relation: code::Comparator,
+    place: Place,
+    right: Number,
+) -> Result<Truth, AllocError>
+    ensures code { IfOk result (λ t. truth_of t ≡ machine.related (view.relation_of relation)
+        (machine.cell (view.place_of place)) (number_of right)) }
+    ensures flat { IfOk result (λ t. (and_depth t ≡ 0) × (or_depth t ≡ 0)) }
+{
+    match place {
+        Place::Row(row) => compare_row(alloc, relation, *row, right),
+        place => {
+            let left = Number::Cell(place);
+            let operands = Box::new(alloc, Operands { left, right })?;
+            Ok(Truth::Related(relation, operands))
+        }
+    }
+}
+
+fn compare_row(
+    alloc: Global,
+    relation: code::Comparator,
+    row: Row,
+    right: Number,
+) -> Result<Truth, AllocError>
+    ensures code { IfOk result (λ t. truth_of t ≡ machine.related (view.relation_of relation)
+        (machine.cell (view.row_of row)) (number_of right)) }
+    ensures flat { IfOk result (λ t. (and_depth t ≡ 0) × (or_depth t ≡ 0)) }
+{
+    match right {
+        Number::Variable(variable) => {
+            let row = Box::new(alloc, row)?;
+            Ok(Truth::RowToVariable(relation, row, variable))
+        }
+        right => {
+            let left = Number::Cell(Place::Row(Box::new(alloc, row)?));
             let operands = Box::new(alloc, Operands { left, right })?;
             Ok(Truth::Related(relation, operands))
         }
@@ -233,6 +289,7 @@ fn relate_numbers(
     let relation = relation_in(relation);
     match left {
         Number::Variable(variable) => compare_variable(alloc, relation, variable, right),
+        Number::Cell(place) => compare_cell(alloc, relation, place, right),
         left => {
             let operands = Box::new(alloc, Operands { left, right })?;
             Ok(Truth::Related(relation, operands))

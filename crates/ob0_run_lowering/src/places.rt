@@ -1,19 +1,20 @@
 //! The code of places, and of what is at them, in the form that is evaluated in the fewest steps.
 //!
-//! Offsets are added up where a place is lowered (`part_at`): a field of a variable is a variable, a field of an element
-//! is an element of the array that begins as much further on, and an element at a literal index that is there is a part
-//! of its array (`element_at_place`). So what the machine does in one step with a variable it does with its fields. A
-//! place and what it was made of have the same address, in all activations and over all cells (`proofs/PartsFound`). What
-//! a VAR parameter leads to, and an element of an element, has a part of its own: so a selector is looked at by the next
-//! one alone.
+//! Offsets are added up where a place is lowered (`part_at`): a field of a variable is a variable, and one of an element
+//! is an element with an offset. An element at a literal index that is there is a part of its array
+//! (`element_at_place`), at the same address in all activations and over all cells (`proofs/PartsFound`). So what the
+//! machine does in one step with a variable it does with its fields.
 
 ghost use Rattle.std.specs.Prelude.{◌≡◌, IfOk, length};
 ghost use Rattle.ob0_run_machine.specs.Lowered as machine;
 ghost use Rattle.ob0_run_machine.specs.View.{chained_in, element_of, first_of, number_of, place_of, row_of, variable_of};
 ghost use Rattle.ob0_run_machine.specs.declared.code.Chain.{out-Chain};
-ghost use Rattle.ob0_run_lowering.specs.Codes.{element_at_place, known_offset, part_at};
+ghost use Rattle.ob0_run_cells.specs.Lowering.{part_at};
+ghost use Rattle.ob0_run_lowering.specs.Codes.{element_at_place, known_offset};
 
-use ob0_run_machine::code::{Chain, Element, FirstOperand, Number, Place, Row, Variable};
+use ob0_run_machine::code::{
+    Chain, Element, FirstOperand, Number, Place, Reference, Row, Variable,
+};
 use std::alloc::{AllocError, Global};
 
 /// The number that is stored at a place.
@@ -26,24 +27,27 @@ pub(crate) fn content(place: Place) -> Number
     }
 }
 
-/// A part at an offset of what is at a place: where that has an offset itself, the two are added up.
+/// A part at an offset of what is at a place: offsets are added up.
 pub(crate) fn part(alloc: Global, whole: Place, offset: usize) -> Result<Place, AllocError>
     ensures { IfOk result (λ p. place_of p ≡ part_at (place_of whole) offset) }
 {
     match whole {
         Place::Variable(variable) => part_of_variable(alloc, variable, offset),
-        Place::Outside(up, at) => Ok(Place::Outside(up, at.wrapping_add(offset))),
-        Place::Passed(up, index) => separate_part(alloc, Place::Passed(up, index), offset),
+        Place::Outside { up, offset: at } => Ok(Place::Outside {
+            up,
+            offset: at.wrapping_add(offset),
+        }),
+        Place::Passed(r) => {
+            let Reference {
+                up,
+                index,
+                offset: at,
+            } = *r;
+            reference(alloc, up, index, at.wrapping_add(offset))
+        }
         Place::Row(row) => part_of_row(alloc, *row, offset),
         Place::Element(element) => part_of_element(alloc, Box::into_inner(element), offset),
-        Place::Part(place, at) => Ok(Place::Part(place, at.wrapping_add(offset))),
     }
-}
-
-fn separate_part(alloc: Global, whole: Place, offset: usize) -> Result<Place, AllocError>
-    ensures { IfOk result (λ p. place_of p ≡ machine.part (place_of whole) offset) }
-{
-    Ok(Place::Part(Box::new(alloc, whole)?, offset))
 }
 
 fn part_of_variable(alloc: Global, variable: Variable, offset: usize) -> Result<Place, AllocError>
@@ -52,55 +56,39 @@ fn part_of_variable(alloc: Global, variable: Variable, offset: usize) -> Result<
     match variable {
         Variable::Module(at) => Ok(Place::Variable(Variable::Module(at.wrapping_add(offset)))),
         Variable::Here(at) => Ok(Place::Variable(Variable::Here(at.wrapping_add(offset)))),
-        Variable::ByReference(index) => {
-            let whole = Place::Variable(Variable::ByReference(index));
-            separate_part(alloc, whole, offset)
+        Variable::ByReference { index, offset: at } => {
+            reference(alloc, 0, index as usize, (at as usize).wrapping_add(offset))
         }
     }
+}
+
+/// What is at an offset in what a VAR parameter of the activation `up` levels out leads to. One of the running
+/// activation is a variable, where both its numbers have 32 bits.
+pub(crate) fn reference(
+    alloc: Global,
+    up: usize,
+    index: usize,
+    offset: usize,
+) -> Result<Place, AllocError>
+    ensures { IfOk result (λ p. place_of p ≡ machine.passed up index offset) }
+{
+    if up == 0 && index < 4_294_967_296 && offset < 4_294_967_296 {
+        return Ok(Place::Variable(Variable::ByReference {
+            index: index as u32,
+            offset: offset as u32,
+        }));
+    }
+    let reference = Reference { up, index, offset };
+    Ok(Place::Passed(Box::new(alloc, reference)?))
 }
 
 /// A part of an element of an array that is a variable, at an index that is one.
 fn part_of_row(alloc: Global, row: Row, offset: usize) -> Result<Place, AllocError>
     ensures { IfOk result (λ p. place_of p ≡ part_at (row_of row) offset) }
 {
-    let Row {
-        array,
-        index,
-        length,
-        stride,
-    } = row;
-    match array {
-        Variable::Module(at) => {
-            let array = Variable::Module(at.wrapping_add(offset));
-            row_in(alloc, array, index, length, stride)
-        }
-        Variable::Here(at) => {
-            let array = Variable::Here(at.wrapping_add(offset));
-            row_in(alloc, array, index, length, stride)
-        }
-        Variable::ByReference(reference) => {
-            let array = Variable::ByReference(reference);
-            let whole = row_in(alloc, array, index, length, stride)?;
-            separate_part(alloc, whole, offset)
-        }
-    }
-}
-
-fn row_in(
-    alloc: Global,
-    array: Variable,
-    index: Variable,
-    length: usize,
-    stride: usize,
-) -> Result<Place, AllocError>
-    ensures { IfOk result (λ p. place_of p ≡ machine.element (variable_of array)
-        (machine.cell (variable_of index)) length stride) }
-{
     let row = Row {
-        array,
-        index,
-        length,
-        stride,
+        offset: row.offset.wrapping_add(offset),
+        ..row
     };
     Ok(Place::Row(Box::new(alloc, row)?))
 }
@@ -114,60 +102,16 @@ fn part_of_element(alloc: Global, element: Element, offset: usize) -> Result<Pla
         index,
         length,
         stride,
+        offset: at,
     } = element;
-    match array {
-        Place::Variable(array) => { part_in_variable(alloc, array, index, length, stride, offset) }
-        Place::Outside(up, at) => {
-            let array = Place::Outside(up, at.wrapping_add(offset));
-            any_element(alloc, array, index, length, stride)
-        }
-        Place::Part(whole, at) => {
-            let array = Place::Part(whole, at.wrapping_add(offset));
-            any_element(alloc, array, index, length, stride)
-        }
-        Place::Passed(up, reference) => {
-            let array = Place::Passed(up, reference);
-            let whole = any_element(alloc, array, index, length, stride)?;
-            separate_part(alloc, whole, offset)
-        }
-        Place::Row(row) => {
-            let whole = any_element(alloc, Place::Row(row), index, length, stride)?;
-            separate_part(alloc, whole, offset)
-        }
-        Place::Element(element) => {
-            let whole = any_element(alloc, Place::Element(element), index, length, stride)?;
-            separate_part(alloc, whole, offset)
-        }
-    }
-}
-
-/// A part of an element of an array that is a variable.
-fn part_in_variable(
-    alloc: Global,
-    array: Variable,
-    index: Number,
-    length: usize,
-    stride: usize,
-    offset: usize,
-) -> Result<Place, AllocError>
-    ensures { IfOk result (λ p. place_of p ≡ part_at
-        (machine.element (variable_of array) (number_of index) length stride) offset) }
-{
-    match array {
-        Variable::Module(at) => {
-            let array = Place::Variable(Variable::Module(at.wrapping_add(offset)));
-            any_element(alloc, array, index, length, stride)
-        }
-        Variable::Here(at) => {
-            let array = Place::Variable(Variable::Here(at.wrapping_add(offset)));
-            any_element(alloc, array, index, length, stride)
-        }
-        Variable::ByReference(reference) => {
-            let array = Place::Variable(Variable::ByReference(reference));
-            let whole = any_element(alloc, array, index, length, stride)?;
-            separate_part(alloc, whole, offset)
-        }
-    }
+    let element = Element {
+        array,
+        index,
+        length,
+        stride,
+        offset: at.wrapping_add(offset),
+    };
+    Ok(Place::Element(Box::new(alloc, element)?))
 }
 
 /// Where the element at a literal index begins in its array, if it is there.
@@ -254,7 +198,7 @@ fn computed_element(
     stride: usize,
 ) -> Result<Place, AllocError>
     ensures { IfOk result
-        (λ p. place_of p ≡ machine.element (place_of array) (number_of index) length stride) }
+        (λ p. place_of p ≡ machine.element (place_of array) (number_of index) length stride 0) }
 {
     match array {
         Place::Variable(array) => variable_element(alloc, array, index, length, stride),
@@ -271,7 +215,7 @@ fn variable_element(
     stride: usize,
 ) -> Result<Place, AllocError>
     ensures { IfOk result
-        (λ p. place_of p ≡ machine.element (variable_of array) (number_of index) length stride) }
+        (λ p. place_of p ≡ machine.element (variable_of array) (number_of index) length stride 0) }
 {
     match index {
         Number::Variable(index) => {
@@ -280,6 +224,7 @@ fn variable_element(
                 index,
                 length,
                 stride,
+                offset: 0,
             };
             Ok(Place::Row(Box::new(alloc, row)?))
         }
@@ -295,13 +240,14 @@ fn any_element(
     stride: usize,
 ) -> Result<Place, AllocError>
     ensures { IfOk result
-        (λ p. place_of p ≡ machine.element (place_of array) (number_of index) length stride) }
+        (λ p. place_of p ≡ machine.element (place_of array) (number_of index) length stride 0) }
 {
     let element = Element {
         array,
         index,
         length,
         stride,
+        offset: 0,
     };
     Ok(Place::Element(Box::new(alloc, element)?))
 }

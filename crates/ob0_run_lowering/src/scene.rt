@@ -1,14 +1,16 @@
 //! What lowering knows where it is.
 
-ghost use Rattle.std.specs.Prelude.{◌≡◌};
+ghost use Rattle.std.specs.Prelude.{◌≡◌, IfOk};
 ghost use Rattle.ob0_run_machine.specs.View.{place_of};
 ghost use Rattle.ob0_run_cells.specs.Lowering.{slot_place};
 ghost use Rattle.ob0_run_cells.specs.Lowering as slots;
 
+use crate::places::reference;
 use crate::types::Types;
 use ob0_run_machine::code::{Place, Variable};
 use ob0_scope_table::Resolved;
 use ob0_types_table::Object;
+use std::alloc::{AllocError, Global};
 
 /// Where a declaration is. `depth` says how deep an activation is: 0 for the module's, 1 for those of the module's own
 /// procedures.
@@ -103,18 +105,20 @@ impl<'s, 'k, 't> Scene<'s, 'k, 't> {
     }
 
     /// Where a variable is.
-    pub(crate) fn variable(&self, name: usize) -> Place
-        ensures { place_of result
-            ≡ slot_place (slot_at self.now (label_in self.now.resolved.now name)) }
+    pub(crate) fn variable(&self, alloc: Global, name: usize) -> Result<Place, AllocError>
+        ensures { IfOk result (λ p. place_of p
+            ≡ slot_place (slot_at self.now (label_in self.now.resolved.now name))) }
     {
         match self.site(name) {
-            Site::Module(offset) => Place::Variable(Variable::Module(offset)),
-            Site::Held { depth, offset } => held_place(self.depth.saturating_sub(depth), offset),
-            Site::ByReference { depth, index } => {
-                reference_place(self.depth.saturating_sub(depth), index)
+            Site::Module(offset) => Ok(Place::Variable(Variable::Module(offset))),
+            Site::Held { depth, offset } => {
+                Ok(held_place(self.depth.saturating_sub(depth), offset))
             }
-            Site::Nowhere => Place::Variable(Variable::Module(0)),
-            Site::Procedure { .. } => Place::Variable(Variable::Module(0)),
+            Site::ByReference { depth, index } => {
+                reference(alloc, self.depth.saturating_sub(depth), index, 0)
+            }
+            Site::Nowhere => Ok(Place::Variable(Variable::Module(0))),
+            Site::Procedure { .. } => Ok(Place::Variable(Variable::Module(0))),
         }
     }
 }
@@ -126,17 +130,6 @@ fn held_place(up: usize, offset: usize) -> Place
     if up == 0 {
         Place::Variable(Variable::Here(offset))
     } else {
-        Place::Outside(up, offset)
-    }
-}
-
-/// Where a VAR parameter of the activation `up` levels out leads.
-fn reference_place(up: usize, index: usize) -> Place
-    ensures { place_of result ≡ slot_place (slots.by_reference up index) }
-{
-    if up == 0 {
-        Place::Variable(Variable::ByReference(index))
-    } else {
-        Place::Passed(up, index)
+        Place::Outside { up, offset }
     }
 }

@@ -102,27 +102,27 @@ fn branches(
     ensures { IfOk result (λ made. StatementLowers scene.now (statement_of made)
         (in_labels scene.now.resolved.now (if_of i.now))) }
 {
-    let mut branches = Vec::new(alloc);
     let first = scene.truth(alloc, &i.condition)?;
     let then = sequence(alloc, scene, &i.then)?;
-    branches.push(code::Branch {
-        condition: first,
-        body: then,
-    })?;
+    let mut others = Vec::new(alloc);
     for part in &i.elsifs {
         let condition = scene.truth(alloc, &part.condition)?;
         let body = sequence(alloc, scene, &part.then)?;
-        branches.push(code::Branch { condition, body })?;
+        others.push(code::Branch { condition, body })?;
     }
     match &i.otherwise {
         None => Ok(code::Instruction::If(code::Conditional {
-            branches,
+            condition: first,
+            body: then,
+            others,
             otherwise: Vec::new(alloc),
         })),
         Some(statements) => {
             let otherwise = sequence(alloc, scene, statements)?;
             Ok(code::Instruction::If(code::Conditional {
-                branches,
+                condition: first,
+                body: then,
+                others,
                 otherwise,
             }))
         }

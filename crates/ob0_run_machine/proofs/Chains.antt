@@ -30,7 +30,7 @@ after_variable : (ls : Levels) (cells : List ℤ) (o : lowered.Operator) (v : Va
     → number ls cells (lowered.operation o (lowered.cell (variable_of v)) right) ≡ (number ls cells right >>= (λ b. number ls cells (lowered.operation o (lowered.cell (variable_of v)) (lowered.literal b))))
 after_variable ls cells o (variable.Module offset) right = refl
 after_variable ls cells o (variable.Here offset) right = refl
-after_variable ls cells o (variable.ByReference index) right = refl
+after_variable ls cells o (variable.ByReference index offset) right = refl
 
 -- an operation on a number is that on its value
 pub applied_to : (ls : Levels) (cells : List ℤ) (left : lowered.Number) (l : Link) → number ls cells (applied l left) ≡ (number ls cells left >>= linked ls cells l)

@@ -20,8 +20,8 @@ use Rattle.ob0_run_machine.specs.Answers.{end_at, end_of}
 use Rattle.ob0_run_machine.specs.Evaluation.{Halt, Levels, StepResult, TurnBound, ends, gives, truth}
 use Rattle.ob0_run_machine.specs.Execution.{CallEffect, Passed, MachineProgress, MachineState, choose, entered, execute, execute_all, execute_branches, continue_with, pass_all, running, stopped, turns, turns_until, use_in}
 use Rattle.ob0_run_machine.specs.Lowered as lowered
-use Rattle.ob0_run_machine.specs.Machines.{MachineDoes, Doing, Performs, Post, MachineSteps, StopsRun, StopsPassing, executed, executed_all, entering, items_out, passed_in, state_of}
-use Rattle.ob0_run_machine.specs.View.{all_branches, argument_of, branches_in, call_of, repeat_of, sequence_of, statement_of, truth_of, while_of}
+use Rattle.ob0_run_machine.specs.Machines.{MachineDoes, Doing, Performs, Post, MachineSteps, StopsRun, StopsPassing, executed, executed_all, executed_others, entering, items_out, passed_in, state_of}
+use Rattle.ob0_run_machine.specs.View.{all_branches, argument_of, branches_in, call_of, others_in, otherwise_in, repeat_of, sequence_of, statement_of, truth_of, while_of}
 
 stopped_then : (o : Option Halt) (m : Machine) (p : MachineProgress) (k : MachineState → MachineProgress) → StopsRun o m p → StopsRun o m (continue_with p k)
 stopped_then (Some x) m p k h = ap (λ p. continue_with p k) h
@@ -89,22 +89,21 @@ sequence_ends {now = now} {t = t} {ls = ls} {xs = xs} {k = k} u c all = record {
 -- branches
 
 abbrev pub from_branches : CallEffect → ℕ → Levels → Conditional → List Branch → MachineState → MachineProgress
-from_branches enters t ls i bs = execute_branches enters t ls (all_branches bs) (execute_all enters t ls (sequence_of (out-Conditional i).otherwise.items))
+from_branches enters t ls i bs = execute_branches enters t ls (all_branches bs) (execute_all enters t ls (otherwise_in i))
 
 pub record InBranches (post : Post) (start now : Machine) (t : ℕ) (ls : Levels) (i : Conditional) (xs : List Branch) (k : ℕ) : Type 0 where
-  pub so_far : (enters : CallEffect) → Performs post enters → execute enters t ls (branches_in i) (state_of start) ≡ from_branches enters t ls i (drop k xs) (state_of now)
+  pub so_far : (enters : CallEffect) → Performs post enters → executed_others t ls (others_in i) (otherwise_in i) enters (state_of start) ≡ from_branches enters t ls i (drop k xs) (state_of now)
 
 branch-next : (enters : CallEffect) (t : ℕ) (ls : Levels) (i : Conditional) (xs : List Branch) (k : ℕ) (x : Branch) (s : MachineState) → k < length xs → x ≡ get_or xs k x
     → from_branches enters t ls i (drop k xs) s ≡ choose s (truth ls s.cells (truth_of x.condition)) (execute_all enters t ls (sequence_of x.body.items)) (from_branches enters t ls i (drop (k + 1) xs))
 unfolding execute
 branch-next enters t ls i xs k x s less is = ap (λ ys. from_branches enters t ls i ys s) (drop_more xs k x less ∙ ap (λ z. z ∷ drop (k + 1) xs) (sym is))
 
-branch-last : (enters : CallEffect) (t : ℕ) (ls : Levels) (i : Conditional) (xs : List Branch) (k : ℕ) (s : MachineState) → length xs ≤ k → from_branches enters t ls i (drop k xs) s ≡ execute_all enters t ls (sequence_of (out-Conditional i).otherwise.items) s
+branch-last : (enters : CallEffect) (t : ℕ) (ls : Levels) (i : Conditional) (xs : List Branch) (k : ℕ) (s : MachineState) → length xs ≤ k → from_branches enters t ls i (drop k xs) s ≡ execute_all enters t ls (otherwise_in i) s
 unfolding execute
 branch-last enters t ls i xs k s all = ap (λ ys. from_branches enters t ls i ys s) (drop_all k xs all)
 
-pub branches_begin : {post : Post} {start : Machine} {t : ℕ} {ls : Levels} {i : Conditional} {xs : List Branch} → xs ≡ (out-Conditional i).branches.items → InBranches post start start t ls i xs 0
-unfolding execute
+pub branches_begin : {post : Post} {start : Machine} {t : ℕ} {ls : Levels} {i : Conditional} {xs : List Branch} → xs ≡ (out-Conditional i).others.items → InBranches post start start t ls i xs 0
 branches_begin {start = start} {t = t} {ls = ls} {i = i} same = record { so_far = λ enters p. ap (λ ys. from_branches enters t ls i ys (state_of start)) (sym same) }
 
 pub branches_on : {post : Post} {start now : Machine} {t : ℕ} {ls : Levels} {i : Conditional} {xs : List Branch} {k : ℕ} (x : Branch) → InBranches post start now t ls i xs k → k < length xs → x ≡ get_or xs k x
@@ -115,13 +114,13 @@ branches_on {now = now} {t = t} {ls = ls} {i = i} {xs = xs} {k = k} x c less is 
 }
 
 pub branches_fail : {post : Post} {start now : Machine} {t : ℕ} {ls : Levels} {i : Conditional} {xs : List Branch} {k : ℕ} (e : Ending) (x : Branch) → InBranches post start now t ls i xs k → k < length xs → x ≡ get_or xs k x
-    → ends (end_of e) ≡ truth ls now.cells.items (truth_of x.condition) → EndsRun post e start now (executed t ls (branches_in i))
+    → ends (end_of e) ≡ truth ls now.cells.items (truth_of x.condition) → EndsRun post e start now (executed_others t ls (others_in i) (otherwise_in i))
 branches_fail {now = now} {t = t} {ls = ls} {i = i} {xs = xs} {k = k} e x c less is h = λ enters p.
     c.so_far enters p ∙ branch-next enters t ls i xs k x (state_of now) less is
     ∙ ap (λ o. choose (state_of now) o (execute_all enters t ls (sequence_of x.body.items)) (from_branches enters t ls i (drop (k + 1) xs))) (sym h)
 
 pub branch_taken : {post : Post} {start now m : Machine} {t : ℕ} {ls : Levels} {i : Conditional} {xs : List Branch} {k : ℕ} (r : Result (Unit {0}) Stop) (ss : List Instruction) (x : Branch) → InBranches post start now t ls i xs k → k < length xs → x ≡ get_or xs k x
-    → gives true ≡ truth ls now.cells.items (truth_of x.condition) → ss ≡ x.body.items → MachineDoes post r now m (executed_all t ls (sequence_of ss)) → MachineDoes post r start m (executed t ls (branches_in i))
+    → gives true ≡ truth ls now.cells.items (truth_of x.condition) → ss ≡ x.body.items → MachineDoes post r now m (executed_all t ls (sequence_of ss)) → MachineDoes post r start m (executed_others t ls (others_in i) (otherwise_in i))
 branch_taken {now = now} {m = m} {t = t} {ls = ls} {i = i} {xs = xs} {k = k} r ss x c less is h same d = record {
   as_defined = λ enters p.
       subst (MachineSteps r m) (sym (c.so_far enters p ∙ branch-next enters t ls i xs k x (state_of now) less is
@@ -130,11 +129,33 @@ branch_taken {now = now} {m = m} {t = t} {ls = ls} {i = i} {xs = xs} {k = k} r s
 }
 
 pub branches_end : {post : Post} {start now m : Machine} {t : ℕ} {ls : Levels} {i : Conditional} {xs : List Branch} {k : ℕ} (r : Result (Unit {0}) Stop) (ss : List Instruction) → InBranches post start now t ls i xs k → length xs ≤ k
-    → ss ≡ (out-Conditional i).otherwise.items → MachineDoes post r now m (executed_all t ls (sequence_of ss)) → MachineDoes post r start m (executed t ls (branches_in i))
+    → ss ≡ (out-Conditional i).otherwise.items → MachineDoes post r now m (executed_all t ls (sequence_of ss)) → MachineDoes post r start m (executed_others t ls (others_in i) (otherwise_in i))
 branches_end {now = now} {m = m} {t = t} {ls = ls} {i = i} {xs = xs} {k = k} r ss c all same d = record {
   as_defined = λ enters p.
       subst (MachineSteps r m) (sym (c.so_far enters p ∙ branch-last enters t ls i xs k (state_of now) all ∙ ap (λ ss. execute_all enters t ls (sequence_of ss) (state_of now)) (sym same))) (d.as_defined enters p);
 }
+
+-- IF: its first condition
+
+abbrev if_chosen : CallEffect → ℕ → Levels → Conditional → MachineState → StepResult Bool → MachineProgress
+if_chosen enters t ls i s o = choose s o (execute_all enters t ls (sequence_of (out-Conditional i).body.items)) (executed_others t ls (others_in i) (otherwise_in i) enters)
+
+if-goes : (enters : CallEffect) (t : ℕ) (ls : Levels) (i : Conditional) (s : MachineState) (o : StepResult Bool) → o ≡ truth ls s.cells (truth_of (out-Conditional i).condition) → execute enters t ls (branches_in i) s ≡ if_chosen enters t ls i s o
+unfolding execute
+if-goes enters t ls i s o h = ap (if_chosen enters t ls i s) (sym h)
+
+pub if_fails : {post : Post} (m : Machine) (t : ℕ) (ls : Levels) (i : Conditional) (e : Ending) → ends (end_of e) ≡ truth ls m.cells.items (truth_of (out-Conditional i).condition) → EndsRun post e m m (executed t ls (branches_in i))
+if_fails m t ls i e h = λ enters p. if-goes enters t ls i (state_of m) (ends (end_of e)) h
+
+pub if_taken : {post : Post} {m m' : Machine} (t : ℕ) (ls : Levels) (i : Conditional) (r : Result (Unit {0}) Stop) (ss : List Instruction) → gives true ≡ truth ls m.cells.items (truth_of (out-Conditional i).condition)
+    → ss ≡ (out-Conditional i).body.items → MachineDoes post r m m' (executed_all t ls (sequence_of ss)) → MachineDoes post r m m' (executed t ls (branches_in i))
+if_taken {m = m} {m' = m'} t ls i r ss h same d = record {
+  as_defined = λ enters p. subst (MachineSteps r m') (sym (if-goes enters t ls i (state_of m) (gives true) h ∙ ap (λ ss. execute_all enters t ls (sequence_of ss) (state_of m)) (sym same))) (d.as_defined enters p);
+}
+
+pub if_passed : {post : Post} {m m' : Machine} (t : ℕ) (ls : Levels) (i : Conditional) (r : Result (Unit {0}) Stop) → gives false ≡ truth ls m.cells.items (truth_of (out-Conditional i).condition)
+    → MachineDoes post r m m' (executed_others t ls (others_in i) (otherwise_in i)) → MachineDoes post r m m' (executed t ls (branches_in i))
+if_passed {m = m} {m' = m'} t ls i r h d = record { as_defined = λ enters p. subst (MachineSteps r m') (sym (if-goes enters t ls i (state_of m) (gives false) h)) (d.as_defined enters p) }
 
 -- WHILE
 

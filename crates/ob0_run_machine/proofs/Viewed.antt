@@ -3,7 +3,7 @@ use Rattle.std.proofs.Common.{◌≡◌, refl, sym, ◌∙◌, ap}
 use Rattle.ob0_run_machine.specs.declared.code.Instruction.{If, While, Repeat, Row_of-Instruction, end_of-Instruction, more_of-Instruction, items-the_row-Instruction, items_hidden-the_row-Instruction-0}
 use Rattle.ob0_run_machine.specs.declared.code.Instruction.TheBlock.{hidden-the_row-Instruction-0, items_shown-the_row-Instruction-0, hidden-the_row-Branch-1}
 use Rattle.ob0_run_machine.specs.declared.code.Conditional.{out-Conditional, roll-Conditional, roll-out-Conditional, rolls-Conditional', Row_of-Branch, end_of-Branch, more_of-Branch, items-the_row-Branch, items_hidden-the_row-Branch-1}
-use Rattle.ob0_run_machine.specs.Lowered.{before, chooses, repeat_loop, while_loop}
+use Rattle.ob0_run_machine.specs.Lowered.{before, branch, chooses, repeat_loop, while_loop}
 use Rattle.ob0_run_machine.specs.View.{all_branches, branches_in, branches_of, if_of, repeat_of, sequence_of, statement_of, statements_of, truth_of, while_of}
 
 statements_listed : (n : _) (row : Row_of-Instruction n) → statements_of row ≡ sequence_of (items-the_row-Instruction n row)
@@ -25,10 +25,10 @@ branches_listed _ (more_of-Branch condition shape body row) =
     let first : statements_of body ≡ sequence_of _ = statements_listed _ body ∙ ap sequence_of (sym (items_shown-the_row-Instruction-0 shape body)) in
     cc (first, branches_listed _ row)
 
-if_rolled : (x : _) → if_of (roll-Conditional x) ≡ chooses (all_branches x.branches.items) (sequence_of x.otherwise.items)
+if_rolled : (x : _) → if_of (roll-Conditional x) ≡ chooses (branch (truth_of x.condition) (sequence_of x.body.items) (all_branches x.others.items)) (sequence_of x.otherwise.items)
 if_rolled x =
-    let listed = branches_listed _ (hidden-the_row-Branch-1 x.branches) ∙ ap all_branches (items_hidden-the_row-Branch-1 x.branches) in
-    ap if_of (rolls-Conditional' x) ∙ cc (listed, statements_hidden x.otherwise)
+    let listed = branches_listed _ (hidden-the_row-Branch-1 x.others) ∙ ap all_branches (items_hidden-the_row-Branch-1 x.others) in
+    ap if_of (rolls-Conditional' x) ∙ cc (listed, statements_hidden x.body, statements_hidden x.otherwise)
 
 pub if_made : (i : _) → statement_of (If i) ≡ branches_in i
 if_made i = sym (ap if_of (roll-out-Conditional i)) ∙ if_rolled (out-Conditional i)

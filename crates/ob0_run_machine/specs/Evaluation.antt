@@ -4,7 +4,7 @@
 use Rattle.std.specs.Prelude.{ℕ, suc, zero, ◌+◌, ◌*◌, ◌%◌, ◌^◌, Bool, true, false, not, ◌&&◌, List, [], ◌∷◌, Option, None, Some, ℤ, pos, negsuc, ◌+ℤ◌, ◌-ℤ◌, ◌*ℤ◌, neg_ℤ, if◌then◌else◌, nat_lt, slice_index_or, int_lt, int_le, drop}
 use Rattle.ob0_language_values.specs.Division as division
 use Rattle.ob0_language_values.specs.Division.{divided}
-use Rattle.ob0_run_machine.specs.Lowered.{Place, in_module, here, outside, passed, element, part, Number, literal, cell, negative, operation, Operator, sum, difference, product, quotient, remainder, Comparator, equal, not_equal, less, less_equal, greater, greater_equal, Truth, constant, flag, negation, both, either, related, same, different}
+use Rattle.ob0_run_machine.specs.Lowered.{Place, in_module, here, outside, passed, element, Number, literal, cell, negative, operation, Operator, sum, difference, product, quotient, remainder, Comparator, equal, not_equal, less, less_equal, greater, greater_equal, Truth, constant, flag, negation, both, either, related, same, different}
 
 infixl 20 ◌>>=◌
 -- how a run ends
@@ -81,10 +81,10 @@ abbrev mutual
   address ls cells (in_module offset) = gives offset
   address ls cells (here offset) = gives (forward (innermost ls).base offset)
   address ls cells (outside up offset) = gives (forward (level_at ls up).base offset)
-  address ls cells (passed up index) = gives (slice_index_or (level_at ls up).addresses index 0)
-  address ls cells (element p i length stride) =
-      address ls cells p >>= (λ a. number ls cells i >>= element_at a length stride)
-  address ls cells (part p offset) = address ls cells p >>= (λ a. gives (forward a offset))
+  address ls cells (passed up index offset) =
+      gives (forward (slice_index_or (level_at ls up).addresses index 0) offset)
+  address ls cells (element p i length stride offset) =
+      address ls cells p >>= (λ a. number ls cells i >>= element_at (forward a offset) length stride)
 
   -- the value of a number; each operation gives 32 bits or ends the run
   pub number : Levels → List ℤ → Number → StepResult ℤ

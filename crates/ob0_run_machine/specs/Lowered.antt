@@ -21,12 +21,11 @@ mutual
     here : (offset : ℕ) → Place
     -- at an offset in the cells of the activation `up` levels out
     outside : (up offset : ℕ) → Place
-    -- where a VAR parameter of the activation `up` levels out leads, by its index among them
-    passed : (up index : ℕ) → Place
-    -- an element of an array, which has `length` elements of `stride` cells each
-    element : Place → Number → (length stride : ℕ) → Place
-    -- a part at an offset
-    part : Place → (offset : ℕ) → Place
+    -- at an offset in what a VAR parameter of the activation `up` levels out leads to,
+    -- by its index among them
+    passed : (up index offset : ℕ) → Place
+    -- at an offset in an element of an array, which has `length` elements of `stride` cells each
+    element : Place → Number → (length stride offset : ℕ) → Place
 
   -- a number: a literal, the cell at a place, or an operation on numbers
   pub data Number : Type 0 where

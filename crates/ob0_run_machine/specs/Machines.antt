@@ -18,9 +18,9 @@ use Rattle.ob0_run_machine.specs.declared.memory.Memory.{Memory}
 use Rattle.ob0_run_machine.specs.Allocations.{has_failed}
 use Rattle.ob0_run_machine.specs.Answers.{end_at, end_of}
 use Rattle.ob0_run_machine.specs.Evaluation.{Halt, Levels, StepResult, ends, gives}
-use Rattle.ob0_run_machine.specs.Execution.{CallEffect, Passed, MachineProgress, MachineState, OutputItem, activate, call, entered, execute, execute_all, line_out, number_out, running, stopped}
+use Rattle.ob0_run_machine.specs.Execution.{CallEffect, Passed, MachineProgress, MachineState, OutputItem, activate, call, entered, execute, execute_all, execute_branches, line_out, number_out, running, stopped}
 use Rattle.ob0_run_machine.specs.Levels.{levels_of}
-use Rattle.ob0_run_machine.specs.Lowered.{Routine, Instruction, Instructions}
+use Rattle.ob0_run_machine.specs.Lowered.{Branches, Routine, Instruction, Instructions}
 use Rattle.ob0_run_machine.specs.View.{program_of}
 use Rattle.ob0_run_machine.specs.declared.code.LoweredCode.{LoweredCode}
 
@@ -78,6 +78,11 @@ executed t ls a enters s = execute enters t ls a s
 -- what statements do
 abbrev pub executed_all : ℕ → Levels → Instructions → Doing
 executed_all t ls as_listed enters s = execute_all enters t ls as_listed s
+
+-- what the first of these branches with a TRUE condition does; `otherwise` where there is none
+abbrev pub executed_others : ℕ → Levels → Branches → Instructions → Doing
+executed_others t ls bs otherwise enters s =
+    execute_branches enters t ls bs (execute_all enters t ls otherwise) s
 
 -- a step of the machine does what `doing` says, where calls do what they say
 pub record MachineDoes (post : Post) (r : Result (Unit {0}) Stop) (m m' : Machine) (doing : Doing)

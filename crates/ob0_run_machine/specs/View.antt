@@ -1,6 +1,6 @@
 -- The lowered code that a value of the code's types means, and the activations.
 -- Rule: none; for contracts: what values of the code mean.
-use Rattle.std.specs.Prelude.{List, [], ◌∷◌, map}
+use Rattle.std.specs.Prelude.{List, [], ◌∷◌, ℤ, map}
 use Rattle.ob0_run_machine.specs.declared.code.Place as place
 use Rattle.ob0_run_machine.specs.declared.code.Place.{Place}
 use Rattle.ob0_run_machine.specs.declared.code.Number as number
@@ -10,6 +10,7 @@ use Rattle.ob0_run_machine.specs.declared.code.FirstOperand.{FirstOperand}
 use Rattle.ob0_run_machine.specs.declared.code.Chain as chain
 use Rattle.ob0_run_machine.specs.declared.code.Variable.{Variable}
 use Rattle.ob0_run_machine.specs.declared.code.Variable.TheVariants as variable
+use Rattle.ob0_run_machine.specs.declared.code.Reference.{Reference}
 use Rattle.ob0_run_machine.specs.declared.code.Row.{Row}
 use Rattle.ob0_run_machine.specs.declared.code.Operator.{Operator}
 use Rattle.ob0_run_machine.specs.declared.code.Operator.TheVariants as operator
@@ -48,12 +49,17 @@ operator_of operator.Remainder = lowered.remainder
 abbrev pub variable_of : Variable → lowered.Place
 variable_of (variable.Module offset) = lowered.in_module offset
 variable_of (variable.Here offset) = lowered.here offset
-variable_of (variable.ByReference index) = lowered.passed 0 index
+variable_of (variable.ByReference index offset) = lowered.passed 0 index offset
 
--- the element of an array at the index that a variable has
+-- at an offset in what a VAR parameter leads to
+abbrev pub reference_of : Reference → lowered.Place
+reference_of r = lowered.passed r.up r.index r.offset
+
+-- at an offset in the element of an array at the index that a variable has
 abbrev pub row_of : Row → lowered.Place
 row_of r =
     lowered.element (variable_of r.array) (lowered.cell (variable_of r.index)) r.length r.stride
+    r.offset
 
 abbrev mutual
   -- a place of the code
@@ -61,10 +67,9 @@ abbrev mutual
   place_of (place.Variable v) = variable_of v
   place_of (place.Row r) = row_of r.value
   place_of (place.Outside up offset) = lowered.outside up offset
-  place_of (place.Passed up index) = lowered.passed up index
-  place_of (place.Element' pointer array index length stride) =
-      lowered.element (place_of array) (number_of index) length stride
-  place_of (place.Part' pointer p offset) = lowered.part (place_of p) offset
+  place_of (place.Passed r) = reference_of r.value
+  place_of (place.Element' pointer array index length stride offset) =
+      lowered.element (place_of array) (number_of index) length stride offset
 
   -- a number of the code
   pub number_of : Number → lowered.Number
@@ -119,7 +124,7 @@ abbrev mutual
 abbrev pub element_of : Element → lowered.Place
 element_of e =
     lowered.element (place_of (out-Element e).array) (number_of (out-Element e).index)
-    (out-Element e).length (out-Element e).stride
+    (out-Element e).length (out-Element e).stride (out-Element e).offset
 
 -- an operation of the code
 abbrev pub operation_of : Operation → lowered.Number
@@ -151,6 +156,11 @@ related_by r o = lowered.related (relation_of r) (number_of o.left) (number_of o
 abbrev pub compared_by : Comparator → Variable → lowered.Number → lowered.Truth
 compared_by r v n = lowered.related (relation_of r) (lowered.cell (variable_of v)) n
 
+-- an element that is compared with a variable
+abbrev pub row_compared : Comparator → Row → Variable → lowered.Truth
+row_compared r q v =
+    lowered.related (relation_of r) (lowered.cell (row_of q)) (lowered.cell (variable_of v))
+
 abbrev mutual
   -- a truth value of the code
   pub truth_of : Truth → lowered.Truth
@@ -163,8 +173,10 @@ abbrev mutual
   truth_of (truth.All' pointer first shape row) = all_of row (truth_of first)
   truth_of (truth.Any' pointer first shape row) = any_of row (truth_of first)
   truth_of (truth.Related r o) = related_by r o.value
+  truth_of (truth.LessThanLiteral v n) = compared_by relation.Less v (lowered.literal n)
   truth_of (truth.ComparedToLiteral r v n) = compared_by r v (lowered.literal n)
   truth_of (truth.ComparedToVariable r v w) = compared_by r v (lowered.cell (variable_of w))
+  truth_of (truth.RowToVariable r q v) = row_compared r q.value v
   truth_of (truth.Same' pointer left right) = lowered.same (truth_of left) (truth_of right)
   truth_of (truth.Different' pointer left right) =
       lowered.different (truth_of left) (truth_of right)
@@ -208,14 +220,24 @@ argument_of (argument.Block p n) = lowered.by_block (place_of p) n
 abbrev pub call_of : call.ProcedureCall → lowered.Instruction
 call_of c = lowered.calls c.procedure c.up (map argument_of c.arguments.items)
 
+-- a variable becomes more by a number
+abbrev pub increases : Variable → ℤ → lowered.Instruction
+increases v n =
+    lowered.stores_number (variable_of v)
+    (lowered.operation lowered.sum (lowered.cell (variable_of v)) (lowered.literal n))
+
 abbrev mutual
   -- a statement of the code
   pub statement_of : Instruction → lowered.Instruction
   statement_of (statement.StoreNumber p n) = lowered.stores_number (place_of p) (number_of n)
   statement_of (statement.StoreVariable v n) = lowered.stores_number (variable_of v) (number_of n)
+  statement_of (statement.StoreChain v c) = lowered.stores_number (variable_of v) (chained_in c.value)
+  statement_of (statement.Increase v n) = increases v n
   statement_of (statement.Update v l) =
       lowered.stores_number (variable_of v) (applied l (lowered.cell (variable_of v)))
   statement_of (statement.StoreTruth p t) = lowered.stores_truth (place_of p) (truth_of t)
+  statement_of (statement.StoreConstant r b) =
+      lowered.stores_truth (row_of r.value) (lowered.constant b)
   statement_of (statement.Copy p q n) = lowered.copies (place_of p) (place_of q) n
   statement_of (statement.Read p) = lowered.reads (place_of p)
   statement_of (statement.Write n) = lowered.writes (number_of n)
@@ -228,8 +250,9 @@ abbrev mutual
 
   -- an IF of the code
   pub if_of : if_statement.Conditional → lowered.Instruction
-  if_of (if_statement.Conditional' shape branches shape' otherwise) =
-      lowered.chooses (branches_of branches) (statements_of otherwise)
+  if_of (if_statement.Conditional' c shape body shape' branches shape'' otherwise) =
+      lowered.chooses (lowered.branch (truth_of c) (statements_of body) (branches_of branches))
+      (statements_of otherwise)
 
   -- the statements of a row
   pub statements_of : {n : _} → statement.Row_of-Instruction n → lowered.Instructions
@@ -275,8 +298,17 @@ program_of p =
       procedures = map procedure_of p.procedures.items;
     }
 
+-- the ELSIF parts of an IF
+abbrev pub others_in : if_statement.Conditional → lowered.Branches
+others_in i = all_branches (if_statement.out-Conditional i).others.items
+
+-- what is executed where no condition of an IF is TRUE
+abbrev pub otherwise_in : if_statement.Conditional → lowered.Instructions
+otherwise_in i = sequence_of (if_statement.out-Conditional i).otherwise.items
+
 -- an IF of the code
 abbrev pub branches_in : if_statement.Conditional → lowered.Instruction
 branches_in i =
-    lowered.chooses (all_branches (if_statement.out-Conditional i).branches.items)
-    (sequence_of (if_statement.out-Conditional i).otherwise.items)
+    lowered.chooses
+    (lowered.branch (truth_of (if_statement.out-Conditional i).condition)
+    (sequence_of (if_statement.out-Conditional i).body.items) (others_in i)) (otherwise_in i)

@@ -6,9 +6,12 @@
 //! assignment, and as array and index of a `Row`; the operations of a row are links on an accumulator, with the
 //! operator and a literal or variable in one tag (`Link`), any other right operand in one called function
 //! (`apply_other`); `v + i * j` is a row too (`VariableSum`), since a variable that is read after the row is the same;
-//! `x := x + k` is an `Update`; a variable compared with a literal or a variable is one node (`ComparedToLiteral`,
-//! `ComparedToVariable`), and so is `~flag` (`Unset`). Conditions that are such a comparison are evaluated where they
-//! are used, a flag by a small function (`flag`), all others in a large one (`flat_truth`).
+//! `x := x + k` is an `Increase`, `x := x * y` an `Update`, and an assignment of operations in a row evaluates them where
+//! it is (`StoreChain`); a variable compared with a literal or a variable is one node (`LessThanLiteral`,
+//! `ComparedToLiteral`, `ComparedToVariable`), and so are an element compared with a variable (`RowToVariable`), an
+//! element that becomes TRUE or FALSE (`StoreConstant`) and `~flag` (`Unset`). Conditions that compare variables are
+//! evaluated where they are used, a flag and an element by small functions (`flag`, `compare_row`), all others in a large
+//! one (`flat_truth`).
 //!
 //! Long sums and long conjunctions are `Chain`, `All` and `Any`, in a loop; they mean pairs that are nested to the
 //! left. So no stack is needed for a long operator chain. What operations begin with is a `FirstOperand`, which is no
@@ -24,13 +27,14 @@ pub enum Operator {
     Remainder,
 }
 
-/// A variable of the module or of the running activation, by its offset in the cells of either, or what a VAR parameter
-/// of the running activation leads to, by its index among these parameters.
+/// A variable of the module or of the running activation, by its offset in the cells of either, or what is at an offset
+/// in what a VAR parameter of the running activation leads to, by its index among these parameters.
 #[derive(Clone, Copy, PartialEq, Eq, Debug)]
 pub enum Variable {
     Module(usize),
     Here(usize),
-    ByReference(usize),
+    /// Numbers of 32 bits, so that a variable has 16 bytes; others are a `Place::Passed`.
+    ByReference { index: u32, offset: u32 },
 }
 
 /// Where a variable or a part of one is.
@@ -38,28 +42,34 @@ pub enum Variable {
 #[derive(Drop)]
 pub enum Place {
     Variable(Variable),
-    /// In the cells of the activation that is this number of levels out, at an offset, the second number.
-    Outside(usize, usize),
-    /// Where a VAR parameter of the activation that is this number of levels out leads, by its index among these
-    /// parameters.
-    Passed(usize, usize),
+    /// In the cells of the activation that is `up` levels out, at an offset.
+    Outside { up: usize, offset: usize },
+    Passed(Box<Reference>),
     /// An element of an array that is a variable, at an index that is one: an `Element` in one step.
     Row(Box<Row>),
     Element(Box<Element>),
-    /// A part at an offset.
-    Part(Box<Place>, usize),
 }
 
-/// An element of an array, at an index: the array has `length` elements of `stride` cells each.
+/// At an offset in what a VAR parameter of the activation `up` levels out leads to, by its index among these
+/// parameters.
+#[derive(Clone, Copy, PartialEq, Eq, Debug)]
+pub struct Reference {
+    pub up: usize,
+    pub index: usize,
+    pub offset: usize,
+}
+
+/// At an offset in an element of an array, at an index: the array has `length` elements of `stride` cells each.
 #[derive(Clone, Copy, PartialEq, Eq, Debug)]
 pub struct Row {
     pub array: Variable,
     pub index: Variable,
     pub length: usize,
     pub stride: usize,
+    pub offset: usize,
 }
 
-/// An element of an array, at an index: the array has `length` elements of `stride` cells each.
+/// At an offset in an element of an array, at an index: the array has `length` elements of `stride` cells each.
 #[cycle(numbers)]
 #[derive(Drop)]
 pub struct Element {
@@ -67,6 +77,7 @@ pub struct Element {
     pub index: Number,
     pub length: usize,
     pub stride: usize,
+    pub offset: usize,
 }
 
 /// An expression whose value is a number of 32 bits.
@@ -166,9 +177,13 @@ pub enum Truth {
     /// Many truths joined by `OR`.
     Any(Box<Several>),
     Related(Comparator, Box<Operands>),
-    /// A variable compared with a literal: a `Related` in one step, as the next is.
+    /// A variable that is less than a literal: a `Related` in one step, as the next three are.
+    LessThanLiteral(Variable, i32),
+    /// A variable compared with a literal.
     ComparedToLiteral(Comparator, Variable, i32),
     ComparedToVariable(Comparator, Variable, Variable),
+    /// An element compared with a variable.
+    RowToVariable(Comparator, Box<Row>, Variable),
     Same(Box<Truths>),
     Different(Box<Truths>),
 }
@@ -206,9 +221,15 @@ pub enum Instruction {
     StoreNumber(Place, Number),
     /// The same to a variable.
     StoreVariable(Variable, Number),
-    /// A variable becomes the result of an operation whose left operand it is, as in `x := x + 1`.
+    /// The same of operations in a row.
+    StoreChain(Variable, Box<Chain>),
+    /// A variable becomes the result of an operation whose left operand it is, as in `x := x * 2`.
     Update(Variable, Link),
+    /// As in `x := x + 1`.
+    Increase(Variable, i32),
     StoreTruth(Place, Truth),
+    /// An element becomes TRUE or FALSE.
+    StoreConstant(Box<Row>, bool),
     /// The cells from the second place on go to the first; the last field is their number.
     Copy(Place, Place, usize),
     Read(Place),
@@ -220,11 +241,14 @@ pub enum Instruction {
     Call(ProcedureCall),
 }
 
-/// IF and its ELSIF parts, and what is executed where no condition is TRUE.
+/// IF: its condition with the statements that are run where it is TRUE, its ELSIF parts, and what is executed where no
+/// condition is TRUE. So an IF without ELSIF is evaluated without a list.
 #[cycle(statements)]
 #[derive(Drop)]
 pub struct Conditional {
-    pub branches: Vec<Branch>,
+    pub condition: Truth,
+    pub body: Vec<Instruction>,
+    pub others: Vec<Branch>,
     pub otherwise: Vec<Instruction>,
 }
 

@@ -7,7 +7,7 @@ ghost use Rattle.ob0_run_machine.specs.Evaluation.{address, cell_at, gives, numb
 ghost use Rattle.ob0_run_machine.specs.declared.code.Truths.{out-Truths};
 ghost use Rattle.ob0_run_machine.specs.Lowered as lowered;
 ghost use Rattle.ob0_run_machine.specs.Levels.{levels_of};
-ghost use Rattle.ob0_run_machine.specs.View.{all_in, any_in, applied, chained_in, compared_by, element_of, first_of, number_of, operation_of, operator_of, place_of, related_by, row_of, truth_of, variable_of};
+ghost use Rattle.ob0_run_machine.specs.View.{all_in, any_in, applied, chained_in, compared_by, element_of, first_of, number_of, operation_of, operator_of, place_of, related_by, row_compared, row_of, truth_of, variable_of};
 
 use crate::code::{
     Chain, Comparator, Element, FirstOperand, Link, Number, Operands, Operation, Operator, Place,
@@ -41,7 +41,9 @@ pub(crate) fn variable_at(variable: Variable, level: &Level<'_>) -> usize
     match variable {
         Variable::Module(offset) => offset,
         Variable::Here(offset) => forward(level.base, offset),
-        Variable::ByReference(index) => var_parameter_at(level, index),
+        Variable::ByReference { index, offset } => {
+            forward(var_parameter_at(level, index as usize), offset as usize)
+        }
     }
 }
 
@@ -54,13 +56,14 @@ fn value_of(variable: Variable, level: &Level<'_>, cells: &[i32]) -> i32
     cell_at(cells, variable_at(variable, level))
 }
 
-/// The address of an element of an array that is a variable.
+/// The address in an element of an array that is a variable.
 #[inline(always)]
-fn row(row: &Row, level: &Level<'_>, cells: &[i32]) -> Result<usize, Ending>
+pub(crate) fn row(row: &Row, level: &Level<'_>, cells: &[i32]) -> Result<usize, Ending>
     ensures { outcome_of_result result ≡ address (levels_of level.now) cells.now (row_of row.now) }
 {
     let index = value_of(row.index, level, cells);
-    element_at(variable_at(row.array, level), row.length, row.stride, index)
+    let array = forward(variable_at(row.array, level), row.offset);
+    element_at(array, row.length, row.stride, index)
 }
 
 /// The address of a place.
@@ -72,15 +75,14 @@ pub(crate) fn locate(place: &Place, level: &Level<'_>, cells: &[i32]) -> Result<
 {
     match place {
         Place::Variable(variable) => Ok(variable_at(*variable, level)),
-        Place::Outside(up, offset) => Ok(forward(base_at(level, *up), *offset)),
-        Place::Passed(up, index) => Ok(passed_at(level, *up, *index)),
+        Place::Outside { up, offset } => Ok(forward(base_at(level, *up), *offset)),
+        Place::Passed(r) => Ok(forward(passed_at(level, r.up, r.index), r.offset)),
         Place::Row(r) => row(r, level, cells),
         Place::Element(e) => into_result(element(e, level, cells)),
-        Place::Part(whole, offset) => into_result(part(whole, *offset, level, cells)),
     }
 }
 
-/// The address of an element.
+/// The address in an element.
 #[inline(never)]
 #[cycle(evaluation)]
 fn element(e: &Element, level: &Level<'_>, cells: &[i32]) -> Evaluated<usize>
@@ -97,20 +99,7 @@ fn locate_element(e: &Element, level: &Level<'_>, cells: &[i32]) -> Result<usize
 {
     let a = locate(&e.array, level, cells)?;
     let i = evaluate_number(&e.index, level, cells)?;
-    element_at(a, e.length, e.stride, i)
-}
-
-/// The address of a part.
-#[inline(never)]
-#[cycle(evaluation)]
-fn part(whole: &Place, offset: usize, level: &Level<'_>, cells: &[i32]) -> Evaluated<usize>
-    ensures { outcome_of result
-        ≡ address (levels_of level.now) cells.now (lowered.part (place_of whole.now) offset) }
-{
-    match locate(whole, level, cells) {
-        Ok(a) => Evaluated::Value(forward(a, offset)),
-        Err(ending) => flat(Err(ending)),
-    }
+    element_at(forward(a, e.offset), e.length, e.stride, i)
 }
 
 /// The value of a number.
@@ -195,7 +184,7 @@ fn chain(c: &Chain, level: &Level<'_>, cells: &[i32]) -> Evaluated<i32>
 /// The operations of a chain, from left to right.
 #[inline(always)]
 #[cycle(evaluation)]
-fn operations(c: &Chain, level: &Level<'_>, cells: &[i32]) -> Result<i32, Ending>
+pub(crate) fn operations(c: &Chain, level: &Level<'_>, cells: &[i32]) -> Result<i32, Ending>
     ensures { outcome_of_result result ≡ number (levels_of level.now) cells.now (chained_in c.now) }
 {
     let mut left = evaluate_first(&c.first, level, cells)?;
@@ -298,11 +287,15 @@ pub(crate) fn evaluate_truth(t: &Truth, level: &Level<'_>, cells: &[i32]) -> Res
         Truth::Constant(b) => Ok(*b),
         Truth::Flag(place) => into_result(flag(place, level, cells)),
         Truth::Unset(place) => unset(place, level, cells),
+        Truth::LessThanLiteral(v, n) => {
+            Ok(compare_variable(Comparator::Less, *v, *n, level, cells))
+        }
         Truth::ComparedToLiteral(r, v, n) => Ok(compare_variable(*r, *v, *n, level, cells)),
         Truth::ComparedToVariable(r, v, w) => {
             let right = value_of(*w, level, cells);
             Ok(compare_variable(*r, *v, right, level, cells))
         }
+        Truth::RowToVariable(r, q, v) => into_result(compare_row(*r, q, *v, level, cells)),
         _ => truth(t, level, cells),
     }
 }
@@ -341,11 +334,15 @@ fn any_truth(t: &Truth, level: &Level<'_>, cells: &[i32]) -> Result<bool, Ending
         Truth::All(several) => all(several, level, cells),
         Truth::Any(several) => any(several, level, cells),
         Truth::Related(relation, operands) => compare_operands(*relation, operands, level, cells),
+        Truth::LessThanLiteral(v, n) => {
+            Ok(compare_variable(Comparator::Less, *v, *n, level, cells))
+        }
         Truth::ComparedToLiteral(r, v, n) => Ok(compare_variable(*r, *v, *n, level, cells)),
         Truth::ComparedToVariable(r, v, w) => {
             let right = value_of(*w, level, cells);
             Ok(compare_variable(*r, *v, right, level, cells))
         }
+        Truth::RowToVariable(r, q, v) => into_result(compare_row(*r, q, *v, level, cells)),
         Truth::Same(operands) => same(operands, level, cells),
         Truth::Different(operands) => different(operands, level, cells),
     }
@@ -364,6 +361,27 @@ fn compare_variable(
         (compared_by relation variable (lowered.literal right)) ≡ gives result }
 {
     compare(relation, value_of(variable, level, cells), right)
+}
+
+/// Whether a relation holds between an element and what a variable holds.
+#[inline(never)]
+fn compare_row(
+    relation: Comparator,
+    left: &Row,
+    right: Variable,
+    level: &Level<'_>,
+    cells: &[i32],
+) -> Evaluated<bool>
+    ensures { outcome_of result
+        ≡ truth (levels_of level.now) cells.now (row_compared relation left.now right) }
+{
+    match row(left, level, cells) {
+        Ok(a) => {
+            let right = value_of(right, level, cells);
+            Evaluated::Value(compare(relation, cell_at(cells, a), right))
+        }
+        Err(ending) => flat(Err(ending)),
+    }
 }
 
 /// Whether a relation holds between two numbers.

@@ -6,19 +6,21 @@ ghost use Rattle.ob0_run_machine.specs.Evaluation.{truth};
 ghost use Rattle.ob0_run_machine.specs.Execution.{CallEffect, execute};
 ghost use Rattle.ob0_run_machine.specs.Levels.{levels_of};
 ghost use Rattle.ob0_run_machine.specs.Lowered as lowered;
-ghost use Rattle.ob0_run_machine.specs.Machines.{MachineDoes, MachineSteps, entering, executed, executed_all, after_step, state_of};
-ghost use Rattle.ob0_run_machine.specs.View.{applied, branches_in, call_of, number_of, place_of, repeat_of, sequence_of, statement_of, truth_of, variable_of, while_of};
+ghost use Rattle.ob0_run_machine.specs.Machines.{MachineDoes, MachineSteps, entering, executed, executed_all, executed_others, after_step, state_of};
+ghost use Rattle.ob0_run_machine.specs.View.{applied, branches_in, call_of, chained_in, increases, number_of, others_in, otherwise_in, place_of, repeat_of, row_of, sequence_of, statement_of, truth_of, variable_of, while_of};
 
 use crate::addresses::Addresses;
 use crate::code::{
-    Conditional, Instruction, Link, Number, Place, ProcedureCall, RepeatLoop, Truth, Variable,
-    WhileLoop,
+    Chain, Conditional, Instruction, Link, Number, Place, ProcedureCall, RepeatLoop, Row, Truth,
+    Variable, WhileLoop,
 };
 use crate::ending::{Ending, Stop};
-use crate::evaluating::{evaluate_number, evaluate_truth, evaluate_update, locate, variable_at};
+use crate::evaluating::{
+    cell_at, evaluate_number, evaluate_truth, evaluate_update, locate, operations, row, variable_at,
+};
 use crate::level::{Level, outside};
 use crate::machine::{Item, Machine, copy, store};
-use crate::operators::as_cell;
+use crate::operators::{add, as_cell};
 use crate::passing::pass_all;
 
 /// An assignment to any place. It is a function, so that `statement` stays small enough to be inlined.
@@ -60,9 +62,47 @@ fn store_variable(
     Ok(())
 }
 
-/// A variable becomes the result of an operation on it.
+/// An assignment of operations in a row to a variable: a function, so that `statement` stays small enough to be inlined.
+#[tactic(auto, unfolding(crate::specs::Execution::execute))]
+#[inline(never)]
+fn store_chain(
+    variable: Variable,
+    c: &Chain,
+    level: &Level<'_>,
+    machine: &mut Machine<'_>,
+) -> Result<(), Ending>
+    ensures { (enters : CallEffect) (t : ℕ)
+        → after_step result machine.new
+        ≡ execute enters t (levels_of level.now)
+        (lowered.stores_number (variable_of variable) (chained_in c.now)) (state_of machine.old) }
+{
+    let v = operations(c, level, machine.cells.as_slice())?;
+    store(&mut machine.cells, variable_at(variable, level), v);
+    Ok(())
+}
+
+/// A variable becomes more by a number.
 #[tactic(auto, unfolding(crate::specs::Execution::execute))]
 #[inline(always)]
+fn increase(
+    variable: Variable,
+    by: i32,
+    level: &Level<'_>,
+    machine: &mut Machine<'_>,
+) -> Result<(), Ending>
+    ensures { (enters : CallEffect) (t : ℕ)
+        → after_step result machine.new
+        ≡ execute enters t (levels_of level.now) (increases variable by) (state_of machine.old) }
+{
+    let a = variable_at(variable, level);
+    let v = add(cell_at(machine.cells.as_slice(), a), by)?;
+    store(&mut machine.cells, a, v);
+    Ok(())
+}
+
+/// A variable becomes the result of an operation on it: a function for the same reason.
+#[tactic(auto, unfolding(crate::specs::Execution::execute))]
+#[inline(never)]
 fn update(
     variable: Variable,
     link: &Link,
@@ -96,6 +136,25 @@ fn store_truth(
     let a = locate(place, level, machine.cells.as_slice())?;
     let v = evaluate_truth(t, level, machine.cells.as_slice())?;
     store(&mut machine.cells, a, as_cell(v));
+    Ok(())
+}
+
+/// An element becomes TRUE or FALSE.
+#[tactic(auto, unfolding(crate::specs::Execution::execute))]
+#[inline(never)]
+fn store_constant(
+    r: &Row,
+    b: bool,
+    level: &Level<'_>,
+    machine: &mut Machine<'_>,
+) -> Result<(), Ending>
+    ensures { (enters : CallEffect) (t : ℕ)
+        → after_step result machine.new
+        ≡ execute enters t (levels_of level.now)
+        (lowered.stores_truth (row_of r.now) (lowered.constant b)) (state_of machine.old) }
+{
+    let a = row(r, level, machine.cells.as_slice())?;
+    store(&mut machine.cells, a, as_cell(b));
     Ok(())
 }
 
@@ -233,8 +292,11 @@ fn statement<F: Fn(&mut Machine<'_>, usize, &Level<'_>) -> Result<(), Stop>>(
         Instruction::StoreVariable(variable, n) => Ok(store_variable(
             *variable, n, level, machine,
         )?),
+        Instruction::StoreChain(variable, c) => Ok(store_chain(*variable, c, level, machine)?),
         Instruction::Update(variable, link) => Ok(update(*variable, link, level, machine)?),
+        Instruction::Increase(variable, by) => Ok(increase(*variable, *by, level, machine)?),
         Instruction::StoreTruth(place, t) => Ok(store_truth(place, t, level, machine)?),
+        Instruction::StoreConstant(r, b) => Ok(store_constant(r, *b, level, machine)?),
         Instruction::Copy(to, from, count) => Ok(copy_block(to, from, *count, level, machine)?),
         Instruction::Read(place) => Ok(read(place, level, machine)?),
         Instruction::Write(n) => write(n, level, machine),
@@ -318,7 +380,32 @@ fn branches<F: Fn(&mut Machine<'_>, usize, &Level<'_>) -> Result<(), Stop>>(
     ensures { MachineDoes (F.post enter.now) result machine.old machine.new
         (executed turns (levels_of level.now) (branches_in i.now)) }
 {
-    for branch in &i.branches {
+    if evaluate_condition(&i.condition, level, machine)? {
+        return sequence(&i.body, level, turns, machine, enter);
+    }
+    let others = i.others.as_slice();
+    let count = others.len();
+    if count == 0 {
+        return sequence_if_any(&i.otherwise, level, turns, machine, enter);
+    }
+    other_branches(i, level, turns, machine, enter)
+}
+
+/// The ELSIF parts of an IF, and its ELSE.
+#[inline(never)]
+#[cycle(execution)]
+fn other_branches<F: Fn(&mut Machine<'_>, usize, &Level<'_>) -> Result<(), Stop>>(
+    i: &Conditional,
+    level: &Level<'_>,
+    turns: u32,
+    machine: &mut Machine<'_>,
+    enter: &F,
+) -> Result<(), Stop>
+    requires { F.IsAlwaysCallable enter.now }
+    ensures { MachineDoes (F.post enter.now) result machine.old machine.new
+        (executed_others turns (levels_of level.now) (others_in i.now) (otherwise_in i.now)) }
+{
+    for branch in &i.others {
         if evaluate_condition(&branch.condition, level, machine)? {
             return sequence(&branch.body, level, turns, machine, enter);
         }

@@ -1,14 +1,14 @@
 -- A text whose tokens between are written as those before them has its tokens written as before: its identifiers, and all its words.
-use Rattle.std.proofs.Common.{◌≡◌, ℕ, ◌+◌, ◌-◌, ◌≤◌, List, [], ◌∷◌, ◌++◌, map, take, drop, refl, sym, ap, ap₂, ◌∙◌, arith, ⊎_elim}
+use Rattle.std.proofs.Common.{◌≡◌, ℕ, ◌+◌, ◌-◌, ◌≤◌, List, [], ◌∷◌, ◌++◌, map, take, drop, length, refl, sym, ap, ap₂, ◌∙◌, arith, append_assoc, length-append, ⊎_elim}
 use Rattle.std.specs.List.{All}
-use Rattle.std.proofs.lemmas.List.{take-append-drop, drop-drop, drop-take, take-take}
+use Rattle.std.proofs.lemmas.List.{take-append-drop, drop-drop, drop-take, take-take, take-map, drop-map, take_at, drop_at, length-map, length-take-le}
 use Rattle.std.proofs.lemmas.List.Elements.{All-head, All-tail}
 use Rattle.std.proofs.lemmas.Bool.{cases_lt}
 use Rattle.ob0_scan.specs.declared.lexeme.Span.{Span}
 use Rattle.ob0_scan.specs.declared.lexeme.Token.{Token}
 use Rattle.ob0_scan.specs.declared.lexeme.TokenKind.{TokenKind}
 use Rattle.ob0_scan.specs.declared.rescanning.Between.{Between}
-use Rattle.ob0_scan.specs.Scanned.{Scanned, spanned}
+use Rattle.ob0_scan.specs.Scanned.{Scanned, Word, spanned}
 use Rattle.ob0_scan.specs.Reused.{IsReplaced, name_of, names_in, words_in, move_span, moved_token}
 use Rattle.ob0_scan.specs.Rescanning.{IsBetween, with_between}
 
@@ -46,19 +46,19 @@ module _ (old new : List ℕ) (from removed added : ℕ) (r : IsReplaced old new
 
 -- what is made of each token, by its kind and by how it is written
 module _ {X : Type 0} (of : TokenKind → List ℕ → X) where
-  abbrev written : List ℕ → List Token → List X
+  abbrev pub written : List ℕ → List Token → List X
   written text tokens = map (λ (t : Token). of t.kind (spanned text t.span)) tokens
 
-  written-append : (text : List ℕ) (a b : List Token) → written text (a ++ b) ≡ written text a ++ written text b
+  pub written-append : (text : List ℕ) (a b : List Token) → written text (a ++ b) ≡ written text a ++ written text b
   written-append text [] b = refl
   written-append text (t ∷ a) b = ap (λ ns. of t.kind (spanned text t.span) ∷ ns) (written-append text a b)
 
-  before_stays : (old new : List ℕ) (from removed added : ℕ) → IsReplaced old new from removed added → (tokens : List Token) → All (λ (t : Token). t.span.end ≤ from) tokens → written new tokens ≡ written old tokens
+  pub before_stays : (old new : List ℕ) (from removed added : ℕ) → IsReplaced old new from removed added → (tokens : List Token) → All (λ (t : Token). t.span.end ≤ from) tokens → written new tokens ≡ written old tokens
   before_stays old new from removed added r [] h = refl
   before_stays old new from removed added r (t ∷ tokens) h =
       ap₂ (λ n ns. of t.kind n ∷ ns) (in_front old new from t.span r.front (All-head (λ (x : Token). x.span.end ≤ from) t tokens h)) (before_stays old new from removed added r tokens (All-tail (λ (x : Token). x.span.end ≤ from) t tokens h))
 
-  after_stays : (old new : List ℕ) (from removed added : ℕ) → IsReplaced old new from removed added → (tokens : List Token) → All (λ (t : Token). from + removed ≤ t.span.start) tokens → written new (map (moved_token removed added) tokens) ≡ written old tokens
+  pub after_stays : (old new : List ℕ) (from removed added : ℕ) → IsReplaced old new from removed added → (tokens : List Token) → All (λ (t : Token). from + removed ≤ t.span.start) tokens → written new (map (moved_token removed added) tokens) ≡ written old tokens
   after_stays old new from removed added r [] h = refl
   after_stays old new from removed added r (t ∷ tokens) h =
       ap₂ (λ n ns. of t.kind n ∷ ns) (at_back old new from removed added r t.span (All-head (λ (x : Token). from + removed ≤ x.span.start) t tokens h)) (after_stays old new from removed added r tokens (All-tail (λ (x : Token). from + removed ≤ x.span.start) t tokens h))
@@ -93,3 +93,32 @@ pub words_stay : (old : Scanned) (new : List ℕ) (from removed added : ℕ) (b 
     → words_in new b.tokens.items ≡ words_in old.text (take (b.following.tokens - b.front.tokens) (drop b.front.tokens old.tokens))
     → words_in new (with_between old new removed added b).tokens ≡ words_in old.text old.tokens
 words_stay old new from removed added b r w same = written_stays (λ k text. record { kind = k; text = text }) old new from removed added b r w same
+
+-- the tokens before those between, and those after them, are written as they were
+pub front_written : (old : Scanned) (new : List ℕ) (from removed added : ℕ) (b : Between) → IsReplaced old.text new from removed added → IsBetween old new from removed added b
+    → take b.front.tokens (words_in new (with_between old new removed added b).tokens) ≡ take b.front.tokens (words_in old.text old.tokens)
+front_written old new from removed added b r w =
+    let of : TokenKind → List ℕ → Word = λ k text. record { kind = k; text = text } in
+    let front : List Token = take b.front.tokens old.tokens in
+    let rest : List Token = b.tokens.items ++ map (moved_token removed added) (drop b.following.tokens old.tokens) in
+    let inside : b.front.tokens ≤ length old.tokens = omega (arith, w.tokens_ordered, w.tokens_inside) in
+    ap (take b.front.tokens) (written-append of new front rest ∙ ap (λ l. l ++ written of new rest) (before_stays of old.text new from removed added r front w.tokens_before))
+    ∙ take_at (written of old.text front) (written of new rest) b.front.tokens (length-map front (λ (t : Token). of t.kind (spanned old.text t.span)) ∙ length-take-le b.front.tokens old.tokens inside)
+    ∙ sym (take-map (λ (t : Token). of t.kind (spanned old.text t.span)) b.front.tokens old.tokens)
+
+pub back_written : (old : Scanned) (new : List ℕ) (from removed added back : ℕ) (b : Between) → IsReplaced old.text new from removed added → IsBetween old new from removed added b
+    → back ≡ b.front.tokens + length b.tokens.items
+    → drop back (words_in new (with_between old new removed added b).tokens) ≡ drop b.following.tokens (words_in old.text old.tokens)
+back_written old new from removed added back b r w at =
+    let of : TokenKind → List ℕ → Word = λ k text. record { kind = k; text = text } in
+    let front : List Token = take b.front.tokens old.tokens in
+    let last : List Token = drop b.following.tokens old.tokens in
+    let moved : List Token = map (moved_token removed added) last in
+    let inside : b.front.tokens ≤ length old.tokens = omega (arith, w.tokens_ordered, w.tokens_inside) in
+    let count : length (written of new (front ++ b.tokens.items)) ≡ back =
+    length-map (front ++ b.tokens.items) (λ (t : Token). of t.kind (spanned new t.span)) ∙ (length-append front b.tokens.items ∙ omega (arith, at, length-take-le b.front.tokens old.tokens inside)) in
+    ap (λ (l : List Token). drop back (words_in new l)) (sym (append_assoc front b.tokens.items moved))
+    ∙ (ap (drop back) (written-append of new (front ++ b.tokens.items) moved)
+    ∙ (drop_at (written of new (front ++ b.tokens.items)) (written of new moved) back count
+    ∙ (after_stays of old.text new from removed added r last w.tokens_after
+    ∙ sym (drop-map (λ (t : Token). of t.kind (spanned old.text t.span)) b.following.tokens old.tokens))))

@@ -4,7 +4,7 @@ use Rattle.std.specs.Prelude.{◌≡◌, ℕ, List, true}
 use Rattle.ob0_scan.specs.declared.tokens.RescanInPlace.{RescanInPlace}
 use Rattle.ob0_scan.specs.Scanned.{Scanned, IsScanOf}
 use Rattle.ob0_scan.specs.Reused.{Reuses, kinds, names_in, words_in}
-use Rattle.ob0_scan.specs.SameKinds.{HasSameTokens}
+use Rattle.ob0_scan.specs.SameKinds.{HasSameTokens, HasSameWords}
 
 -- the scan of the new text, of which is said what the old one had
 pub record IsRescanOf (old : Scanned) (new : List ℕ) (from removed added : ℕ) (r : RescanInPlace)
@@ -17,3 +17,4 @@ pub record IsRescanOf (old : Scanned) (new : List ℕ) (from removed added : ℕ
   pub same_words : r.same_words ≡ true
       → words_in r.rescan.tokens.text r.rescan.tokens.tokens ≡ words_in old.text old.tokens
   pub same : HasSameTokens r.same old.tokens r.rescan.tokens.tokens
+  pub written : HasSameWords r.same old r.rescan.tokens

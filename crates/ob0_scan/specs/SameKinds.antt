@@ -1,9 +1,10 @@
--- Which tokens of a changed text are of the kinds that they were.
+-- Which tokens of a changed text are of the kinds that they were, and are written as they were.
 -- Rule: none; for contracts of `rescan_in_place`.
 use Rattle.std.specs.Prelude.{◌≡◌, ◌≤◌, List, length, take, drop}
 use Rattle.ob0_scan.specs.declared.lexeme.Token.{Token}
 use Rattle.ob0_scan.specs.declared.tokens.SameTokens.{SameTokens}
-use Rattle.ob0_scan.specs.Reused.{kinds}
+use Rattle.ob0_scan.specs.Reused.{kinds, words_in}
+use Rattle.ob0_scan.specs.Scanned.{Scanned}
 
 -- The first tokens of a text are of the kinds of those before, and so are the last: those from
 -- `back` on, which were those from `old_back` on.
@@ -14,3 +15,10 @@ pub record HasSameTokens (s : SameTokens) (old new : List Token) : Type 0 where
   pub old_back_inside : s.old_back ≤ length old
   pub front : take s.front (kinds new) ≡ take s.front (kinds old)
   pub back : drop s.back (kinds new) ≡ drop s.old_back (kinds old)
+
+-- these tokens are also written as they were
+pub record HasSameWords (s : SameTokens) (old new : Scanned) : Type 0 where
+  pub front : take s.front (words_in new.text new.tokens)
+      ≡ take s.front (words_in old.text old.tokens)
+  pub back : drop s.back (words_in new.text new.tokens)
+      ≡ drop s.old_back (words_in old.text old.tokens)

@@ -44,7 +44,7 @@ ghost use Rattle.ob0_scan.specs.Scanned.{IsScanOf, read_in, spanned};
 ghost use Rattle.ob0_scan.specs.Refused.{IsRightRefusal, IsRightRefusalOver};
 ghost use Rattle.ob0_scan.specs.UnderWay.{IsUnderWay};
 ghost use Rattle.ob0_scan.specs.Reused.{IsReplaced, Reuses, kinds, move_span, moved_token, tokens_before_change, comments_before_change, back_tokens, back_comments, valueless, name_of, names_in, words_in};
-ghost use Rattle.ob0_scan.specs.SameKinds.{HasSameTokens};
+ghost use Rattle.ob0_scan.specs.SameKinds.{HasSameTokens, HasSameWords};
 ghost use Rattle.ob0_scan.specs.Rescanned.{IsRescanOf};
 ghost use Rattle.ob0_scan.specs.Rescanning.{token_end, comment_end, last_end, token_begins, comment_begins, AreInOrder, IsMovable, ReadsOn, IsMet, IsBetween};
 
@@ -510,6 +510,7 @@ pub fn rescan_in_place(
         ≡ words_in old.text old.tokens) }
     ensures same { IfOk result
         (λ r. HasSameTokens r.same old.tokens r.rescan.tokens.tokens) }
+    ensures written { IfOk result (λ r. HasSameWords r.same old r.rescan.tokens) }
 {
     let change = ReplacedRange {
         from,

@@ -1,6 +1,5 @@
 -- A module that was gone through, with the table of its marks and its faults, is resolved.
-use Rattle.std.proofs.Common.{◌≡◌, ℕ, Bool, true, false, not, ◌||◌, Option, Some, None, List, [], ◌∷◌, ◌++◌, map, length, refl, sym, ap, ◌∙◌, subst, is_some, if◌then◌else◌, le_refl, replicate, ◌≤◌, ◌==◌}
-use Rattle.std.proofs.lemmas.List.{length-replicate}
+use Rattle.std.proofs.Common.{◌≡◌, ℕ, Bool, true, false, not, ◌||◌, Option, Some, None, List, [], ◌∷◌, ◌++◌, map, length, refl, sym, ap, ◌∙◌, subst, is_some, if◌then◌else◌, replicate, ◌==◌}
 use Rattle.std.proofs.lemmas.List.Folds.{list_any-append}
 use Rattle.std.specs.List.{filter, list_any}
 use Rattle.ob0_scan.specs.declared.fault.Code.TheVariants as code
@@ -9,22 +8,20 @@ use Rattle.ob0_scan.specs.declared.fault.Code.{Code}
 use Rattle.ob0_scan.specs.declared.lexeme.Span.{Span}
 use Rattle.ob0_scan.specs.Scanned.{Scanned}
 use Rattle.ob0_tree.specs.declared.tree.Role.TheVariants as role
-use Rattle.ob0_tree.specs.Tree.{occurrences}
+use Rattle.ob0_tree.specs.Tree.{identifiers, occurrences}
 use Rattle.ob0_tree.specs.Parsed.{Parsed, IsParsed, tree_of}
 use Rattle.ob0_tree.specs.Places.{text_at}
 use Rattle.ob0_scope_table.specs.DeclaredTwice.{twice_in}
 use Rattle.ob0_language_names.specs.Names.{Name, as_names}
-use Rattle.ob0_scope_table.specs.Resolution.{AreFaultsOf, IsNumbering, IsResolution, is_of_declarations, is_of_occurrences, is_unbound, label_at, ordinal_in, span_at, unbound_at, unbound_in, undeclared_at, with_ordinal}
+use Rattle.ob0_scope_table.specs.Resolution.{AreFaultsOf, IsNumbering, IsResolution, NamesAlone, declaring_only, is_of_declarations, is_of_occurrences, is_unbound, label_at, ordinal_in, span_at, unbound_at, unbound_in, undeclared_at, with_ordinal}
 use Rattle.ob0_language_names.specs.Scopes.{as_label}
 use Rattle.ob0_scope_numbering.specs.Marks.{with_marks}
 use Rattle.ob0_scope_numbering.specs.Marking.{Visit, started, visit_module}
 use Rattle.ob0_scope_numbering.specs.Written.{as_in}
 use Rattle.ob0_scope_table.proofs.Bound.{bindings_by_table}
 use Rattle.ob0_scope_numbering.proofs.Passing.{HasMarks, at_start, module_passed}
-use Rattle.ob0_scope_numbering.proofs.Tables.{kept_elsewhere, marks_are_there, none_at}
+use Rattle.ob0_scope_numbering.proofs.Tables.{kept_elsewhere, marks_in_table, none_at}
 use Rattle.ob0_scope.proofs.TwiceOnce.{twice_alone, twice_where}
-use Rattle.ob0_tree.specs.Order.{Ascending}
-use Rattle.ob0_tree.proofs.Leaves.{leaves_ascend}
 use Rattle.ob0_tree.proofs.Occurring.{looked_up-occurrences}
 
 undeclared_none : (o : Option ℕ) (s : Span) (rest : List Fault) → list_any is_of_declarations rest ≡ false → list_any is_of_declarations (if is_some o then rest else record { code = code.Undeclared; span = s } ∷ rest) ≡ false
@@ -97,30 +94,37 @@ faults_reported m ordinals numbering =
       undeclared = declarations_left_out once unbound (twice_alone m) ∙ (all_occurrences m.source ordinals (occurrences (tree_of m)) ∙ each);
     }
 
+-- a module with a table that has all its marks, and with its faults, is resolved
+pub resolution_marked : (m : Parsed) (ordinals : List (Option ℕ)) (declarations uses : List ℕ) (once faults : List Fault) → IsParsed m → HasMarks (ordinal_in ordinals) (visit_module (tree_of m) (started (as_in m.source))).marks → NamesAlone m ordinals
+    → declarations ≡ declaring_only (identifiers role.Declaring (tree_of m)) → uses ≡ occurrences (tree_of m) → once ≡ twice_in m → faults ≡ once ++ undeclared_at m.source ordinals uses
+    → IsResolution (record { module_read = m; ordinals = ordinals; declarations = declarations; uses = uses; faults = faults })
+resolution_marked m ordinals declarations uses once faults parsed are_there alone declaring occurring twice all =
+    let numbered_so = module_passed (ordinal_in ordinals) (as_label as_names) (as_in m.source) (tree_of m) (started (as_in m.source)) (at_start (as_in m.source)) in
+    let paired = module_passed (ordinal_in ordinals) with_ordinal (as_in m.source) (tree_of m) (started (as_in m.source)) (at_start (as_in m.source)) in
+    let numbering : IsNumbering m ordinals = (numbered_so.agree are_there).1 in
+    record {
+      parsed = parsed;
+      numbering = numbering;
+      binding = (paired.agree are_there).1;
+      names_alone = alone;
+      declaring = declaring;
+      occurring = occurring;
+      reported = subst (AreFaultsOf m) (sym (all ∙ (λ i. twice i ++ undeclared_at m.source ordinals (occurring i)))) (faults_reported m ordinals numbering);
+    }
+
 -- a module gone through, with the table of its marks and its faults, is resolved
 pub resolution_made : (m : Parsed) (v : Visit) (ordinals : List (Option ℕ)) (declarations uses : List ℕ) (once faults : List Fault) → IsParsed m → v ≡ visit_module (tree_of m) (started (as_in m.source))
     → ordinals ≡ with_marks (replicate (length m.source.tokens) None) v.marks → declarations ≡ v.declarations → uses ≡ v.uses → once ≡ twice_in m → faults ≡ once ++ undeclared_at m.source ordinals uses
     → IsResolution (record { module_read = m; ordinals = ordinals; declarations = declarations; uses = uses; faults = faults })
 resolution_made m v ordinals declarations uses once faults parsed gone tabled declares occurs twice all =
-    let w = visit_module (tree_of m) (started (as_in m.source)) in
-    let count = length-replicate (length m.source.tokens) (let nothing : Option ℕ = None in nothing) in
-    let numbered_so = module_passed (ordinal_in ordinals) (as_label as_names) (as_in m.source) (tree_of m) (started (as_in m.source)) (at_start (as_in m.source)) in
-    let table : ordinals ≡ with_marks (replicate (length m.source.tokens) None) w.marks = tabled ∙ ap (λ (v : Visit). with_marks (replicate (length m.source.tokens) None) v.marks) gone in
-    let ascend = subst (λ ts. Ascending 0 ts (length m.source.tokens)) (sym numbered_so.tokens) (leaves_ascend m parsed) in
-    let marks = marks_are_there w.marks (replicate (length m.source.tokens) None) 0 (length m.source.tokens) ascend (subst (λ n. length m.source.tokens ≤ n) (sym count) (le_refl (length m.source.tokens))) in
-    let are_there = subst (λ (os : List (Option ℕ)). HasMarks (ordinal_in os) w.marks) (sym table) marks in
-    let numbering : IsNumbering m ordinals = (numbered_so.agree are_there).1 in
-    let paired = module_passed (ordinal_in ordinals) with_ordinal (as_in m.source) (tree_of m) (started (as_in m.source)) (at_start (as_in m.source)) in
-    let occurring : uses ≡ occurrences (tree_of m) = occurs ∙ (ap (λ (v : Visit). v.uses) gone ∙ (numbered_so.used ∙ looked_up-occurrences role.Declaring (λ n xs. refl) (tree_of m))) in
+    let w = as_in m.source in
+    let passed = module_passed (ordinal_in ordinals) (as_label as_names) w (tree_of m) (started w) (at_start w) in
+    let table : ordinals ≡ with_marks (replicate (length m.source.tokens) None) (visit_module (tree_of m) (started w)).marks = tabled ∙ ap (λ (v : Visit). with_marks (replicate (length m.source.tokens) None) v.marks) gone in
+    let marks = (visit_module (tree_of m) (started w)).marks in
     let nothing : List (Option ℕ) = replicate (length m.source.tokens) None in
-    record {
-      parsed = parsed;
-      numbering = numbering;
-      binding = (paired.agree are_there).1;
-      names_alone = λ token e.
-          ap (λ (os : List (Option ℕ)). ordinal_in os token) table
-          ∙ (kept_elsewhere w.marks nothing token (ap (list_any (λ i. i == token)) numbered_so.tokens ∙ e) ∙ none_at (length m.source.tokens) token);
-      declaring = declares ∙ (ap (λ (v : Visit). v.declarations) gone ∙ numbered_so.declared);
-      occurring = occurring;
-      reported = subst (AreFaultsOf m) (sym (all ∙ (λ i. twice i ++ undeclared_at m.source ordinals (occurring i)))) (faults_reported m ordinals numbering);
-    }
+    resolution_marked m ordinals declarations uses once faults parsed (marks_in_table m w v ordinals parsed gone tabled)
+    (λ token e.
+    ap (λ (os : List (Option ℕ)). ordinal_in os token) table
+    ∙ (kept_elsewhere marks nothing token (ap (list_any (λ i. i == token)) passed.tokens ∙ e) ∙ none_at (length m.source.tokens) token))
+    (declares ∙ (ap (λ (v : Visit). v.declarations) gone ∙ passed.declared))
+    (occurs ∙ (ap (λ (v : Visit). v.uses) gone ∙ (passed.used ∙ looked_up-occurrences role.Declaring (λ n xs. refl) (tree_of m)))) twice all

@@ -68,7 +68,7 @@ module _ (table : ℕ → Option ℕ) (n : ℕ) where
   AreBeforeAt (i ∷ is) = IsBefore n (table i) × AreBeforeAt is
 
   -- the ordinals of these marks are before a number
-  abbrev AreMarksBefore : List OrdinalMark → Type 0
+  abbrev pub AreMarksBefore : List OrdinalMark → Type 0
   AreMarksBefore [] = Unit {0}
   AreMarksBefore (m ∷ ms) = IsBefore n m.ordinal × AreMarksBefore ms
 
@@ -97,15 +97,20 @@ kept_before : (n : ℕ) (o : Option ℕ) → n ≤ greatest → IsBefore n o →
 kept_before n None le h = refl
 kept_before n (Some j) le h = ap Some (min-eq_left (let below : j ≤ greatest = omega (arith, le, h) in below))
 
-entries_kept : (read : ℕ → Option ℕ) (n : ℕ) (ms : List OrdinalMark) (table : List (Option ℕ)) → n ≤ greatest → AreMarksBefore read n ms → with_entries table ms ≡ with_marks table ms
+pub entries_kept : (read : ℕ → Option ℕ) (n : ℕ) (ms : List OrdinalMark) (table : List (Option ℕ)) → n ≤ greatest → AreMarksBefore read n ms → with_entries table ms ≡ with_marks table ms
 entries_kept read n [] table le h = refl
 entries_kept read n (m ∷ ms) table le h =
     ap (λ o. with_entries (set table m.token o) ms) (kept_before n m.ordinal le h.0) ∙ entries_kept read n ms (set table m.token m.ordinal) le h.1
 
--- entries have the ordinals of all marks of a module
-pub all_kept : (m : Parsed) (w : Writing) (table : List (Option ℕ)) → IsParsed m → IsScan m.source
-    → with_entries table (visit_module (tree_of m) (started w)).marks ≡ with_marks table (visit_module (tree_of m) (started w)).marks
-all_kept m w table parsed scan =
+-- the marks of a module are before a number that an entry can have
+pub record MarksFew (m : Parsed) (w : Writing) : Type 0 where
+  pub read : ℕ → Option ℕ
+  pub bound : ℕ
+  pub small : bound ≤ greatest
+  pub before : AreMarksBefore read bound (visit_module (tree_of m) (started w)).marks
+
+pub marks_few : (m : Parsed) (w : Writing) → IsParsed m → IsScan m.source → MarksFew m w
+marks_few m w parsed scan =
     let v = visit_module (tree_of m) (started w) in
     let ids = identifiers role.Declaring (tree_of m) in
     let nothing : List (Option ℕ) = replicate (length m.source.tokens) None in
@@ -116,6 +121,12 @@ all_kept m w table parsed scan =
     let few = few_between 0 (names_only ids) (length m.source.tokens) (leaves_ascend m parsed) in
     let tokens = few_tokens m.source scan in
     let n = 7 + length (names_only ids) in
-    let small : n ≤ greatest = omega (arith, few, tokens) in
     let before = before_at read n 7 ids order (omega arith) in
-    entries_kept read n v.marks table small (marks_before read n v.marks (subst (AreBeforeAt read n) (sym passed.tokens) before) has)
+    record { read = read; bound = n; small = omega (arith, few, tokens); before = marks_before read n v.marks (subst (AreBeforeAt read n) (sym passed.tokens) before) has }
+
+-- entries have the ordinals of all marks of a module
+pub all_kept : (m : Parsed) (w : Writing) (table : List (Option ℕ)) → IsParsed m → IsScan m.source
+    → with_entries table (visit_module (tree_of m) (started w)).marks ≡ with_marks table (visit_module (tree_of m) (started w)).marks
+all_kept m w table parsed scan =
+    let few = marks_few m w parsed scan in
+    entries_kept few.read few.bound (visit_module (tree_of m) (started w)).marks table few.small few.before

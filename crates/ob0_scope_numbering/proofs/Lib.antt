@@ -1,9 +1,14 @@
 pub mod Declaring
 pub mod Agreed
+pub mod Alongside
+pub mod Covered
+pub mod BodyMarks
+pub mod BodyTables
+pub mod Again
 pub mod Passing
 pub mod Tables
-mod Kept
-mod Tabled
+pub mod Kept
+pub mod Tabled
 pub mod Going
 pub mod NewestNames
 pub mod Shadows

@@ -93,6 +93,10 @@ pub record At (v : Visit) (src : Writing) (s : Scope Name) (k : ℕ) : Type 0 wh
   pub next : 7 + length v.declarations ≡ k
   pub before : AreBefore k s
 
+-- the same, by the names that are visible and the number of the declarations themselves
+pub at_itself : {v : Visit} {src : Writing} {s : Scope Name} {k : ℕ} → At v src s k → At v src v.scope (7 + length v.declarations)
+at_itself {v = v} {k = k} at = record { writing = at.writing; scope = refl; next = refl; before = subst (λ n. AreBefore n v.scope) (sym at.next) (subst (AreBefore k) (sym at.scope) at.before) }
+
 pub at_start : (src : Writing) → At (started src) src (predeclared_scope as_names) 7
 at_start src = record { writing = refl; scope = refl; next = refl; before = names_before 0 (map as_names.predeclared (0 ∷ 1 ∷ 2 ∷ 3 ∷ 4 ∷ 5 ∷ 6 ∷ [])) [] 7 (omega arith) tt }
 
@@ -200,7 +204,7 @@ module _ {M : Type 0} (table : ℕ → Option ℕ) (label : Labels Name M) (src 
   Passes = Passed table src
 
   -- a part with the names as they are written, and any numbers
-  abbrev spelled : {s : Sort} → Tree ℕ s → Tree Name s
+  abbrev pub spelled : {s : Sort} → Tree ℕ s → Tree Name s
   spelled t = mapped (name_at src) value t
 
   -- a part with the table's ordinals
@@ -210,7 +214,7 @@ module _ {M : Type 0} (table : ℕ → Option ℕ) (label : Labels Name M) (src 
   pass_nothing : (v : Visit) (s : Scope Name) (k : ℕ) → At v src s k → Passes v v [] s k (Unit {0})
   pass_nothing v s k at = record { at = at; declared = sym (append-nil v.declarations); used = sym (append-nil v.uses); tokens = sym (append-nil (tokens_of v.marks)); agree = λ h. (h, tt); in_order = λ h later. subst (λ n. AreInOrder table n later) (sym at.next) }
 
-  pass_then : {a b c : Visit} {xs ys : List (Role × ℕ)} {s s' : Scope Name} {k k' : ℕ} {P Q : Type 0} → Passes a b xs s k P → Passes b c ys s' k' Q → Passes a c (xs ++ ys) s' k' (Two P Q)
+  pub pass_then : {a b c : Visit} {xs ys : List (Role × ℕ)} {s s' : Scope Name} {k k' : ℕ} {P Q : Type 0} → Passes a b xs s k P → Passes b c ys s' k' Q → Passes a c (xs ++ ys) s' k' (Two P Q)
   pass_then {a = a} {xs = xs} {ys = ys} p q =
       record {
         at = q.at;
@@ -238,7 +242,7 @@ module _ {M : Type 0} (table : ℕ → Option ℕ) (label : Labels Name M) (src 
             subst (λ ids. AreInOrder table (7 + length a.declarations) (ids ++ later)) e (p.in_order h later (subst (λ n. AreInOrder table n later) (sym g) o));
       }
 
-  used_passed : {σ : Sort} (t : Tree ℕ σ) (v : Visit) (s : Scope Name) (k : ℕ) → IsPlain σ → At v src s k
+  pub used_passed : {σ : Sort} (t : Tree ℕ σ) (v : Visit) (s : Scope Name) (k : ℕ) → IsPlain σ → At v src s k
       → Passes v (used t v) (identifiers role.Declaring t) s k (relabel_uses as_names label s (spelled t) ≡ by_table t)
   used_passed t v s k is_plain at =
       let plain = (declares_nothing is_plain t).plain in
@@ -443,19 +447,19 @@ module _ {M : Type 0} (table : ℕ → Option ℕ) (label : Labels Name M) (src 
   formals_declaring (one no_formals) = refl
   formals_declaring (one (some_formals f fs)) = sections_declaring (more (then_section f) fs)
 
-  constant_section_passed : (cs : Tree ℕ (maybe constants)) (v : Visit) (s : Scope Name) (k : ℕ) → At v src s k
+  pub constant_section_passed : (cs : Tree ℕ (maybe constants)) (v : Visit) (s : Scope Name) (k : ℕ) → At v src s k
       → Passes v (visit_constant_section cs v) (identifiers role.Declaring cs) (declare_names k (constant_names (section_constants (spelled cs))) s) (after_names k (constant_names (section_constants (spelled cs))))
       (relabel_constant_section as_names label s k (spelled cs) ≡ by_table cs)
   constant_section_passed none v s k at = pass_to (pass_nothing v s k at) (λ h. refl)
   constant_section_passed (one (declares_constants cs)) v s k at = pass_to (constants_passed cs v s k at) (λ p i. one (declares_constants (p i)))
 
-  type_section_passed : (ts : Tree ℕ (maybe type_names)) (v : Visit) (s : Scope Name) (k : ℕ) → At v src s k
+  pub type_section_passed : (ts : Tree ℕ (maybe type_names)) (v : Visit) (s : Scope Name) (k : ℕ) → At v src s k
       → Passes v (visit_type_section ts v) (identifiers role.Declaring ts) (declare_names k (named_types (section_types (spelled ts))) s) (after_names k (named_types (section_types (spelled ts))))
       (relabel_type_section as_names label s k (spelled ts) ≡ by_table ts)
   type_section_passed none v s k at = pass_to (pass_nothing v s k at) (λ h. refl)
   type_section_passed (one (declares_types ts)) v s k at = pass_to (types_passed ts v s k at) (λ p i. one (declares_types (p i)))
 
-  variable_section_passed : (vs : Tree ℕ (maybe variables)) (v : Visit) (s : Scope Name) (k : ℕ) → At v src s k
+  pub variable_section_passed : (vs : Tree ℕ (maybe variables)) (v : Visit) (s : Scope Name) (k : ℕ) → At v src s k
       → Passes v (visit_variable_section vs v) (identifiers role.Declaring vs) (declare_names k (variable_names (section_variables (spelled vs))) s) (after_names k (variable_names (section_variables (spelled vs))))
       (relabel_variable_section as_names label s k (spelled vs) ≡ by_table vs)
   variable_section_passed none v s k at = pass_to (pass_nothing v s k at) (λ h. refl)
@@ -471,6 +475,19 @@ module _ {M : Type 0} (table : ℕ → Option ℕ) (label : Labels Name M) (src 
         agree = p.agree;
         in_order = p.in_order;
       }
+
+  -- a procedure's name and its parameters
+  pub heading_passed : (x : ℕ) (fs : Tree ℕ (maybe formals)) (v : Visit) (s : Scope Name) (k : ℕ) → At v src s k
+      → Passes v (after_heading (length v.declarations) (length v.scope) (visit_formals fs (numbered_at x v))) ((role.Declaring, x) ∷ identifiers role.Declaring fs)
+      (declare_names (suc k) (formal_names (formal_sections (spelled fs))) ((name_at src x, k) ∷ s)) (after_names (suc k) (formal_names (formal_sections (spelled fs))))
+      (Two (table x ≡ Some k) (relabel_formals as_names label s (suc k) (spelled fs) ≡ by_table fs))
+  heading_passed x fs v s k at =
+      let name = name_at src x in
+      let formal = formal_names (formal_sections (spelled fs)) in
+      let a = number_passed x v s k at in
+      let f = formals_passed fs (numbered_at x v) s (suc k) a.at in
+      let heading = left_passed (length v.scope) (ap length at.scope) (names_extend (suc k) formal s) (pass_then a f) in
+      show_passed (name ∷ formal) at (ap (λ xs. name ∷ xs) (formals_declaring fs)) heading
 
   mutual
     pub block_passed : (b : Tree ℕ block) (v : Visit) (s : Scope Name) (k : ℕ) → At v src s k
@@ -511,13 +528,8 @@ module _ {M : Type 0} (table : ℕ → Option ℕ) (label : Labels Name M) (src 
         let k₁ = after_names (suc k) formal in
         let inside = declare_names (suc k) formal ((name, k) ∷ s) in
         let count : outside ≡ length s = ap length at.scope in
-        let v₁ = numbered_at x v in
-        let a = number_passed x v s k at in
-        let v₂ = visit_formals fs v₁ in
-        let f = formals_passed fs v₁ s (suc k) a.at in
-        let heading = left_passed outside count (names_extend (suc k) formal s) (pass_then a f) in
-        let h = show_passed (name ∷ formal) at (ap (λ xs. name ∷ xs) (formals_declaring fs)) heading in
-        let v₃ = after_heading own outside v₂ in
+        let h = heading_passed x fs v s k at in
+        let v₃ = after_heading own outside (visit_formals fs (numbered_at x v)) in
         let g = block_passed b v₃ inside k₁ h.at in
         let whole = pass_then h g in
         let e = extends_then (extends_then (one_extends (name, k) s) (names_extend (suc k) formal ((name, k) ∷ s))) (block_extends k₁ (spelled b) inside) in

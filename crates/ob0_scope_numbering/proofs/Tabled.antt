@@ -1,15 +1,17 @@
 -- A module gone through with a table has what a table made of the listed identifiers has.
-use Rattle.std.proofs.Common.{◌≡◌, ℕ, ◌+◌, Option, Some, None, List, [], ◌∷◌, ◌++◌, length, replicate, set, refl, ap, ◌∙◌}
+use Rattle.std.proofs.Common.{◌≡◌, ℕ, ◌+◌, Bool, true, false, nat_lt, if◌then◌else◌, Option, Some, None, List, [], ◌∷◌, ◌++◌, length, replicate, set, refl, ap, ◌∙◌}
 use Rattle.ob0_scan.specs.Scanned.{IsScan}
 use Rattle.ob0_tree.specs.declared.tree.Role.{Role}
 use Rattle.ob0_tree.specs.declared.tree.Role.TheVariants as role
-use Rattle.ob0_tree.specs.Tree.{Sort, Tree, block, constant, constants, declares, declares_constant, declares_constants, declares_procedure, declares_type, declares_types, declares_variable, declares_variables, end, formals, further_section, has_body, identifiers, is_module, item, items, maybe, module_text, more, no_formals, none, one, procedure, section, some_formals, then_section, type_name, type_names, value_section, variable, variable_section, variables}
+use Rattle.ob0_tree.specs.Tree.{Sort, Tree, block, body, constant, constants, declares, declares_constant, declares_constants, declares_procedure, declares_type, declares_types, declares_variable, declares_variables, end, formals, further_section, has_body, identifiers, is_module, item, items, maybe, module_text, more, no_formals, none, one, procedure, section, some_formals, then_section, type_name, type_names, value_section, variable, variable_section, variables}
 use Rattle.ob0_tree.specs.Parsed.{IsParsed, Parsed, tree_of}
 use Rattle.ob0_scope_numbering.specs.Marking as listing
 use Rattle.ob0_scope_numbering.specs.Marks.{OrdinalMark}
 use Rattle.ob0_scope_table.specs.Entries.{kept}
 use Rattle.ob0_language_names.specs.Names.{as_names}
-use Rattle.ob0_language_names.specs.Parts.{names_listed}
+use Rattle.ob0_language_names.specs.Parts.{names_listed, procedure_name}
+use Rattle.ob0_scope_table.specs.OneBody.{closing_name}
+use Rattle.ob0_scope_numbering.specs.Renumbering.{caught_up, module_renumbered, passed_over, renumber_block, renumber_procedure, renumber_procedures, started_over}
 use Rattle.ob0_language_names.specs.Scopes.{ordinal_of}
 use Rattle.ob0_scope_numbering.specs.Tabling as tabling
 use Rattle.ob0_scope_numbering.specs.Tabling.{module_numbered}
@@ -138,6 +140,37 @@ module _ (table : List (Option ℕ)) where
   text-entered (is_module x b closing) v =
       let w = listing.marked x None v in
       ap (tabling.marked closing None) (ap (tabling.visit_block b) (marked-entered x None v) ∙ block-entered b w) ∙ marked-entered closing None (listing.visit_block b w)
+
+  either : (b : Bool) (x y : tabling.Visit) (v w : listing.Visit) → x ≡ entered table v → y ≡ entered table w → (if b then x else y) ≡ entered table (if b then v else w)
+  either true x y v w e f = e
+  either false x y v w e f = f
+
+  mutual
+    block_again-entered : (all : List ℕ) (low : ℕ) (b : Tree ℕ block) (v : listing.Visit) → renumber_block tabling.put all low b (entered table v) ≡ entered table (renumber_block listing.put all low b v)
+    block_again-entered all low (has_body (declares cs ts vs ps) statements) v =
+        let w = listing.visit_variable_section vs (listing.visit_type_section ts (listing.visit_constant_section cs v)) in
+        ap (renumber_procedures tabling.put all low ps statements) (declarations-entered cs ts vs v) ∙ procedures_again-entered all low ps statements w
+
+    procedures_again-entered : (all : List ℕ) (low : ℕ) (ps : Tree ℕ (items procedure)) (statements : Tree ℕ (maybe body)) (v : listing.Visit)
+        → renumber_procedures tabling.put all low ps statements (entered table v) ≡ entered table (renumber_procedures listing.put all low ps statements v)
+    procedures_again-entered all low end statements v = used-entered statements v
+    procedures_again-entered all low (more p ps) statements v =
+        let w = caught_up all (procedure_name p) v in
+        either (nat_lt (closing_name p) low) (renumber_procedures tabling.put all low ps statements (passed_over (procedure_name p) (entered table w))) (renumber_procedure tabling.put all low p (entered table w))
+        (renumber_procedures listing.put all low ps statements (passed_over (procedure_name p) w)) (renumber_procedure listing.put all low p w)
+        (procedures_again-entered all low ps statements (passed_over (procedure_name p) w)) (procedure_again-entered all low p w)
+
+    procedure_again-entered : (all : List ℕ) (low : ℕ) (p : Tree ℕ (item procedure)) (v : listing.Visit) → renumber_procedure tabling.put all low p (entered table v) ≡ entered table (renumber_procedure listing.put all low p v)
+    procedure_again-entered all low (declares_procedure x fs b closing) v =
+        let w = listing.after_heading (length v.declarations) (length v.scope) (listing.visit_formals fs (listing.numbered_at x v)) in
+        ap (renumber_block tabling.put all low b) (heading-entered x fs v) ∙ block_again-entered all low b w
+
+-- the marks of the walk to one body
+abbrev pub marks_again : List ℕ → ℕ → Tree ℕ module_text → Writing → List OrdinalMark
+marks_again all low (is_module x b closing) w = (renumber_block listing.put all low b (listing.started w)).marks
+
+pub body_tabled : (all : List ℕ) (low : ℕ) (m : Tree ℕ module_text) (w : Writing) (table : List (Option ℕ)) → (module_renumbered all low m (started_over w table)).marks ≡ with_entries table (marks_again all low m w)
+body_tabled all low (is_module x b closing) w table = ap (λ (v : tabling.Visit). v.marks) (block_again-entered table all low b (listing.started w))
 
 pub module_tabled : (m : Parsed) (w : Writing) → IsParsed m → IsScan m.source → tabling.visit_module (tree_of m) (tabling.started w) ≡ module_numbered (tree_of m) w
 module_tabled m w parsed scan =

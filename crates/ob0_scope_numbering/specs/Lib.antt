@@ -1,4 +1,5 @@
 pub mod Written
+pub mod Renumbering
 pub mod Visiting
 pub mod Marks
 pub mod Marking

@@ -7,5 +7,5 @@ mod numbering;
 mod visible;
 mod writing;
 
-pub use numbering::{Numbering, number};
+pub use numbering::{Numbering, number, number_body};
 pub use writing::Writing;

@@ -26,8 +26,9 @@ ghost use Rattle.ob0_language_names.specs.Parts.{names_listed};
 ghost use Rattle.ob0_scope_table.specs.Resolution.{ordinal_in};
 ghost use Rattle.ob0_language_names.specs.Scopes.{ordinal_of, predeclared_scope};
 ghost use Rattle.ob0_scope_numbering.specs.Shadowing.{with_scope};
-ghost use Rattle.ob0_scope_numbering.specs.Written.{is_renamed, name_at};
-ghost use Rattle.ob0_scope_numbering.specs.Tabling.{marked, numbered_at, numbered_all, visible, visible_from, left_to, found, visit_constant, visit_constant_section, visit_type, visit_type_section, visit_variable, visit_variable_section, visit_section, visit_formals, visit_procedure, visit_block, visit_module, started, module_numbered};
+ghost use Rattle.ob0_scope_numbering.specs.Written.{as_in, is_renamed, name_at};
+ghost use Rattle.ob0_scope_numbering.specs.Tabling.{marked, numbered_at, numbered_all, visible, visible_from, left_to, found, visit_constant, visit_constant_section, visit_type, visit_type_section, visit_variable, visit_variable_section, visit_section, visit_formals, visit_procedure, visit_block, visit_module, started, module_numbered, put};
+ghost use Rattle.ob0_scope_numbering.specs.Renumbering.{caught_up, counted, module_renumbered, passed_over, renumber_block, renumber_procedure, started_over};
 
 use crate::visible::Visible;
 use crate::writing::{Writing, is_renamed};
@@ -144,6 +145,33 @@ fn visit_module<'t>(
     numbering.block(read.block())?;
     numbering.mark(read.closing(), None);
     Ok(numbering)
+}
+
+/// Numbers again the body in which a range of tokens lies, over a table in which all else is numbered. The module has
+/// these declarations, and the range begins at the token `low`.
+pub fn number_body(
+    alloc: Global,
+    read: &Module<'_>,
+    table: Vec<OrdinalEntry>,
+    all: &[usize],
+    low: usize,
+) -> Result<Vec<OrdinalEntry>, AllocError>
+    ensures { IfOk result (λ ordinals. ordinals.items
+        ≡ (module_renumbered all.now low (tree_of read.now)
+        (started_over (as_in read.now.source) table.items)).marks) }
+{
+    let mut numbering = Numbering {
+        tokens: read.tokens(),
+        ordinals: &[],
+        declaration: None,
+        visible: predeclared_names(alloc, "")?,
+        declarations: Vec::new(alloc),
+        occurrences: Vec::new(alloc),
+        table,
+    };
+    numbering.block_again(read.block(), all, low)?;
+    let (_declarations, _occurrences, ordinals) = numbering.into_parts();
+    Ok(ordinals)
 }
 
 /// Numbers a module of which the identifiers are written so. The table has each ordinal: a text has no more declarations
@@ -402,5 +430,72 @@ impl<'t> Numbering<'t> {
             self.procedure(p)?;
         }
         body(self, &b.body)
+    }
+
+    /// Counts the declarations before a token, of those that the module has.
+    fn catch_up(&mut self, all: &[usize], token: usize) -> Result<(), AllocError>
+        ensures { OnOk result (self.new ≡ caught_up all.now token self.old) }
+    {
+        for index in self.declaration_count()..all.len() {
+            let declared = all[index];
+            if declared >= token {
+                return Ok(());
+            }
+            self.count(declared)?;
+        }
+        Ok(())
+    }
+
+    /// Counts a declaration.
+    fn count(&mut self, token: usize) -> Result<(), AllocError>
+        ensures { OnOk result (self.new ≡ counted token self.old) }
+    {
+        self.declarations.push(token)?;
+        Ok(())
+    }
+
+    /// Makes the name of the next declaration visible, and passes over what is in it.
+    fn pass_over(&mut self, token: usize) -> Result<(), AllocError>
+        ensures { OnOk result (self.new ≡ passed_over token self.old) }
+    {
+        let next = self.declarations.len();
+        self.show(token, ordinal_at_index(next))
+    }
+
+    #[cycle(blocks_again)]
+    fn procedure_again(
+        &mut self,
+        p: &Procedure,
+        all: &[usize],
+        low: usize,
+    ) -> Result<(), AllocError>
+        ensures { OnOk result (self.new
+            ≡ renumber_procedure put all.now low (procedure_of p.now) self.old) }
+    {
+        let first = self.declaration_count();
+        let outside = self.bindings();
+        self.number(p.name)?;
+        self.heading(&p.formals)?;
+        self.leave_to(outside);
+        self.show_from(first)?;
+        self.block_again(&p.block, all, low)
+    }
+
+    #[cycle(blocks_again)]
+    fn block_again(&mut self, inner: &Block, all: &[usize], low: usize) -> Result<(), AllocError>
+        ensures { OnOk result
+            (self.new ≡ renumber_block put all.now low (block_of inner.now) self.old) }
+    {
+        self.constants(&inner.constants)?;
+        self.types(&inner.types)?;
+        self.variable_section(&inner.variables)?;
+        for p in &inner.procedures {
+            self.catch_up(all, p.name)?;
+            if p.closing >= low {
+                return self.procedure_again(p, all, low);
+            }
+            self.pass_over(p.name)?;
+        }
+        body(self, &inner.body)
     }
 }

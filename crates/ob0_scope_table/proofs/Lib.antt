@@ -3,3 +3,5 @@ pub mod Plain
 pub mod Counted
 pub mod TokenOrder
 pub mod FaultTokens
+pub mod Placed
+pub mod OneBody

@@ -5,3 +5,5 @@ pub mod Spans
 pub mod DeclaredTwice
 pub mod InLabels
 pub mod FaultTokens
+pub mod BodyAlone
+pub mod OneBody

@@ -3,11 +3,13 @@
 #![tactic(auto)]
 
 mod fault_tokens;
+mod one_body;
 mod ordinal_entry;
 mod resolved;
 mod table;
 
 pub use fault_tokens::{FaultAt, faults_at_tokens, tokens_of_faults};
+pub use one_body::is_in_body;
 pub use ordinal_entry::OrdinalEntry;
 pub use resolved::{Bindings, PREDECLARED, Resolved};
 pub use table::{ordinal_at, token_span};

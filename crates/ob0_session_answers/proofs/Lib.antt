@@ -1,5 +1,3 @@
-pub mod LaidOut
-pub mod Inlined
 pub mod Lists
 pub mod Diagnosing
 mod Naming

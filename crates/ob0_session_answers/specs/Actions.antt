@@ -1,6 +1,6 @@
 -- Code actions on request: a constant is inlined, here or everywhere.
 -- Rule: docs/PROTOCOL.md, Requests on documents 7.
-use Rattle.std.specs.Prelude.{◌≡◌, ◌⊎◌, ℕ, ℤ, List, [], ◌∷◌, ◌++◌, Bool, true, false, ◌&&◌, ◌||◌, min, Option, Some, None, Result, Ok, Err, Vec, codes}
+use Rattle.std.specs.Prelude.{◌≡◌, ◌⊎◌, ℕ, ℤ, List, [], ◌∷◌, ◌++◌, Bool, true, false, ◌&&◌, ◌||◌, min, Option, Some, None, Vec, codes}
 use Rattle.std.specs.List.{list_any}
 use Rattle.std.specs.Str.{bytes_eq}
 use Rattle.std.specs.declared.alloc.Global.{Global}
@@ -8,20 +8,18 @@ use Rattle.serde_json.specs.Data.{Data, array, no_items}
 use Rattle.serde_json.specs.View.{items_of}
 use Rattle.ob0_rpc.specs.Seen.{id_data, kinds_seen}
 use Rattle.ob0_rpc.specs.Shapes.{result_message}
+use Rattle.ob0_rpc.specs.Writing.{Writes}
 use Rattle.ob0_rpc.specs.declared.clients.Client.{Client}
 use Rattle.ob0_text.specs.Texts.{offset_of}
 use Rattle.ob0_text.specs.Units.{width_of}
 use Rattle.ob0_text.specs.declared.edits.Edit.{Edit}
 use Rattle.ob0_text.specs.declared.position_types.Range.{Range}
 use Rattle.ob0_text.specs.declared.position_types.Unit.{Unit}
-use Rattle.ob0_text.specs.declared.refusals.EditRefusal.{EditRefusal}
-use Rattle.ob0_text.specs.declared.refusals.EditRefusal.TheVariants.{Memory}
 use Rattle.ob0_analysis.specs.Diagnosed.{IsWellTypedModule}
 use Rattle.ob0_analysis.specs.Texts.{utf8}
-use Rattle.ob0_edits.specs.Inlinings.{InlinesIn, IsNotInlinedIn}
+use Rattle.ob0_edits.specs.Inlinings.{Offers}
 use Rattle.ob0_session_json.specs.Shapes.{action_value, workspace_edit}
 use Rattle.ob0_session_answers.specs.declared.actions.ActionsRequest.{ActionsRequest}
-use Rattle.ob0_session_answers.specs.declared.actions.Inlinings.{Inlinings}
 use Rattle.ob0_edits.specs.declared.inlining.Inlining.{Inlining}
 use Rattle.ob0_edits.specs.declared.inlining.Inlining.TheVariants.{Here, Everywhere}
 
@@ -37,14 +35,14 @@ pub record RequestedActions : Type 0 where
   pub range : Range
   pub only : Option (List (List ℕ))
 
--- a request for code actions of the code
-abbrev pub actions_requested : ActionsRequest → RequestedActions
-actions_requested r =
+-- a request of the code for code actions in a document of this version
+abbrev pub actions_requested : ActionsRequest → ℤ → RequestedActions
+actions_requested r version =
     record {
       id = id_data r.id.now;
       client = r.client;
       uri = r.uri.now;
-      version = r.version;
+      version = version;
       range = r.range;
       only = kinds_seen r.only.now;
     }
@@ -60,32 +58,17 @@ allows_inlining (Some kinds) = list_any is_of_kind kinds
 allows_inlining None = true
 
 -- the client takes actions that aren't commands, and these among them
+abbrev pub takes_inlining : Client → Option (List (List ℕ)) → Bool
+takes_inlining client only = client.takes_literal_actions && allows_inlining only
+
 abbrev pub wants_inlining : RequestedActions → Bool
-wants_inlining requested = requested.client.takes_literal_actions && allows_inlining requested.only
+wants_inlining requested = takes_inlining requested.client requested.only
 
 -- the place in bytes at which actions work: the start of the range,
 -- and the end of one that is swapped
 abbrev pub actions_offset : Unit → List ℕ → Range → ℕ
 actions_offset unit text range =
     min (offset_of (width_of unit) text range.start) (offset_of (width_of unit) text range.end)
-
--- ---- what is offered
-
--- what is offered of an inliner's answer
-abbrev pub IsOffered : Result (Vec Edit Global) EditRefusal → Option (Vec Edit Global) → Type 0
-IsOffered answer (Some edits) = answer ≡ Ok edits
-IsOffered answer None = (refusal : EditRefusal) × ¬ (refusal ≡ Memory) × (answer ≡ Err refusal)
-
--- offered exactly where it isn't refused
-abbrev pub Offers : Inlining → Unit → List ℕ → ℕ → Option (Vec Edit Global) → Type 0
-Offers how unit text offset (Some edits) = InlinesIn how unit text offset edits
-Offers how unit text offset None = IsNotInlinedIn how unit text offset
-
--- what is offered at a place of a text, if it is a well-typed module
-abbrev pub FindsInlinings : Unit → List ℕ → ℕ → Option Inlinings → Type 0
-FindsInlinings unit text offset (Some found) =
-    Offers Here unit text offset found.here × Offers Everywhere unit text offset found.everywhere
-FindsInlinings unit text offset None = ¬ IsWellTypedModule (utf8 text)
 
 -- ---- the message
 
@@ -139,3 +122,8 @@ AnswersActions unit requested text message =
     (value : Data)
     × ListsActions unit requested text value
     × (message ≡ result_message requested.id value)
+
+-- this content answers it
+abbrev pub RepliesToActions : Unit → RequestedActions → List ℕ → List ℕ → Type 0
+RepliesToActions unit requested text content =
+    (message : Data) × AnswersActions unit requested text message × Writes message content

@@ -1,12 +1,13 @@
 -- The diagnostics of a text: what is reported of it, at positions.
 -- Rule: docs/PROTOCOL.md, Publishing 3, JSON shapes 2.
-use Rattle.std.specs.Prelude.{◌≡◌, ℕ, List, map}
+use Rattle.std.specs.Prelude.{◌≡◌, ℕ, ℤ, List, Some, map}
+use Rattle.ob0_rpc.specs.Writing.{Writes}
 use Rattle.ob0_text.specs.Texts.{position_of}
 use Rattle.ob0_text.specs.Units.{width_of}
 use Rattle.ob0_text.specs.declared.position_types.Unit.{Unit}
 use Rattle.ob0_analysis.specs.Diagnosed.{Complaint, Reports}
 use Rattle.ob0_analysis.specs.Texts.{utf8}
-use Rattle.ob0_session_json.specs.Shapes.{Diagnostic}
+use Rattle.ob0_session_json.specs.Shapes.{Diagnostic, publication}
 
 -- a complaint is displayed at the positions of its ends
 abbrev pub diagnostic_of : Unit → List ℕ → Complaint → Diagnostic
@@ -23,3 +24,10 @@ Diagnoses unit text ds =
     (reported : List Complaint)
     × Reports (utf8 text) reported
     × (ds ≡ map (diagnostic_of unit text) reported)
+
+-- this content publishes them, for a document of this uri and version
+abbrev pub Publishes : Unit → List ℕ → ℤ → List ℕ → List ℕ → Type 0
+Publishes unit uri version text content =
+    (ds : List Diagnostic)
+    × Diagnoses unit text ds
+    × Writes (publication uri (Some version) ds) content

@@ -1,24 +1,18 @@
--- Laying out a text: the edits, and the answer.
+-- Laying out a text on request: the answer.
 -- Rule: docs/PROTOCOL.md, Requests on documents 8.
-use Rattle.std.specs.Prelude.{◌≡◌, ◌⊎◌, ℕ, List, Result, Ok, Err, Vec, codes}
-use Rattle.std.specs.declared.alloc.Global.{Global}
+use Rattle.std.specs.Prelude.{◌≡◌, ◌⊎◌, ℕ, List, codes}
 use Rattle.serde_json.specs.Data.{Data}
 use Rattle.ob0_rpc.specs.Shapes.{result_message}
+use Rattle.ob0_rpc.specs.Writing.{Writes}
 use Rattle.ob0_text.specs.RefusalTexts.{refusal_text}
 use Rattle.ob0_text.specs.declared.edits.Edit.{Edit}
 use Rattle.ob0_text.specs.declared.edits.Indent.{Indent}
 use Rattle.ob0_text.specs.declared.position_types.Unit.{Unit}
-use Rattle.ob0_text.specs.declared.refusals.EditRefusal.{EditRefusal}
 use Rattle.ob0_text.specs.declared.refusals.EditRefusal.TheVariants.{TooLong}
 use Rattle.ob0_analysis.specs.Diagnosed.{IsWellTypedModule}
 use Rattle.ob0_analysis.specs.Texts.{utf8}
 use Rattle.ob0_edits.specs.Layouts.{IsTooLongLaidOut, LaysOut}
 use Rattle.ob0_session_json.specs.Shapes.{edits_value, edit_refused}
-
--- edits, or the one refusal
-abbrev pub Formats : Unit → Indent → List ℕ → Result (Vec Edit Global) EditRefusal → Type 0
-Formats unit indent text (Ok edits) = LaysOut unit indent text edits.items
-Formats unit indent text (Err refusal) = (refusal ≡ TooLong) × IsTooLongLaidOut indent text
 
 -- this message answers a request with this id to lay out a text
 abbrev pub AnswersFormatting : Unit → Data → Indent → List ℕ → Data → Type 0
@@ -28,3 +22,8 @@ AnswersFormatting unit id indent text message =
     × (message ≡ result_message id (edits_value edits)))
     ⊎ ((IsTooLongLaidOut indent text × (message ≡ edit_refused id (refusal_text TooLong)))
     ⊎ (¬ IsWellTypedModule (utf8 text) × (message ≡ edit_refused id (codes "ill-typed"))))
+
+-- this content answers it
+abbrev pub RepliesToFormatting : Unit → Data → Indent → List ℕ → List ℕ → Type 0
+RepliesToFormatting unit id indent text content =
+    (message : Data) × AnswersFormatting unit id indent text message × Writes message content

@@ -15,13 +15,20 @@ use Rattle.ob0_refs.specs.declared.answers.At as reported
 use Rattle.ob0_refs.specs.declared.answers.Of as of
 use Rattle.ob0_refs.specs.declared.answers.Of.TheVariants as reports
 use Rattle.ob0_rpc.specs.Requesting.{At}
-use Rattle.ob0_rpc.specs.Shapes.{range_value}
+use Rattle.ob0_rpc.specs.Shapes.{range_value, result_message}
+use Rattle.ob0_rpc.specs.Writing.{Writes}
 use Rattle.ob0_analysis.specs.Analysed.{IsModuleIn}
 use Rattle.ob0_analysis.specs.Diagnosed.{IsWellTypedModule}
 use Rattle.ob0_analysis.specs.Texts.{utf8}
 use Rattle.ob0_session_json.specs.Shapes.{hover_value, location_in}
-use Rattle.ob0_session_answers.specs.declared.questions.NameQuestion.{NameQuestion}
-use Rattle.ob0_session_answers.specs.declared.questions.NameQuestion.TheVariants.{Hover, Definition, References, PrepareRename}
+
+-- what is requested of the name or field at a position
+pub data NameQuestion : Type 0 where
+  hover_asked : NameQuestion
+  definition_asked : NameQuestion
+  -- with the declaration or without
+  references_asked : Bool → NameQuestion
+  renaming_asked : NameQuestion
 
 -- ---- names and fields that can be renamed, in bytes of a module's text
 
@@ -69,27 +76,27 @@ AnswersReferences unit text at include names value =
 
 -- this value answers the question about a well-typed module
 abbrev pub AnswersIn : Unit → List ℕ → At → NameQuestion → Resolution → Data → Type 0
-AnswersIn unit text at Hover names value =
+AnswersIn unit text at hover_asked names value =
     value
     ≡ value_or_null
     (option_map (hover_at unit text) (hover_at_place names (offset_in unit text at)))
-AnswersIn unit text at Definition names value =
+AnswersIn unit text at definition_asked names value =
     value
     ≡ value_or_null
     (option_map (location_at unit at.uri text) (definition_at names (offset_in unit text at)))
-AnswersIn unit text at (References include) names value =
+AnswersIn unit text at (references_asked include) names value =
     AnswersReferences unit text at include names value
-AnswersIn unit text at PrepareRename names value =
+AnswersIn unit text at renaming_asked names value =
     value
     ≡ value_or_null
     (option_map (range_at unit text) (renamable_in names (offset_in unit text at)))
 
 -- the answer about every other text
 abbrev pub no_answer : NameQuestion → Data
-no_answer Hover = null
-no_answer Definition = null
-no_answer (References include) = array no_items
-no_answer PrepareRename = null
+no_answer hover_asked = null
+no_answer definition_asked = null
+no_answer (references_asked include) = array no_items
+no_answer renaming_asked = null
 
 -- ---- texts
 
@@ -100,3 +107,10 @@ AnswersName unit text at question value =
     × IsModuleIn (utf8 text) names
     × AnswersIn unit text at question names value)
     ⊎ (¬ IsWellTypedModule (utf8 text) × (value ≡ no_answer question))
+
+-- this content answers a request with this id
+abbrev pub RepliesAboutName : Unit → Data → At → NameQuestion → List ℕ → List ℕ → Type 0
+RepliesAboutName unit id at question text content =
+    (value : Data)
+    × AnswersName unit text at question value
+    × Writes (result_message id value) content

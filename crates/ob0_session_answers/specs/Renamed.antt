@@ -5,6 +5,7 @@ use Rattle.serde_json.specs.Data.{Data}
 use Rattle.ob0_rpc.specs.Requesting.{At}
 use Rattle.ob0_rpc.specs.Seen.{at_seen, id_data}
 use Rattle.ob0_rpc.specs.Shapes.{result_message}
+use Rattle.ob0_rpc.specs.Writing.{Writes}
 use Rattle.ob0_rpc.specs.declared.clients.Client.{Client}
 use Rattle.ob0_text.specs.RefusalTexts.{refusal_text}
 use Rattle.ob0_text.specs.declared.edits.Edit.{Edit}
@@ -25,14 +26,14 @@ pub record RequestedRename : Type 0 where
   pub version : ℤ
   pub new : List ℕ
 
--- a request for a rename of the code
-abbrev pub rename_requested : RenameRequest → RequestedRename
-rename_requested r =
+-- a request of the code for a rename in a document of this version
+abbrev pub rename_requested : RenameRequest → ℤ → RequestedRename
+rename_requested r version =
     record {
       id = id_data r.id.now;
       client = r.client;
       at = at_seen r.place.now;
-      version = r.version;
+      version = version;
       new = r.new.now;
     }
 
@@ -52,3 +53,8 @@ AnswersRenaming unit requested text message =
     × IsRefusedIn unit text requested.at.position requested.new refusal
     × (message ≡ edit_refused requested.id (refusal_text refusal)))
     ⊎ (¬ IsWellTypedModule (utf8 text) × (message ≡ edit_refused requested.id (codes "ill-typed"))))
+
+-- this content answers it
+abbrev pub RepliesToRename : Unit → RequestedRename → List ℕ → List ℕ → Type 0
+RepliesToRename unit requested text content =
+    (message : Data) × AnswersRenaming unit requested text message × Writes message content

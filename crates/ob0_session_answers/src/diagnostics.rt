@@ -8,15 +8,38 @@ ghost use Rattle.std.specs.Prelude.{◌≡◌, List, IfOk, map};
 ghost use Rattle.std.specs.Str.{chars};
 ghost use Rattle.ob0_analysis.specs.Diagnosed.{complaint_in};
 ghost use Rattle.ob0_session_json.specs.Made.{DiagnosticsAre, diagnostic_in};
-ghost use Rattle.ob0_session_answers.specs.Diagnostics.{Diagnoses, diagnostic_of};
+ghost use Rattle.ob0_session_answers.specs.Diagnostics.{Diagnoses, Publishes, diagnostic_of};
 ghost use Rattle.ob0_session_json.specs.Shapes.{Diagnostic as Reported};
 ghost use Rattle.ob0_text.specs.Texts.{position_of};
 ghost use Rattle.ob0_text.specs.Units.{width_of};
 
 use ob0_analysis::{Analysis, Diagnosis};
-use ob0_session_json::publication::Diagnostic;
+use ob0_session_documents::DocumentRequest;
+use ob0_session_json::publication::{Diagnostic, publication};
 use ob0_text::{Position, Range, TextStore};
 use std::alloc::{AllocError, Global};
+
+/// The diagnostics of a document, as they are published.
+#[derive(Drop)]
+pub struct PublishRequest<'a> {
+    pub uri: &'a str,
+}
+
+impl<'a, T: TextStore> DocumentRequest<T> for PublishRequest<'a> {
+    ghost answers = { λ r version unit text content.
+        Publishes unit r.uri.now version text content };
+
+    fn answer(
+        &self,
+        alloc: Global,
+        version: i64,
+        text: &T,
+        analysis: &Analysis,
+    ) -> Result<Vec<u8>, AllocError> {
+        let list = diagnostics(alloc, text, analysis)?;
+        publication(alloc, self.uri, Some(version), list)
+    }
+}
 
 /// The list that is published for a text.
 pub fn diagnostics<T: TextStore>(

@@ -1,12 +1,15 @@
-//! The contents of answers to requests for edits and to questions about a name, and of publications of a text's
-//! diagnostics.
+//! The requests about a document, each as one type that answers of the document's text: for the name or field at a
+//! position, for edits, and for the publication of its diagnostics.
 #![tactic(auto)]
 
-pub mod actions;
+mod actions;
 pub mod diagnostics;
-pub mod formatting;
+mod formatting;
 mod questions;
-mod refusals;
-pub mod renaming;
+mod renaming;
 
-pub use questions::{NameQuestion, answer_question};
+pub use actions::ActionsRequest;
+pub use diagnostics::PublishRequest;
+pub use formatting::LayoutRequest;
+pub use questions::{DefinitionRequest, HoverRequest, PrepareRenameRequest, ReferencesRequest};
+pub use renaming::RenameRequest;

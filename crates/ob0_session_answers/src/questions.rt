@@ -1,34 +1,26 @@
-//! Questions about the name or field at a position.
+//! The requests about the name or field at a position: hover, definition, references, prepareRename.
+//!
+//! Each is one type, which answers of a document (`DocumentRequest`); what it asks of the module is a `Question`.
 
 ghost use Rattle.std.specs.Prelude.{◌≡◌, IfOk, option_map, map};
-ghost use Rattle.std.specs.Str.{chars};
-ghost use Rattle.serde_json.specs.Data.{Data, array};
+ghost use Rattle.serde_json.specs.Data.{array};
 ghost use Rattle.serde_json.specs.View.{items_of};
 ghost use Rattle.ob0_rpc.specs.Seen.{at_seen, id_data};
 ghost use Rattle.ob0_rpc.specs.Shapes.{result_message};
 ghost use Rattle.ob0_rpc.specs.Writing.{Writes};
 ghost use Rattle.ob0_refs.specs.Parts.{hover_in};
 ghost use Rattle.ob0_refs.specs.Questions.{AreReferencesAt, hover_at_place, definition_at};
-ghost use Rattle.ob0_session_answers.specs.Questions.{AnswersName, can_be_renamed, hover_at, renamable_in, location_at, range_at, value_or_null};
-ghost use Rattle.ob0_session_answers.specs.declared.questions.NameQuestion.TheVariants as asks;
+ghost use Rattle.ob0_session_answers.specs.Questions.{RepliesAboutName, can_be_renamed, definition_asked, hover_asked, hover_at, location_at, range_at, references_asked, renamable_in, renaming_asked, value_or_null};
 
 use ob0_analysis::{Analysis, Question, WellTyped, ask};
 use ob0_edits_tokens::{range_of, ranges};
 use ob0_refs::{Of, at, definition, hover, references};
 use ob0_rpc::{DocumentPosition, Id, result_of};
 use ob0_scan::Span;
+use ob0_session_documents::DocumentRequest;
 use ob0_session_json::places::{HoverResult, Location, Locations, MarkupContent};
 use ob0_text::TextStore;
 use std::alloc::{AllocError, Global};
-
-/// A question about a name or a field.
-#[derive(Clone, Copy, Debug, Drop, PartialEq, Eq)]
-pub enum NameQuestion {
-    Hover,
-    Definition,
-    References { include_declaration: bool },
-    PrepareRename,
-}
 
 /// What is the hover text at this place of the text?
 #[derive(Drop)]
@@ -113,113 +105,113 @@ fn renamable(of: Of, span: Span) -> Option<Span>
     }
 }
 
-/// The answer to a question about what is at a position of the text in a store.
-pub fn answer_question<T: TextStore>(
-    alloc: Global,
-    id: &Id,
-    store: &T,
-    analysis: &Analysis,
-    place: &DocumentPosition,
-    question: NameQuestion,
-) -> Result<Vec<u8>, AllocError>
-    requires { T.content store.now ≡ chars analysis.now }
-    ensures { IfOk result (λ bytes. (value : Data)
-        × AnswersName (T.unit_of store.now) (T.content store.now) (at_seen place.now)
-        question value
-        × Writes (result_message (id_data id.now) value) bytes.items) }
-{
-    match question {
-        NameQuestion::Hover => hover_answer(alloc, id, store, analysis, place),
-        NameQuestion::Definition => definition_answer(alloc, id, store, analysis, place),
-        NameQuestion::References {
-            include_declaration,
-        } => references_answer(alloc, id, store, analysis, place, include_declaration),
-        NameQuestion::PrepareRename => renamable_answer(alloc, id, store, analysis, place),
+/// The hover text at a place of a document.
+#[derive(Drop)]
+pub struct HoverRequest<'a> {
+    pub id: &'a Id,
+    pub place: &'a DocumentPosition,
+}
+
+impl<'a, T: TextStore> DocumentRequest<T> for HoverRequest<'a> {
+    ghost answers = { λ r _ unit text content.
+        RepliesAboutName unit (id_data r.id.now) (at_seen r.place.now) hover_asked text content };
+
+    fn answer(
+        &self,
+        alloc: Global,
+        _version: i64,
+        text: &T,
+        analysis: &Analysis,
+    ) -> Result<Vec<u8>, AllocError> {
+        let offset = text.offset(self.place.position);
+        match ask(alloc, analysis, &HoverAt { offset })? {
+            Some(found) => hover_or_null(alloc, self.id, text, found),
+            None => result_of(alloc, self.id, &()),
+        }
     }
 }
 
-fn hover_answer<T: TextStore>(
-    alloc: Global,
-    id: &Id,
-    store: &T,
-    analysis: &Analysis,
-    place: &DocumentPosition,
-) -> Result<Vec<u8>, AllocError>
-    requires { T.content store.now ≡ chars analysis.now }
-    ensures { IfOk result (λ bytes. (value : Data)
-        × AnswersName (T.unit_of store.now) (T.content store.now) (at_seen place.now)
-        asks.Hover value
-        × Writes (result_message (id_data id.now) value) bytes.items) }
-{
-    let offset = store.offset(place.position);
-    match ask(alloc, analysis, &HoverAt { offset })? {
-        Some(found) => hover_or_null(alloc, id, store, found),
-        None => result_of(alloc, id, &()),
+/// Where it is declared what is at a place of a document.
+#[derive(Drop)]
+pub struct DefinitionRequest<'a> {
+    pub id: &'a Id,
+    pub place: &'a DocumentPosition,
+}
+
+impl<'a, T: TextStore> DocumentRequest<T> for DefinitionRequest<'a> {
+    ghost answers = { λ r _ unit text content.
+        RepliesAboutName unit (id_data r.id.now) (at_seen r.place.now) definition_asked text content };
+
+    fn answer(
+        &self,
+        alloc: Global,
+        _version: i64,
+        text: &T,
+        analysis: &Analysis,
+    ) -> Result<Vec<u8>, AllocError> {
+        let offset = text.offset(self.place.position);
+        match ask(alloc, analysis, &DefinitionAt { offset })? {
+            Some(found) => location_or_null(alloc, self.id, text, self.place.uri.as_str(), found),
+            None => result_of(alloc, self.id, &()),
+        }
     }
 }
 
-fn definition_answer<T: TextStore>(
-    alloc: Global,
-    id: &Id,
-    store: &T,
-    analysis: &Analysis,
-    place: &DocumentPosition,
-) -> Result<Vec<u8>, AllocError>
-    requires { T.content store.now ≡ chars analysis.now }
-    ensures { IfOk result (λ bytes. (value : Data)
-        × AnswersName (T.unit_of store.now) (T.content store.now) (at_seen place.now)
-        asks.Definition value
-        × Writes (result_message (id_data id.now) value) bytes.items) }
-{
-    let offset = store.offset(place.position);
-    match ask(alloc, analysis, &DefinitionAt { offset })? {
-        Some(found) => location_or_null(alloc, id, store, place.uri.as_str(), found),
-        None => result_of(alloc, id, &()),
+/// Where it is named what is at a place of a document.
+#[derive(Drop)]
+pub struct ReferencesRequest<'a> {
+    pub id: &'a Id,
+    pub place: &'a DocumentPosition,
+    pub include_declaration: bool,
+}
+
+impl<'a, T: TextStore> DocumentRequest<T> for ReferencesRequest<'a> {
+    ghost answers = { λ r _ unit text content.
+        RepliesAboutName unit (id_data r.id.now) (at_seen r.place.now)
+        (references_asked r.include_declaration) text content };
+
+    fn answer(
+        &self,
+        alloc: Global,
+        _version: i64,
+        text: &T,
+        analysis: &Analysis,
+    ) -> Result<Vec<u8>, AllocError> {
+        let uri = self.place.uri.as_str();
+        let question = ReferencesAt {
+            offset: text.offset(self.place.position),
+            include_declaration: self.include_declaration,
+        };
+        match ask(alloc, analysis, &question)? {
+            Some(found) => locations(alloc, self.id, text, uri, found.as_slice()),
+            None => locations(alloc, self.id, text, uri, &[]),
+        }
     }
 }
 
-fn references_answer<T: TextStore>(
-    alloc: Global,
-    id: &Id,
-    store: &T,
-    analysis: &Analysis,
-    place: &DocumentPosition,
-    include_declaration: bool,
-) -> Result<Vec<u8>, AllocError>
-    requires { T.content store.now ≡ chars analysis.now }
-    ensures { IfOk result (λ bytes. (value : Data)
-        × AnswersName (T.unit_of store.now) (T.content store.now) (at_seen place.now)
-        (asks.References include_declaration) value
-        × Writes (result_message (id_data id.now) value) bytes.items) }
-{
-    let uri = place.uri.as_str();
-    let question = ReferencesAt {
-        offset: store.offset(place.position),
-        include_declaration,
-    };
-    match ask(alloc, analysis, &question)? {
-        Some(found) => locations(alloc, id, store, uri, found.as_slice()),
-        None => locations(alloc, id, store, uri, &[]),
-    }
+/// Whether what is at a place of a document can be renamed, and where its name is.
+#[derive(Drop)]
+pub struct PrepareRenameRequest<'a> {
+    pub id: &'a Id,
+    pub place: &'a DocumentPosition,
 }
 
-fn renamable_answer<T: TextStore>(
-    alloc: Global,
-    id: &Id,
-    store: &T,
-    analysis: &Analysis,
-    place: &DocumentPosition,
-) -> Result<Vec<u8>, AllocError>
-    requires { T.content store.now ≡ chars analysis.now }
-    ensures { IfOk result (λ bytes. (value : Data)
-        × AnswersName (T.unit_of store.now) (T.content store.now) (at_seen place.now)
-        asks.PrepareRename value
-        × Writes (result_message (id_data id.now) value) bytes.items) }
-{
-    let offset = store.offset(place.position);
-    match ask(alloc, analysis, &RenamableAt { offset })? {
-        Some(found) => range_or_null(alloc, id, store, found),
-        None => result_of(alloc, id, &()),
+impl<'a, T: TextStore> DocumentRequest<T> for PrepareRenameRequest<'a> {
+    ghost answers = { λ r _ unit text content.
+        RepliesAboutName unit (id_data r.id.now) (at_seen r.place.now) renaming_asked text content };
+
+    fn answer(
+        &self,
+        alloc: Global,
+        _version: i64,
+        text: &T,
+        analysis: &Analysis,
+    ) -> Result<Vec<u8>, AllocError> {
+        let offset = text.offset(self.place.position);
+        match ask(alloc, analysis, &RenamableAt { offset })? {
+            Some(found) => range_or_null(alloc, self.id, text, found),
+            None => result_of(alloc, self.id, &()),
+        }
     }
 }
 

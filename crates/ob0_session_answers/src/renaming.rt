@@ -1,69 +1,62 @@
 //! Renaming on request.
 
-ghost use Rattle.std.specs.Prelude.{◌≡◌, IfOk};
-ghost use Rattle.std.specs.Str.{chars};
-ghost use Rattle.serde_json.specs.Data.{Data};
+ghost use Rattle.std.specs.Prelude.{IfOk};
 ghost use Rattle.ob0_rpc.specs.Seen.{id_data};
 ghost use Rattle.ob0_rpc.specs.Shapes.{result_message};
 ghost use Rattle.ob0_rpc.specs.Writing.{Writes};
-ghost use Rattle.ob0_session_answers.specs.Renamed.{AnswersRenaming, rename_requested, edits_for_client};
+ghost use Rattle.ob0_session_answers.specs.Renamed.{RepliesToRename, rename_requested, edits_for_client};
 
 use ob0_analysis::Analysis;
 use ob0_edits::rename_in;
 use ob0_rpc::{Client, DocumentPosition, Id, result_of};
+use ob0_session_documents::DocumentRequest;
 use ob0_session_json::edits::WorkspaceEdit;
 use ob0_session_json::refusals::{refuse_because, refuse_ill_typed};
 use ob0_text::{Edit, TextStore};
 use std::alloc::{AllocError, Global};
 
-/// A request for another name, in a document of some version.
+/// Another name for what is at a place of a document.
 #[derive(Drop)]
 pub struct RenameRequest<'a> {
     pub id: &'a Id,
     pub client: Client,
     pub place: &'a DocumentPosition,
-    pub version: i64,
     pub new: &'a str,
 }
 
-/// The answer to a request for another name in the text in a store.
-pub fn rename_symbol<T: TextStore>(
-    alloc: Global,
-    store: &T,
-    analysis: &Analysis,
-    request: &RenameRequest<'_>,
-) -> Result<Vec<u8>, AllocError>
-    requires { T.content store.now ≡ chars analysis.now }
-    ensures { IfOk result (λ bytes. (message : Data)
-        × AnswersRenaming (T.unit_of store.now) (rename_requested request.now) (T.content store.now)
-        message
-        × Writes message bytes.items) }
-{
-    let id = request.id;
-    let place = request.place;
-    match rename_in(alloc, store, analysis, place.position, request.new)? {
-        Some(outcome) => match outcome {
-            Ok(edits) => edits_answer(alloc, request, edits.as_slice()),
-            Err(refusal) => refuse_because(alloc, id, refusal),
-        },
-        None => refuse_ill_typed(alloc, id),
+impl<'a, T: TextStore> DocumentRequest<T> for RenameRequest<'a> {
+    ghost answers = { λ r version unit text content.
+        RepliesToRename unit (rename_requested r version) text content };
+
+    fn answer(
+        &self,
+        alloc: Global,
+        version: i64,
+        text: &T,
+        analysis: &Analysis,
+    ) -> Result<Vec<u8>, AllocError> {
+        match rename_in(alloc, text, analysis, self.place.position, self.new)? {
+            Some(outcome) => match outcome {
+                Ok(edits) => self.reply(alloc, version, edits.as_slice()),
+                Err(refusal) => refuse_because(alloc, self.id, refusal),
+            },
+            None => refuse_ill_typed(alloc, self.id),
+        }
     }
 }
 
-/// The edits, in the form that the client takes.
-fn edits_answer(
-    alloc: Global,
-    request: &RenameRequest<'_>,
-    edits: &[Edit],
-) -> Result<Vec<u8>, AllocError>
-    ensures { IfOk result (λ bytes. Writes (result_message (id_data request.now.id.now)
-        (edits_for_client (rename_requested request.now) edits.now)) bytes.items) }
-{
-    let edits = WorkspaceEdit {
-        client: request.client,
-        uri: request.place.uri.as_str(),
-        version: request.version,
-        edits,
-    };
-    result_of(alloc, request.id, &edits)
+impl<'a> RenameRequest<'a> {
+    /// The edits, in the form that the client takes.
+    fn reply(&self, alloc: Global, version: i64, edits: &[Edit]) -> Result<Vec<u8>, AllocError>
+        ensures { IfOk result (λ bytes. Writes (result_message (id_data self.now.id.now)
+            (edits_for_client (rename_requested self.now version) edits.now)) bytes.items) }
+    {
+        let edits = WorkspaceEdit {
+            client: self.client,
+            uri: self.place.uri.as_str(),
+            version,
+            edits,
+        };
+        result_of(alloc, self.id, &edits)
+    }
 }

@@ -7,10 +7,11 @@ use Rattle.ob0_text.specs.OpenDocuments.{Document, OpenDocuments, document_at}
 use Rattle.ob0_text.specs.declared.position_types.Unit.{Unit}
 use Rattle.ob0_rpc.specs.declared.clients.Client.{Client}
 use Rattle.ob0_rpc.specs.Messages.{ReadsContent, MessageMeaning, meaning}
+use Rattle.ob0_session_answers.specs.Diagnostics.{Publishes}
 use Rattle.ob0_session_documents.specs.DocumentRequests.{ComesOfRequest}
 use Rattle.ob0_session_documents.specs.declared.document_requests.RequestOutcome.{RequestOutcome}
 use Rattle.ob0_session_documents.specs.declared.document_requests.RequestOutcome.TheVariants.{Answered, OutOfStep, Unopened}
-use Rattle.ob0_session_server.specs.Seen.{Reacts, SendsReply, RepliesWith, message_of}
+use Rattle.ob0_session_server.specs.Seen.{Reacts, RepliesAbout, RepliesWith, SendsReply, message_of}
 use Rattle.ob0_session_server.specs.SessionStates.{SessionState, serving}
 use Rattle.ob0_session_server.specs.Steps.{next_after, IsGoingOn, SessionSteps}
 use Rattle.ob0_session_server.specs.declared.server.Phase.{Phase}
@@ -62,41 +63,42 @@ publishes before after uri reported held sent same is said =
     let Q : OpenDocuments → Type 0 = λ h. SaysReply (published h.unit reported (document_at h reported)) (option_to_list (option_map (λ v. v.items) sent)) in
     (is, subst P same (subst Q (ap (λ (s : ServerState). s.held) is) said))
 
--- what is sent for a request about a document, where the documents stay as they are
-replies_of : (s : ServerState) (id : Data) (uri : List ℕ) (say : ℤ → Unit → List ℕ → Reply) (outcome : RequestOutcome) (sent : Option (Vec ℕ Global))
-    → ComesOfRequest (λ version unit text message. SaysReply (say version unit text) (message ∷ [])) s.held uri outcome → RepliesWith id outcome sent
-    → Reacts (answers_about s id (document_at s.held uri) (λ version. say version s.held.unit)) sent s
-replies_of s id uri say (Answered message) sent comes is =
-    let P : Option Document → Type 0 = λ d. Reacts (answers_about s id d (λ version. say version s.held.unit)) sent s in
-    let Q : Option (Vec ℕ Global) → Type 0 = λ o. SendsReply (say comes.0 s.held.unit comes.1) o in
-    subst P (sym comes.2) (refl, subst Q (sym is) comes.3)
-replies_of s id uri say OutOfStep sent comes is =
-    let P : Option Document → Type 0 = λ d. Reacts (answers_about s id d (λ version. say version s.held.unit)) sent s in
-    subst P (sym comes) (refl, is)
-replies_of s id uri say Unopened sent comes is =
-    let P : Option Document → Type 0 = λ d. Reacts (answers_about s id d (λ version. say version s.held.unit)) sent s in
-    subst P (sym comes) (refl, is)
+-- what comes of a request about a document, of the server's fields
+pub replies_about : (phase : Phase) (client : Client) (old new : OpenDocuments) (s : ServerState) (id : Data) (uri : List ℕ) (answers : ℤ → Unit → List ℕ → List ℕ → Type 0)
+    → (outcome : RequestOutcome) (sent : Option (Vec ℕ Global)) → record { phase = phase; client = client; held = old } ≡ s → new ≡ old → ComesOfRequest answers old uri outcome
+    → RepliesWith id outcome sent → RepliesAbout answers s id uri sent (record { phase = phase; client = client; held = new })
+replies_about phase client old new s id uri answers outcome sent is same comes replies =
+    let P : ServerState → Type 0 = λ t. RepliesAbout answers t id uri sent (record { phase = phase; client = client; held = new }) in
+    subst P is (ap (λ held. record { phase = phase; client = client; held = held }) same, (outcome, comes, replies))
 
--- the same of the server's fields, of which a request may have the client
-pub reacts_with : (phase : Phase) (client : Client) (old new : OpenDocuments) (s : ServerState) (id : Data) (uri : List ℕ)
-    → (say : Client → ℤ → Unit → List ℕ → Reply) (outcome : RequestOutcome) (sent : Option (Vec ℕ Global))
-    → record { phase = phase; client = client; held = old } ≡ s → new ≡ old
-    → ComesOfRequest (λ version unit text message. SaysReply (say client version unit text) (message ∷ [])) old uri outcome → RepliesWith id outcome sent
-    → Reacts (answers_about s id (document_at s.held uri) (λ version. say s.client version s.held.unit)) sent (record { phase = phase; client = client; held = new })
-reacts_with phase client old new s id uri say outcome sent is same comes replies =
-    let server : OpenDocuments → ServerState = λ held. record { phase = phase; client = client; held = held } in
-    let P : ServerState → Type 0 = λ t. Reacts (answers_about t id (document_at t.held uri) (λ version. say t.client version t.held.unit)) sent (server new) in
-    let Q : ServerState → Type 0 = λ t. Reacts (answers_about (server old) id (document_at old uri) (λ version. say client version old.unit)) sent t in
-    subst P is (subst Q (sym (ap server same)) (replies_of (server old) id uri (say client) outcome sent comes replies))
+-- what is sent for a request about a document, where the documents stay as they are
+pub reacts_about : (s new : ServerState) (id : Data) (uri : List ℕ) (say : ℤ → List ℕ → Reply) (answers : ℤ → Unit → List ℕ → List ℕ → Type 0) (sent : Option (Vec ℕ Global))
+    → ((version : ℤ) (text message : List ℕ) → answers version s.held.unit text message → SaysReply (say version text) (message ∷ []))
+    → RepliesAbout answers s id uri sent new → Reacts (answers_about s id (document_at s.held uri) say) sent new
+reacts_about s new id uri say answers sent says (same, (outcome, comes, replies)) =
+    let P : ServerState → Type 0 = λ t. Reacts (answers_about s id (document_at s.held uri) say) sent t in
+    subst P (sym same) (go outcome comes replies)
+  where
+    go : (outcome : RequestOutcome) → ComesOfRequest answers s.held uri outcome → RepliesWith id outcome sent → Reacts (answers_about s id (document_at s.held uri) say) sent s
+    go (Answered message) comes is =
+        let P : Option Document → Type 0 = λ d. Reacts (answers_about s id d say) sent s in
+        let Q : Option (Vec ℕ Global) → Type 0 = λ o. SendsReply (say comes.0 comes.1) o in
+        subst P (sym comes.2) (refl, subst Q (sym is) (says comes.0 comes.1 message.items comes.3))
+    go OutOfStep comes is =
+        let P : Option Document → Type 0 = λ d. Reacts (answers_about s id d say) sent s in
+        subst P (sym comes) (refl, is)
+    go Unopened comes is =
+        let P : Option Document → Type 0 = λ d. Reacts (answers_about s id d say) sent s in
+        subst P (sym comes) (refl, is)
 
 -- what is published of a document
 pub published_with : (held : OpenDocuments) (uri : List ℕ) (outcome : RequestOutcome) (sent : Option (Vec ℕ Global))
-    → ComesOfRequest (λ version unit text message. SaysReply (diagnoses unit uri version text) (message ∷ [])) held uri outcome → sent ≡ message_of outcome
+    → ComesOfRequest (λ version unit text message. Publishes unit uri version text message) held uri outcome → sent ≡ message_of outcome
     → SendsReply (published held.unit uri (document_at held uri)) sent
 published_with held uri (Answered message) sent comes is =
     let P : Option Document → Type 0 = λ d. SendsReply (published held.unit uri d) sent in
     let Q : Option (Vec ℕ Global) → Type 0 = λ o. SendsReply (diagnoses held.unit uri comes.0 comes.1) o in
-    subst P (sym comes.2) (subst Q (sym is) comes.3)
+    subst P (sym comes.2) (subst Q (sym is) (comes.3.0, comes.3.1, (message.items, refl, comes.3.2)))
 published_with held uri OutOfStep sent comes is =
     let P : Option Document → Type 0 = λ d. SendsReply (published held.unit uri d) sent in
     let Q : Option (Vec ℕ Global) → Type 0 = λ o. SendsReply nothing o in

@@ -21,11 +21,9 @@ use Rattle.ob0_session_answers.specs.Actions.{RequestedActions, AnswersActions}
 use Rattle.ob0_session_server.specs.Units.{unit_for}
 use Rattle.ob0_session_answers.specs.Diagnostics.{Diagnoses}
 use Rattle.ob0_session_answers.specs.Formatted.{AnswersFormatting}
-use Rattle.ob0_session_answers.specs.Questions.{AnswersName}
+use Rattle.ob0_session_answers.specs.Questions.{AnswersName, NameQuestion, hover_asked, definition_asked, references_asked, renaming_asked}
 use Rattle.ob0_session_answers.specs.Renamed.{RequestedRename, AnswersRenaming}
 use Rattle.ob0_session_json.specs.Shapes.{Diagnostic, capabilities, edit_refused, publication}
-use Rattle.ob0_session_answers.specs.declared.questions.NameQuestion.{NameQuestion}
-use Rattle.ob0_session_answers.specs.declared.questions.NameQuestion.TheVariants.{Hover, Definition, References, PrepareRename}
 use Rattle.ob0_session_server.specs.declared.server.Phase.{Phase}
 use Rattle.ob0_session_server.specs.declared.server.Phase.TheVariants.{Starting, Running, ShutDown, Ended}
 
@@ -165,10 +163,10 @@ abbrev pub calls : ServerState → Data → Result ClientRequest RpcFault → Re
 calls s id (Ok (initialize client)) =
     record { after = begins client; say = says (result_message id (capabilities client)) }
 calls s id (Ok shutdown) = with_phase ShutDown s (says (result_message id null))
-calls s id (Ok (hover at)) = requests_name s id at Hover
-calls s id (Ok (definition at)) = requests_name s id at Definition
-calls s id (Ok (references at include)) = requests_name s id at (References include)
-calls s id (Ok (prepare_rename at)) = requests_name s id at PrepareRename
+calls s id (Ok (hover at)) = requests_name s id at hover_asked
+calls s id (Ok (definition at)) = requests_name s id at definition_asked
+calls s id (Ok (references at include)) = requests_name s id at (references_asked include)
+calls s id (Ok (prepare_rename at)) = requests_name s id at renaming_asked
 calls s id (Ok (rename at new)) = requests_rename s id at new
 calls s id (Ok (code_action uri range only)) = requests_actions s id uri range only
 calls s id (Ok (formatting uri indent)) = requests_layout s id uri indent

@@ -1,9 +1,11 @@
 -- What the values that the code passes on mean.
 -- Rule: none; for contracts: what values of the code mean.
-use Rattle.std.specs.Prelude.{◌≡◌, ℕ, Option, Some, None, Vec, option_map, codes}
+use Rattle.std.specs.Prelude.{◌≡◌, ℕ, ℤ, List, Option, Some, None, Vec, option_map, codes}
 use Rattle.std.specs.Option.{option_to_list}
 use Rattle.std.specs.declared.alloc.Global.{Global}
 use Rattle.serde_json.specs.Data.{Data}
+use Rattle.ob0_text.specs.declared.position_types.Unit.{Unit}
+use Rattle.ob0_session_documents.specs.DocumentRequests.{ComesOfRequest}
 use Rattle.ob0_session_documents.specs.declared.document_requests.RequestOutcome.{RequestOutcome}
 use Rattle.ob0_session_documents.specs.declared.document_requests.RequestOutcome.TheVariants.{Answered, OutOfStep, Unopened}
 use Rattle.ob0_session_json.specs.Shapes.{edit_refused}
@@ -28,3 +30,17 @@ abbrev pub message_of : RequestOutcome → Option (Vec ℕ Global)
 message_of (Answered message) = Some message
 message_of OutOfStep = None
 message_of Unopened = None
+
+-- a request about a document is answered so, or refused; the server stays as it is
+abbrev pub RepliesAbout : (ℤ → Unit → List ℕ → List ℕ → Type 0)
+    → ServerState
+    → Data
+    → List ℕ
+    → Option (Vec ℕ Global)
+    → ServerState
+    → Type 0
+RepliesAbout answers s id uri sent new =
+    (new ≡ s)
+    × ((outcome : RequestOutcome)
+    × ComesOfRequest answers s.held uri outcome
+    × RepliesWith id outcome sent)

@@ -5,18 +5,20 @@ ghost use Rattle.ob0_text.specs.OpenDocuments.{none_open};
 ghost use Rattle.ob0_session_server.specs.Seen.{RepliesWith, message_of as what_is_sent};
 ghost use Rattle.ob0_session_server.specs.Units.{unit_for};
 
-use crate::requests::{LayoutRequest, NameRequest, NewNameRequest, OfferRequest, PublishRequest};
 use crate::session::Next;
 use ob0_rpc::{
     Client, ClientNotification, ClientRequest, DocumentPosition, Id, Incoming, RpcFault, error,
     notice, read, request, result_of,
 };
-use ob0_session_answers::NameQuestion;
-use ob0_session_documents::{AnalysedDocuments, RequestOutcome};
+use ob0_session_answers::{
+    ActionsRequest, DefinitionRequest, HoverRequest, LayoutRequest, PrepareRenameRequest,
+    PublishRequest, ReferencesRequest, RenameRequest,
+};
+use ob0_session_documents::{AnalysedDocuments, DocumentRequest, RequestOutcome};
 use ob0_session_json::capabilities::initialize_answer;
 use ob0_session_json::publication::publication;
 use ob0_session_json::refusals::refuse;
-use ob0_text::{Change, Documents, Indent, Range, TextStore, Unit};
+use ob0_text::{Change, Documents, Range, TextStore, Unit};
 use serde_json::Value;
 use std::alloc::{AllocError, Global};
 use std::marker::Model;
@@ -54,10 +56,11 @@ impl<T: TextStore> Model for Server<T> {
 impl<T: TextStore> Server<T> {
     ghost use Rattle.serde_json.specs.View.{view};
     ghost use Rattle.std.specs.Option.{option_to_list};
-    ghost use Rattle.ob0_session_server.specs.Answers.{start, begins, AnswersGoingOn, SaysReply, reaction_to_request, requests_actions, requests_layout, requests_name, requests_rename, reaction_to_call, calls, ends, hears, published, refuses, refuses_fault, reaction_to};
+    ghost use Rattle.ob0_session_server.specs.Answers.{start, begins, AnswersGoingOn, SaysReply, reaction_to_request, requests_actions, requests_name, requests_rename, reaction_to_call, calls, ends, hears, published, refuses, refuses_fault, reaction_to};
     ghost use Rattle.ob0_rpc.specs.Notifications.{opens, changes, closes, note_of};
     ghost use Rattle.ob0_rpc.specs.Seen.{at_seen, id_or_null, kinds_seen, seen_call, seen_note};
-    ghost use Rattle.ob0_session_server.specs.Seen.{Reacts};
+    ghost use Rattle.ob0_session_answers.specs.Questions.{references_asked};
+    ghost use Rattle.ob0_session_server.specs.Seen.{Reacts, RepliesAbout};
     ghost use Rattle.ob0_session_server.specs.Steps.{next_after};
     ghost use Rattle.std.specs.Str.{chars};
     ghost use Rattle.ob0_text.specs.OpenDocuments.{reported_change, document_at};
@@ -116,7 +119,7 @@ impl<T: TextStore> Server<T> {
             Ok(Incoming::Request(id, method, params)) => {
                 self.reply_to_request(&id, method.as_str(), &params)
             }
-            Ok(Incoming::Notice(method, params)) => self.handle_request(method.as_str(), params),
+            Ok(Incoming::Notice(method, params)) => self.hear(method.as_str(), params),
             Ok(Incoming::Ignored) => Ok(None),
             Err(RpcFault::Memory) => Err(AllocError),
             Err(RpcFault::NotJson) => self.refuse_fault(None, RpcFault::NotJson),
@@ -197,23 +200,22 @@ impl<T: TextStore> Server<T> {
                 self.phase = Phase::ShutDown;
                 Ok(Some(result_of(self.alloc, id, &())?))
             }
-            ClientRequest::Hover(place) => self.query(id, &place, NameQuestion::Hover),
-            ClientRequest::Definition(place) => self.query(id, &place, NameQuestion::Definition),
+            ClientRequest::Hover(place) => {
+                let request = HoverRequest { id, place: &place };
+                self.ask(id, place.uri.as_str(), &request)
+            }
+            ClientRequest::Definition(place) => {
+                let request = DefinitionRequest { id, place: &place };
+                self.ask(id, place.uri.as_str(), &request)
+            }
             ClientRequest::References {
                 place,
                 include_declaration,
-            } => self.query(
-                id,
-                &place,
-                NameQuestion::References {
-                    include_declaration,
-                },
-            ),
-            ClientRequest::PrepareRename(place) => self.query(
-                id,
-                &place,
-                NameQuestion::PrepareRename,
-            ),
+            } => self.refer(id, &place, include_declaration),
+            ClientRequest::PrepareRename(place) => {
+                let request = PrepareRenameRequest { id, place: &place };
+                self.ask(id, place.uri.as_str(), &request)
+            }
             ClientRequest::Rename { place, new_name } => self.rename(id, &place, new_name.as_str()),
             ClientRequest::CodeAction { uri, range, only } => self.act(
                 id,
@@ -221,26 +223,28 @@ impl<T: TextStore> Server<T> {
                 range,
                 &only,
             ),
-            ClientRequest::Formatting { uri, indent } => self.format(id, uri.as_str(), indent),
+            ClientRequest::Formatting { uri, indent } => {
+                self.ask(id, uri.as_str(), &LayoutRequest { id, indent })
+            }
         }
     }
 
-    fn query(
+    fn refer(
         &mut self,
         id: &Id,
         place: &DocumentPosition,
-        question: NameQuestion,
+        include_declaration: bool,
     ) -> Result<Option<Vec<u8>>, AllocError>
         ensures { IfOk result (λ sent. Reacts
-            (requests_name self.old (id_data id.now) (at_seen place.now) question) sent self.new) }
+            (requests_name self.old (id_data id.now) (at_seen place.now)
+            (references_asked include_declaration)) sent self.new) }
     {
-        let request = NameRequest {
+        let request = ReferencesRequest {
             id,
             place,
-            question,
+            include_declaration,
         };
-        let outcome = self.documents.ask(place.uri.as_str(), &request)?;
-        reply_with(self.alloc, id, outcome)
+        self.ask(id, place.uri.as_str(), &request)
     }
 
     fn rename(
@@ -252,14 +256,13 @@ impl<T: TextStore> Server<T> {
         ensures { IfOk result (λ sent. Reacts
             (requests_rename self.old (id_data id.now) (at_seen place.now) new.now) sent self.new) }
     {
-        let request = NewNameRequest {
+        let request = RenameRequest {
             id,
             client: self.client,
             place,
             new,
         };
-        let outcome = self.documents.ask(place.uri.as_str(), &request)?;
-        reply_with(self.alloc, id, outcome)
+        self.ask(id, place.uri.as_str(), &request)
     }
 
     fn act(
@@ -273,22 +276,27 @@ impl<T: TextStore> Server<T> {
             (requests_actions self.old (id_data id.now) uri.now range (kinds_seen only.now)) sent
             self.new) }
     {
-        let request = OfferRequest {
+        let request = ActionsRequest {
             id,
             client: self.client,
             uri,
             range,
             only,
         };
-        let outcome = self.documents.ask(uri, &request)?;
-        reply_with(self.alloc, id, outcome)
+        self.ask(id, uri, &request)
     }
 
-    fn format(&mut self, id: &Id, uri: &str, indent: Indent) -> Result<Option<Vec<u8>>, AllocError>
-        ensures { IfOk result (λ sent. Reacts
-            (requests_layout self.old (id_data id.now) uri.now indent) sent self.new) }
+    /// The answer to a request about a document.
+    fn ask<Q: DocumentRequest<T>>(
+        &mut self,
+        id: &Id,
+        uri: &str,
+        request: &Q,
+    ) -> Result<Option<Vec<u8>>, AllocError>
+        ensures { IfOk result (λ sent. RepliesAbout (Q.answers request.now) self.old
+            (id_data id.now) uri.now sent self.new) }
     {
-        let outcome = self.documents.ask(uri, &LayoutRequest { id, indent })?;
+        let outcome = self.documents.ask(uri, request)?;
         reply_with(self.alloc, id, outcome)
     }
 
@@ -301,7 +309,7 @@ impl<T: TextStore> Server<T> {
         self.documents = AnalysedDocuments::new(self.alloc, documents_for(self.alloc, client));
     }
 
-    fn handle_request(&mut self, method: &str, params: Value) -> Result<Option<Vec<u8>>, AllocError>
+    fn hear(&mut self, method: &str, params: Value) -> Result<Option<Vec<u8>>, AllocError>
         ensures { IfOk result (λ sent. Reacts
             (hears self.old.phase self.old method.now (view params)) sent self.new) }
     {

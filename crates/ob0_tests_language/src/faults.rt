@@ -232,6 +232,67 @@ static CHANGES: &[(&str, &str)] = &[
         "MODULE M; VAR x: INTEGER; PROCEDURE P; BEGIN x := z END P; PROCEDURE Q; BEGIN P; y := \
          END Q; BEGIN Q END M.",
     ),
+    // A name in the body of a procedure in another one: a local one, a parameter, one of a block around it, one that is
+    // declared after it, its own, and one that nothing declares; with names at fault before it, in it and after it.
+    (
+        "MODULE M; VAR x, u: INTEGER; PROCEDURE P(a: INTEGER); VAR y: BOOLEAN; PROCEDURE Q(x: BOOLEAN); BEGIN x := y \
+         END Q; PROCEDURE R; BEGIN q := 1 END R; BEGIN x := a END P; BEGIN P(x); v := u END M.",
+        "MODULE M; VAR x, u: INTEGER; PROCEDURE P(a: INTEGER); VAR y: BOOLEAN; PROCEDURE Q(x: BOOLEAN); BEGIN x := R \
+         END Q; PROCEDURE R; BEGIN q := 1 END R; BEGIN x := a END P; BEGIN P(x); v := u END M.",
+    ),
+    (
+        "MODULE M; VAR x, u: INTEGER; PROCEDURE P(a: INTEGER); VAR y: BOOLEAN; PROCEDURE Q(x: BOOLEAN); BEGIN x := y \
+         END Q; PROCEDURE R; BEGIN R END R; BEGIN x := a END P; BEGIN P(x); v := u END M.",
+        "MODULE M; VAR x, u: INTEGER; PROCEDURE P(a: INTEGER); VAR y: BOOLEAN; PROCEDURE Q(x: BOOLEAN); BEGIN x := y \
+         END Q; PROCEDURE R; BEGIN Q END R; BEGIN x := a END P; BEGIN P(x); v := u END M.",
+    ),
+    (
+        "MODULE M; VAR x, u: INTEGER; PROCEDURE P(a: INTEGER); VAR y: BOOLEAN; PROCEDURE Q; BEGIN u := x; u := y END Q; \
+         BEGIN x := a; w := w END P; PROCEDURE S; BEGIN w := 1 END S; BEGIN P(x); v := u END M.",
+        "MODULE M; VAR x, u: INTEGER; PROCEDURE P(a: INTEGER); VAR y: BOOLEAN; PROCEDURE Q; BEGIN u := x; u := y END Q; \
+         BEGIN x := a; w := u END P; PROCEDURE S; BEGIN w := 1 END S; BEGIN P(x); v := u END M.",
+    ),
+    (
+        "MODULE M; VAR x: INTEGER; PROCEDURE P; VAR x: BOOLEAN; BEGIN x := TRUE END P; BEGIN x := 1; Write(x) END M.",
+        "MODULE M; VAR x: INTEGER; PROCEDURE P; VAR x: BOOLEAN; BEGIN x := TRUE END P; BEGIN x := 1; Write(y) END M.",
+    ),
+    // The first name of a body, a number before it, the last name, and two changes at once.
+    (
+        "MODULE M; VAR x, y: INTEGER; PROCEDURE P; BEGIN IF 1 < x THEN y := x END END P; BEGIN P; z := x END M.",
+        "MODULE M; VAR x, y: INTEGER; PROCEDURE P; BEGIN IF 2 < q THEN y := x END END P; BEGIN P; z := x END M.",
+    ),
+    (
+        "MODULE M; VAR x, y: INTEGER; PROCEDURE P; BEGIN x := y END P; BEGIN P; z := x END M.",
+        "MODULE M; VAR x, y: INTEGER; PROCEDURE P; BEGIN q := r END P; BEGIN P; z := x END M.",
+    ),
+    // A closing name, and that name with the last one of its body.
+    (
+        "MODULE M; VAR x, y: INTEGER; PROCEDURE P; BEGIN x := y END P; BEGIN P; z := x END M.",
+        "MODULE M; VAR x, y: INTEGER; PROCEDURE P; BEGIN x := y END Q; BEGIN P; z := x END M.",
+    ),
+    (
+        "MODULE M; VAR x, y: INTEGER; PROCEDURE P; BEGIN x := y END P; BEGIN P; z := x END M.",
+        "MODULE M; VAR x, y: INTEGER; PROCEDURE P; BEGIN x := q END Q; BEGIN P; z := x END M.",
+    ),
+    // A parameter, a field where it is written and where it is selected, and a type.
+    (
+        "MODULE M; TYPE T = RECORD f, g: INTEGER END; VAR t: T; PROCEDURE P(a, b: T); BEGIN a := b; a.f := t.g END P; \
+         BEGIN P(t, t); z := t END M.",
+        "MODULE M; TYPE T = RECORD f, g: INTEGER END; VAR t: T; PROCEDURE P(a, a: T); BEGIN a := b; a.f := t.g END P; \
+         BEGIN P(t, t); z := t END M.",
+    ),
+    (
+        "MODULE M; TYPE T = RECORD f, g: INTEGER END; VAR t: T; PROCEDURE P(a, b: T); BEGIN a := b; a.f := t.g END P; \
+         BEGIN P(t, t); z := t END M.",
+        "MODULE M; TYPE T = RECORD f, f: INTEGER END; VAR t: T; PROCEDURE P(a, b: T); BEGIN a := b; a.f := t.g END P; \
+         BEGIN P(t, t); z := t END M.",
+    ),
+    (
+        "MODULE M; TYPE T = RECORD f, g: INTEGER END; VAR t: T; PROCEDURE P(a, b: T); BEGIN a := b; a.f := t.g END P; \
+         BEGIN P(t, t); z := t END M.",
+        "MODULE M; TYPE T = RECORD f, g: INTEGER END; VAR t: T; PROCEDURE P(a, b: T); BEGIN a := b; a.f := t.h END P; \
+         BEGIN P(t, t); z := t END M.",
+    ),
 ];
 
 /// What is wrong with a text, by an analysis that is made from that of the text before.

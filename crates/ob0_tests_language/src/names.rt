@@ -41,7 +41,7 @@ fn push_name(
     push_of(out, found.of)?;
     push_declared(out, module, offset)?;
     push_named(alloc, out, module, offset)?;
-    push_shown(alloc, out, module, offset)
+    push_shown(alloc, out, module, offset, found.span)
 }
 
 fn push_of(out: &mut String, of: Of) -> Result<(), AllocError> {
@@ -83,20 +83,24 @@ fn push_spans(out: &mut String, spans: &[Span]) -> Result<(), AllocError> {
     Ok(())
 }
 
-/// Adds what is shown of it, and where.
+/// Adds what is shown of it, and where: at the name itself.
 fn push_shown(
     alloc: Global,
     out: &mut String,
     module: &WellTyped<'_>,
     offset: usize,
+    name: Span,
 ) -> Result<(), AllocError> {
     match hover(alloc, module, offset)? {
-        Some(shown) => push_hover(out, &shown),
+        Some(shown) => push_hover(out, &shown, name),
         None => Ok(()),
     }
 }
 
-fn push_hover(out: &mut String, shown: &Hover) -> Result<(), AllocError> {
+fn push_hover(out: &mut String, shown: &Hover, name: Span) -> Result<(), AllocError> {
+    if shown.span != name {
+        out.push_str(", not at the name")?;
+    }
     push_span(out, ", shown at ", shown.span)?;
     out.push_str(": ")?;
     out.push_str(shown.text.as_str())

@@ -1,6 +1,6 @@
 //! What documents and a text are left as where the memory of a call is refused.
 
-use crate::text::{ChangeRow, changes_of};
+use crate::text::{ChangeRow, changes_of, is_in_step};
 use ob0_text::{Change, Documents, Held, Lines, Position, Range, TextStore};
 use std::alloc::{AllocError, Global};
 use std::process::Abort;
@@ -15,15 +15,6 @@ static ROWS: &[ChangeRow] = &[
 ];
 
 const CHANGED: &str = "a\r\nb\nd";
-
-/// Whether a document is in step with this version and text.
-fn is_in_step(documents: &Documents<Lines>, uri: &str, wanted: (i64, &str)) -> bool {
-    match documents.get(uri) {
-        Some(Held::InStep { version, text }) => version == wanted.0 && text.as_str() == wanted.1,
-        Some(Held::OutOfStep) => false,
-        None => false,
-    }
-}
 
 fn is_out_of_step(documents: &Documents<Lines>, uri: &str) -> bool {
     match documents.get(uri) {

@@ -49,26 +49,17 @@ fn compare(
     alike: bool,
 ) -> RescanOutcome {
     match again {
-        Ok(found) => compare_tokens(found, scanned, alike),
-        Err(refusal) => compare_faults(refusal, scanned),
-    }
-}
-
-fn compare_tokens(
-    found: &Rescan,
-    scanned: &Result<Tokens, ScanRefusal>,
-    alike: bool,
-) -> RescanOutcome {
-    match scanned {
-        Ok(tokens) => if are_same(&found.tokens, tokens) {
-            RescanOutcome::Read {
+        Ok(found) => match scanned {
+            Ok(tokens) if are_same(&found.tokens, tokens) => RescanOutcome::Read {
                 count: found.read,
                 alike,
-            }
-        } else {
-            RescanOutcome::Different
+            },
+            _ => RescanOutcome::Different,
         },
-        Err(_refusal) => RescanOutcome::Different,
+        Err(refusal) => match scanned {
+            Err(other) if refuse_alike(refusal, other) => RescanOutcome::Refused,
+            _ => RescanOutcome::Different,
+        },
     }
 }
 
@@ -77,17 +68,6 @@ fn faults_in(refusal: &ScanRefusal) -> Option<&[Fault]> {
     match refusal {
         ScanRefusal::Faults(faults) => Some(faults.as_slice()),
         ScanRefusal::Memory => None,
-    }
-}
-
-fn compare_faults(refusal: &ScanRefusal, scanned: &Result<Tokens, ScanRefusal>) -> RescanOutcome {
-    match scanned {
-        Ok(_tokens) => RescanOutcome::Different,
-        Err(other) => if refuse_alike(refusal, other) {
-            RescanOutcome::Refused
-        } else {
-            RescanOutcome::Different
-        },
     }
 }
 

@@ -1,9 +1,8 @@
-//! Calls that no other test makes: where a stream ends, a store's own text and unit, documents that are closed,
-//! notifications.
+//! Calls that no other test makes: where a stream ends, a store's own text and unit, notifications.
 
 use ob0_frame::{FrameFault, Framer};
 use ob0_rpc::{Note, notice};
-use ob0_text::{Documents, Held, Lines, TextStore, Unit, Whole};
+use ob0_text::{Lines, TextStore, Unit, Whole};
 use serde_json::Value;
 use std::alloc::Global;
 use std::process::Abort;
@@ -58,27 +57,6 @@ fn has_text<T: TextStore>(alloc: Global, text: &str, unit: Unit) -> bool {
 fn a_store_has_its_text_and_unit(rt: HostRuntime) {
     assert!(rt; has_text::<Whole>(rt.alloc(), "a\r\n😀", Unit::Utf8));
     assert!(rt; has_text::<Lines>(rt.alloc(), "a\r\n😀", Unit::Utf16));
-}
-
-/// Opens a document and closes it twice. Whether it is there in between.
-fn is_closed_once<T: TextStore>(documents: &mut Documents<T>) -> bool {
-    if documents.did_open("u", 1, "a").is_err() || documents.get("u").is_none() {
-        return false;
-    }
-    documents.did_close("u") && documents.get("u").is_none() && !documents.did_close("u")
-}
-
-/// Whether a document is there until it is closed, in the unit that was set before.
-fn is_there_until_closed<T: TextStore>(alloc: Global) -> bool {
-    let mut documents: Documents<T> = Documents::new(alloc);
-    documents.set_unit(Unit::Utf8);
-    is_closed_once(&mut documents) && documents.unit() == Unit::Utf8
-}
-
-#[test]
-fn a_document_is_there_until_it_is_closed(rt: HostRuntime) {
-    assert!(rt; is_there_until_closed::<Whole>(rt.alloc()));
-    assert!(rt; is_there_until_closed::<Lines>(rt.alloc()));
 }
 
 /// In a word what a notification says.

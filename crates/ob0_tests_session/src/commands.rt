@@ -1,7 +1,7 @@
 //! Commands over writers that pass on what is written only when they are flushed, and command lines.
 
 use crate::devices::{Count, Counter, Source};
-use ob0_cli::{CommandLine, command};
+use ob0_cli::{CommandFault, CommandLine, command};
 use ob0_commands::{Flushed, Watched, check_text, rename_text, run_text};
 use ob0_text::Position;
 use std::alloc::Global;
@@ -119,7 +119,14 @@ fn word_of(line: &CommandLine<'_>) -> &'static str {
 fn line_of(alloc: Global, words: &[&str]) -> &'static str {
     match command(alloc, words) {
         Ok(line) => word_of(&line),
-        Err(_fault) => "refused",
+        Err(fault) => word_of_fault(&fault),
+    }
+}
+
+fn word_of_fault(fault: &CommandFault) -> &'static str {
+    match fault {
+        CommandFault::Refused(_error) => "refused",
+        CommandFault::Memory => "out of memory",
     }
 }
 

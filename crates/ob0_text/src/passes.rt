@@ -5,7 +5,7 @@
 //! store of lines it has fewer than 64 characters of the position's line to go. Both keep what they kept (`IsPlace`,
 //! `IsPlaceBefore`); `StretchSteps` takes either past the characters of a stretch, by the step past one character.
 
-ghost use Rattle.std.specs.Prelude.{◌≡◌, ◌==◌, ◌||◌, ◌+◌, ◌-◌, ◌<◌, ◌≤◌, true, IfOk, IfSome, None, map};
+ghost use Rattle.std.specs.Prelude.{◌≡◌, ◌↔◌, ◌==◌, ◌||◌, ◌+◌, ◌-◌, ◌<◌, ◌≤◌, IfOk, IfSome, IsTrue, None, map};
 ghost use Rattle.std.specs.Str.{IsCharBoundary, chars};
 ghost use Rattle.ob0_text.specs.Texts.{LF, CR, ends_line, offset_of, position_of};
 ghost use Rattle.ob0_text.specs.Units.{width_of};
@@ -103,7 +103,7 @@ pub fn position_at(place: PassState) -> Position
 
 /// Whether a position is another or comes after it.
 pub fn is_from(from: Position, position: Position) -> bool
-    ensures yes { result ≡ true → IsFrom from position }
+    ensures { IsTrue result ↔ IsFrom from position }
 {
     from.line < position.line
         || (from.line == position.line && from.character <= position.character)

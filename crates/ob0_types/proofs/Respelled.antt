@@ -8,7 +8,7 @@ use Rattle.std.specs.List.{filter, swap}
 use Rattle.std.specs.Prelude.{set}
 use Rattle.std.specs.List.Sorted.{IsPermutation, IsSorted}
 use Rattle.std.specs.Ordering.{is_lt, nat_cmp, ordering_then}
-use Rattle.ob0_scan.specs.Scanned.{Scanned}
+use Rattle.ob0_scan.specs.Scanned.{Scanned, read_in}
 use Rattle.ob0_scan.specs.declared.fault.Code.TheVariants as code
 use Rattle.ob0_scan.specs.declared.fault.Fault.{Fault}
 use Rattle.ob0_tree.specs.Parsed.{Parsed, named_tree_of, parsed_by, tree_of}
@@ -20,15 +20,20 @@ use Rattle.ob0_scope_table.specs.FaultTokens.{AreAtSameTokens, AreWrittenAlike, 
 use Rattle.ob0_scope_table.specs.Resolution.{IsResolution, Resolution, is_of_declarations, ordinal_in}
 use Rattle.ob0_scope_table.specs.declared.fault_tokens.FaultAt.{FaultAt}
 use Rattle.ob0_scope_table.specs.declared.resolved.Bindings.{Bindings}
-use Rattle.ob0_scope_table.proofs.FaultTokens.{both_same, filter_same, names_same, texts_stay, tree_named}
+use Rattle.ob0_scope_table.proofs.FaultTokens.{both_same, filter_same, names_same, texts_stay, tree_named, values_stay}
+use Rattle.ob0_scope_table.proofs.Placed.{each_token}
 use Rattle.ob0_scope_table.proofs.TokenOrder.{end_order, faults_move, start_order}
+use Rattle.ob0_types_check.specs.AlikeBut.{IsAlikeAt}
 use Rattle.ob0_types_check.specs.DeclarationFaults.{reported_module}
 use Rattle.ob0_types_check.specs.ModuleLaws.{HasDeclarations}
+use Rattle.ob0_types_check.specs.SomeBodies.{AllPass, faulty_bodies, is_among}
 use Rattle.ob0_types_check.proofs.SameModules.{module_same}
+use Rattle.ob0_types_check.proofs.SomeBodies.{faulty_stay}
 use Rattle.ob0_types_fields.specs.Identifiers.{field_identifiers}
 use Rattle.ob0_types_fields.specs.Listed.{Listed}
 use Rattle.ob0_types_fields.specs.Owned.{fields_among, owned_module}
 use Rattle.ob0_types.specs.CheckedModules.{AreTypesOf}
+use Rattle.ob0_types.proofs.BodyFound.{module_any}
 use Rattle.ob0_types.specs.FaultOrder.{AreFirstOf, code_number, fault_cmp, faults_in}
 use Rattle.ob0_types.specs.Respelled.{AreTypesMoved, TypesKeepTokens}
 use Rattle.ob0_types.specs.declared.checked.ModuleTypes.{ModuleTypes}
@@ -138,6 +143,22 @@ module _ (old new : Scanned) (tree : ModuleTree) (b c : Bindings) (w : AreWritte
   fields_stay : field_identifiers after ≡ field_identifiers before
   fields_stay = λ i. fields_among (owned_module (record { object_for = λ token. option_and_then (declared_object (named i)) (ordinal_in (ordinals i) token); written = λ token. texts_stay old new w i token }) (tree_of (parsed_by old tree)))
 
+  alike_at : (k : ℕ) → IsAlikeAt before after k
+  alike_at k = record { written = λ i. texts_stay old new w i k; value = λ i. values_stay old new w i k; bound = ap (λ (os : List (Option ℕ)). ordinal_in os k) ordinals }
+
+  bodies_stay : (bodies : List ℕ) → AllPass (is_among bodies) (faulty_bodies before) → AllPass (is_among bodies) (faulty_bodies after)
+  bodies_stay bodies were =
+      faulty_stay (is_among bodies) after s (record {
+        old = before;
+        resolved = r;
+        faulty = were;
+        alike = record {
+          tree = refl;
+          count = sym (length-map new.tokens (read_in new.text)) ∙ (ap length w.same_words ∙ length-map old.tokens (read_in old.text));
+          alike = module_any (IsAlikeAt before after) (is_among bodies) (tree_of before.module_read) (each_token (IsAlikeAt before after) alike_at (tree_of before.module_read));
+        };
+      })
+
 pub types_keep_tokens : TypesKeepTokens
 types_keep_tokens old new tree b c types moved w t s ordinals m =
     let r = t.checked.resolved in
@@ -158,4 +179,5 @@ types_keep_tokens old new tree b c types moved w t s ordinals m =
       fields = λ e.
           let f = t.fields (none e) in
           (ap (λ (l : Listed). l.declared) m.fields ∙ f.0, ap (λ (l : Listed). l.all) m.fields ∙ (f.1 ∙ sym (fields_stay old new tree b c w r s ordinals)));
+      faulty = subst (λ (bodies : List ℕ). AllPass (is_among bodies) (faulty_bodies (resolution_by (parsed_by new tree) c))) (sym (ap (λ v. v.items) m.faulty)) (bodies_stay old new tree b c w r s ordinals types.faulty.items t.faulty);
     }

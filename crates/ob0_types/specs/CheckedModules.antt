@@ -6,6 +6,7 @@ use Rattle.ob0_scan.specs.declared.fault.Fault.{Fault}
 use Rattle.ob0_scope_table.specs.Resolution.{Resolution, IsResolution}
 use Rattle.ob0_tree.specs.Parsed.{named_tree_of}
 use Rattle.ob0_types_check.specs.ModuleLaws.{HasDeclarations}
+use Rattle.ob0_types_check.specs.SomeBodies.{AllPass, faulty_bodies, is_among}
 use Rattle.ob0_types_table.specs.KnownTables.{Tables}
 use Rattle.ob0_language_types.specs.WellTyped.{WellTyped}
 use Rattle.ob0_types.specs.FaultOrder.{AreFirstFaults}
@@ -41,11 +42,12 @@ AreCheckedFaults names faults =
 abbrev pub checked_by : Resolution → ModuleTypes → CheckedModule
 checked_by names types = record { names = names; faults = types.faults.items; known = types.known }
 
--- This was found of a module's types: the module is checked by it,
--- and where it has no fault its fields are these.
+-- This was found of a module's types: the module is checked by it, where it has no fault its fields
+-- are these, and each body of which something is reported is among the faulty ones.
 pub record AreTypesOf (names : Resolution) (types : ModuleTypes) : Type 0 where
   pub checked : IsChecked (checked_by names types)
   pub fields : types.faults.items ≡ [] → AreFields names types.fields
+  pub faulty : AllPass (is_among types.faulty.items) (faulty_bodies names)
 
 -- a module that is well-typed
 pub record IsWellTyped (names : Resolution) : Type 0 where

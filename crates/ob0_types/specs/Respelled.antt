@@ -15,6 +15,7 @@ use Rattle.ob0_types.specs.declared.checked.ModuleTypes.{ModuleTypes}
 pub record AreTypesMoved (old new : Scanned) (types moved : ModuleTypes) : Type 0 where
   pub known : moved.known ≡ types.known
   pub fields : moved.fields ≡ types.fields
+  pub faulty : moved.faulty ≡ types.faulty
   pub faults : moved.faults.items ≡ moved_faults old new types.faults.items
 
 -- what was found of a module's types is found of the same tree over tokens that are written alike,

@@ -11,29 +11,36 @@
 ghost use Rattle.ob0_scope_table.specs.Resolution.{is_of_declarations};
 ghost use Rattle.ob0_types.specs.CheckedModules.{AreTypesOf, IsChecked, checked_by};
 ghost use Rattle.ob0_types.specs.FaultOrder.{AreFirstOf};
+ghost use Rattle.ob0_types.specs.OneBody.{WereTypes};
+ghost use Rattle.ob0_types_check.specs.SomeBodies.{IsReportOf};
 ghost use Rattle.std.specs.List.{filter};
 ghost use Rattle.std.specs.Prelude.{◌≡◌, ◌≤◌, ◌↔◌, ◌++◌, [], length, IfOk, IfSome, OnOk, MatchOption};
 ghost use Rattle.ob0_types_fields.specs.Listed.{listed_by};
 ghost use Rattle.ob0_scan.specs.Scanned.{max_faults};
 
+use crate::closing::closing_from;
 use ob0_language_values::Scalar;
 use ob0_scan::{Code, Fault, MAX_FAULTS};
 use ob0_scope_table::{PREDECLARED, Resolved};
 use ob0_types_check::laws::{modules_fit, no_fault_in_modules};
-use ob0_types_check::{Report, report_faults};
+use ob0_types_check::{Report, report_bodies, report_faults};
 use ob0_types_fields::{FieldList, typed_field};
 use ob0_types_table::{FieldOf, Known, Parts, TypeId};
 use std::alloc::{AllocError, Global};
 use std::borrow::Cow;
 use std::marker::Model;
 
-/// What checking a module finds: what its declarations are and its fields, where it is well-typed; and the faults of
-/// its scopes and types. It borrows nothing.
+/// Where more bodies than these had a fault, all are checked again: to look for a body among them takes as many steps.
+const MOST_FAULTY: usize = 32;
+
+/// What checking a module finds: what its declarations are and its fields, where it is well-typed; the faults of its
+/// scopes and types; and its bodies of which a fault of types is reported, by their closing names. It borrows nothing.
 #[derive(Drop)]
 pub struct ModuleTypes {
     pub known: Option<Known>,
     pub fields: FieldList,
     pub faults: Vec<Fault>,
+    pub faulty: Vec<usize>,
 }
 
 /// A module that was checked, with its faults.
@@ -111,18 +118,61 @@ pub fn check<'t>(alloc: Global, resolved: &'t Resolved<'t>) -> Result<Checked<'t
 pub fn types_of<'t>(alloc: Global, resolved: &'t Resolved<'t>) -> Result<ModuleTypes, AllocError>
     ensures { IfOk result (AreTypesOf resolved.now) }
 {
+    let report = report_faults(alloc, resolved)?;
+    types_reported(alloc, resolved, report)
+}
+
+/// What checking a module finds, by what was found before some of its tokens changed, which lie in one body; `low` is
+/// the first. Of the other bodies those alone are checked again that had a fault.
+pub fn types_again<'t>(
+    alloc: Global,
+    resolved: &'t Resolved<'t>,
+    before: ModuleTypes,
+    low: usize,
+) -> Result<ModuleTypes, AllocError>
+    requires { WereTypes resolved.now before low }
+    ensures { IfOk result (AreTypesOf resolved.now) }
+{
+    if before.faulty.len() > MOST_FAULTY {
+        return types_of(alloc, resolved);
+    }
+    let read = resolved.module();
+    let ModuleTypes {
+        known: _,
+        fields: _,
+        faults: _,
+        mut faulty,
+    } = before;
+    faulty.push(closing_from(read, low))?;
+    let report = report_bodies(alloc, resolved, faulty.as_slice())?;
+    types_reported(alloc, resolved, report)
+}
+
+/// What checking a module finds, by what is reported of it.
+fn types_reported<'t>(
+    alloc: Global,
+    resolved: &'t Resolved<'t>,
+    report: Report,
+) -> Result<ModuleTypes, AllocError>
+    requires { IsReportOf resolved.now report }
+    ensures { IfOk result (AreTypesOf resolved.now) }
+{
     modules_fit();
     no_fault_in_modules();
     // For the proof: what the contract of this call says.
     let _module = resolved.module();
-    let report = report_faults(alloc, resolved)?;
-    let Report { faults, known } = report;
+    let Report {
+        faults,
+        known,
+        faulty,
+    } = report;
     let faults = faults_of(resolved, faults)?;
     let fields = known_fields(alloc, resolved, &known)?;
     Ok(ModuleTypes {
         known,
         fields,
         faults,
+        faulty,
     })
 }
 

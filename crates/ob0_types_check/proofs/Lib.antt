@@ -29,6 +29,7 @@ pub mod BlocksFit
 pub mod BlocksKnown
 pub mod TableKnown
 pub mod Reported
+pub mod ReportedWith
 pub mod EqualShapes
 pub mod TypedOperands
 pub mod TypedExpressions
@@ -44,3 +45,4 @@ pub mod TypedDeclarations
 pub mod TypedModules
 pub mod SameFaults
 pub mod SameModules
+pub mod SomeBodies

@@ -1,37 +1,46 @@
--- Where the tokens of two texts are written alike, what is reported of a part over the one is reported of it over the
--- other, at the same tokens; and the same is known of it. A value that goes along has its text, so it is one value over
--- each of the two.
+-- Where the tokens of a part are alike in two texts (`Alikeness`: written alike and bound alike), what is reported of the
+-- part over the one is reported of it over the other, at the same tokens; and the same is known of it. A value that goes
+-- along has its text, so it is one value over each of the two.
 use Rattle.std.proofs.Common.{◌≡◌, ℕ, suc, Bool, true, false, not, ◌&&◌, List, [], ◌∷◌, ◌++◌, Option, Some, None, length, nat_eq, option_and_then, pos, ◌+◌, refl, sym, ap, ◌∙◌, subst, if◌then◌else◌}
 use Rattle.std.specs.Prelude.{nat_lt}
 use Rattle.std.specs.List.{filter}
 use Rattle.ob0_scan.specs.declared.fault.Code.{Code}
 use Rattle.ob0_scan.specs.declared.fault.Code.TheVariants as code
 use Rattle.ob0_scan.specs.declared.fault.Fault.{Fault}
-use Rattle.ob0_scan.specs.Scanned.{Scanned, read_in}
-use Rattle.std.proofs.lemmas.List.{length-map}
+use Rattle.ob0_scan.specs.Scanned.{Scanned}
 use Rattle.ob0_tree.specs.declared.tree.AddOperator.{AddOperator}
 use Rattle.ob0_tree.specs.declared.tree.MultiplyOperator.{MultiplyOperator}
 use Rattle.ob0_tree.specs.declared.tree.Relation.{Relation}
 use Rattle.ob0_tree.specs.declared.tree.Sign.{Sign}
 use Rattle.ob0_tree.specs.Places.{text_at, value_at}
-use Rattle.ob0_tree.specs.Tree.{Tree, addend, adds, assigns, branches, calls, compares, designator, else_branch, else_part, elsif_branch, elsif_part, empty, end, expression, factor, field, further_statement, index, integer, item, items, maybe, more, multiplier, multiplies, negation, none, one, parenthesised, product, relates, repeat_loop, runs, selector, sequence, simple, statement, sum, term, then_statement, while_loop}
-use Rattle.ob0_language_types.specs.Arguments.{arguments_listed}
+use Rattle.ob0_tree.specs.Tree.{Sort, Tree, addend, arguments, no_arguments, some_arguments, then_argument, further_argument, adds, assigns, branches, calls, compares, designator, else_branch, else_part, elsif_branch, elsif_part, empty, end, expression, factor, field, further_statement, index, integer, item, items, maybe, more, multiplier, multiplies, negation, none, one, parenthesised, product, relates, repeat_loop, runs, selector, sequence, simple, statement, sum, term, then_statement, while_loop}
+use Rattle.ob0_language_types.specs.Arguments.{arguments_listed, further_arguments}
 use Rattle.ob0_language_types.specs.Selected.{both}
 use Rattle.ob0_language_types.specs.Typing.{array_length, given_value}
 use Rattle.ob0_language_values.specs.Values.{Value, negate, number, relate}
 use Rattle.ob0_language_values.specs.Values.{apply_sign as with_sign}
-use Rattle.ob0_scope_table.specs.FaultTokens.{AreAtSameTokens, AreWrittenAlike}
-use Rattle.ob0_scope_table.proofs.FaultTokens.{both_same, none_same, one_same, texts_stay, values_stay}
+use Rattle.ob0_scope_table.specs.BodyAlone.{EachToken}
+use Rattle.ob0_scope_table.specs.FaultTokens.{AreAtSameTokens}
+use Rattle.ob0_scope_table.specs.Resolution.{ordinal_in}
+use Rattle.ob0_scope_table.proofs.FaultTokens.{both_same, none_same, one_same}
 use Rattle.ob0_types_table.specs.Operators.{product_value, sum_value}
 use Rattle.ob0_types_check.specs.ExpressionFaults.{reported_addends, reported_expression, reported_factor, reported_multipliers, reported_selectors, reported_simple, reported_term}
-use Rattle.ob0_types_check.specs.Known.{Facts, Form, KnownFormal, Meaning, Operand, Reported, a_constant, a_procedure, a_record, a_scalar, a_type, a_variable, an_array, unknown_form}
+use Rattle.ob0_types_check.specs.Known.{Facts, Form, KnownFormal, Meaning, Operand, Reported, Types, a_constant, a_procedure, a_record, a_scalar, a_type, a_variable, an_array, unknown_form}
 use Rattle.ob0_types_check.specs.Operations.{a_constant_name, a_name, a_number, add_operands, after_sign, at_tokens, comparison_type, complement_operand, element_in, element_selected, enclosed, field_in, field_selected, fits, found_field, joint_operand, multiply_operands, name_operand, named_value, part_of, relate_operands, required, required_both, required_by_add, required_by_multiply, required_by_relation, right, sign_operand, token_after, token_before, ◌>>=◌}
-use Rattle.ob0_types_check.specs.StatementFaults.{call_by_meaning, passed, reported_argument, reported_arguments, reported_assignment, reported_call, reported_condition, reported_else, reported_elsifs, reported_parts, reported_required, reported_sequence, reported_statement, reported_statements, reported_target, target_by_meaning}
-use Rattle.ob0_types_check.specs.TypeFaults.{in_bounds, length_given, length_of, operand_value, reported_constant, type_meant, valued}
+use Rattle.ob0_types_check.specs.StatementFaults.{call_by_meaning, passed, reported_argument, reported_arguments, reported_assignment, reported_call, reported_else, reported_elsifs, reported_parts, reported_required, reported_sequence, reported_statement, reported_statements, reported_target, target_by_meaning, target_meaning}
+use Rattle.ob0_types_check.specs.TypeFaults.{in_bounds, length_given, length_of, operand_value, reported_constant, type_meant, type_named, valued}
 
--- the same facts over another text
-abbrev pub over : {T : Type 0} → Facts T → Scanned → Facts T
-over facts source = record { source = source; types = facts.types; object_for = facts.object_for; only_constants = facts.only_constants }
+-- what is known at a place, by what each declaration is
+abbrev pub facts_over : {T : Type 0} → Scanned → List (Option ℕ) → Types T → (ℕ → Option (Meaning T)) → Bool → Facts T
+facts_over source ordinals types declared only_constants =
+    record { source = source; types = types; object_for = λ token. option_and_then declared (ordinal_in ordinals token); only_constants = only_constants }
+
+-- Two texts have as many tokens, and a token of which P holds is written alike and bound alike in both.
+pub record Alikeness (old new : Scanned) (os ns : List (Option ℕ)) (P : ℕ → Type 0) : Type 0 where
+  pub count : length new.tokens ≡ length old.tokens
+  pub written : (k : ℕ) → P k → text_at new k ≡ text_at old k
+  pub value : (k : ℕ) → P k → value_at new k ≡ value_at old k
+  pub bound : (k : ℕ) → P k → ordinal_in ns k ≡ ordinal_in os k
 
 module _ (old new : Scanned) where
   abbrev pub Same : List Fault → List Fault → Type 0
@@ -66,19 +75,22 @@ module _ (old new : Scanned) where
   either true p q = p
   either false p q = q
 
-module _ (old new : Scanned) (w : AreWrittenAlike old new) where
-  same_count : length new.tokens ≡ length old.tokens
-  same_count = sym (length-map new.tokens (read_in new.text)) ∙ (ap length w.same_words ∙ length-map old.tokens (read_in old.text))
-
+module _ (old new : Scanned) (os ns : List (Option ℕ)) (P : ℕ → Type 0) (w : Alikeness old new os ns P) where
   after_same : (token : ℕ) → token_after new token ≡ token_after old token
-  after_same token = ap (λ n. if nat_lt token n then token + 1 else token) same_count
+  after_same token = ap (λ n. if nat_lt token n then token + 1 else token) w.count
 
-  module _ {T : Type 0} (facts : Facts T) where
+  module _ {T : Type 0} (types : Types T) (declared : ℕ → Option (Meaning T)) (only_constants : Bool) where
     abbrev fo : Facts T
-    fo = over facts old
+    fo = facts_over old os types declared only_constants
 
     abbrev fn : Facts T
-    fn = over facts new
+    fn = facts_over new ns types declared only_constants
+
+    abbrev Each : {s : Sort} → Tree ℕ s → Type 0
+    Each t = EachToken P t
+
+    meant : (token : ℕ) → P token → fo.object_for token ≡ fn.object_for token
+    meant token h = sym (ap (option_and_then declared) (w.bound token h))
 
     abbrev Eq : {A : Type 0} → Reported A → Reported A → Type 0
     Eq r s = Equal old new r s
@@ -96,35 +108,35 @@ module _ (old new : Scanned) (w : AreWrittenAlike old new) where
     -- ---- operations
 
     pub required_same : (wanted : T) (o : Operand T) → Eq (required fo wanted o) (required fn wanted o)
-    required_same wanted o = record { value = (required fo wanted o).known; before = refl; after = refl; faults = unless_fits (fits facts.types o.of wanted) code.TypeMismatch o.first o.last }
+    required_same wanted o = record { value = (required fo wanted o).known; before = refl; after = refl; faults = unless_fits (fits types o.of wanted) code.TypeMismatch o.first o.last }
 
     both_required : (wanted : T) (a b : Operand T) → Eq (required_both fo wanted a b) (required_both fn wanted a b)
     both_required wanted a b =
-        either old new (fits facts.types a.of wanted)
-        (record { value = if facts.types.same a.of wanted then (required fo wanted b).known else facts.types.unknown; before = refl; after = refl; faults = (required_same wanted b).faults })
-        (faulty facts.types.unknown code.TypeMismatch a.first a.last)
+        either old new (fits types a.of wanted)
+        (record { value = if types.same a.of wanted then (required fo wanted b).known else types.unknown; before = refl; after = refl; faults = (required_same wanted b).faults })
+        (faulty types.unknown code.TypeMismatch a.first a.last)
 
     added_same : (o : AddOperator) (a b : Operand T) → Eq (add_operands fo o a b) (add_operands fn o a b)
-    added_same o a b = gives old new (λ t. joint_operand t (option_and_then (sum_value o b.value) a.value) a b) (both_required (required_by_add facts.types o) a b)
+    added_same o a b = gives old new (λ t. joint_operand t (option_and_then (sum_value o b.value) a.value) a b) (both_required (required_by_add types o) a b)
 
     multiplied_same : (o : MultiplyOperator) (a b : Operand T) → Eq (multiply_operands fo o a b) (multiply_operands fn o a b)
-    multiplied_same o a b = gives old new (λ t. joint_operand t (option_and_then (product_value o b.value) a.value) a b) (both_required (required_by_multiply facts.types o) a b)
+    multiplied_same o a b = gives old new (λ t. joint_operand t (option_and_then (product_value o b.value) a.value) a b) (both_required (required_by_multiply types o) a b)
 
     related_same : (r : Relation) (a b : Operand T) → Eq (relate_operands fo r a b) (relate_operands fn r a b)
     related_same r a b =
-        gives old new (λ t. joint_operand (comparison_type facts.types t) (both (λ x y. given_value (relate r x y)) a.value b.value) a b) (both_required (required_by_relation facts.types r a.of) a b)
+        gives old new (λ t. joint_operand (comparison_type types t) (both (λ x y. given_value (relate r x y)) a.value b.value) a b) (both_required (required_by_relation types r a.of) a b)
 
     signed_same : (s : Option Sign) (o : Operand T) → Eq (sign_operand fo s o) (sign_operand fn s o)
     signed_same None o = equal old new o
-    signed_same (Some s) o = gives old new (λ t. after_sign t (option_and_then (λ x. given_value (with_sign (Some s) x)) o.value) o) (required_same facts.types.integer o)
+    signed_same (Some s) o = gives old new (λ t. after_sign t (option_and_then (λ x. given_value (with_sign (Some s) x)) o.value) o) (required_same types.integer o)
 
     complement_same : (o : Operand T) → Eq (complement_operand fo o) (complement_operand fn o)
-    complement_same o = gives old new (λ t. after_sign t (option_and_then (λ x. given_value (negate x)) o.value) o) (required_same facts.types.boolean o)
+    complement_same o = gives old new (λ t. after_sign t (option_and_then (λ x. given_value (negate x)) o.value) o) (required_same types.boolean o)
 
-    number_same : (n : ℕ) → Eq (right (a_number fo n)) (right (a_number fn n))
-    number_same n = record { value = a_number fo n; before = refl; after = λ j. a_number_of (values_stay old new w j n); faults = none_same old new } where
+    number_same : (n : ℕ) → P n → Eq (right (a_number fo n)) (right (a_number fn n))
+    number_same n h = record { value = a_number fo n; before = refl; after = ap a_number_of (w.value n h); faults = none_same old new } where
       a_number_of : ℕ → Operand T
-      a_number_of v = record { of = facts.types.integer; value = Some (number (pos v)); is_place = false; first = n; last = n }
+      a_number_of v = record { of = types.integer; value = Some (number (pos v)); is_place = false; first = n; last = n }
 
     enclosed_same : (o : Operand T) → Eq (right (enclosed fo o)) (right (enclosed fn o))
     enclosed_same o = record {
@@ -135,39 +147,39 @@ module _ (old new : Scanned) (w : AreWrittenAlike old new) where
     }
 
     value_named : (token : ℕ) (m : Option (Meaning T)) → Eq (named_value fo token m) (named_value fn token m)
-    value_named token None = equal old new (a_name facts.types.unknown token)
-    value_named token (Some (a_constant v)) = equal old new (a_constant_name facts.types v token)
-    value_named token (Some (a_variable t)) = either old new facts.only_constants (faulty (a_name facts.types.unknown token) code.NotConstant token token) (equal old new (a_name t token))
-    value_named token (Some (a_type t)) = faulty (a_name facts.types.unknown token) code.WrongKind token token
-    value_named token (Some (a_procedure fs)) = faulty (a_name facts.types.unknown token) code.WrongKind token token
+    value_named token None = equal old new (a_name types.unknown token)
+    value_named token (Some (a_constant v)) = equal old new (a_constant_name types v token)
+    value_named token (Some (a_variable t)) = either old new only_constants (faulty (a_name types.unknown token) code.NotConstant token token) (equal old new (a_name t token))
+    value_named token (Some (a_type t)) = faulty (a_name types.unknown token) code.WrongKind token token
+    value_named token (Some (a_procedure fs)) = faulty (a_name types.unknown token) code.WrongKind token token
 
-    named_same : (token : ℕ) → Eq (name_operand fo token) (name_operand fn token)
-    named_same token = value_named token (facts.object_for token)
+    named_same : (token : ℕ) → P token → Eq (name_operand fo token) (name_operand fn token)
+    named_same token h = subst (λ m. Eq (name_operand fo token) (named_value fn token m)) (meant token h) (value_named token (fo.object_for token))
 
     found_same : (token : ℕ) (t : Option T) → Eq (found_field fo token t) (found_field fn token t)
-    found_same token None = faulty facts.types.unknown code.NoField token token
+    found_same token None = faulty types.unknown code.NoField token token
     found_same token (Some t) = equal old new t
 
-    field_same : (token : ℕ) (form : Form T) → Eq (field_in fo token form) (field_in fn token form)
-    field_same token (a_record fields) = subst (λ x. Eq (field_in fo token (a_record fields)) (found_field fn token (fields x))) (λ j. sym (texts_stay old new w) j token) (found_same token (fields (text_at old token)))
-    field_same token unknown_form = equal old new facts.types.unknown
-    field_same token a_scalar = faulty facts.types.unknown code.NotRecord (token_before token) (token_before token)
-    field_same token (an_array t) = faulty facts.types.unknown code.NotRecord (token_before token) (token_before token)
+    field_same : (token : ℕ) → P token → (form : Form T) → Eq (field_in fo token form) (field_in fn token form)
+    field_same token h (a_record fields) = subst (λ x. Eq (field_in fo token (a_record fields)) (found_field fn token (fields x))) (sym (w.written token h)) (found_same token (fields (text_at old token)))
+    field_same token h unknown_form = equal old new types.unknown
+    field_same token h a_scalar = faulty types.unknown code.NotRecord (token_before token) (token_before token)
+    field_same token h (an_array t) = faulty types.unknown code.NotRecord (token_before token) (token_before token)
 
-    field_after : (o : Operand T) (token : ℕ) → Eq (field_selected fo o token) (field_selected fn o token)
-    field_after o token = gives old new (λ t. part_of o t token) (field_same token (facts.types.form o.of))
+    field_after : (o : Operand T) (token : ℕ) → P token → Eq (field_selected fo o token) (field_selected fn o token)
+    field_after o token h = gives old new (λ t. part_of o t token) (field_same token h (types.form o.of))
 
     element_same : (i : Operand T) (of : T) (form : Form T) → Eq (element_in fo i of form) (element_in fn i of form)
-    element_same i of (an_array t) = equal old new (if facts.types.same of facts.types.integer then t else facts.types.unknown)
-    element_same i of unknown_form = equal old new facts.types.unknown
-    element_same i of a_scalar = faulty facts.types.unknown code.NotArray (token_before i.first) (token_before i.first)
-    element_same i of (a_record fields) = faulty facts.types.unknown code.NotArray (token_before i.first) (token_before i.first)
+    element_same i of (an_array t) = equal old new (if types.same of types.integer then t else types.unknown)
+    element_same i of unknown_form = equal old new types.unknown
+    element_same i of a_scalar = faulty types.unknown code.NotArray (token_before i.first) (token_before i.first)
+    element_same i of (a_record fields) = faulty types.unknown code.NotArray (token_before i.first) (token_before i.first)
 
     element_after : (o i : Operand T) → Eq (element_selected fo o i) (element_selected fn o i)
     element_after o i =
-        goes_on old new (λ n. element_in fo i n (facts.types.form o.of) >>= (λ t. right (part_of o t (token_after old i.last)))) (λ n. element_in fn i n (facts.types.form o.of) >>= (λ t. right (part_of o t (token_after new i.last)))) (required_same facts.types.integer i)
+        goes_on old new (λ n. element_in fo i n (types.form o.of) >>= (λ t. right (part_of o t (token_after old i.last)))) (λ n. element_in fn i n (types.form o.of) >>= (λ t. right (part_of o t (token_after new i.last)))) (required_same types.integer i)
         (λ n.
-        goes_on old new (λ t. right (part_of o t (token_after old i.last))) (λ t. right (part_of o t (token_after new i.last))) (element_same i n (facts.types.form o.of))
+        goes_on old new (λ t. right (part_of o t (token_after old i.last))) (λ t. right (part_of o t (token_after new i.last))) (element_same i n (types.form o.of))
         (λ t. record { value = part_of o t (token_after old i.last); before = refl; after = ap (part_of o t) (after_same i.last); faults = none_same old new }))
 
     -- ---- expressions
@@ -175,44 +187,44 @@ module _ (old new : Scanned) (w : AreWrittenAlike old new) where
     mutual
       unfolding reported_expression
 
-      pub expression_same : (e : Tree ℕ expression) → Eq (reported_expression fo e) (reported_expression fn e)
-      expression_same (compares a none) = simple_same a
-      expression_same (compares a (one (relates r b))) =
-          goes_on old new (λ x. reported_simple fo b >>= relate_operands fo r x) (λ x. reported_simple fn b >>= relate_operands fn r x) (simple_same a)
-          (λ x. goes_on old new (relate_operands fo r x) (relate_operands fn r x) (simple_same b) (λ y. related_same r x y))
+      pub expression_same : (e : Tree ℕ expression) → Each e → Eq (reported_expression fo e) (reported_expression fn e)
+      expression_same (compares a none) h = simple_same a h.0
+      expression_same (compares a (one (relates r b))) h =
+          goes_on old new (λ x. reported_simple fo b >>= relate_operands fo r x) (λ x. reported_simple fn b >>= relate_operands fn r x) (simple_same a h.0)
+          (λ x. goes_on old new (relate_operands fo r x) (relate_operands fn r x) (simple_same b h.1) (λ y. related_same r x y))
 
-      simple_same : (e : Tree ℕ simple) → Eq (reported_simple fo e) (reported_simple fn e)
-      simple_same (sum s t rest) =
-          goes_on old new (λ x. sign_operand fo s x >>= (λ y. reported_addends fo y rest)) (λ x. sign_operand fn s x >>= (λ y. reported_addends fn y rest)) (term_same t)
-          (λ x. goes_on old new (λ y. reported_addends fo y rest) (λ y. reported_addends fn y rest) (signed_same s x) (λ y. addends_same y rest))
+      simple_same : (e : Tree ℕ simple) → Each e → Eq (reported_simple fo e) (reported_simple fn e)
+      simple_same (sum s t rest) h =
+          goes_on old new (λ x. sign_operand fo s x >>= (λ y. reported_addends fo y rest)) (λ x. sign_operand fn s x >>= (λ y. reported_addends fn y rest)) (term_same t h.0)
+          (λ x. goes_on old new (λ y. reported_addends fo y rest) (λ y. reported_addends fn y rest) (signed_same s x) (λ y. addends_same y rest h.1))
 
-      addends_same : (x : Operand T) (rest : Tree ℕ (items addend)) → Eq (reported_addends fo x rest) (reported_addends fn x rest)
-      addends_same x end = equal old new x
-      addends_same x (more (adds o t) rest) =
-          goes_on old new (λ y. add_operands fo o x y >>= (λ z. reported_addends fo z rest)) (λ y. add_operands fn o x y >>= (λ z. reported_addends fn z rest)) (term_same t)
-          (λ y. goes_on old new (λ z. reported_addends fo z rest) (λ z. reported_addends fn z rest) (added_same o x y) (λ z. addends_same z rest))
+      addends_same : (x : Operand T) (rest : Tree ℕ (items addend)) → Each rest → Eq (reported_addends fo x rest) (reported_addends fn x rest)
+      addends_same x end h = equal old new x
+      addends_same x (more (adds o t) rest) h =
+          goes_on old new (λ y. add_operands fo o x y >>= (λ z. reported_addends fo z rest)) (λ y. add_operands fn o x y >>= (λ z. reported_addends fn z rest)) (term_same t h.0)
+          (λ y. goes_on old new (λ z. reported_addends fo z rest) (λ z. reported_addends fn z rest) (added_same o x y) (λ z. addends_same z rest h.1))
 
-      term_same : (t : Tree ℕ term) → Eq (reported_term fo t) (reported_term fn t)
-      term_same (product f rest) = goes_on old new (λ x. reported_multipliers fo x rest) (λ x. reported_multipliers fn x rest) (factor_same f) (λ x. multipliers_same x rest)
+      term_same : (t : Tree ℕ term) → Each t → Eq (reported_term fo t) (reported_term fn t)
+      term_same (product f rest) h = goes_on old new (λ x. reported_multipliers fo x rest) (λ x. reported_multipliers fn x rest) (factor_same f h.0) (λ x. multipliers_same x rest h.1)
 
-      multipliers_same : (x : Operand T) (rest : Tree ℕ (items multiplier)) → Eq (reported_multipliers fo x rest) (reported_multipliers fn x rest)
-      multipliers_same x end = equal old new x
-      multipliers_same x (more (multiplies o f) rest) =
-          goes_on old new (λ y. multiply_operands fo o x y >>= (λ z. reported_multipliers fo z rest)) (λ y. multiply_operands fn o x y >>= (λ z. reported_multipliers fn z rest)) (factor_same f)
-          (λ y. goes_on old new (λ z. reported_multipliers fo z rest) (λ z. reported_multipliers fn z rest) (multiplied_same o x y) (λ z. multipliers_same z rest))
+      multipliers_same : (x : Operand T) (rest : Tree ℕ (items multiplier)) → Each rest → Eq (reported_multipliers fo x rest) (reported_multipliers fn x rest)
+      multipliers_same x end h = equal old new x
+      multipliers_same x (more (multiplies o f) rest) h =
+          goes_on old new (λ y. multiply_operands fo o x y >>= (λ z. reported_multipliers fo z rest)) (λ y. multiply_operands fn o x y >>= (λ z. reported_multipliers fn z rest)) (factor_same f h.0)
+          (λ y. goes_on old new (λ z. reported_multipliers fo z rest) (λ z. reported_multipliers fn z rest) (multiplied_same o x y) (λ z. multipliers_same z rest h.1))
 
-      factor_same : (f : Tree ℕ factor) → Eq (reported_factor fo f) (reported_factor fn f)
-      factor_same (designator x path) = goes_on old new (λ base. reported_selectors fo base path) (λ base. reported_selectors fn base path) (named_same x) (λ base. selectors_same base path)
-      factor_same (integer n) = number_same n
-      factor_same (parenthesised e) = goes_on old new (λ x. right (enclosed fo x)) (λ x. right (enclosed fn x)) (expression_same e) (λ x. enclosed_same x)
-      factor_same (negation f) = goes_on old new (complement_operand fo) (complement_operand fn) (factor_same f) (λ x. complement_same x)
+      factor_same : (f : Tree ℕ factor) → Each f → Eq (reported_factor fo f) (reported_factor fn f)
+      factor_same (designator x path) h = goes_on old new (λ base. reported_selectors fo base path) (λ base. reported_selectors fn base path) (named_same x h.0) (λ base. selectors_same base path h.1)
+      factor_same (integer n) h = number_same n h
+      factor_same (parenthesised e) h = goes_on old new (λ x. right (enclosed fo x)) (λ x. right (enclosed fn x)) (expression_same e h) (λ x. enclosed_same x)
+      factor_same (negation f) h = goes_on old new (complement_operand fo) (complement_operand fn) (factor_same f h) (λ x. complement_same x)
 
-      pub selectors_same : (x : Operand T) (path : Tree ℕ (items selector)) → Eq (reported_selectors fo x path) (reported_selectors fn x path)
-      selectors_same x end = equal old new x
-      selectors_same x (more (field n) rest) = goes_on old new (λ y. reported_selectors fo y rest) (λ y. reported_selectors fn y rest) (field_after x n) (λ y. selectors_same y rest)
-      selectors_same x (more (index e) rest) =
-          goes_on old new (λ i. element_selected fo x i >>= (λ y. reported_selectors fo y rest)) (λ i. element_selected fn x i >>= (λ y. reported_selectors fn y rest)) (expression_same e)
-          (λ i. goes_on old new (λ y. reported_selectors fo y rest) (λ y. reported_selectors fn y rest) (element_after x i) (λ y. selectors_same y rest))
+      pub selectors_same : (x : Operand T) (path : Tree ℕ (items selector)) → Each path → Eq (reported_selectors fo x path) (reported_selectors fn x path)
+      selectors_same x end h = equal old new x
+      selectors_same x (more (field n) rest) h = goes_on old new (λ y. reported_selectors fo y rest) (λ y. reported_selectors fn y rest) (field_after x n h.0) (λ y. selectors_same y rest h.1)
+      selectors_same x (more (index e) rest) h =
+          goes_on old new (λ i. element_selected fo x i >>= (λ y. reported_selectors fo y rest)) (λ i. element_selected fn x i >>= (λ y. reported_selectors fn y rest)) (expression_same e h.0)
+          (λ i. goes_on old new (λ y. reported_selectors fo y rest) (λ y. reported_selectors fn y rest) (element_after x i) (λ y. selectors_same y rest h.1))
 
     -- ---- constants, lengths and names of types
 
@@ -220,9 +232,9 @@ module _ (old new : Scanned) (w : AreWrittenAlike old new) where
     value_same o None = faulty None code.ConstFault o.first o.last
     value_same o (Some v) = equal old new (Some v)
 
-    pub constant_same : (e : Tree ℕ expression) → Eq (reported_constant fo e) (reported_constant fn e)
+    pub constant_same : (e : Tree ℕ expression) → Each e → Eq (reported_constant fo e) (reported_constant fn e)
     unfolding reported_constant
-    constant_same e = goes_on old new (operand_value fo) (operand_value fn) (expression_same e) (λ o. either old new (facts.types.same o.of facts.types.unknown) (equal old new None) (value_same o o.value))
+    constant_same e h = goes_on old new (operand_value fo) (operand_value fn) (expression_same e h) (λ o. either old new (types.same o.of types.unknown) (equal old new None) (value_same o o.value))
 
     bounds_same : (o : Operand T) (n : Option ℕ) → Eq (in_bounds fo o n) (in_bounds fn o n)
     bounds_same o None = faulty None code.ArrayLength o.first o.last
@@ -234,94 +246,117 @@ module _ (old new : Scanned) (w : AreWrittenAlike old new) where
 
     pub length_same : (o : Operand T) → Eq (length_of fo o) (length_of fn o)
     length_same o =
-        goes_on old new (λ t. if facts.types.same t facts.types.integer then length_given fo o o.value else right None) (λ t. if facts.types.same t facts.types.integer then length_given fn o o.value else right None) (required_same facts.types.integer o)
-        (λ t. either old new (facts.types.same t facts.types.integer) (given_same o o.value) (equal old new None))
+        goes_on old new (λ t. if types.same t types.integer then length_given fo o o.value else right None) (λ t. if types.same t types.integer then length_given fn o o.value else right None) (required_same types.integer o)
+        (λ t. either old new (types.same t types.integer) (given_same o o.value) (equal old new None))
 
-    pub type_same : (token : ℕ) (m : Option (Meaning T)) → Eq (type_meant fo token m) (type_meant fn token m)
+    type_same : (token : ℕ) (m : Option (Meaning T)) → Eq (type_meant fo token m) (type_meant fn token m)
     type_same token (Some (a_type t)) = equal old new t
-    type_same token (Some (a_constant v)) = faulty facts.types.unknown code.WrongKind token token
-    type_same token (Some (a_variable t)) = faulty facts.types.unknown code.WrongKind token token
-    type_same token (Some (a_procedure fs)) = faulty facts.types.unknown code.WrongKind token token
-    type_same token None = equal old new facts.types.unknown
+    type_same token (Some (a_constant v)) = faulty types.unknown code.WrongKind token token
+    type_same token (Some (a_variable t)) = faulty types.unknown code.WrongKind token token
+    type_same token (Some (a_procedure fs)) = faulty types.unknown code.WrongKind token token
+    type_same token None = equal old new types.unknown
+
+    pub type_named_same : (token : ℕ) → P token → Eq (type_named fo token) (type_named fn token)
+    type_named_same token h = subst (λ m. Eq (type_named fo token) (type_meant fn token m)) (meant token h) (type_same token (fo.object_for token))
 
     -- ---- statements
 
     abbrev Alright : List Fault → List Fault → Type 0
     Alright a b = Same old new a b
 
-    required_there : (wanted : T) (e : Tree ℕ expression) → Alright (reported_required fo wanted e) (reported_required fn wanted e)
+    required_there : (wanted : T) (e : Tree ℕ expression) → Each e → Alright (reported_required fo wanted e) (reported_required fn wanted e)
     unfolding reported_required
-    required_there wanted e = (goes_on old new (required fo wanted) (required fn wanted) (expression_same e) (λ o. required_same wanted o)).faults
+    required_there wanted e h = (goes_on old new (required fo wanted) (required fn wanted) (expression_same e h) (λ o. required_same wanted o)).faults
 
     target_meant : (token : ℕ) (m : Option (Meaning T)) → Eq (target_by_meaning fo token m) (target_by_meaning fn token m)
     target_meant token (Some (a_variable t)) = equal old new t
-    target_meant token (Some (a_constant v)) = faulty facts.types.unknown code.NotVariable token token
-    target_meant token (Some (a_type t)) = faulty facts.types.unknown code.WrongKind token token
-    target_meant token (Some (a_procedure fs)) = faulty facts.types.unknown code.WrongKind token token
-    target_meant token None = equal old new facts.types.unknown
+    target_meant token (Some (a_constant v)) = faulty types.unknown code.NotVariable token token
+    target_meant token (Some (a_type t)) = faulty types.unknown code.WrongKind token token
+    target_meant token (Some (a_procedure fs)) = faulty types.unknown code.WrongKind token token
+    target_meant token None = equal old new types.unknown
 
-    target_same : (x : ℕ) (path : Tree ℕ (items selector)) → Eq (reported_target fo x path) (reported_target fn x path)
+    target_named : (x : ℕ) → P x → Eq (target_meaning fo x) (target_meaning fn x)
+    target_named x h = subst (λ m. Eq (target_meaning fo x) (target_by_meaning fn x m)) (meant x h) (target_meant x (fo.object_for x))
+
+    target_same : (x : ℕ) (path : Tree ℕ (items selector)) → P x → Each path → Eq (reported_target fo x path) (reported_target fn x path)
     unfolding reported_target
-    target_same x path = goes_on old new (λ t. reported_selectors fo (a_name t x) path) (λ t. reported_selectors fn (a_name t x) path) (target_meant x (facts.object_for x)) (λ t. selectors_same (a_name t x) path)
+    target_same x path h each = goes_on old new (λ t. reported_selectors fo (a_name t x) path) (λ t. reported_selectors fn (a_name t x) path) (target_named x h) (λ t. selectors_same (a_name t x) path each)
 
-    assigned_same : (a b : Reported (Operand T)) (e : Tree ℕ expression) → Eq a b → Alright (reported_assignment fo a e) (reported_assignment fn b e)
-    assigned_same a b e p =
+    assigned_same : (a b : Reported (Operand T)) (e : Tree ℕ expression) → Each e → Eq a b → Alright (reported_assignment fo a e) (reported_assignment fn b e)
+    assigned_same a b e h p =
         both_same old new p.faults
         (subst (λ (x : Operand T). Alright (reported_required fo x.of e) (reported_required fn b.known.of e)) (sym p.before)
-        (subst (λ (x : Operand T). Alright (reported_required fo p.value.of e) (reported_required fn x.of e)) (sym p.after) (required_there p.value.of e)))
+        (subst (λ (x : Operand T). Alright (reported_required fo p.value.of e) (reported_required fn x.of e)) (sym p.after) (required_there p.value.of e h)))
 
     passed_same : (f : KnownFormal T) (o : Operand T) → Eq (passed fo f o) (passed fn f o)
-    passed_same f o = either old new (f.by_place && not o.is_place) (faulty facts.types.unknown code.NotVariable o.first o.last) (required_same f.of o)
+    passed_same f o = either old new (f.by_place && not o.is_place) (faulty types.unknown code.NotVariable o.first o.last) (required_same f.of o)
 
-    argument_same : (f : KnownFormal T) (e : Tree ℕ expression) → Alright (reported_argument fo f e) (reported_argument fn f e)
+    argument_same : (f : KnownFormal T) (e : Tree ℕ expression) → Each e → Alright (reported_argument fo f e) (reported_argument fn f e)
     unfolding reported_argument
-    argument_same f e = (goes_on old new (passed fo f) (passed fn f) (expression_same e) (λ o. passed_same f o)).faults
+    argument_same f e h = (goes_on old new (passed fo f) (passed fn f) (expression_same e h) (λ o. passed_same f o)).faults
 
-    arguments_same : (fs : List (KnownFormal T)) (es : List (Tree ℕ expression)) → Alright (reported_arguments fo fs es) (reported_arguments fn fs es)
-    arguments_same [] es = none_same old new
-    arguments_same (f ∷ fs) [] = none_same old new
-    arguments_same (f ∷ fs) (e ∷ es) = both_same old new (argument_same f e) (arguments_same fs es)
+    -- the tokens of some expressions
+    abbrev EachOf : List (Tree ℕ expression) → Type 0
+    EachOf [] = Unit {0}
+    EachOf (e ∷ es) = Each e × EachOf es
 
-    parts_same : (es : List (Tree ℕ expression)) → Alright (reported_parts fo es) (reported_parts fn es)
-    parts_same [] = none_same old new
-    parts_same (e ∷ es) = both_same old new (expression_same e).faults (parts_same es)
+    further_each : (es : Tree ℕ (items further_argument)) → Each es → EachOf (further_arguments es)
+    further_each end h = tt
+    further_each (more (then_argument e) es) h = (h.0, further_each es h.1)
 
-    counted_same : (b : Bool) (p : ℕ) (fs : List (KnownFormal T)) (es : List (Tree ℕ expression))
+    arguments_each : (es : Tree ℕ (maybe arguments)) → Each es → EachOf (arguments_listed es)
+    arguments_each none h = tt
+    arguments_each (one no_arguments) h = tt
+    arguments_each (one (some_arguments e es)) h = (h.0, further_each es h.1)
+
+    arguments_same : (fs : List (KnownFormal T)) (es : List (Tree ℕ expression)) → EachOf es → Alright (reported_arguments fo fs es) (reported_arguments fn fs es)
+    arguments_same [] es h = none_same old new
+    arguments_same (f ∷ fs) [] h = none_same old new
+    arguments_same (f ∷ fs) (e ∷ es) h = both_same old new (argument_same f e h.0) (arguments_same fs es h.1)
+
+    parts_same : (es : List (Tree ℕ expression)) → EachOf es → Alright (reported_parts fo es) (reported_parts fn es)
+    parts_same [] h = none_same old new
+    parts_same (e ∷ es) h = both_same old new (expression_same e h.0).faults (parts_same es h.1)
+
+    counted_same : (b : Bool) (p : ℕ) (fs : List (KnownFormal T)) (es : List (Tree ℕ expression)) → EachOf es
         → Alright (if b then reported_arguments fo fs es else at_tokens fo code.ArgumentCount p p) (if b then reported_arguments fn fs es else at_tokens fn code.ArgumentCount p p)
-    counted_same true p fs es = arguments_same fs es
-    counted_same false p fs es = at_same code.ArgumentCount p p
+    counted_same true p fs es h = arguments_same fs es h
+    counted_same false p fs es h = at_same code.ArgumentCount p p
 
-    call_meant : (p : ℕ) (m : Option (Meaning T)) (es : List (Tree ℕ expression)) → Alright (call_by_meaning fo p m es) (call_by_meaning fn p m es)
-    call_meant p (Some (a_procedure fs)) es = counted_same (nat_eq (length fs) (length es)) p fs es
-    call_meant p (Some (a_type t)) es = both_same old new (at_same code.WrongKind p p) (parts_same es)
-    call_meant p (Some (a_constant v)) es = both_same old new (at_same code.WrongKind p p) (parts_same es)
-    call_meant p (Some (a_variable t)) es = both_same old new (at_same code.WrongKind p p) (parts_same es)
-    call_meant p None es = parts_same es
+    call_meant : (p : ℕ) (m : Option (Meaning T)) (es : List (Tree ℕ expression)) → EachOf es → Alright (call_by_meaning fo p m es) (call_by_meaning fn p m es)
+    call_meant p (Some (a_procedure fs)) es h = counted_same (nat_eq (length fs) (length es)) p fs es h
+    call_meant p (Some (a_type t)) es h = both_same old new (at_same code.WrongKind p p) (parts_same es h)
+    call_meant p (Some (a_constant v)) es h = both_same old new (at_same code.WrongKind p p) (parts_same es h)
+    call_meant p (Some (a_variable t)) es h = both_same old new (at_same code.WrongKind p p) (parts_same es h)
+    call_meant p None es h = parts_same es h
+
+    call_same : (p : ℕ) (es : List (Tree ℕ expression)) → P p → EachOf es → Alright (reported_call fo p es) (reported_call fn p es)
+    call_same p es h each = subst (λ m. Alright (reported_call fo p es) (call_by_meaning fn p m es)) (meant p h) (call_meant p (fo.object_for p) es each)
 
     mutual
       unfolding reported_statement
 
-      statement_same : (s : Tree ℕ statement) → Alright (reported_statement fo s) (reported_statement fn s)
-      statement_same empty = none_same old new
-      statement_same (assigns x path e) = assigned_same (reported_target fo x path) (reported_target fn x path) e (target_same x path)
-      statement_same (calls p es) = call_meant p (facts.object_for p) (arguments_listed es)
-      statement_same (branches e statements rest last) =
-          both_same old new (required_there facts.types.boolean e) (both_same old new (sequence_same statements) (both_same old new (elsifs_same rest) (else_same last)))
-      statement_same (while_loop e statements) = both_same old new (required_there facts.types.boolean e) (sequence_same statements)
-      statement_same (repeat_loop statements e) = both_same old new (sequence_same statements) (required_there facts.types.boolean e)
+      statement_same : (s : Tree ℕ statement) → Each s → Alright (reported_statement fo s) (reported_statement fn s)
+      statement_same empty h = none_same old new
+      statement_same (assigns x path e) h = assigned_same (reported_target fo x path) (reported_target fn x path) e h.2 (target_same x path h.0 h.1)
+      statement_same (calls p es) h = call_same p (arguments_listed es) h.0 (arguments_each es h.1)
+      statement_same (branches e statements rest last) h =
+          both_same old new (required_there types.boolean e h.0) (both_same old new (sequence_same statements h.1) (both_same old new (elsifs_same rest h.2) (else_same last h.3)))
+      statement_same (while_loop e statements) h = both_same old new (required_there types.boolean e h.0) (sequence_same statements h.1)
+      statement_same (repeat_loop statements e) h = both_same old new (sequence_same statements h.0) (required_there types.boolean e h.1)
 
-      pub sequence_same : (s : Tree ℕ sequence) → Alright (reported_sequence fo s) (reported_sequence fn s)
-      sequence_same (runs a rest) = both_same old new (statement_same a) (statements_same rest)
+      pub sequence_same : (s : Tree ℕ sequence) → Each s → Alright (reported_sequence fo s) (reported_sequence fn s)
+      sequence_same (runs a rest) h = both_same old new (statement_same a h.0) (statements_same rest h.1)
 
-      statements_same : (rest : Tree ℕ (items further_statement)) → Alright (reported_statements fo rest) (reported_statements fn rest)
-      statements_same end = none_same old new
-      statements_same (more (then_statement a) rest) = both_same old new (statement_same a) (statements_same rest)
+      statements_same : (rest : Tree ℕ (items further_statement)) → Each rest → Alright (reported_statements fo rest) (reported_statements fn rest)
+      statements_same end h = none_same old new
+      statements_same (more (then_statement a) rest) h = both_same old new (statement_same a h.0) (statements_same rest h.1)
 
-      elsifs_same : (rest : Tree ℕ (items elsif_part)) → Alright (reported_elsifs fo rest) (reported_elsifs fn rest)
-      elsifs_same end = none_same old new
-      elsifs_same (more (elsif_branch e statements) rest) =
-          both_same old new (required_there facts.types.boolean e) (both_same old new (sequence_same statements) (elsifs_same rest))
+      elsifs_same : (rest : Tree ℕ (items elsif_part)) → Each rest → Alright (reported_elsifs fo rest) (reported_elsifs fn rest)
+      elsifs_same end h = none_same old new
+      elsifs_same (more (elsif_branch e statements) rest) h =
+          both_same old new (required_there types.boolean e h.0.0) (both_same old new (sequence_same statements h.0.1) (elsifs_same rest h.1))
 
-      else_same : (last : Tree ℕ (maybe else_part)) → Alright (reported_else fo last) (reported_else fn last)
-      else_same none = none_same old new
-      else_same (one (else_branch statements)) = sequence_same statements
+      else_same : (last : Tree ℕ (maybe else_part)) → Each last → Alright (reported_else fo last) (reported_else fn last)
+      else_same none h = none_same old new
+      else_same (one (else_branch statements)) h = sequence_same statements h

@@ -11,3 +11,5 @@ pub mod Agreement
 pub mod ReportLaws
 pub mod WellTypedLaws
 pub mod ModuleLaws
+pub mod AlikeBut
+pub mod SomeBodies

@@ -2,6 +2,7 @@
 
 ghost use Rattle.ob0_types_check.specs.ModuleLaws.{DeclarationsKnown, ModulesFit};
 ghost use Rattle.ob0_types_check.specs.ReportLaws.{ConstantsFit, ExpressionsFit, LengthsFit, StatementsFit, TypesOfTables};
+ghost use Rattle.ob0_types_check.specs.SomeBodies.{SomeBodiesReported};
 ghost use Rattle.ob0_types_check.specs.WellTypedLaws.{NamesBound, NoFaultInConstants, NoFaultInExpressions, NoFaultInLengths, NoFaultInModules, NoFaultInStatements, NoFaultInTargets};
 ghost use Rattle.ob0_language_names.specs.Names.{Name};
 
@@ -73,4 +74,9 @@ pub fn names_bound()
 /// No fault of types is reported of a well-typed module, and none of a name that nothing binds.
 pub fn no_fault_in_modules()
     ensures { NoFaultInModules }
+{}
+
+/// Where the tokens of a module changed in some bodies, nothing is reported of the others if nothing was before.
+pub fn some_bodies_reported()
+    ensures { SomeBodiesReported }
 {}

@@ -27,6 +27,11 @@
 //! without fields before that (`record_word`). A token always has neighbours (`token_after` stays at the end of the
 //! text), and a fault is always reported, at the text's start where there is no token (`span_at`).
 //!
+//! A body defines nothing. So where the tokens of one body changed, what is known at the place of each is what it was,
+//! and nothing is reported of a body of which nothing was reported before (`some_bodies_reported`): `report_bodies` goes
+//! through the declarations, that body and those that were faulty, and leaves out all others. The walk says which bodies
+//! are faulty.
+//!
 //! No counter of ARRAY and RECORD goes along. Each makes one type, those inside before the one around them, so where
 //! nothing is reported the ordinal of a word is how many were made and how many are around it (`ordinal_here`). A sum
 //! that 64 bits can't hold is out of memory, so the definition has no cap; no text is long enough for it.
@@ -40,17 +45,15 @@ mod statements;
 mod supposed;
 mod written_types;
 
-ghost use Rattle.std.specs.Prelude.{◌≡◌, ◌++◌, [], IfOk, OnOk, MatchOption, map, option_map, None};
+ghost use Rattle.std.specs.Prelude.{◌≡◌, ◌++◌, [], IfOk, OnOk, map, option_map, None};
 ghost use Rattle.std.specs.List.{filter};
 ghost use Rattle.ob0_scope_table.specs.Resolution.{is_of_occurrences};
-ghost use Rattle.ob0_tree.specs.Parsed.{named_tree_of};
 ghost use Rattle.ob0_types_table.specs.Tables.{AreEntriesInOrder};
-ghost use Rattle.ob0_types_check.specs.ModuleLaws.{HasDeclarations};
-ghost use Rattle.ob0_types_check.specs.DeclarationFaults.{reported_module};
 ghost use Rattle.ob0_types_check.specs.SoFar.{at_first};
+ghost use Rattle.ob0_types_check.specs.SomeBodies.{HasWalked, IsReportOf, WereFaulty, every, is_among, module_with, wants};
 ghost use Rattle.ob0_types_check.specs.SupposedFacts.{known_meaning, so_far_in, table_in};
 
-use crate::laws::declarations_known;
+use crate::laws::{declarations_known, some_bodies_reported};
 use crate::reporting::objects::{define_standards, objects_of};
 use crate::reporting::supposed::{Meaning, Supposed, predeclared_meanings};
 use ob0_scan::{Code, Fault};
@@ -65,36 +68,72 @@ pub struct Report {
     pub faults: Vec<Fault>,
     /// What the declarations are, where there is no fault.
     pub known: Option<Known>,
+    /// The bodies of which something is reported, by their closing names, in text order.
+    pub faulty: Vec<usize>,
+}
+
+/// Which bodies are gone through: every one, or these, by their closing names.
+#[derive(Clone, Copy)]
+struct Wanted<'b> {
+    every: bool,
+    these: &'b [usize],
+}
+
+impl<'b> Wanted<'b> {
+    fn wants(&self, closing: usize) -> bool
+        ensures { result ≡ wants self.now closing }
+    {
+        self.every || self.these.contains(&closing)
+    }
 }
 
 /// The names of a module that nothing binds, in text order, and then the faults of its types; where there is none, what
 /// its declarations are. Its second declarations and closing names aren't looked at.
 pub fn report_faults<'t>(alloc: Global, resolved: &'t Resolved<'t>) -> Result<Report, AllocError>
-    ensures faults { IfOk result (λ r. r.faults.items ≡ reported_module resolved.now) }
-    ensures known { IfOk result (λ r. MatchOption r.known (reported_module resolved.now ≡ [] → ⊥)
-        (λ t. (reported_module resolved.now ≡ [])
-        × HasDeclarations (named_tree_of resolved.now.module_read) t)) }
+    ensures { IfOk result (IsReportOf resolved.now) }
 {
-    declarations_known();
+    let none = Vec::new(alloc);
+    let every = Wanted {
+        every: true,
+        these: none.as_slice(),
+    };
+    report_wanted(alloc, resolved, &every)
+}
+
+/// The same where its tokens changed in one of these bodies, which are known by their closing names, and nothing was
+/// reported before of the others: its declarations and these bodies are gone through, and no other body.
+pub fn report_bodies<'t>(
+    alloc: Global,
+    resolved: &'t Resolved<'t>,
+    bodies: &[usize],
+) -> Result<Report, AllocError>
+    requires { WereFaulty (is_among bodies.now) resolved.now }
+    ensures { IfOk result (IsReportOf resolved.now) }
+{
+    some_bodies_reported();
+    // For the proof: what the contract of this call says.
+    let _module = resolved.module();
+    let these = Wanted {
+        every: false,
+        these: bodies,
+    };
+    report_wanted(alloc, resolved, &these)
+}
+
+/// What is reported of a module, of which nothing is reported but of its declarations and of these bodies.
+fn report_wanted<'t>(
+    alloc: Global,
+    resolved: &'t Resolved<'t>,
+    wanted: &Wanted<'_>,
+) -> Result<Report, AllocError>
+    requires { module_with (wants wanted.now) resolved.now ≡ module_with every resolved.now }
+    ensures { IfOk result (IsReportOf resolved.now) }
+{
+    let read = resolved.module();
     let mut reporter = Reporter::new(alloc, resolved)?;
-    reporter.block(resolved.module().block())?;
-    let Reporter {
-        alloc: _,
-        supposed,
-        faults,
-    } = reporter;
-    if faults.is_empty() {
-        let known = known_of(alloc, supposed)?;
-        Ok(Report {
-            faults,
-            known: Some(known),
-        })
-    } else {
-        Ok(Report {
-            faults,
-            known: None,
-        })
-    }
+    let mut faulty = Vec::new(alloc);
+    reporter.block(&mut faulty, wanted, read.block(), read.closing())?;
+    reporter.into_report(resolved, faulty)
 }
 
 /// What is known, as a table.
@@ -138,6 +177,39 @@ impl<'t> Reporter<'t> {
             supposed,
             faults: unbound_names(alloc, resolved)?,
         })
+    }
+
+    /// What was reported, at the end of a walk.
+    fn into_report(
+        self,
+        resolved: &'t Resolved<'t>,
+        faulty: Vec<usize>,
+    ) -> Result<Report, AllocError>
+        requires { HasWalked resolved.now self.faults.items self.supposed faulty.items }
+        ensures { IfOk result (IsReportOf resolved.now) }
+    {
+        declarations_known();
+        // For the proof: what the contract of this call says.
+        let _module = resolved.module();
+        let Reporter {
+            alloc,
+            supposed,
+            faults,
+        } = self;
+        if faults.is_empty() {
+            let known = known_of(alloc, supposed)?;
+            Ok(Report {
+                faults,
+                known: Some(known),
+                faulty,
+            })
+        } else {
+            Ok(Report {
+                faults,
+                known: None,
+                faulty,
+            })
+        }
     }
 }
 

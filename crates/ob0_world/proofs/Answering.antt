@@ -27,7 +27,8 @@ use Rattle.ob0_rpc.specs.Faults.{minus}
 use Rattle.ob0_rpc.specs.Messages.{ReadsContent, meaning, meaning_of}
 use Rattle.ob0_rpc.specs.Shapes.{result_message, error_message}
 use Rattle.ob0_rpc.specs.declared.clients.Client.{Client}
-use Rattle.ob0_session_answers.specs.Actions.{RequestedActions, ListsActions, Offers, wants_inlining, actions_offset, actions_value}
+use Rattle.ob0_edits.specs.Inlinings.{Offers}
+use Rattle.ob0_session_answers.specs.Actions.{RequestedActions, ListsActions, wants_inlining, actions_offset, actions_value}
 use Rattle.ob0_session_server.specs.Answers as answers_of
 use Rattle.ob0_session_server.specs.Answers.{ServerState, Reply, SaysReply, Sends, Reaction, reacts, reaction_to, hears, reaction_to_call, reaction_to_request as requested_in, calls, answers_about, lays_out, renames, offers_actions, published, Answers, AnswersInState, AnswersGoingOn, says}
 use Rattle.ob0_analysis.specs.Diagnosed.{Complaint, IsWellTypedModule, Reports, ReportsFaults, complaint_of}
@@ -47,7 +48,7 @@ use Rattle.ob0_world_rules.specs.Edited.{Replacement, replacement_of, replacemen
 use Rattle.ob0_world_rules.specs.Asks.{Ask, rename, inline_here, inline_all, format, indent_read}
 use Rattle.ob0_world_rules.specs.Answers.{place_at, AnswersFor, IsAnswer, IsEmptyIfCorrect}
 use Rattle.ob0_world_rules.specs.Ends.{SentAsk, request_numbered, ToServer, notifies, requests, ToEditor, publishes, answers, after_message}
-use Rattle.ob0_world_rules.specs.Serving.{Publishes, cleared, Replies}
+use Rattle.ob0_world_rules.specs.Serving.{Publishes, Replies}
 use Rattle.ob0_world_rules.proofs.ModuleTexts.{well_typed_text, well_typed_module}
 use Rattle.ob0_world_rules.proofs.UriLaws.{get_put, uri_itself}
 use Rattle.ob0_world.specs.Queues.{IsRunning, made_of_document, made_first}
@@ -197,9 +198,9 @@ note_served requested (Closed uri) before after sent running fits is saying =
       held = refl;
       said = publishes uri None true ∷ [];
       heard = heard_one requested sent (publication uri None []) (publishes uri None true) saying refl;
-      replies = (sym (ap (cleared uri) was), refl);
+      replies = (sym (ap (λ b. cond b (publishes uri None true ∷ []) []) was), refl);
     }
-    go false was saying = record { running = running; held = refl; said = []; heard = heard_none requested sent saying; replies = (sym (ap (cleared uri) was), refl) }
+    go false was saying = record { running = running; held = refl; said = []; heard = heard_none requested sent saying; replies = (sym (ap (λ b. cond b (publishes uri None true ∷ []) []) was), refl) }
 
 -- ---- edits
 
@@ -208,7 +209,7 @@ edits_read_back [] = refl
 edits_read_back (e ∷ edits) = ap (option_map (λ es. replacement_of e ∷ es)) (edits_read_back edits)
 
 -- an answer to ask k, where that asks this
-answered : (requested : List SentAsk) (k : ℕ) (uri : List ℕ) (ask : Ask) (answer : Data) → IsAsk requested k uri ask → option_map (λ (a : SentAsk). answers k (edits_for a.ask answer)) (request_numbered requested k) ≡ Some (answers k (edits_for ask answer))
+pub answered : (requested : List SentAsk) (k : ℕ) (uri : List ℕ) (ask : Ask) (answer : Data) → IsAsk requested k uri ask → option_map (λ (a : SentAsk). answers k (edits_for a.ask answer)) (request_numbered requested k) ≡ Some (answers k (edits_for ask answer))
 answered requested k uri ask answer of = ap (option_map (λ (a : SentAsk). answers k (edits_for a.ask answer))) of.is ∙ ap (λ x. Some (answers k (edits_for x answer))) of.asks_this
 
 -- the answer to an ask
@@ -286,12 +287,12 @@ renamed requested k uri position name client unit version text sent takes of (me
 -- ---- inlining
 
 -- what an editor asks for of each kind
-abbrev inlining_at : Inlining → Position → Ask
+abbrev pub inlining_at : Inlining → Position → Ask
 inlining_at Here position = inline_here position
 inlining_at Everywhere position = inline_all position
 
 -- the requested one of what is offered
-abbrev requested_for : {A : Type 0} → Inlining → A → A → A
+abbrev pub requested_for : {A : Type 0} → Inlining → A → A → A
 requested_for Here here everywhere = here
 requested_for Everywhere here everywhere = everywhere
 
@@ -310,7 +311,7 @@ actions_read_back Everywhere position requested None (Some edits) takes = ap (λ
 actions_read_back Everywhere position requested (Some other) None takes = refl
 actions_read_back Everywhere position requested None None takes = refl
 
-none_read_back : (how : Inlining) (position : Position) (id : Data) → edits_for (inlining_at how position) (result_message id (array no_items)) ≡ []
+pub none_read_back : (how : Inlining) (position : Position) (id : Data) → edits_for (inlining_at how position) (result_message id (array no_items)) ≡ []
 none_read_back Here position id = refl
 none_read_back Everywhere position id = refl
 
@@ -336,7 +337,7 @@ requested_offered Here unit text position here everywhere one other = offered_he
 requested_offered Everywhere unit text position here everywhere one other = offered_everywhere unit text position everywhere (subst (λ place. Offers Everywhere unit text place everywhere) (place_is unit text position) other)
 
 -- the request as the session takes it
-abbrev actions_requested_at : Client → ℕ → List ℕ → Position → ℤ → RequestedActions
+abbrev pub actions_requested_at : Client → ℕ → List ℕ → Position → ℤ → RequestedActions
 actions_requested_at client k uri position version =
     record { id = number (unsigned k); client = client; uri = uri; version = version; range = empty_at position; only = None }
 
@@ -437,6 +438,21 @@ pub reacts_so : (before after : ServerState) (content : List ℕ) (sent : List (
 reacts_so before after content sent d (json, reads, answer) known =
     subst (λ j. (after ≡ (reacts before (meaning j)).after) × SaysReply (reacts before (meaning j)).say sent) (same_json content json d reads known) answer
 
+-- a request of this editor is looked at by its method, while the session runs
+begun : (ask : Ask) (s : ServerState) (params : Data) (k : ℕ) → requested_in Running s (number (unsigned k)) (method_of ask) params ≡ reaction_to_call s (number (unsigned k)) (method_of ask) params
+begun (rename position name) s params k = refl
+begun (inline_here position) s params k = refl
+begun (inline_all position) s params k = refl
+begun (format indent) s params k = refl
+
+pub request_reaction : (k : ℕ) (uri : List ℕ) (ask : Ask) (before after : ServerState) (content : List ℕ) (sent : List (List ℕ)) → IsRunning before → (is : heard_as.IsRequest k uri ask content) → Answers before content sent after
+    → (after ≡ (reaction_to_call before (number (unsigned k)) (method_of ask) is.params).after) × SaysReply (reaction_to_call before (number (unsigned k)) (method_of ask) is.params).say sent
+request_reaction k uri ask before after content sent running is h =
+    let answer = reacts_so before after content sent is.json (going_on before after content sent running h) is.reads in
+    let so : reacts before (meaning_of is.json) ≡ reaction_to_call before (number (unsigned k)) (method_of ask) is.params =
+    ap (reacts before) is.means ∙ ap (λ phase. requested_in phase before (number (unsigned k)) (method_of ask) is.params) running.0 ∙ begun ask before is.params k in
+    (answer.0 ∙ ap (λ (x : Reaction). x.after) so, subst (λ (x : Reaction). SaysReply x.say sent) so answer.1)
+
 pub served : (requested : List SentAsk) (m : ToServer) (before after : ServerState) (content : List ℕ) (sent : List (List ℕ)) → IsRunning before → heard_as.SaysToServer requested m content → Answers before content sent after → Served requested m before after sent
 served requested (notifies note) before after content sent running is h =
     let answer = reacts_so before after content sent is.json (going_on before after content sent running h) is.reads in
@@ -444,13 +460,5 @@ served requested (notifies note) before after content sent running is h =
     ap (reacts before) is.means ∙ ap (λ phase. hears phase before is.method is.params) running.0 ∙ ap (reaction_to before) is.reported in
     note_served requested note before after sent running is.fits (answer.0 ∙ ap (λ (x : Reaction). x.after) so) (subst (λ (x : Reaction). SaysReply x.say sent) so answer.1)
 served requested (requests k uri ask) before after content sent running (is, of) h =
-    let answer = reacts_so before after content sent is.json (going_on before after content sent running h) is.reads in
-    let so : reacts before (meaning_of is.json) ≡ reaction_to_call before (number (unsigned k)) (method_of ask) is.params =
-    ap (reacts before) is.means ∙ ap (λ phase. requested_in phase before (number (unsigned k)) (method_of ask) is.params) running.0 ∙ begun ask before is.params k in
-    request_served requested k uri ask is.params before after sent running of is.calls (answer.0 ∙ ap (λ (x : Reaction). x.after) so) (subst (λ (x : Reaction). SaysReply x.say sent) so answer.1)
-  where
-    begun : (ask : Ask) (s : ServerState) (params : Data) (k : ℕ) → requested_in Running s (number (unsigned k)) (method_of ask) params ≡ reaction_to_call s (number (unsigned k)) (method_of ask) params
-    begun (rename position name) s params k = refl
-    begun (inline_here position) s params k = refl
-    begun (inline_all position) s params k = refl
-    begun (format indent) s params k = refl
+    let reaction = request_reaction k uri ask before after content sent running is h in
+    request_served requested k uri ask is.params before after sent running of is.calls reaction.0 reaction.1

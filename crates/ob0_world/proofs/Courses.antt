@@ -1,9 +1,9 @@
 -- How a course goes on, and what follows of it for what has come of it and for the session.
 -- That the contents returned are a `Conversation` is a lemma over the course (`course_conversed`), by cases of the
--- event; `serve` has the same relation (`Served`). Where memory runs out (`PlaysBefore`) nothing is said of the
--- contents.
-use Rattle.std.proofs.Common.{◌≡◌, ◌∙◌, ℕ, ◌+◌, ◌<◌, List, [], ◌∷◌, ◌++◌, length, take, get_or, map, refl, sym, ap, subst, inl}
-use Rattle.std.specs.Prelude.{◌⊎◌, All}
+-- event; `serve` has the same relation (`Served`). A step whose allocation fails leaves what has come and passed
+-- (`SameHistory`), so all of it holds of the events before.
+use Rattle.std.proofs.Common.{◌≡◌, ◌∙◌, ℕ, ◌+◌, ◌<◌, List, [], ◌∷◌, ◌++◌, length, take, get_or, map, refl, sym, ap, subst, inl, inr}
+use Rattle.std.specs.Prelude.{All}
 use Rattle.std.proofs.lemmas.List.{map-append, take_more, append-nil, append_assoc}
 use Rattle.ob0_text.specs.declared.position_types.Unit.{Unit}
 use Rattle.ob0_session_server.specs.Answers as server
@@ -46,17 +46,16 @@ model_course begin (e ∷ events) end (between, step, rest) = (between.ends, ste
 Conversed : Wire → Type 0
 Conversed w = (s : ServerState) × (w.session ≡ serving s) × Conversation server.start w.taken (w.got ++ w.to_editor) s
 
-same_state : (a b : ServerState) (old : SessionState) → old ≡ serving a → old ≡ serving b → a ≡ b
+pub same_state : (a b : ServerState) (old : SessionState) → old ≡ serving a → old ≡ serving b → a ≡ b
 same_state a b old h k = cc
 
 takes_conversed : (q : List (List ℕ)) (old new : Wire) → TakesFirst q old new → Conversed old → Conversed new
 unfolding Conversed
 takes_conversed [] old new is h = subst Conversed (sym is) h
-takes_conversed (content ∷ rest) old new t (s, at, so) =
-    let a = t.answered in
-    let answers : Answers s content t.sent a.after = subst (λ x. Answers x content t.sent a.after) (same_state a.before s old.session a.served at) a.answers in
-    let more = conversation_then server.start old.taken (old.got ++ old.to_editor) s (content ∷ []) t.sent a.after so (answered_once s content t.sent a.after answers) in
-    subst Conversed (sym t.is) (a.after, a.serves, subst (λ x. Conversation server.start (old.taken ++ content ∷ []) x a.after) (append_assoc old.got old.to_editor t.sent) more)
+takes_conversed (content ∷ rest) old new (before, after, sent, was, answers, is) (s, at, so) =
+    let now : Answers s content sent after = subst (λ x. Answers x content sent after) (same_state before s old.session was at) answers in
+    let more = conversation_then server.start old.taken (old.got ++ old.to_editor) s (content ∷ []) sent after so (answered_once s content sent after now) in
+    subst Conversed (sym is) (after, refl, subst (λ x. Conversation server.start (old.taken ++ content ∷ []) x after) (append_assoc old.got old.to_editor sent) more)
 
 gets_conversed : (q : List (List ℕ)) (old new : Wire) → old.to_editor ≡ q → GetsFirst q old new → Conversed old → Conversed new
 unfolding Conversed
@@ -121,14 +120,18 @@ plays unit events begin end p begun course come passed =
     }
 
 -- memory ran out before the first event
-pub plays_nothing : (unit : Unit) (p : played.Played) → all_applied p ≡ [] → all_made p ≡ [] → Headline unit [] (all_applied p) (all_made p)
-plays_nothing unit p none nothing = headline unit [] (start unit) p refl (none, nothing)
+pub plays_nothing : (unit : Unit) (events : List event.Event) (fault : PlayFault) → fault.steps ≡ 0 → all_applied fault.played ≡ [] → all_made fault.played ≡ [] → fault.played.taken.items ≡ [] → fault.played.got.items ≡ [] → fault.played.unread.items ≡ []
+    → PlaysBefore unit events fault
+plays_nothing unit events fault none applied made taken got unread = inr (record { none = none; headline = headline unit [] (start unit) fault.played refl (applied, made); taken = taken; got = got; unread = unread })
 
-pub come_before : (old new : Ends) (p : played.Played) → SameHistory old new → HasCome new p → HasCome old p
+pub come_before : (old new : Both) (p : played.Played) → SameHistory old new → HasCome new.ends p → HasCome old.ends p
 come_before old new p same come = (come.0 ∙ same.applied, come.1 ∙ same.made)
 
+pub passed_before : (old new : Both) (p : played.Played) → SameHistory old new → HasPassed new.wire p → HasPassed old.wire p
+passed_before old new p same passed = (passed.0 ∙ same.taken, passed.1 ∙ same.got, passed.2 ∙ same.unread)
+
 -- memory ran out at the event with this index
-pub plays_before : (unit : Unit) (events : List event.Event) (i : ℕ) (begin w : Both) (fault : PlayFault) → fault.steps ≡ i → i < length events → Begins unit begin → BothCourse begin (map event_of (take i events)) w → HasCome w.ends fault.played → PlaysBefore unit events fault
-plays_before unit events i begin w fault counted within begun course come =
-    subst (λ n. ((n < length events) ⊎ (n ≡ 0)) × Headline unit (map event_of (take n events)) (all_applied fault.played) (all_made fault.played)) (sym counted)
-    (inl within, headline unit (take i events) w.ends fault.played (course_begun unit begin (map event_of (take i events)) w begun course) come)
+pub plays_before : (unit : Unit) (events : List event.Event) (i : ℕ) (begin w : Both) (fault : PlayFault) → fault.steps ≡ i → i < length events → Begins unit begin → BothCourse begin (map event_of (take i events)) w → HasCome w.ends fault.played → HasPassed w.wire fault.played
+    → PlaysBefore unit events fault
+plays_before unit events i begin w fault counted within begun course come passed =
+    inl (subst (λ n. (n < length events) × Plays unit (take n events) fault.played) (sym counted) (within, plays unit (take i events) begin w fault.played begun course come passed))

@@ -7,3 +7,4 @@ mod Courses
 mod Tied
 mod Stepping
 mod Conversing
+mod Versions

@@ -1,5 +1,5 @@
 -- What the editor's moves make of both ends.
-use Rattle.std.proofs.Common.{◌≡◌, ◌∙◌, ℕ, Bool, true, false, cond, List, [], ◌∷◌, ◌++◌, Option, Some, None, Result, Ok, Err, refl, sym, ap, subst}
+use Rattle.std.proofs.Common.{◌≡◌, ◌<◌, ◌∙◌, ℕ, Bool, true, false, cond, List, [], ◌∷◌, ◌++◌, length, slice_index_or, Option, Some, None, Result, Ok, Err, refl, sym, ap, subst, arith}
 use Rattle.std.specs.Prelude.{⊤, All, Vec, map, IfOk, OnErr, OnOk, is_some, unwrap_or, option_and_then}
 use Rattle.std.specs.Option.{option_to_list}
 use Rattle.std.specs.declared.alloc.Global.{Global}
@@ -24,7 +24,7 @@ use Rattle.ob0_world.specs.declared.events.Seen as seen
 use Rattle.ob0_world.specs.declared.played.Made as made
 use Rattle.ob0_world.specs.Seen.{Seen, nothing, applies, drops, if_any, sent_of, act_seen, taken_seen, seen_of, Shows}
 use Rattle.ob0_world.specs.Seen as seen_as
-use Rattle.ob0_world.specs.Queues.{Contents, bytes, all_heard, all_understood, IsHeard, IsUnderstood, Sound, ends_from, wire_from, IsSent}
+use Rattle.ob0_world.specs.Queues.{Contents, bytes, all_heard, all_understood, IsHeard, IsUnderstood, Sound, ends_from, wire_from, IsSent, MovesFirst}
 use Rattle.ob0_world.specs.Worlds.{WritesContent}
 use Rattle.ob0_world.proofs.Waiting.{all_heard_still, all_understood_still, heard_still, understood_same, said_push, said_first}
 
@@ -263,6 +263,15 @@ module _ (s : SessionState) (tk q gt r : Contents) where
 pub taken_sound : (requested : List SentAsk) (q r rest : Contents) (s : SessionState) (c : Vec ℕ Global) → r ≡ c ∷ rest → Sound requested q r s → Sound requested q rest s
 taken_sound requested q r rest s c is sound =
     record { heard_all = sound.heard_all; understood_all = All-tail (IsUnderstood requested) c rest (subst (All (IsUnderstood requested)) is sound.understood_all); running = sound.running }
+
+-- the contents that wait, where this is the first of them
+pub first_of : (r : Contents) (c : Vec ℕ Global) → 0 < length r → c ≡ slice_index_or r 0 c → (rest : Contents) × (r ≡ c ∷ rest)
+first_of [] c some is = absurd (omega (arith, some))
+first_of (x ∷ rest) c some is = (rest, λ i. sym is i ∷ rest)
+
+-- where the first of them is moved
+pub moved_first : (r r' gt gt' : Contents) (c : Vec ℕ Global) (rest : Contents) → r ≡ c ∷ rest → MovesFirst r gt r' gt' → (r' ≡ rest) × (gt' ≡ gt ++ c ∷ [])
+moved_first r r' gt gt' c rest is moves = subst (λ x. MovesFirst x gt r' gt') is moves
 
 -- a content that waits for the editor says something to it
 pub taken_says : (requested : List SentAsk) (q r rest : Contents) (s : SessionState) (c : Vec ℕ Global) → r ≡ c ∷ rest → Sound requested q r s → understood requested c.items ≡ None → ⊥

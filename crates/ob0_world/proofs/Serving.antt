@@ -21,8 +21,8 @@ use Rattle.ob0_world.specs.Seen as seen
 use Rattle.ob0_world.specs.Seen.{served_seen, Shows}
 use Rattle.ob0_world.specs.declared.played.Made as made
 use Rattle.ob0_world.specs.Code.{publication_of}
-use Rattle.ob0_world.specs.Queues.{Contents, bytes, all_heard, all_understood, IsHeard, IsUnderstood, Sound, IsRunning, IsRunningOrFailed, held_by, ends_from, wire_from, made_first, made_for, made_sent}
-use Rattle.ob0_world.specs.Worlds.{GetsFirst, IsAnswered, TakesFirst}
+use Rattle.ob0_world.specs.Queues.{Contents, bytes, all_heard, all_understood, IsHeard, IsUnderstood, Sound, IsAnswered, IsRunning, IsRunningOrFailed, held_by, ends_from, wire_from, made_first, made_for, made_sent}
+use Rattle.ob0_world.specs.Worlds.{GetsFirst, TakesFirst}
 use Rattle.ob0_world.proofs.Answering.{Served, served}
 use Rattle.ob0_world.proofs.Waiting.{said_append, said_first, all_appended}
 
@@ -133,12 +133,18 @@ answered_so failed content step new h = absurd h
 pub turn_taken : (q rest r r' tk tk' gt : Contents) (s s' : SessionState) (content : Vec ℕ Global) (sent : Contents) → q ≡ content ∷ rest → IsAnswered s content.items (bytes sent) s' → r' ≡ r ++ sent → tk' ≡ tk ++ content ∷ []
     → TakesFirst (bytes q) (wire_from s tk q gt r) (wire_from s' tk' rest gt r')
 turn_taken q rest r r' tk tk' gt s s' content sent first answered grown taken =
-    subst (λ x. TakesFirst (bytes x) (wire_from s tk q gt r) (wire_from s' tk' rest gt r')) (sym first)
-    (record {
-      sent = bytes sent;
-      answered = answered;
-      is = λ i. record (wire_from s' tk' rest gt r') { taken = (ap bytes taken ∙ map-append (λ v. v.items) tk (content ∷ [])) i; to_editor = (ap bytes grown ∙ map-append (λ v. v.items) r sent) i };
-    })
+    subst (λ x. TakesFirst (bytes x) (wire_from s tk q gt r) (wire_from s' tk' rest gt r')) (sym first) (
+      answered.before,
+      answered.after,
+      bytes sent,
+      answered.served,
+      answered.answers,
+      λ i. record (wire_from s' tk' rest gt r') {
+        session = answered.serves i;
+        taken = (ap bytes taken ∙ map-append (λ v. v.items) tk (content ∷ [])) i;
+        to_editor = (ap bytes grown ∙ map-append (λ v. v.items) r sent) i;
+      },
+    )
 
 pub got_first : (s : SessionState) (tk q gt gt' r rest : Contents) (content : Vec ℕ Global) → r ≡ content ∷ rest → gt' ≡ gt ++ content ∷ [] → GetsFirst (bytes r) (wire_from s tk q gt r) (wire_from s tk q gt' rest)
 got_first s tk q gt gt' r rest content first got =

@@ -22,7 +22,7 @@ made_step w old event seen new same on shows moves tied counted goes_on =
 pub step_made : (old : World) (event : Event) (seen : Seen) (new : World) → old.ended ≡ false → WorldSteps old event seen new → StepsFrom false old event seen new
 step_made old event seen new on steps = subst (λ b. StepsFrom b old event seen new) on steps
 
-pub step_failed : (old : World) (fault : WorldFault) (new : World) → old.ended ≡ false → WorldFails old fault new → SameHistory old.both.ends new.both.ends × (new.steps ≡ old.steps)
+pub step_failed : (old : World) (fault : WorldFault) (new : World) → old.ended ≡ false → WorldFails old fault new → SameHistory old.both new.both × (new.steps ≡ old.steps)
 step_failed old Memory new on fails = let so : FailsFrom false old Memory new = subst (λ b. FailsFrom b old Memory new) on fails in (so.0, so.1)
 step_failed old Ended new on fails = let no : FailsFrom false old Ended new = subst (λ b. FailsFrom b old Ended new) on fails in absurd no
 

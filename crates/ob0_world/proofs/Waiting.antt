@@ -40,7 +40,7 @@ module _ (requested more : List SentAsk) where
   value_still d true m h = h
   value_still d false m h = answer_still d (option_and_then request_number (get (codes "id") d)) m h
 
-  understood_still : (content : List ℕ) (m : ToEditor) → understood requested content ≡ Some m → understood (requested ++ more) content ≡ Some m
+  pub understood_still : (content : List ℕ) (m : ToEditor) → understood requested content ≡ Some m → understood (requested ++ more) content ≡ Some m
   unfolding understood
   understood_still content m h = go (is_utf8 content) (read content) h
     where

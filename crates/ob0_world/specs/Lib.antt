@@ -1,4 +1,5 @@
 pub mod Code
 pub mod Queues
 pub mod Seen
+pub mod Versions
 pub mod Worlds

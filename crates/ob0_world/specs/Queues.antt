@@ -12,7 +12,7 @@ use Rattle.std.specs.declared.alloc.Global.{Global}
 use Rattle.ob0_text.specs.OpenDocuments.{OpenDocuments, Document, InStep, OutOfStep, document_at, none_open}
 use Rattle.ob0_text.specs.declared.position_types.Unit.{Unit}
 use Rattle.ob0_text.specs.declared.position_types.Unit.TheVariants.{Utf16}
-use Rattle.ob0_session_server.specs.Answers.{ServerState}
+use Rattle.ob0_session_server.specs.Answers.{ServerState, Answers}
 use Rattle.ob0_session_server.specs.SessionStates.{SessionState, serving, failed}
 use Rattle.ob0_session_server.specs.declared.server.Phase.TheVariants.{Running}
 use Rattle.ob0_world_editor.specs.Heard.{heard, SaysToServer}
@@ -67,6 +67,15 @@ IsRunningOrFailed failed = ⊤
 abbrev pub held_by : SessionState → OpenDocuments
 held_by (serving s) = s.held
 held_by failed = none_open Utf16
+
+-- the session replies to a content with these
+pub record IsAnswered (old : SessionState) (content : List ℕ) (sent : List (List ℕ))
+    (new : SessionState) : Type 0 where
+  pub before : ServerState
+  pub after : ServerState
+  pub served : old ≡ serving before
+  pub serves : new ≡ serving after
+  pub answers : Answers before content sent after
 
 -- ---- publications
 
@@ -166,3 +175,9 @@ made_sent held requested (content ∷ contents) =
 abbrev pub IsSent : Contents → Option (Vec ℕ Global) → seen.Seen → Contents → Type 0
 IsSent old None seen new = (seen_of seen ≡ nothing) × (new ≡ old)
 IsSent old (Some content) seen new = (seen_of seen ≡ sent) × (new ≡ old ++ content ∷ [])
+
+-- the first content that waited, if one did, is now the last of those that were got
+abbrev pub MovesFirst : Contents → Contents → Contents → Contents → Type 0
+MovesFirst [] got waiting' got' = (waiting' ≡ []) × (got' ≡ got)
+MovesFirst (content ∷ rest) got waiting' got' =
+    (waiting' ≡ rest) × (got' ≡ got ++ content ∷ [])

@@ -54,31 +54,20 @@ pub record Begins (unit : Unit) (w : Both) : Type 0 where
         to_editor = [];
       }
 
--- the session replies to a content with these
-pub record IsAnswered (old : SessionState) (content : List ℕ) (sent : List (List ℕ))
-    (new : SessionState) : Type 0 where
-  pub before : ServerState
-  pub after : ServerState
-  pub served : old ≡ serving before
-  pub serves : new ≡ serving after
-  pub answers : Answers before content sent after
-
--- the session takes this content, and its replies wait for the editor
-pub record TakesContent (content : List ℕ) (rest : List (List ℕ)) (old new : Wire) : Type 0 where
-  pub sent : List (List ℕ)
-  pub answered : IsAnswered old.session content sent new.session
-  pub is : new
-      ≡ record old {
-        session = new.session;
-        taken = old.taken ++ content ∷ [];
-        to_server = rest;
-        to_editor = old.to_editor ++ sent;
-      }
-
--- the session takes the first content that waits for it, if there is one
+-- the session takes the first content that waits for it, if there is one, and what it replies waits
+-- for the editor
 abbrev pub TakesFirst : List (List ℕ) → Wire → Wire → Type 0
 TakesFirst [] old new = new ≡ old
-TakesFirst (content ∷ rest) old new = TakesContent content rest old new
+TakesFirst (content ∷ rest) old new =
+    (before after : ServerState) × (sent : List (List ℕ))
+    × (old.session ≡ serving before) × Answers before content sent after
+    × (new
+    ≡ record old {
+      session = serving after;
+      taken = old.taken ++ content ∷ [];
+      to_server = rest;
+      to_editor = old.to_editor ++ sent;
+    })
 
 -- the editor gets the first content that waits for it, if there is one
 abbrev pub GetsFirst : List (List ℕ) → Wire → Wire → Type 0
@@ -92,8 +81,8 @@ WritesContent old new =
     (content : Option (List ℕ))
     × (new ≡ record old { to_server = old.to_server ++ option_to_list content })
 
--- What an event moves: the session its own alone. Nothing that waits is lost, changed or moved
--- to another place.
+-- What an event moves: the server's alone moves the session. Nothing that waits is lost, changed or
+-- moved to another place.
 abbrev pub MovesWire : Event → Wire → Wire → Type 0
 MovesWire (does act) old new = WritesContent old new
 MovesWire serve old new = TakesFirst old.to_server old new
@@ -155,13 +144,20 @@ pub record Plays (unit : Unit) (events : List event.Event) (p : played.Played) :
   pub conversation : Conversation server.start (bytes p.taken.items)
       (bytes p.got.items ++ bytes p.unread.items) after
 
--- An allocation failed: the fault says how many events were made before that, fewer than there are
--- (or none), and the headline holds of these events and what came of them.
+-- An allocation failed before a session had begun: nothing was made, and nothing has passed.
+pub record PlaysNothing (unit : Unit) (fault : PlayFault) : Type 0 where
+  pub none : fault.steps ≡ 0
+  pub headline : Headline unit [] (all_applied fault.played) (all_made fault.played)
+  pub taken : fault.played.taken.items ≡ []
+  pub got : fault.played.got.items ≡ []
+  pub unread : fault.played.unread.items ≡ []
+
+-- An allocation failed at an event: all that `Plays` says holds of the events before it, which the
+-- fault counts. Or one failed before a session had begun.
 abbrev pub PlaysBefore : Unit → List event.Event → PlayFault → Type 0
 PlaysBefore unit events fault =
-    ((fault.steps < length events) ⊎ (fault.steps ≡ 0))
-    × Headline unit (map event_of (take fault.steps events)) (all_applied fault.played)
-    (all_made fault.played)
+    ((fault.steps < length events) × Plays unit (take fault.steps events) fault.played)
+    ⊎ PlaysNothing unit fault
 
 -- ---- a world, event by event
 
@@ -195,16 +191,19 @@ StepsFrom true old event seen new = ⊥
 abbrev pub WorldSteps : World → Event → Seen → World → Type 0
 WorldSteps old event seen new = StepsFrom old.ended old event seen new
 
--- An allocation failed: what has come of the events before remains
-pub record SameHistory (old new : Ends) : Type 0 where
-  pub applied : new.applied ≡ old.applied
-  pub made : new.made ≡ old.made
+-- An allocation failed: what has come of the events before remains, and what has passed
+pub record SameHistory (old new : Both) : Type 0 where
+  pub applied : new.ends.applied ≡ old.ends.applied
+  pub made : new.ends.made ≡ old.ends.made
+  pub taken : new.wire.taken ≡ old.wire.taken
+  pub got : new.wire.got ≡ old.wire.got
+  pub unread : new.wire.to_editor ≡ old.wire.to_editor
 
 -- A step whose allocation fails isn't made and not counted, and ends the world: what has come so
 -- far stays. A world that has ended says so at each step, and stays as it is.
 abbrev pub FailsFrom : Bool → World → WorldFault → World → Type 0
 FailsFrom false old Memory new =
-    SameHistory old.both.ends new.both.ends × (new.steps ≡ old.steps) × (new.ended ≡ true)
+    SameHistory old.both new.both × (new.steps ≡ old.steps) × (new.ended ≡ true)
 FailsFrom false old Ended new = ⊥
 FailsFrom true old Memory new = ⊥
 FailsFrom true old Ended new = new ≡ old

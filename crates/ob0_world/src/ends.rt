@@ -1,6 +1,7 @@
 //! Client and server, and the messages between them.
-ghost use Rattle.std.specs.Prelude.{◌≡◌, IfOk, OnErr, OnOk, map, option_map, option_and_then, string_bytes};
+ghost use Rattle.std.specs.Prelude.{◌≡◌, ◌<◌, IfOk, OnErr, OnOk, map, option_map, option_and_then, string_bytes};
 ghost use Rattle.std.specs.Str.{chars};
+ghost use Rattle.std.specs.Vec.{vec_capacity, vec_len};
 ghost use Rattle.ob0_text.specs.OpenDocuments.{reported_change, document_at};
 ghost use Rattle.ob0_session_server.specs.SessionStates.{failed};
 ghost use Rattle.ob0_world_editor.specs.Code.{ask_of};
@@ -12,8 +13,8 @@ ghost use Rattle.ob0_world_rules.specs.Happens as events;
 ghost use Rattle.ob0_world_rules.specs.Happens.{does, take_message};
 ghost use Rattle.ob0_world.specs.Code.{event_of, publication_of};
 ghost use Rattle.ob0_world.specs.Seen.{seen_of, Shows};
-ghost use Rattle.ob0_world.specs.Queues.{bytes, IsSent, made_for, made_of_document, made_sent};
-ghost use Rattle.ob0_world.specs.Worlds.{Begins, GetsFirst, HasCome, HasPassed, IsAnswered, IsTied, MovesWire, SameHistory, TakesFirst, WritesContent};
+ghost use Rattle.ob0_world.specs.Queues.{bytes, IsAnswered, IsSent, MovesFirst, made_for, made_of_document, made_sent};
+ghost use Rattle.ob0_world.specs.Worlds.{Begins, GetsFirst, HasCome, HasPassed, IsTied, MovesWire, SameHistory, TakesFirst, WritesContent};
 
 use crate::events::{Event, Seen};
 use crate::played::{Made, Played};
@@ -109,7 +110,7 @@ impl<T: TextStore> Ends<T> {
         ensures ok { IfOk result
             (λ seen. Shows self.old.ends (event_of event.now) (seen_of seen) self.new.ends) }
         ensures wire { OnOk result (MovesWire (event_of event.now) self.old.wire self.new.wire) }
-        ensures err { OnErr result (SameHistory self.old.ends self.new.ends) }
+        ensures err { OnErr result (SameHistory self.old self.new) }
     {
         match event {
             Event::OpenDoc { uri, text } => self.open(uri.as_str(), text.as_str()),
@@ -128,7 +129,7 @@ impl<T: TextStore> Ends<T> {
         ensures ok { IfOk result (λ seen. Shows self.old.ends
             (does (open_document uri.now (chars text.now))) (seen_of seen) self.new.ends) }
         ensures wire { OnOk result (WritesContent self.old.wire self.new.wire) }
-        ensures err { OnErr result (SameHistory self.old.ends self.new.ends) }
+        ensures err { OnErr result (SameHistory self.old self.new) }
     {
         let content = self.editor.open(uri, text)?;
         send(&mut self.to_server, content)
@@ -140,7 +141,7 @@ impl<T: TextStore> Ends<T> {
             (does (change_document uri.now (map reported_change changes.now))) (seen_of seen)
             self.new.ends) }
         ensures wire { OnOk result (WritesContent self.old.wire self.new.wire) }
-        ensures err { OnErr result (SameHistory self.old.ends self.new.ends) }
+        ensures err { OnErr result (SameHistory self.old self.new) }
     {
         let content = self.editor.change(uri, changes)?;
         send(&mut self.to_server, content)
@@ -150,7 +151,7 @@ impl<T: TextStore> Ends<T> {
         ensures ok { IfOk result (λ seen. Shows self.old.ends
             (does (close_document uri.now)) (seen_of seen) self.new.ends) }
         ensures wire { OnOk result (WritesContent self.old.wire self.new.wire) }
-        ensures err { OnErr result (SameHistory self.old.ends self.new.ends) }
+        ensures err { OnErr result (SameHistory self.old self.new) }
     {
         let content = self.editor.close(uri)?;
         send(&mut self.to_server, content)
@@ -161,7 +162,7 @@ impl<T: TextStore> Ends<T> {
         ensures ok { IfOk result (λ seen. Shows self.old.ends
             (does (ask_about uri.now (ask_of ask.now))) (seen_of seen) self.new.ends) }
         ensures wire { OnOk result (WritesContent self.old.wire self.new.wire) }
-        ensures err { OnErr result (SameHistory self.old.ends self.new.ends) }
+        ensures err { OnErr result (SameHistory self.old self.new) }
     {
         let content = self.editor.ask(uri, ask)?;
         send(&mut self.to_server, content)
@@ -174,7 +175,7 @@ impl<T: TextStore> Ends<T> {
             (λ seen. Shows self.old.ends events.serve (seen_of seen) self.new.ends) }
         ensures wire { OnOk result
             (TakesFirst self.old.wire.to_server self.old.wire self.new.wire) }
-        ensures err { OnErr result (SameHistory self.old.ends self.new.ends) }
+        ensures err { OnErr result (SameHistory self.old self.new) }
     {
         let Some(content) = self.to_server.pop_front() else {
             return Ok(Seen::Nothing);
@@ -187,10 +188,12 @@ impl<T: TextStore> Ends<T> {
             sent.as_slice(),
         )?;
         let count = sent.len();
+        self.taken.reserve(1)?;
+        self.made.reserve(1)?;
         self.to_editor.append(&mut VecDeque::from_vec(sent))?;
-        self.taken.push(content)?;
+        self.taken.push_reserved(content);
         if let Some(made) = made {
-            self.made.push(made)?;
+            self.made.push_reserved(made);
         }
         Ok(Seen::Served(count))
     }
@@ -200,23 +203,27 @@ impl<T: TextStore> Ends<T> {
             (λ seen. Shows self.old.ends take_message (seen_of seen) self.new.ends) }
         ensures wire { OnOk result
             (GetsFirst self.old.wire.to_editor self.old.wire self.new.wire) }
-        ensures err { OnErr result (SameHistory self.old.ends self.new.ends) }
+        ensures err { OnErr result (SameHistory self.old self.new) }
     {
-        let Some(content) = self.to_editor.pop_front() else {
+        let Some(content) = self.to_editor.front() else {
             return Ok(Seen::Nothing);
         };
         let Some(message) = self.editor.read(content.as_slice())? else {
             unreachable!()
         };
-        self.got.push(content)?;
+        self.got.reserve(1)?;
         match message {
             Message::Published {
                 uri,
                 version: _version,
                 empty,
-            } => Ok(Seen::Published { uri, empty }),
+            } => {
+                move_first(&mut self.to_editor, &mut self.got);
+                Ok(Seen::Published { uri, empty })
+            }
             Message::Answered { number, edits } => {
                 let edits = self.editor.keep(number, edits)?;
+                move_first(&mut self.to_editor, &mut self.got);
                 Ok(Seen::Answered { k: number, edits })
             }
         }
@@ -227,7 +234,7 @@ impl<T: TextStore> Ends<T> {
         ensures ok { IfOk result
             (λ seen. Shows self.old.ends (does (acts.apply k)) (seen_of seen) self.new.ends) }
         ensures wire { OnOk result (WritesContent self.old.wire self.new.wire) }
-        ensures err { OnErr result (SameHistory self.old.ends self.new.ends) }
+        ensures err { OnErr result (SameHistory self.old self.new) }
     {
         match self.editor.apply(k)? {
             Applying::NotHeld => Ok(Seen::Nothing),
@@ -249,6 +256,16 @@ impl<T: TextStore> Ends<T> {
         } else {
             Seen::Nothing
         }
+    }
+}
+
+/// Moves the first content that waits, if one does, to the end of those that were got.
+fn move_first(waiting: &mut VecDeque<Vec<u8>>, got: &mut Vec<Vec<u8>>)
+    requires { vec_len got.old < vec_capacity got.old }
+    ensures { MovesFirst waiting.old.items got.old.items waiting.new.items got.new.items }
+{
+    if let Some(content) = waiting.pop_front() {
+        got.push_reserved(content);
     }
 }
 

@@ -5,6 +5,7 @@
 mod ends;
 mod events;
 mod faults;
+pub mod laws;
 mod played;
 mod world;
 

@@ -163,6 +163,9 @@ impl<T: TextStore> World<T> {
 fn nothing_played(alloc: Global) -> Played
     ensures applied { all_applied result ≡ [] }
     ensures made { all_made result ≡ [] }
+    ensures taken { result.taken.items ≡ [] }
+    ensures got { result.got.items ≡ [] }
+    ensures unread { result.unread.items ≡ [] }
 {
     Played {
         applied: Vec::new(alloc),

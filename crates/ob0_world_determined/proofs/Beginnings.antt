@@ -41,7 +41,7 @@ module _ (one : OneConversation) (feeds : OneFeed) (taken : List ℕ) where
   whole waiting rest after put h = part_of_served waiting rest after put [] (subst (λ p. Served taken waiting rest after p) (sym (append-nil put)) h)
 
   part_of : (result : Result ℕ ServeFault) (put : List ℕ) → MayServe result taken put → Part taken put
-  part_of (Ok status) put (r, w, (inl ends, none)) = whole ends.waiting ends.rest ends.after put ends.served
+  part_of (Ok status) put (r, w, (inl (ends, over), none)) = whole ends.waiting ends.rest ends.after put ends.served
   part_of (Ok status) put (r, w, (inr (all, at_end, is), none)) = whole [] (Open []) all.after put all.served
   part_of (Err BadHead) put (r, w, (all, none)) = whole [] Broken all.after put all.served
   part_of (Err Truncated) put (r, w, ((left, all, some, at_end), none)) = whole [] (Open left) all.after put all.served
@@ -70,10 +70,10 @@ module _ (one : OneConversation) (feeds : OneFeed) (taken : List ℕ) where
       let others = p.front more_bytes (k.served.answered ++ []) rest k.served.feeds in
       let more = further put p k.served.answered others.0 k.served.sent k.after (sym (append-nil k.served.answered) ∙ others.1) k.served.conversation in
       (k.served.sent, more.0, k.served.frames, more.1)
-  further_of more_bytes put all p (at_exit status) k =
+  further_of more_bytes put all p (at_exit status) (k, ended) =
       let others = p.front more_bytes (k.served.answered ++ k.waiting) k.rest k.served.feeds in
       elim (begins_other k.served.answered k.waiting p.answered others.0 others.1) [
-        | inl (mid, is) ↦ (k.served.sent, [], k.served.frames, (longer one feeds (taken ++ more_bytes) status k.served.answered mid k.served.sent p.sent k.after p.after k.ended k.served.conversation (subst (λ cs. Conversation start cs p.sent p.after) is p.conversation)).0 ∙ sym (append-nil p.sent))
+        | inl (mid, is) ↦ (k.served.sent, [], k.served.frames, (longer one feeds (taken ++ more_bytes) status k.served.answered mid k.served.sent p.sent k.after p.after ended k.served.conversation (subst (λ cs. Conversation start cs p.sent p.after) is p.conversation)).0 ∙ sym (append-nil p.sent))
         | inr (mid, is) ↦ (let more = further put p k.served.answered mid k.served.sent k.after is k.served.conversation in (k.served.sent, more.0, k.served.frames, more.1))
       ]
 

@@ -27,9 +27,7 @@ use Rattle.ob0_rpc.specs.Requesting.{At}
 use Rattle.ob0_analysis.specs.Analysed.{IsModuleIn}
 use Rattle.ob0_analysis.specs.Diagnosed.{IsWellTypedModule}
 use Rattle.ob0_analysis.specs.Texts.{utf8}
-use Rattle.ob0_session_answers.specs.Questions.{AnswersIn, AnswersName, can_be_renamed, hover_at, location_at, value_or_null, offset_in, range_at, renamable_in}
-use Rattle.ob0_session_answers.specs.declared.questions.NameQuestion.{NameQuestion}
-use Rattle.ob0_session_answers.specs.declared.questions.NameQuestion.TheVariants.{Hover, Definition, References, PrepareRename}
+use Rattle.ob0_session_answers.specs.Questions.{AnswersIn, AnswersName, NameQuestion, can_be_renamed, definition_asked, hover_asked, hover_at, location_at, value_or_null, offset_in, range_at, references_asked, renamable_in, renaming_asked}
 use Rattle.ob0_world_rules.proofs.OneFields.{one_list_of_fields}
 use Rattle.ob0_world_rules.proofs.OneModule.{Same, same_module, one_name, identifiers_of}
 use Rattle.ob0_world_determined.specs.Determined.{OneTable}
@@ -121,12 +119,12 @@ module _ (tables : OneTable) (unit : Unit) (text : List ℕ) (at : At) where
       table = tables r q read.well_typed.resolved again.well_typed.resolved (e.source, e.tree)
 
       go : (question : NameQuestion) → AnswersIn unit text at question r value → AnswersIn unit text at question q other → value ≡ other
-      go Hover h k = h ∙ ap (λ o. value_or_null (option_map (hover_at unit text) o)) (same_shown r q e fields table (offset_in unit text at)) ∙ sym k
-      go Definition h k = h ∙ ap (λ o. value_or_null (option_map (location_at unit at.uri text) o)) (same_definition r q e fields table (offset_in unit text at)) ∙ sym k
-      go (References include) (spans, are, is) (others, are_too, is_too) =
+      go hover_asked h k = h ∙ ap (λ o. value_or_null (option_map (hover_at unit text) o)) (same_shown r q e fields table (offset_in unit text at)) ∙ sym k
+      go definition_asked h k = h ∙ ap (λ o. value_or_null (option_map (location_at unit at.uri text) o)) (same_definition r q e fields table (offset_in unit text at)) ∙ sym k
+      go (references_asked include) (spans, are, is) (others, are_too, is_too) =
           let same : spans ≡ others = are ∙ same_references r q e fields table (offset_in unit text at) include ∙ sym are_too in
           is ∙ ap (λ xs. array (items_of (map (location_at unit at.uri text) xs))) same ∙ sym is_too
-      go PrepareRename h k = h ∙ ap (λ o. value_or_null (option_map (range_at unit text) o)) (same_renamable r q e fields table (offset_in unit text at)) ∙ sym k
+      go renaming_asked h k = h ∙ ap (λ o. value_or_null (option_map (range_at unit text) o)) (same_renamable r q e fields table (offset_in unit text at)) ∙ sym k
 
   -- a module's text is no other
   is_module : (r : Resolution) → IsModuleIn (utf8 text) r → IsWellTypedModule (utf8 text)

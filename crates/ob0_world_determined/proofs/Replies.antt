@@ -13,15 +13,16 @@ use Rattle.ob0_text.specs.declared.position_types.Range.{Range}
 use Rattle.ob0_text.specs.declared.position_types.Unit.{Unit}
 use Rattle.ob0_text.specs.declared.refusals.EditRefusal.{EditRefusal}
 use Rattle.ob0_edits_tokens.specs.Replaced.{parts}
-use Rattle.ob0_layout.specs.Sites.{EditText, edit_text}
+use Rattle.ob0_layout.specs.Gaps.{EditText, edit_text}
 use Rattle.ob0_rpc.specs.declared.clients.Client.{Client}
 use Rattle.ob0_rpc.specs.Shapes.{range_value, result_message, text as text_value}
 use Rattle.ob0_edits.specs.Renamings.{IsRefusedIn}
 use Rattle.ob0_analysis.specs.Diagnosed.{IsWellTypedModule}
 use Rattle.ob0_analysis.specs.Texts.{utf8}
+use Rattle.ob0_edits.specs.Inlinings.{Offers}
 use Rattle.ob0_edits.specs.declared.inlining.Inlining.{Inlining}
 use Rattle.ob0_edits.specs.declared.inlining.Inlining.TheVariants.{Here, Everywhere}
-use Rattle.ob0_session_answers.specs.Actions.{RequestedActions, ListsActions, Offers, action_values, actions_offset, title, wants_inlining}
+use Rattle.ob0_session_answers.specs.Actions.{RequestedActions, ListsActions, action_values, actions_offset, title, wants_inlining}
 use Rattle.ob0_session_answers.specs.Diagnostics.{diagnostic_of}
 use Rattle.ob0_session_answers.specs.Formatted.{AnswersFormatting}
 use Rattle.ob0_session_answers.specs.Renamed.{AnswersRenaming, RequestedRename, edits_for_client}

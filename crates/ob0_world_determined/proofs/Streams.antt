@@ -8,7 +8,7 @@ use Rattle.ob0_frame.specs.Head.{max_content}
 use Rattle.ob0_frame.specs.Framing.{Rest, Open, Broken, Feeds}
 use Rattle.ob0_frame.proofs.InTurn.{fed_in_turn}
 use Rattle.ob0_session_server.specs.Answers.{ServerState, start, Answers, AnswersInState, Conversation}
-use Rattle.ob0_session.specs.Serving.{AllServed, EndsWith}
+use Rattle.ob0_session.specs.Serving.{Served, AllServed, EndsWith}
 use Rattle.ob0_session_server.specs.Steps.{IsGoingOn}
 use Rattle.ob0_session_server.specs.declared.server.Phase.TheVariants.{Ended}
 use Rattle.ob0_session.specs.declared.serving.ServeFault.{ServeFault}
@@ -102,14 +102,14 @@ module _ (one : OneConversation) (feeds : OneFeed) (taken : List ℕ) where
       (h.served.frames ∙ ap (flat_map frame) same.0 ∙ sym k.served.frames, ap with_rest fed.1)
 
   end_one : (status another : ℕ) (put other : List ℕ) → EndsWith status taken put → EndsWith another taken other → (put ≡ other) × (at_exit status ≡ at_exit another)
-  end_one status another put other h k =
+  end_one status another put other (h, h_ended) (k, k_ended) =
       let fed = (feeds (Open []) h.rest k.rest taken (h.served.answered ++ h.waiting) (k.served.answered ++ k.waiting) h.served.feeds k.served.feeds).0 in
       let same : (h.served.sent ≡ k.served.sent) × (k.after ≡ h.after) =
       elim (begins_other h.served.answered h.waiting k.served.answered k.waiting fed) [
-        | inl (mid, is) ↦ longer status h.served.answered mid h.served.sent k.served.sent h.after k.after h.ended h.served.conversation (subst (λ cs. Conversation start cs k.served.sent k.after) is k.served.conversation)
-        | inr (mid, is) ↦ (let back = longer another k.served.answered mid k.served.sent h.served.sent k.after h.after k.ended k.served.conversation (subst (λ cs. Conversation start cs h.served.sent h.after) is h.served.conversation) in (sym back.0, sym back.1))
+        | inl (mid, is) ↦ longer status h.served.answered mid h.served.sent k.served.sent h.after k.after h_ended h.served.conversation (subst (λ cs. Conversation start cs k.served.sent k.after) is k.served.conversation)
+        | inr (mid, is) ↦ (let back = longer another k.served.answered mid k.served.sent h.served.sent k.after h.after k_ended k.served.conversation (subst (λ cs. Conversation start cs h.served.sent h.after) is h.served.conversation) in (sym back.0, sym back.1))
       ] in
-      let statuses : status ≡ another = same_status status another (sym h.ended ∙ ap (λ (s : ServerState). s.phase) (sym same.1) ∙ k.ended) in
+      let statuses : status ≡ another = same_status status another (sym h_ended ∙ ap (λ (s : ServerState). s.phase) (sym same.1) ∙ k_ended) in
       (h.served.frames ∙ ap (flat_map frame) same.0 ∙ sym k.served.frames, ap at_exit statuses)
 
   ended_goes_on : (status : ℕ) (s : ServerState) → s.phase ≡ Ended status → IsGoingOn s.phase → ⊥
@@ -117,11 +117,11 @@ module _ (one : OneConversation) (feeds : OneFeed) (taken : List ℕ) where
 
   -- where the one came to its end, the other would have too
   never_both : (status : ℕ) (q : Rest) (put other : List ℕ) → EndsWith status taken put → AllServed taken q other → ⊥
-  never_both status q put other h k =
+  never_both status q put other (h, h_ended) k =
       let fed : h.served.answered ++ h.waiting ≡ k.served.answered =
       (feeds (Open []) h.rest q taken (h.served.answered ++ h.waiting) (k.served.answered ++ []) h.served.feeds k.served.feeds).0 ∙ append-nil k.served.answered in
-      let end : k.after ≡ h.after = (longer status h.served.answered h.waiting h.served.sent k.served.sent h.after k.after h.ended h.served.conversation (subst (λ cs. Conversation start cs k.served.sent k.after) (sym fed) k.served.conversation)).1 in
-      ended_goes_on status k.after (ap (λ (s : ServerState). s.phase) end ∙ h.ended) k.going
+      let end : k.after ≡ h.after = (longer status h.served.answered h.waiting h.served.sent k.served.sent h.after k.after h_ended h.served.conversation (subst (λ cs. Conversation start cs k.served.sent k.after) (sym fed) k.served.conversation)).1 in
+      ended_goes_on status k.after (ap (λ (s : ServerState). s.phase) end ∙ h_ended) k.going
 
   one_ending : (e f : Ending) (put other : List ℕ) → EndsIn e taken put → EndsIn f taken other → (put ≡ other) × (e ≡ f)
   one_ending (at_exit s) (at_exit t) put other h k = end_one s t put other h k
@@ -139,8 +139,8 @@ ending_of (Err BadHead) taken put written (r, w, (all, none)) = (with_rest Broke
 ending_of (Err Truncated) taken put written (r, w, ((left, all, some, at_end), none)) = (with_rest (Open left), all)
 ending_of (Err Read) taken put written (r, w, ((left, all), failed, writes, flushed)) = (with_rest (Open left), all)
 ending_of (Err TooManyReads) taken put written (r, w, ((left, all, long, often), none)) = (with_rest (Open left), all)
-ending_of (Err Write) taken put written served = absurd written
-ending_of (Err Memory) taken put written served = absurd written
+ending_of (Err Write) taken put written served = absurd (written.1 refl)
+ending_of (Err Memory) taken put written served = absurd (written.0 refl)
 
 -- the ending gives the result back
 abbrev result_of : Ending → Result ℕ ServeFault
@@ -172,21 +172,17 @@ IsClosed (with_rest Broken) = ⊤
 IsClosed (with_rest (Open left)) = ⊥
 
 pub framed_by : (e : Ending) (taken put : List ℕ) → EndsIn e taken put → Framed taken
-framed_by (at_exit status) taken put h = record { contents = h.served.answered ++ h.waiting; rest = h.rest; feeds = h.served.feeds }
+framed_by (at_exit status) taken put (h, ended) = record { contents = h.served.answered ++ h.waiting; rest = h.rest; feeds = h.served.feeds }
 framed_by (with_rest rest) taken put h = record { contents = h.served.answered ++ []; rest = rest; feeds = h.served.feeds }
 
 further : (e : Ending) (taken more put : List ℕ) → IsClosed e → Framed (taken ++ more) → EndsIn e taken put → EndsIn e (taken ++ more) put
-further (at_exit status) taken more put closed f h =
+further (at_exit status) taken more put closed f (h, ended) =
     let s = h.served in
     let parts = fed_front (Open []) h.rest f.rest taken more (s.answered ++ h.waiting) f.contents s.feeds f.feeds in
     let same : f.contents ≡ s.answered ++ (h.waiting ++ parts.0) = parts.1 ∙ append_assoc s.answered h.waiting parts.0 in
-    record {
-      after = h.after;
-      waiting = h.waiting ++ parts.0;
-      rest = f.rest;
-      served = record { answered = s.answered; sent = s.sent; feeds = subst (λ cs. Feeds (Open []) (taken ++ more) cs f.rest) same f.feeds; conversation = s.conversation; frames = s.frames };
-      ended = h.ended;
-    }
+    let served : Served (taken ++ more) (h.waiting ++ parts.0) f.rest h.after put =
+    record { answered = s.answered; sent = s.sent; feeds = subst (λ cs. Feeds (Open []) (taken ++ more) cs f.rest) same f.feeds; conversation = s.conversation; frames = s.frames } in
+    (record { after = h.after; waiting = h.waiting ++ parts.0; rest = f.rest; served = served }, ended)
 further (with_rest Broken) taken more put closed f h =
     let s = h.served in
     let fed : Feeds (Open []) (taken ++ more) ((s.answered ++ []) ++ []) Broken = fed_in_turn (Open []) Broken Broken taken more (s.answered ++ []) [] s.feeds refl in
@@ -235,10 +231,10 @@ one_result one feeds taken more put all result end of of_too h k (inr none) =
 
 module _ (one : OneConversation) (feeds : OneFeed) (taken sent : Contents) (after : ServerState) (talk : Conversation start taken sent after) (fed : Feeds (Open []) (flat_map frame taken) taken (Open [])) where
   frames_sent : (put : List ℕ) (e : Ending) → EndsIn e (flat_map frame taken) put → put ≡ flat_map frame sent
-  frames_sent put (at_exit status) h =
+  frames_sent put (at_exit status) (h, ended) =
       let s = h.served in
       let parts : taken ≡ s.answered ++ h.waiting = (feeds (Open []) (Open []) h.rest (flat_map frame taken) taken (s.answered ++ h.waiting) fed s.feeds).0 in
-      s.frames ∙ ap (flat_map frame) (longer one feeds (flat_map frame taken) status s.answered h.waiting s.sent sent h.after after h.ended s.conversation (subst (λ cs. Conversation start cs sent after) parts talk)).0
+      s.frames ∙ ap (flat_map frame) (longer one feeds (flat_map frame taken) status s.answered h.waiting s.sent sent h.after after ended s.conversation (subst (λ cs. Conversation start cs sent after) parts talk)).0
   frames_sent put (with_rest rest) h =
       let s = h.served in
       let same : taken ≡ s.answered = (feeds (Open []) (Open []) rest (flat_map frame taken) taken (s.answered ++ []) fed s.feeds).0 ∙ append-nil s.answered in

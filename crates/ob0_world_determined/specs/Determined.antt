@@ -1,12 +1,7 @@
 -- What the server sends is determined by what it has read: the diagnostics of a text, the replies
 -- to a message, the bytes that are written.
--- The laws say of each relation of the session that it allows one value. Most of them are equations already; what isn't
--- is in the proofs: two scans of a text and two trees over its tokens are the same; the faults are a sorted permutation
--- (`sorted_one`); edits are determined up to the allocation of their texts, so by `parts` (Replies); tables of ordinals
--- at each token (Tables, SameTables); a stream has one list of contents, however it is cut (Streams, Fronts). A new
--- production needs a line in SameTables; a new method or question a line in Replies or NamesShown.
 -- Rule: none; laws of the session.
-use Rattle.std.specs.Prelude.{◌≡◌, ◌≤◌, ◌++◌, ◌⊎◌, ℕ, List, [], length, All, Bool, Result, Ok, Err, ⊤}
+use Rattle.std.specs.Prelude.{◌≡◌, ◌≢◌, ◌≤◌, ◌++◌, ◌⊎◌, ℕ, List, [], length, All, Bool, Result, Ok, Err, ⊤}
 use Rattle.std.specs.List.{flat_map}
 use Rattle.ob0_frame.specs.Frames.{Frames, frame}
 use Rattle.ob0_frame.specs.Head.{max_content}
@@ -69,13 +64,7 @@ MayServe result taken put =
 
 -- neither an allocation nor the writer failed
 abbrev pub IsWritten : Result ℕ ServeFault → Type 0
-IsWritten (Ok status) = ⊤
-IsWritten (Err BadHead) = ⊤
-IsWritten (Err Truncated) = ⊤
-IsWritten (Err Read) = ⊤
-IsWritten (Err TooManyReads) = ⊤
-IsWritten (Err Write) = ⊥
-IsWritten (Err Memory) = ⊥
+IsWritten result = (result ≢ Err Memory) × (result ≢ Err Write)
 
 -- the bytes read led to it: an `exit`, the end of the input, or a bad head
 abbrev pub IsOfBytes : Result ℕ ServeFault → Type 0

@@ -17,13 +17,13 @@ use Rattle.ob0_world_rules.specs.Asks.{Ask}
 use Rattle.ob0_world_rules.specs.Answers.{IsAnswer}
 use Rattle.ob0_world_rules.specs.Ends.{Open, SentAsk, Answer, Editor, request_numbered, open_at, ToServer, notifies, requests, ToEditor, publishes, answers, Applied, Made, Ends, start, after_message}
 use Rattle.ob0_world_rules.specs.Editing.{Act, stays, opens, rewrites, closes, asks, kept_answer, all_but, without_answer, done_by}
-use Rattle.ob0_world_rules.specs.Serving.{Publishes, cleared, RepliesToNotification, Replies}
+use Rattle.ob0_world_rules.specs.Serving.{Publishes, RepliesToNotification, Replies}
 use Rattle.ob0_world_rules.specs.Happens.{Event, does, serve, take_message, after_act, after_taking, ServerTakes, Happens, Course}
 use Rattle.ob0_world_rules.specs.Mirror.{will_have, as_open, Mirrors}
-use Rattle.ob0_world_rules.specs.Headline.{KeepsTheRun, IsRight, IsMadeFor, last_publication, AreUpToDate, Holds}
+use Rattle.ob0_world_rules.specs.Headline.{KeepsTheRun, IsRight, last_publication, AreUpToDate, Holds}
 use Rattle.ob0_world_rules.specs.Laws.{EditsPreserveRun}
 use Rattle.ob0_world_rules.proofs.UriLaws.{get_put, get_removed, same_uri, uri_itself}
-use Rattle.ob0_world_rules.proofs.Latest.{latest_push}
+use Rattle.ob0_world_rules.proofs.Latest.{IsMadeFor, latest_push}
 use Rattle.ob0_world_rules.proofs.SameDocument.{Known, Same, later_answers, later_open, later_close, later_ask, slice_get_last, found, left}
 use Rattle.ob0_world_rules.proofs.Acts.{edit_of, of_each}
 use Rattle.ob0_world_rules.proofs.KeptRuns.{answer_keeps}
@@ -202,7 +202,7 @@ module _ (unit : Unit) where
       silent e held made said more h.0 h.1
       (others_and_this held uri made others (λ q version text same found_at. absurd (none-some (InStep version text) (sym at ∙ ap (document_at held) same ∙ found_at))))
 
-  taken_back_fits : (e : Editor) (uri : List ℕ) (b : Bool) → All (AnswerFits unit e) (cleared uri b)
+  taken_back_fits : (e : Editor) (uri : List ℕ) (b : Bool) → All (AnswerFits unit e) (cond b (publishes uri None true ∷ []) [])
   taken_back_fits e uri true = All-push (AnswerFits unit e) [] (publishes uri None true) (All-nil (AnswerFits unit e)) tt
   taken_back_fits e uri false = All-nil (AnswerFits unit e)
 

@@ -9,6 +9,7 @@ pub mod OneFields
 pub mod OneRenaming
 mod OneAnswer
 pub mod OneCourse
+mod CourseFits
 mod Keeping
 pub mod Interleavings
 pub mod MadeFor

@@ -2,7 +2,7 @@
 -- that waits for it, the editor had before.
 -- A message that the editor sends adds what the mirror says at that moment; a server's turn publishes what it then
 -- holds.
-use Rattle.std.proofs.Common.{◌≡◌, ◌∙◌, ℕ, List, [], ◌∷◌, ◌++◌, append-nil, append_assoc, refl, sym, ap, subst}
+use Rattle.std.proofs.Common.{◌≡◌, ◌∙◌, ℕ, true, List, [], ◌∷◌, ◌++◌, append-nil, append_assoc, refl, sym, ap, subst}
 use Rattle.std.specs.Prelude.{⊤, ℤ, pos, fold, All, Option, Some, None, option_map}
 use Rattle.std.proofs.lemmas.Option.{same_Some, none-some}
 use Rattle.std.proofs.lemmas.List.Elements.{All-nil, All-push, All-append, All-weaker}
@@ -14,7 +14,7 @@ use Rattle.ob0_world_rules.specs.Editing.{Act, Done, done_by}
 use Rattle.ob0_world_rules.specs.Serving.{Publishes, RepliesToNotification, Replies}
 use Rattle.ob0_world_rules.specs.Happens.{Event, does, serve, take_message, after_act, after_taking, ServerTakes, Happens, Course}
 use Rattle.ob0_world_rules.specs.Mirror.{will_have, as_open}
-use Rattle.ob0_world_rules.specs.Headline.{WasOpen, WasMadeFor}
+use Rattle.ob0_world_rules.specs.Headline.{WasMadeFor}
 use Rattle.ob0_world_rules.proofs.Acts.{of_each}
 use Rattle.ob0_world_rules.proofs.Interleavings.{server_mirrors}
 
@@ -30,9 +30,27 @@ same_text : (v w : ℤ) (t u : List ℕ) → InStep v t ≡ InStep w u → t ≡
 same_text v w t u h = cc
 
 module _ (unit : Unit) where
+  -- a publication, of which nothing but uri, version and text counts here
+  abbrev WasOpen : List Event → List ℕ → ℤ → List ℕ → Type 0
+  WasOpen events uri version text = WasMadeFor unit events (record { uri = uri; version = version; text = text; empty = true })
+
+  was_made : (events : List Event) (m : Made) → WasOpen events m.uri m.version m.text → WasMadeFor unit events m
+  was_made events m was =
+      record {
+        before = was.before;
+        following = was.following;
+        parts = was.parts;
+        moment = was.moment;
+        reached = was.reached;
+        document = was.document;
+        is_open = was.is_open;
+        version_is = was.version_is;
+        text_is = was.text_is;
+      }
+
   -- what was open once was so later on
-  was_open_more : (events more : List Event) (uri : List ℕ) (version : ℤ) (text : List ℕ) → WasOpen unit events uri version text → WasOpen unit (events ++ more) uri version text
-  was_open_more events more uri version text was =
+  was_open_more : (events more : List Event) (m : Made) → WasMadeFor unit events m → WasMadeFor unit (events ++ more) m
+  was_open_more events more m was =
       record {
         before = was.before;
         following = was.following ++ more;
@@ -46,7 +64,7 @@ module _ (unit : Unit) where
       }
 
   abbrev WereOpenIn : List Event → OpenDocuments → Type 0
-  WereOpenIn events held = (uri : List ℕ) (version : ℤ) (text : List ℕ) → document_at held uri ≡ Some (InStep version text) → WasOpen unit events uri version text
+  WereOpenIn events held = (uri : List ℕ) (version : ℤ) (text : List ℕ) → document_at held uri ≡ Some (InStep version text) → WasOpen events uri version text
 
   -- what is held now, and after each message that waits
   abbrev WereOpenBy : List Event → OpenDocuments → List ToServer → Type 0
@@ -58,15 +76,15 @@ module _ (unit : Unit) where
   by_now events held (m ∷ queue) h = h.0
 
   by_more : (events more : List Event) (held : OpenDocuments) (queue : List ToServer) → WereOpenBy events held queue → WereOpenBy (events ++ more) held queue
-  by_more events more held [] h = λ uri version text at. was_open_more events more uri version text (h uri version text at)
-  by_more events more held (m ∷ queue) h = (λ uri version text at. was_open_more events more uri version text (h.0 uri version text at), by_more events more (after_message held m) queue h.1)
+  by_more events more held [] h = λ uri version text at. was_open_more events more (record { uri = uri; version = version; text = text; empty = true }) (h uri version text at)
+  by_more events more held (m ∷ queue) h = (λ uri version text at. was_open_more events more (record { uri = uri; version = version; text = text; empty = true }) (h.0 uri version text at), by_more events more (after_message held m) queue h.1)
 
   by_push : (events : List Event) (held : OpenDocuments) (queue : List ToServer) (m : ToServer) → WereOpenBy events held queue → WereOpenIn events (after_message (fold after_message held queue) m) → WereOpenBy events held (queue ++ m ∷ [])
   by_push events held [] m h last = (h, last)
   by_push events held (x ∷ queue) m h last = (h.0, by_push events (after_message held x) queue m h.1 last)
 
   made_more : (events more : List Event) (made : List Made) → All (WasMadeFor unit events) made → All (WasMadeFor unit (events ++ more)) made
-  made_more events more made all = All-weaker (WasMadeFor unit events) (WasMadeFor unit (events ++ more)) (λ m was. was_open_more events more m.uri m.version m.text was) made all
+  made_more events more made all = All-weaker (WasMadeFor unit events) (WasMadeFor unit (events ++ more)) (was_open_more events more) made all
 
   -- once it has taken what waits for it the server holds what the editor has
   at_last : (events : List Event) (w : Ends) → Course (start unit) events w → WereOpenIn events (will_have w)
@@ -75,7 +93,7 @@ module _ (unit : Unit) where
       mirror : document_at (will_have w) uri ≡ option_map as_open (open_at w.editor uri)
       mirror = server_mirrors unit events w run uri
 
-      go : (o : Option Open) → open_at w.editor uri ≡ o → WasOpen unit events uri version text
+      go : (o : Option Open) → open_at w.editor uri ≡ o → WasOpen events uri version text
       go None is = absurd (none-some (InStep version text) (sym (ap (option_map as_open) is) ∙ (sym mirror ∙ at)))
       go (Some d) is =
           let both : InStep (pos d.version) d.text ≡ InStep version text = same_Some (as_open d) (InStep version text) (sym (mirror ∙ ap (option_map as_open) is) ∙ at) in
@@ -137,11 +155,11 @@ module _ (unit : Unit) where
 
   -- ---- the server's events
 
-  publish_open : (events : List Event) (uri : List ℕ) (o : Option Document) (said : List ToEditor) (made : List Made) → ((version : ℤ) (text : List ℕ) → o ≡ Some (InStep version text) → WasOpen unit events uri version text)
+  publish_open : (events : List Event) (uri : List ℕ) (o : Option Document) (said : List ToEditor) (made : List Made) → ((version : ℤ) (text : List ℕ) → o ≡ Some (InStep version text) → WasOpen events uri version text)
       → Publishes uri o said made → All (WasMadeFor unit events) made
   publish_open events uri (Some (InStep version text)) said made was (empty, right, is_said, is_made) =
       let m : Made = record { uri = uri; version = version; text = text; empty = empty } in
-      subst (All (WasMadeFor unit events)) (sym is_made) (All-push (WasMadeFor unit events) [] m (All-nil (WasMadeFor unit events)) (was version text refl))
+      subst (All (WasMadeFor unit events)) (sym is_made) (All-push (WasMadeFor unit events) [] m (All-nil (WasMadeFor unit events)) (was_made events m (was version text refl)))
   publish_open events uri (Some OutOfStep) said made was h = subst (All (WasMadeFor unit events)) (sym h.1) (All-nil (WasMadeFor unit events))
   publish_open events uri None said made was h = subst (All (WasMadeFor unit events)) (sym h.1) (All-nil (WasMadeFor unit events))
 

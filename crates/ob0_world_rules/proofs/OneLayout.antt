@@ -13,7 +13,7 @@ use Rattle.ob0_text.specs.Units.{width_of}
 use Rattle.ob0_tree.specs.Tree.{Tree, module_text}
 use Rattle.ob0_language_names.specs.Names.{Name}
 use Rattle.ob0_layout.specs.Layout.{layout}
-use Rattle.ob0_layout.specs.Sites.{EditText, edit_text, edit_of, changed_sites, all_sites}
+use Rattle.ob0_layout.specs.Gaps.{EditText, edit_text, edit_of, changed_gaps, all_gaps}
 use Rattle.ob0_layout.specs.LineRoles.{line_roles}
 use Rattle.ob0_edits.specs.Diagnosed.{IsTextOf, IsWellTypedModule}
 use Rattle.ob0_edits.specs.Texts.{utf8}
@@ -44,7 +44,7 @@ module _ (text : List ℕ) (m n : IsWellTypedModule (utf8 text)) where
   one_layout indent = λ i. layout indent (one_module i) (one_lexing i)
 
   one_change : (unit : Unit) (indent : Indent) → layout_changes unit indent text m ≡ layout_changes unit indent text n
-  one_change unit indent = λ i. map (edit_of indent (width_of unit) text) (changed_sites indent (one_source i).text (all_sites (line_roles 0 (one_module i)) (one_lexing i)))
+  one_change unit indent = λ i. map (edit_of (width_of unit) text) (changed_gaps (one_source i).text (all_gaps indent (one_source i).text (line_roles 0 (one_module i)) (one_lexing i)))
 
 -- by the bytes of their texts too
 pub lays_out_said : (unit : Unit) (indent : Indent) (text : List ℕ) (xs ys : List Edit) → LaysOut unit indent text xs → LaysOut unit indent text ys → map edit_text xs ≡ map edit_text ys

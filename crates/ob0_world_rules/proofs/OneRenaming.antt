@@ -29,7 +29,7 @@ use Rattle.ob0_language_fields.specs.Renaming.{is_duplicate_field}
 use Rattle.ob0_types_fields.specs.Identifiers.{declared_in_block, field_identifiers, field_on, first, tokens_among}
 use Rattle.ob0_edits.specs.Analysed.{IsModuleIn}
 use Rattle.ob0_edits.specs.Texts.{utf8}
-use Rattle.ob0_rename.specs.Renaming.{Meant, Renaming, declaration, field_of, field_tokens_to_rename, meant, meant_by, nothing, occurrence_range, other_field_range, other_range, predeclared, text_with, tokens_to_rename}
+use Rattle.ob0_rename.specs.Renaming.{Target, Renaming, declaration, field_of, field_tokens_to_rename, meant, meant_by, nothing, occurrence_range, other_field_range, other_range, predeclared, text_with, tokens_to_rename}
 use Rattle.ob0_rename.specs.Answers.{AreEdits, IsRefused, IsRefusedTo, IsRefusedToField, IsRefusedToNamed, Renames, RenamesField, WritesName}
 use Rattle.ob0_edits.specs.Renamings.{IsRefusedIn, RenamesIn, renaming_of}
 use Rattle.ob0_world_rules.specs.Edited.{replacements}
@@ -207,7 +207,7 @@ module _ (unit : Unit) (text : List ℕ) (place : Position) (new : Name) (names 
       let both : field_of l g ≡ field_of l₂ g₂ = sym means ∙ (one_meaning ∙ also) in
       field_refused l g es why h (subst (λ x. IsRefusedToField q l x why) (sym (one_field both)) (subst (λ x. IsRefusedToField q x g₂ why) (sym (one_record both)) bad))
 
-  meant_other : (es : List Edit) (m : Meant) → AreEdits r es → meant q ≡ m → (m ≡ nothing) ⊎ (m ≡ predeclared) → ⊥
+  meant_other : (es : List Edit) (m : Target) → AreEdits r es → meant q ≡ m → (m ≡ nothing) ⊎ (m ≡ predeclared) → ⊥
   meant_other es m (inl (c, means, h)) is (inl none) = let both : declaration c ≡ nothing = sym means ∙ (one_meaning ∙ (is ∙ none)) in cc
   meant_other es m (inl (c, means, h)) is (inr none) = let both : declaration c ≡ predeclared = sym means ∙ (one_meaning ∙ (is ∙ none)) in cc
   meant_other es m (inr (l, (g, means, h))) is (inl none) = let both : field_of l g ≡ nothing = sym means ∙ (one_meaning ∙ (is ∙ none)) in cc
@@ -304,13 +304,13 @@ module _ (unit : Unit) (text : List ℕ) (place : Position) (new : Name) (names 
       let both : field_of l g ≡ field_of l₂ g₂ = sym means ∙ (one_meaning ∙ also) in
       field_refusal l g why other h (subst (λ x. IsRefusedToField q l x other) (sym (one_field both)) (subst (λ x. IsRefusedToField q x g₂ other) (sym (one_record both)) k))
 
-  unnamed : {A : Type 0} (why : EditRefusal) (m : Meant) → IsRefusedToNamed q why → meant r ≡ m → (m ≡ nothing) ⊎ (m ≡ predeclared) → A
+  unnamed : {A : Type 0} (why : EditRefusal) (m : Target) → IsRefusedToNamed q why → meant r ≡ m → (m ≡ nothing) ⊎ (m ≡ predeclared) → A
   unnamed why m (inl (d, also, k)) is (inl none) = let both : declaration d ≡ nothing = sym also ∙ (sym one_meaning ∙ (is ∙ none)) in absurd (cc)
   unnamed why m (inl (d, also, k)) is (inr none) = let both : declaration d ≡ predeclared = sym also ∙ (sym one_meaning ∙ (is ∙ none)) in absurd (cc)
   unnamed why m (inr (l, (g, also, k))) is (inl none) = let both : field_of l g ≡ nothing = sym also ∙ (sym one_meaning ∙ (is ∙ none)) in absurd (cc)
   unnamed why m (inr (l, (g, also, k))) is (inr none) = let both : field_of l g ≡ predeclared = sym also ∙ (sym one_meaning ∙ (is ∙ none)) in absurd (cc)
 
-  unnamed_too : {A : Type 0} (why : EditRefusal) (m : Meant) → IsRefusedToNamed r why → meant q ≡ m → (m ≡ nothing) ⊎ (m ≡ predeclared) → A
+  unnamed_too : {A : Type 0} (why : EditRefusal) (m : Target) → IsRefusedToNamed r why → meant q ≡ m → (m ≡ nothing) ⊎ (m ≡ predeclared) → A
   unnamed_too why m (inl (d, means, k)) is (inl none) = let both : declaration d ≡ nothing = sym means ∙ (one_meaning ∙ (is ∙ none)) in absurd (cc)
   unnamed_too why m (inl (d, means, k)) is (inr none) = let both : declaration d ≡ predeclared = sym means ∙ (one_meaning ∙ (is ∙ none)) in absurd (cc)
   unnamed_too why m (inr (l, (g, means, k))) is (inl none) = let both : field_of l g ≡ nothing = sym means ∙ (one_meaning ∙ (is ∙ none)) in absurd (cc)

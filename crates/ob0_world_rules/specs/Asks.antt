@@ -1,9 +1,10 @@
 -- What an editor may request.
 -- Rule: docs/PROTOCOL.md, Requests on documents 6 to 8.
-use Rattle.std.specs.Prelude.{ℕ, List, max, min}
+use Rattle.std.specs.Prelude.{ℕ, List}
 use Rattle.ob0_text.specs.declared.position_types.Position.{Position}
 use Rattle.ob0_text.specs.declared.edits.Indent.{Indent}
 use Rattle.ob0_text.specs.declared.edits.Indent.TheVariants.{Tab, Spaces}
+use Rattle.ob0_text.specs.Indents.{level_spaces}
 
 -- what an editor may request of a document
 pub data Ask : Type 0 where
@@ -14,7 +15,7 @@ pub data Ask : Type 0 where
   inline_all : Position → Ask
   format : Indent → Ask
 
--- a count of spaces is read as one from 1 to 16
+-- a count of spaces is read as one that a level may have
 abbrev pub indent_read : Indent → Indent
 indent_read Tab = Tab
-indent_read (Spaces n) = Spaces (max 1 (min n 16))
+indent_read (Spaces n) = Spaces (level_spaces n)

@@ -29,45 +29,36 @@ pub record Done : Type 0 where
 abbrev pub stays : Editor → Done
 stays e = record { editor = e; sent = []; applied = [] }
 
+-- a message is sent
+abbrev pub sends : Editor → ToServer → List Applied → Done
+sends e message applied = record { editor = e; sent = message ∷ []; applied = applied }
+
 -- a document is opened, with version 1 and an opening number of its own
 abbrev pub opens : Editor → List ℕ → List ℕ → Done
 opens e uri text =
     let d : Open = record { version = 1; text = text; opening = e.openings + 1 } in
-    record {
-      editor = record e { documents = map_of.insert e.documents uri d; openings = e.openings + 1 };
-      sent = notifies (Opened uri (pos 1) text) ∷ [];
-      applied = [];
-    }
+    sends (record e { documents = map_of.insert e.documents uri d; openings = e.openings + 1 })
+    (notifies (Opened uri (pos 1) text)) []
 
 -- an open document gets this text, one version later, and the server is sent how
 abbrev pub rewrites : Editor → List ℕ → Open → List ℕ → List TextChange → List Applied → Done
 rewrites e uri d text how applied =
     let new : Open = record d { version = d.version + 1; text = text } in
-    record {
-      editor = record e { documents = map_of.insert e.documents uri new };
-      sent = notifies (Changed uri (pos new.version) how) ∷ [];
-      applied = applied;
-    }
+    sends (record e { documents = map_of.insert e.documents uri new })
+    (notifies (Changed uri (pos new.version) how)) applied
 
 -- an open document is closed
 abbrev pub closes : Editor → List ℕ → Done
 closes e uri =
-    record {
-      editor = record e { documents = map_of.remove e.documents uri };
-      sent = notifies (Closed uri) ∷ [];
-      applied = [];
-    }
+    sends (record e { documents = map_of.remove e.documents uri }) (notifies (Closed uri)) []
 
 -- something is requested of an open document, with the next number
 abbrev pub asks : Editor → List ℕ → Ask → Open → Done
 asks e uri ask d =
     let a : SentAsk
     = record { ask = ask; uri = uri; opening = d.opening; version = d.version } in
-    record {
-      editor = record e { requested = e.requested ++ a ∷ [] };
-      sent = requests (suc (length e.requested)) uri ask ∷ [];
-      applied = [];
-    }
+    sends (record e { requested = e.requested ++ a ∷ [] })
+    (requests (suc (length e.requested)) uri ask) []
 
 -- the edits of the answer with this number
 abbrev pub kept_answer : ℕ → List Answer → Option (List Replacement)

@@ -1,6 +1,6 @@
 -- What holds of every list of events: the headline.
 -- Rule: docs/PROMISES.md, Client and server.
-use Rattle.std.specs.Prelude.{◌≡◌, ℕ, ℤ, pos, List, [], ◌∷◌, ◌++◌, All, Option, Some, None, if◌then◌else◌}
+use Rattle.std.specs.Prelude.{◌≡◌, ℕ, ℤ, pos, List, [], ◌++◌, All, Option, Some, None, MatchOption, fold, if◌then◌else◌}
 use Rattle.std.specs.Str.{bytes_eq}
 use Rattle.ob0_text.specs.declared.position_types.Unit.{Unit}
 use Rattle.ob0_world_rules.specs.Language.{WellTypedText, SameRun}
@@ -23,45 +23,31 @@ abbrev pub IsRight : Made → Type 0
 IsRight m = IsEmptyIfCorrect m.text m.empty
 
 -- at some moment, when the first of the events have happened and the others haven't, the editor has
--- this document open, with this version and this text
-pub record WasOpen (unit : Unit) (events : List Event) (uri : List ℕ) (version : ℤ)
-    (text : List ℕ) : Type 0 where
+-- the document open, with the version that it names and the text that it was made for
+pub record WasMadeFor (unit : Unit) (events : List Event) (m : Made) : Type 0 where
   pub before : List Event
   pub following : List Event
   pub parts : events ≡ before ++ following
   pub moment : Ends
   pub reached : Course (start unit) before moment
   pub document : Open
-  pub is_open : open_at moment.editor uri ≡ Some document
-  pub version_is : pos document.version ≡ version
-  pub text_is : document.text ≡ text
-
--- the text that it was made for is one that the editor's document had, at the version that it names
-abbrev pub WasMadeFor : Unit → List Event → Made → Type 0
-WasMadeFor unit events m = WasOpen unit events m.uri m.version m.text
-
--- the later one, if there is one
-abbrev pub later_of : Option Made → Option Made → Option Made
-later_of (Some later) this = Some later
-later_of None this = this
+  pub is_open : open_at moment.editor m.uri ≡ Some document
+  pub version_is : pos document.version ≡ m.version
+  pub text_is : document.text ≡ m.text
 
 -- the last publication for a uri
 abbrev pub last_publication : List ℕ → List Made → Option Made
-last_publication uri [] = None
-last_publication uri (m ∷ ms) =
-    later_of (last_publication uri ms) (if bytes_eq m.uri uri then Some m else None)
+last_publication uri made =
+    fold (λ last m. if bytes_eq m.uri uri then Some m else last) None made
 
--- there is one, and it was made for this version and this text
-abbrev pub IsMadeFor : ℤ → List ℕ → Option Made → Type 0
-IsMadeFor version text (Some m) = (m.version ≡ version) × (m.text ≡ text)
-IsMadeFor version text None = ⊥
-
--- the last publication for each open document was made for its present version and text
+-- for each open document there is a publication, and the last one was made for its present version
+-- and text
 abbrev pub AreUpToDate : Editor → List Made → Type 0
 AreUpToDate e made =
     (uri : List ℕ) (d : Open)
     → open_at e uri ≡ Some d
-    → IsMadeFor (pos d.version) d.text (last_publication uri made)
+    → MatchOption (last_publication uri made) ⊥
+    (λ m. (m.version ≡ pos d.version) × (m.text ≡ d.text))
 
 -- ---- the headline
 

@@ -1,6 +1,6 @@
 -- Laws of the definitions of client and server.
 -- Rule: none; laws of the model of client and server.
-use Rattle.std.specs.Prelude.{◌≡◌, ◌↔◌, ℕ, List, All, Some}
+use Rattle.std.specs.Prelude.{◌≡◌, ◌↔◌, ⊤, ℕ, List, All, Some}
 use Rattle.ob0_text.specs.declared.edits.Edit.{Edit}
 use Rattle.ob0_text.specs.declared.position_types.Unit.{Unit}
 use Rattle.ob0_tree.specs.Tree.{Tree, module_text}
@@ -11,7 +11,8 @@ use Rattle.ob0_world_rules.specs.Edited.{Replacement, replacements, edited}
 use Rattle.ob0_world_rules.specs.Asks.{Ask}
 use Rattle.ob0_world_rules.specs.Answers.{GivesEdits, AnswersFor}
 use Rattle.ob0_world_rules.specs.Ends.{Ends, start}
-use Rattle.ob0_world_rules.specs.Happens.{Event, Course, Happens}
+use Rattle.ob0_world_rules.specs.Editing.{open_document, change_document, close_document, ask_about, apply, discard}
+use Rattle.ob0_world_rules.specs.Happens.{Event, does, serve, take_message, Course, Happens}
 use Rattle.ob0_world_rules.specs.Headline.{Holds, WasMadeFor}
 use Rattle.ob0_world_rules.specs.Mirror.{Mirrors}
 
@@ -65,6 +66,31 @@ OneCourse =
     → Course w events end
     → Course w events other
     → end ≡ other
+
+-- of each text, something answers this ask: it can't be that nothing does
+abbrev pub HasAnswers : Ask → Type 0
+HasAnswers ask =
+    (unit : Unit) (text : List ℕ)
+    → ¬ ((given : List Replacement) → ¬ AnswersFor unit text ask given)
+
+-- what is asked in this event, if it is a request, has answers
+abbrev pub IsAnswerable : Event → Type 0
+IsAnswerable (does (open_document uri text)) = ⊤
+IsAnswerable (does (change_document uri how)) = ⊤
+IsAnswerable (does (close_document uri)) = ⊤
+IsAnswerable (does (ask_about uri ask)) = HasAnswers ask
+IsAnswerable (does (apply k)) = ⊤
+IsAnswerable (does (discard k)) = ⊤
+IsAnswerable serve = ⊤
+IsAnswerable take_message = ⊤
+
+-- A list of events has a course, where what it asks has answers: it can't be that none fits. So what
+-- is said of every course is said of one.
+abbrev pub ACourseFits : Type 0
+ACourseFits =
+    (unit : Unit) (events : List Event)
+    → All IsAnswerable events
+    → ¬ ((end : Ends) → ¬ Course (start unit) events end)
 
 -- what every list of events leaves has what is said of every interleaving
 abbrev pub InEveryInterleaving : Type 0

@@ -1,7 +1,7 @@
 -- What the server sends for each message that it takes. It has no choice:
 -- for each message there is one list.
 -- Rule: docs/PROTOCOL.md, Documents, Publishing, Requests on documents.
-use Rattle.std.specs.Prelude.{◌≡◌, ℕ, List, [], ◌∷◌, Bool, true, false, Option, Some, None, is_some}
+use Rattle.std.specs.Prelude.{◌≡◌, ℕ, List, [], ◌∷◌, Bool, true, Option, Some, None, is_some, if◌then◌else◌}
 use Rattle.ob0_text.specs.OpenDocuments.{OpenDocuments, Document, InStep, OutOfStep, DocumentEvent, Opened, Changed, Lost, Closed, document_at, after_event}
 use Rattle.ob0_world_rules.specs.Edited.{Replacement}
 use Rattle.ob0_world_rules.specs.Answers.{IsAnswer, IsEmptyIfCorrect}
@@ -15,13 +15,8 @@ Publishes uri (Some (InStep version text)) sent made =
 Publishes uri (Some OutOfStep) sent made = (sent ≡ []) × (made ≡ [])
 Publishes uri None sent made = (sent ≡ []) × (made ≡ [])
 
--- closing an open document clears its diagnostics
-abbrev pub cleared : List ℕ → Bool → List ToEditor
-cleared uri true = publishes uri None true ∷ []
-cleared uri false = []
-
 -- what is sent for a notification, and the publications with a version among it,
--- when these documents were open before
+-- when these documents were open before; closing an open document clears its diagnostics
 abbrev pub RepliesToNotification : OpenDocuments
     → DocumentEvent
     → List ToEditor
@@ -33,7 +28,8 @@ RepliesToNotification held (Changed uri version how) sent made =
     Publishes uri (document_at (after_event held (Changed uri version how)) uri) sent made
 RepliesToNotification held (Lost uri) sent made = (sent ≡ []) × (made ≡ [])
 RepliesToNotification held (Closed uri) sent made =
-    (sent ≡ cleared uri (is_some (document_at held uri))) × (made ≡ [])
+    (sent ≡ (if is_some (document_at held uri) then publishes uri None true ∷ [] else []))
+    × (made ≡ [])
 
 -- what is sent for a message, and the publications with a version among it
 abbrev pub Replies : OpenDocuments → ToServer → List ToEditor → List Made → Type 0

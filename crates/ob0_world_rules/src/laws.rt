@@ -1,5 +1,5 @@
 //! What holds of the definitions that the contracts cite.
-ghost use Rattle.ob0_world_rules.specs.Laws.{AnswersAreOne, EditsKeepTheRun, InEveryInterleaving, MadeForTheEditor, OneCourse, OneReading, OneStep, ServerMirrors};
+ghost use Rattle.ob0_world_rules.specs.Laws.{ACourseFits, AnswersAreOne, EditsKeepTheRun, InEveryInterleaving, MadeForTheEditor, OneCourse, OneReading, OneStep, ServerMirrors};
 ghost use Rattle.ob0_world_rules.specs.MadeInOrder.{MadeInOrder};
 
 /// Whatever the order of the events, every applied edit keeps the run, and diagnostics are right.
@@ -30,6 +30,11 @@ pub fn one_step()
 /// A list of events has one course.
 pub fn one_course()
     ensures { OneCourse }
+{}
+
+/// A list of events has a course, where what it asks has answers: so what is said of every course is said of one.
+pub fn a_course_fits()
+    ensures { ACourseFits }
 {}
 
 /// Once it has taken all messages that wait for it, the server has the editor's documents.

@@ -3,14 +3,15 @@
 ghost use Rattle.std.specs.Prelude.{◌≡◌, ◌∷◌, ◌++◌, [], map, IfOk, OnOk};
 ghost use Rattle.ob0_language_names.specs.Parts.{formal_sections, section_constants, section_types, section_variables};
 ghost use Rattle.ob0_tree.specs.View.{block_of, body_of, constant_of, constants_of, formals_of, further_section_of, items_of, procedure_of, type_declaration_of, types_of, variable_of, variables_of};
-ghost use Rattle.ob0_types_check.specs.DeclarationFaults.{constant_declared, reported_block, reported_body, reported_constants, reported_procedure, reported_procedures, reported_section, reported_sections, reported_types, reported_variables, type_declared, variables_declared};
+ghost use Rattle.ob0_types_check.specs.DeclarationFaults.{constant_declared, reported_body, reported_constants, reported_section, reported_sections, reported_types, reported_variables, type_declared, variables_declared};
 ghost use Rattle.ob0_types_check.specs.Known.{a_variable};
 ghost use Rattle.ob0_types_check.specs.Operations.{ReportsAfter};
 ghost use Rattle.ob0_types_check.specs.SoFar.{define_all};
+ghost use Rattle.ob0_types_check.specs.SomeBodies.{block_with, body_if, procedure_with, procedures_with, walked_in, wants};
 ghost use Rattle.ob0_types_check.specs.SupposedFacts.{heading_in, so_far_in};
 
-use crate::reporting::Reporter;
 use crate::reporting::supposed::{Meaning, Supposed};
+use crate::reporting::{Reporter, Wanted};
 use ob0_tree::{Block, Constant, Names, Procedure, Section, Statement, TypeDeclaration, Variables};
 use ob0_types_table::{Formal, TypeId};
 use std::alloc::AllocError;
@@ -41,42 +42,82 @@ impl<'t> Supposed<'t> {
 }
 
 impl<'t> Reporter<'t> {
-    /// Constants, types, variables, procedures, and then the statements.
+    /// Constants, types, variables, procedures, and then the statements, where they are wanted; `own` is the block's
+    /// closing name. Bodies of which something is reported are put after `faulty`.
     #[cycle(blocks)]
-    pub(crate) fn block(&mut self, b: &Block) -> Result<(), AllocError>
+    pub(crate) fn block(
+        &mut self,
+        faulty: &mut Vec<usize>,
+        wanted: &Wanted<'_>,
+        b: &Block,
+        own: usize,
+    ) -> Result<(), AllocError>
         ensures { OnOk result (ReportsAfter self.old.faults.items self.new.faults.items
-            (so_far_in self.new.supposed)
-            (reported_block (so_far_in self.old.supposed) (block_of b.now))) }
+            (walked_in self.new.supposed faulty.new.items) (block_with (wants wanted.now) own
+            (walked_in self.old.supposed faulty.old.items) (block_of b.now))) }
     {
         self.constants_of(&b.constants)?;
         self.types_of(&b.types)?;
         self.variables_of(&b.variables)?;
-        self.procedures(&b.procedures)?;
-        self.body(&b.body)
+        self.procedures(faulty, wanted, &b.procedures)?;
+        self.body_if(faulty, wanted.wants(own), own, &b.body)
     }
 
     #[cycle(blocks)]
-    fn procedures(&mut self, procedures: &Vec<Procedure>) -> Result<(), AllocError>
+    fn procedures(
+        &mut self,
+        faulty: &mut Vec<usize>,
+        wanted: &Wanted<'_>,
+        procedures: &Vec<Procedure>,
+    ) -> Result<(), AllocError>
         ensures { OnOk result (ReportsAfter self.old.faults.items self.new.faults.items
-            (so_far_in self.new.supposed) (reported_procedures (so_far_in self.old.supposed)
+            (walked_in self.new.supposed faulty.new.items) (procedures_with (wants wanted.now)
+            (walked_in self.old.supposed faulty.old.items)
             (items_of procedure_of procedures.now.items))) }
     {
         for p in procedures {
-            self.procedure(p)?;
+            self.procedure(faulty, wanted, p)?;
         }
         Ok(())
     }
 
     /// A procedure is known after its heading, and so in its own body.
     #[cycle(blocks)]
-    fn procedure(&mut self, p: &Procedure) -> Result<(), AllocError>
+    fn procedure(
+        &mut self,
+        faulty: &mut Vec<usize>,
+        wanted: &Wanted<'_>,
+        p: &Procedure,
+    ) -> Result<(), AllocError>
         ensures { OnOk result (ReportsAfter self.old.faults.items self.new.faults.items
-            (so_far_in self.new.supposed)
-            (reported_procedure (so_far_in self.old.supposed) (procedure_of p.now))) }
+            (walked_in self.new.supposed faulty.new.items) (procedure_with (wants wanted.now)
+            (walked_in self.old.supposed faulty.old.items) (procedure_of p.now))) }
     {
         let formals = self.heading(&p.formals)?;
         self.supposed.define(p.name, Meaning::Procedure(formals));
-        self.block(&p.block)
+        self.block(faulty, wanted, &p.block, p.closing)
+    }
+
+    fn body_if(
+        &mut self,
+        faulty: &mut Vec<usize>,
+        wanted: bool,
+        own: usize,
+        statements: &Option<Vec<Statement>>,
+    ) -> Result<(), AllocError>
+        ensures { OnOk result (ReportsAfter self.old.faults.items self.new.faults.items
+            (walked_in self.new.supposed faulty.new.items) (body_if wanted own
+            (walked_in self.old.supposed faulty.old.items) (body_of statements.now))) }
+    {
+        if !wanted {
+            return Ok(());
+        }
+        let before = self.faults.len();
+        self.body(statements)?;
+        if self.faults.len() > before {
+            faulty.push(own)?;
+        }
+        Ok(())
     }
 
     fn body(&mut self, body: &Option<Vec<Statement>>) -> Result<(), AllocError>

@@ -41,7 +41,7 @@ returns-then-branch-clause-too_deep g c = λ alone _.
     let leaves : LeavesWords unit content items ws =
     subst (λ (ps : List ℕ). LeavesWords unit content items (changed_words (without_words k.first k.last (at_each ps vs)) 0 (words_of m.source))) uses
     (subst (λ (s : Scanned). LeavesWords unit content items (changed_words (without_words k.first k.last (at_each c.deref.result.now vs)) 0 (words_of s))) c.tokens.ensures (c.in_ok-edits.ensures.words vs can_replace)) in
-    let shallow = subst (λ (p : Parsed). nesting (inlined_all m k) ≤ nesting (tree_of p) + 1) (sym c.module-read.ensures.value) (everywhere_shallow c.args.names.now c.module-read.ensures.resolved k) in
+    let shallow = subst (λ (p : Parsed). nesting (inlined_all m k) ≤ nesting (tree_of p) + 1) (sym c.module-read.ensures.value) (everywhere_shallow m k) in
     let passed = subst (λ (es : List Edit). LeavesWords unit content es ws) (sym c.deref-3.ensures.value) leaves in
     ltb-true 100 (nesting (inlined_all m k)) (sym (c.in_ok-is_too_deep.ensures.deep ws (inlined_all m k) passed spelled shallow) ∙ c.if-branch.true)
 
@@ -60,7 +60,7 @@ returns-clause-inlined g c = λ alone.
     let leaves : LeavesWords unit content items ws =
     subst (λ (ps : List ℕ). LeavesWords unit content items (changed_words (without_words k.first k.last (at_each ps vs)) 0 (words_of m.source))) uses
     (subst (λ (s : Scanned). LeavesWords unit content items (changed_words (without_words k.first k.last (at_each c.deref.result.now vs)) 0 (words_of s))) c.tokens.ensures (c.in_ok-edits.ensures.words vs can_replace)) in
-    let shallow = subst (λ (p : Parsed). nesting (inlined_all m k) ≤ nesting (tree_of p) + 1) (sym c.module-read.ensures.value) (everywhere_shallow c.args.names.now c.module-read.ensures.resolved k) in
+    let shallow = subst (λ (p : Parsed). nesting (inlined_all m k) ≤ nesting (tree_of p) + 1) (sym c.module-read.ensures.value) (everywhere_shallow m k) in
     let passed = subst (λ (es : List Edit). LeavesWords unit content es ws) (sym c.deref-3.ensures.value) leaves in
     let low = ltb-false 100 (nesting (inlined_all m k)) (sym (c.in_ok-is_too_deep.ensures.deep ws (inlined_all m k) passed spelled shallow) ∙ c.if-branch.false) in
     leaves_module unit content items ws (inlined_all m k) leaves spelled low

@@ -6,7 +6,7 @@ use Rattle.ob0_edits_tokens.specs.Removed.{span_over}
 use Rattle.ob0_inline.specs.Declarations.{is_inside}
 use Rattle.ob0_inline.specs.Everywhere.{any_hidden}
 use Rattle.std.specs.List.{list_any}
-use Rattle.ob0_inline.proofs.AtConstants.{Made, Refused, answer_comment, answer_hidden, answer_made, answer_not_made}
+use Rattle.ob0_inline.proofs.AtConstants.{IsRefused, Made, answer_comment, answer_hidden, answer_made, answer_not_made}
 use Rattle.ob0_inline.proofs.Ended.{is_taken}
 use Rattle.ob0_inline.proofs.everywhere.inline_constant.Goals as goal
 
@@ -19,7 +19,7 @@ returns-then-branch g c =
     let well = c.resolved-names.ensures.well_typed in
     let back = c.resolved-names.ensures.value in
     let there : Made c.resolved-names.result.now k unit content edits =
-    record { edits_are = c.in-Ok.ensures.edits; leaves = c.in-Ok.ensures.inlined; short = c.in-Ok.ensures.short } in
+    record { edits_are = c.in-Ok.ensures.edits; make_text = record { leaves = c.in-Ok.ensures.inlined; short = c.in-Ok.ensures.short } } in
     let made = subst (λ (r : Resolution). Made r k unit content edits) back there in
     let hidden = ap (λ (r : Resolution). any_hidden (named_tree_of r.module_read) k) (sym back) ∙ (sym c.in_ok-any_hidden-in-Ok.ensures ∙ c.if-branch.true) in
     inl (answer_hidden c.args.«module».now well k c.requires.is_constant c.constants_are_alone.ensures c.is_scalar.ensures unit content edits made hidden)
@@ -41,7 +41,7 @@ returns-then-has_comment g c =
     let well = c.resolved-names.ensures.well_typed in
     let back = c.resolved-names.ensures.value in
     let there : Made c.resolved-names.result.now k unit content edits =
-    record { edits_are = c.in-Ok.ensures.edits; leaves = c.in-Ok.ensures.inlined; short = c.in-Ok.ensures.short } in
+    record { edits_are = c.in-Ok.ensures.edits; make_text = record { leaves = c.in-Ok.ensures.inlined; short = c.in-Ok.ensures.short } } in
     let made = subst (λ (r : Resolution). Made r k unit content edits) back there in
     let shown = ap (λ (r : Resolution). any_hidden (named_tree_of r.module_read) k) (sym back) ∙ (sym c.in_ok-any_hidden-in-Ok.ensures ∙ c.if-branch.false) in
     let source = c.tokens.ensures ∙ ap (λ (r : Resolution). r.module_read.source) back in
@@ -57,7 +57,7 @@ returns-else-has_comment g c =
     let well = c.resolved-names.ensures.well_typed in
     let back = c.resolved-names.ensures.value in
     let there : Made c.resolved-names.result.now k unit content edits =
-    record { edits_are = c.in-Ok.ensures.edits; leaves = c.in-Ok.ensures.inlined; short = c.in-Ok.ensures.short } in
+    record { edits_are = c.in-Ok.ensures.edits; make_text = record { leaves = c.in-Ok.ensures.inlined; short = c.in-Ok.ensures.short } } in
     let made = subst (λ (r : Resolution). Made r k unit content edits) back there in
     let shown = ap (λ (r : Resolution). any_hidden (named_tree_of r.module_read) k) (sym back) ∙ (sym c.in_ok-any_hidden-in-Ok.ensures ∙ c.if-branch.false) in
     let source = c.tokens.ensures ∙ ap (λ (r : Resolution). r.module_read.source) back in
@@ -69,7 +69,7 @@ returns-in-Err g c =
     let k = c.args.constant in
     let refusal = c.in-Err.refusal in
     let back = c.resolved-names.ensures.value in
-    let there : Refused c.resolved-names.result.now k refusal =
+    let there : IsRefused c.resolved-names.result.now k refusal =
     record { too_long = λ e. c.in-Err.ensures.too_long (λ i. Err (e i)); too_deep = λ alone e. c.in-Err.ensures.too_deep alone (λ i. Err (e i)); deep_and_short = λ e. c.in-Err.ensures.deep_and_short (λ i. Err (e i)); one_of = c.in-Err.ensures.refusals } in
     answer_not_made c.args.«module».now c.resolved-names.ensures.well_typed k c.requires.is_constant c.constants_are_alone.ensures c.is_scalar.ensures refusal
-    (subst (λ (r : Resolution). Refused r k refusal) back there)
+    (subst (λ (r : Resolution). IsRefused r k refusal) back there)

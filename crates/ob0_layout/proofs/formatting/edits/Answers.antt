@@ -3,7 +3,7 @@ use Rattle.ob0_text.specs.Texts.{position_of}
 use Rattle.ob0_text.specs.Units.{width_of}
 use Rattle.ob0_layout.specs.declared.gap.Gap.TheVariants.{Nothing}
 use Rattle.ob0_layout.specs.declared.sites.GapSite.{GapSite}
-use Rattle.ob0_layout.specs.Sites.{edit_text}
+use Rattle.ob0_layout.specs.Gaps.{edit_text}
 use Rattle.ob0_layout.proofs.EditSteps.{position_at, edit_further}
 use Rattle.ob0_layout.proofs.formatting.edits.Goals as goal
 

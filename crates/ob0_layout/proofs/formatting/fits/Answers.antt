@@ -1,7 +1,7 @@
 use Rattle.std.proofs.Common.{arith}
 use Rattle.std.proofs.lemmas.List.Elements.{All-get_or}
 use Rattle.ob0_layout.specs.declared.gap.Gap.TheVariants.{Nothing}
-use Rattle.ob0_layout.specs.Sites.{LiesIn}
+use Rattle.ob0_layout.specs.Cuts.{LiesIn}
 use Rattle.ob0_layout.proofs.formatting.fits.Goals as goal
 
 pub overflow_add-made : goal.overflow_add-made

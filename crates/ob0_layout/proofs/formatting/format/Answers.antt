@@ -3,43 +3,43 @@ use Rattle.std.specs.Bool.{IsTrue}
 use Rattle.std.specs.List.{All}
 use Rattle.std.specs.Prelude.{nat_lt}
 use Rattle.std.proofs.lemmas.Bool.{ltb-true, ltb-false}
+use Rattle.std.proofs.lemmas.Simd.{map-map}
 use Rattle.ob0_scan.specs.Scanned.{Scanned, IsScan, max_text}
 use Rattle.ob0_text.specs.Units.{width_of}
 use Rattle.ob0_text.specs.declared.edits.Indent.{Indent}
 use Rattle.ob0_tree.specs.Parsed.{Parsed, tree_of, named_tree_of}
 use Rattle.ob0_tree.specs.Places.{text_at, value_at}
 use Rattle.ob0_layout.specs.Layout.{laid_out, layout}
-use Rattle.ob0_text.specs.Patches.{patched}
+use Rattle.ob0_text.specs.Patches.{Cut, patched}
 use Rattle.ob0_layout.proofs.Patched.{gaps_patched}
-use Rattle.ob0_layout.proofs.Pieced.{changed_length}
-use Rattle.ob0_layout.proofs.Written.{changed_lie}
 use Rattle.ob0_layout.proofs.Unnamed.{roles_mapped}
 use Rattle.ob0_layout.specs.declared.sites.GapSite.{GapSite}
 use Rattle.ob0_layout.specs.declared.line_role.LineRole.{LineRole}
 use Rattle.ob0_layout.specs.LineRoles.{line_roles}
-use Rattle.ob0_layout.specs.Sites.{all_sites, changed_sites, edit_of, laid_len, LiesIn}
-use Rattle.ob0_layout.proofs.Ahead.{all_lie}
+use Rattle.ob0_layout.specs.Cuts.{LiesIn, gap_cut}
+use Rattle.ob0_layout.specs.Gaps.{all_gaps, changed_gaps, edit_of, laid_len}
+use Rattle.ob0_layout.proofs.Gaps.{AreGaps, all_changed_are, changed_length, sites_lie}
 use Rattle.ob0_layout.proofs.formatting.format.Goals as goal
 
-abbrev changed_in : Indent → List LineRole → (s : Scanned) → IsScan s → List GapSite
-changed_in indent ss s scan = changed_sites indent s.text (all_sites ss scan.lexemes)
+abbrev changed_in : Indent → List LineRole → (s : Scanned) → IsScan s → List Cut
+changed_in indent ss s scan = changed_gaps s.text (all_gaps indent s.text ss scan.lexemes)
 
 -- the gaps that the code found are those of the source
-of_source : {s t : Scanned} (e : s ≡ t) (indent : Indent) (found read : List GapSite) (ss is : List LineRole) → read ≡ found → ss ≡ is → ((scan : IsScan s) → found ≡ changed_in indent ss s scan) → (scan : IsScan t) → read ≡ changed_in indent is t scan
+of_source : {s t : Scanned} (e : s ≡ t) (indent : Indent) (found read : List GapSite) (ss is : List LineRole) → read ≡ found → ss ≡ is → ((scan : IsScan s) → map (gap_cut indent) found ≡ changed_in indent ss s scan) → (scan : IsScan t) → map (gap_cut indent) read ≡ changed_in indent is t scan
 of_source e indent found read ss is r f h = λ scan.
-    r ∙ subst (λ (x : Scanned). (scan : IsScan x) → found ≡ changed_in indent ss x scan) e h scan ∙ ap (λ xs. changed_in indent xs _ scan) f
+    ap (map (gap_cut indent)) r ∙ subst (λ (x : Scanned). (scan : IsScan x) → map (gap_cut indent) found ≡ changed_in indent ss x scan) e h scan ∙ ap (λ xs. changed_in indent xs _ scan) f
 
-lie_in_source : {s t : Scanned} (e : s ≡ t) (indent : Indent) (len : ℕ) (read : List GapSite) (is : List LineRole) → IsScan s → len ≡ length t.text → ((scan : IsScan t) → read ≡ changed_in indent is t scan) → All (LiesIn len) read
+lie_in_source : {s t : Scanned} (e : s ≡ t) (indent : Indent) (len : ℕ) (read : List GapSite) (is : List LineRole) → IsScan s → len ≡ length t.text → ((scan : IsScan t) → map (gap_cut indent) read ≡ changed_in indent is t scan) → All (LiesIn len) read
 lie_in_source {t = t} e indent len read is scan long h =
     let there = subst IsScan e scan in
-    let lie = changed_lie indent t.text (length t.text) (all_sites is there.lexemes) (all_lie t there is) in
-    subst (λ (n : ℕ). All (LiesIn n) read) (sym long) (subst (λ (gs : List GapSite). All (LiesIn (length t.text)) gs) (sym (h there)) lie)
+    let lie = sites_lie t.text indent 0 read (subst (AreGaps t.text 0) (sym (h there)) (all_changed_are indent t there is)) in
+    subst (λ (n : ℕ). All (LiesIn n) read) (sym long) lie
 
 -- the length that is counted is that of the layout
-counted : (m : Parsed) (indent : Indent) (scan : IsScan m.source) → laid_len indent (length m.source.text) 0 (changed_in indent (line_roles 0 (tree_of m)) m.source scan) ≡ length (layout indent (named_tree_of m) scan.lexemes)
+counted : (m : Parsed) (indent : Indent) (scan : IsScan m.source) → laid_len (length m.source.text) 0 (changed_in indent (line_roles 0 (tree_of m)) m.source scan) ≡ length (layout indent (named_tree_of m) scan.lexemes)
 unfolding laid_out
 counted m indent scan =
-    ap (λ (ss : List LineRole). laid_len indent (length m.source.text) 0 (changed_in indent ss m.source scan)) (sym (roles_mapped (text_at m.source) (value_at m.source) 0 (tree_of m)))
+    ap (λ (ss : List LineRole). laid_len (length m.source.text) 0 (changed_in indent ss m.source scan)) (sym (roles_mapped (text_at m.source) (value_at m.source) 0 (tree_of m)))
     ∙ changed_length indent m.source scan (line_roles 0 (named_tree_of m))
 
 past : (b : Bool) (n m : ℕ) → (n ≤ m → IsTrue b) → b ≡ false → m < n
@@ -59,20 +59,21 @@ pub returns-then-not-fits-clause-too_long : goal.returns-then-not-fits-clause-to
 returns-then-not-fits-clause-too_long g c = λ scan reported.
     let long = ap length (c.text.ensures.value ∙ ap (λ (x : Scanned). x.text) c.tokens-tokens.ensures.source) in
     let same = of_source c.tokens-tokens.ensures.source c.args.indent c.in_ok-sites.sites.items c.deref-2.result.now c.deref.result.now (line_roles 0 (tree_of c.args.module.now)) c.deref-2.ensures.value (c.deref.ensures.value ∙ c.in_ok-roles.ensures) c.in_ok-sites.ensures scan in
-    subst (λ (n : ℕ). max_text < n) ((λ i. laid_len c.args.indent (long i) 0 (same i)) ∙ counted c.args.module.now c.args.indent scan) (past c.fits.result _ max_text c.fits.ensures.1 c.if-not-fits.true)
+    subst (λ (n : ℕ). max_text < n) ((λ i. laid_len (long i) 0 (same i)) ∙ counted c.args.module.now c.args.indent scan) (past c.fits.result _ max_text c.fits.ensures.1 c.if-not-fits.true)
 
 pub returns-clause-edits : goal.returns-clause-edits
 returns-clause-edits g c = λ scan.
     let same = of_source c.tokens-tokens.ensures.source c.args.indent c.in_ok-sites.sites.items c.deref-3.result.now c.deref.result.now (line_roles 0 (tree_of c.args.module.now)) c.deref-3.ensures.value (c.deref.ensures.value ∙ c.in_ok-roles.ensures) c.in_ok-sites.ensures scan in
-    c.in_ok-edits.ensures
-    ∙ ap (map (edit_of c.args.indent (width_of (g.T.TextStore.unit_of c.args.store.now)) (g.T.TextStore.content c.args.store.now)))
+    let edit = edit_of (width_of (g.T.TextStore.unit_of c.args.store.now)) (g.T.TextStore.content c.args.store.now) in
+    c.in_ok-edits.ensures ∙ sym (map-map edit (gap_cut c.args.indent) c.deref-3.result.now)
+    ∙ ap (map edit)
     (same ∙ ap (λ (ss : List LineRole). changed_in c.args.indent ss c.args.module.now.source scan) (sym (roles_mapped (text_at c.args.module.now.source) (value_at c.args.module.now.source) 0 (tree_of c.args.module.now))))
 
 pub returns-clause-fits : goal.returns-clause-fits
 returns-clause-fits g c = λ scan.
     let long = ap length (c.text.ensures.value ∙ ap (λ (x : Scanned). x.text) c.tokens-tokens.ensures.source) in
     let same = of_source c.tokens-tokens.ensures.source c.args.indent c.in_ok-sites.sites.items c.deref-2.result.now c.deref.result.now (line_roles 0 (tree_of c.args.module.now)) c.deref-2.ensures.value (c.deref.ensures.value ∙ c.in_ok-roles.ensures) c.in_ok-sites.ensures scan in
-    subst (λ (n : ℕ). n ≤ max_text) ((λ i. laid_len c.args.indent (long i) 0 (same i)) ∙ counted c.args.module.now c.args.indent scan) (c.fits.ensures.0 c.if-not-fits.false)
+    subst (λ (n : ℕ). n ≤ max_text) ((λ i. laid_len (long i) 0 (same i)) ∙ counted c.args.module.now c.args.indent scan) (c.fits.ensures.0 c.if-not-fits.false)
 
 pub returns-clause-patched : goal.returns-clause-patched
 unfolding laid_out
@@ -80,7 +81,7 @@ returns-clause-patched g c = λ scan held.
     let unit = g.T.TextStore.unit_of c.args.store.now in
     let m = c.args.module.now in
     let edits = c.in_ok-edits.field-0.items in
-    let gs = changed_sites c.args.indent m.source.text (all_sites (line_roles 0 (named_tree_of m)) scan.lexemes) in
+    let gs = changed_in c.args.indent (line_roles 0 (named_tree_of m)) m.source scan in
     let made = gaps_patched unit c.args.indent m.source scan (line_roles 0 (named_tree_of m)) edits
-    (returns-clause-edits g c scan ∙ ap (λ (t : List ℕ). map (edit_of c.args.indent (width_of unit) t) gs) held) in
+    (returns-clause-edits g c scan ∙ ap (λ (t : List ℕ). map (edit_of (width_of unit) t) gs) held) in
     ap (λ (t : List ℕ). patched (width_of unit) t edits) held ∙ made

@@ -1,13 +1,13 @@
 use Rattle.ob0_layout.specs.Layout.{laid_out}
 use Rattle.ob0_layout.specs.LineRoles.{line_roles}
+use Rattle.ob0_layout.proofs.Gaps as gaps
 use Rattle.ob0_layout.proofs.Patched as patches
-use Rattle.ob0_layout.proofs.Pieced as pieces
 use Rattle.ob0_layout.proofs.laws.gaps_make_the_layout.Goals as goal
 
 pub returns : goal.returns
 unfolding laid_out
 returns c = record {
   utf8 = λ indent s scan tree. patches.layout_utf8 indent s scan (line_roles 0 tree);
-  made = λ indent s scan tree. pieces.changed_made indent s scan (line_roles 0 tree);
-  length = λ indent s scan tree. pieces.all_length indent s scan (line_roles 0 tree);
+  made = λ indent s scan tree. gaps.changed_made indent s scan (line_roles 0 tree);
+  length = λ indent s scan tree. gaps.all_length indent s scan (line_roles 0 tree);
 }

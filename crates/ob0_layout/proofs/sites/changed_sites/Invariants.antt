@@ -1,11 +1,11 @@
 use Rattle.std.proofs.Common.{◌+◌, length}
 use Rattle.ob0_scan.specs.Scanned.{IsScan}
-use Rattle.ob0_layout.specs.Sites.{all_sites}
-use Rattle.ob0_layout.proofs.Written.{Changing}
+use Rattle.ob0_layout.specs.Gaps.{all_gaps}
+use Rattle.ob0_layout.proofs.Ahead.{Passing}
 use Rattle.ob0_layout.proofs.sites.changed_sites.Given as goal
 
 abbrev pub invariant-loop-next : goal.invariant-loop-next
-invariant-loop-next l = (scan : IsScan l.tokens) → Changing l.indent l.text (all_sites l.fn.roles scan.lexemes) l.left l.comments l.roles l.before l.level l.start l.sites.items
+invariant-loop-next l = (scan : IsScan l.tokens) → Passing l.indent l.text (all_gaps l.indent l.text l.fn.roles scan.lexemes) l.left l.comments l.roles l.before l.level l.start l.sites.items
 
 abbrev pub decreases-loop-next : goal.decreases-loop-next
 decreases-loop-next l = length l.left + length l.comments

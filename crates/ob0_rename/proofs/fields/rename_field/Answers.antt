@@ -6,7 +6,7 @@ use Rattle.ob0_tree.specs.Parsed.{named_tree_of}
 use Rattle.ob0_tree.specs.Places.{text_at}
 use Rattle.ob0_language_names.specs.Names.{Name, same_name}
 use Rattle.ob0_scope_table.specs.Resolution.{Resolution, span_at}
-use Rattle.ob0_analysis.specs.CheckedModules.{IsWellTyped}
+use Rattle.ob0_types.specs.CheckedModules.{IsWellTyped}
 use Rattle.ob0_edits_tokens.specs.Ranges.{range_of}
 use Rattle.ob0_edits_tokens.specs.Replaced.{AreNames}
 use Rattle.ob0_language_fields.specs.Renaming.{FieldFree}
@@ -27,26 +27,26 @@ returns-in-Some-clause-answers g c = λ place.
     let text = g.T.TextStore.content c.args.store.now in
     let new = c.args.new.now in
     let names = c.resolved-names.result.now in
-    let f : Name = text_at names.module_read.source c.args.field.0 in
+    let f : Name = text_at names.module_read.source c.args.token in
     let id = c.is_identifier.ensures.0 c.if-not-is_identifier.false in
-    let old = c.text_at-old.ensures ∙ ap (λ (s : Scanned). text_at s c.args.field.0) c.tokens-2.ensures in
-    let other : (if same_name new f then None else declaring_field names.module_read c.args.field.1 new) ≡ Some c.in-Some.token =
-    (λ i. if same_name new (sym old i) then None else declaring_field (c.resolved-names.ensures.value i).module_read c.args.field.1 new) ∙ (sym c.other_field.ensures ∙ c.in-Some.is) in
-    let range = c.token_range.ensures c.in-Some.token refl ∙ ap (λ (s : Scanned). range_of (width_of unit) text (span_at s c.in-Some.token)) c.tokens-in-Some.ensures in
-    let refused = duplicated unit text place new c.args.field.1 f names id c.duplicate_by_token.ensures c.in-Some.token (refusal.Duplicate c.token_range.result) other (ap (λ r. refusal.Duplicate r) range) in
-    inr (subst (λ (x : Resolution). IsRefusedToField (requested_field unit text place new c.args.field.1 (text_at x.module_read.source c.args.field.0) x) c.args.field.1 (text_at x.module_read.source c.args.field.0) (refusal.Duplicate c.token_range.result)) c.resolved-names.ensures.value refused)
+    let old = c.text_at-old.ensures ∙ ap (λ (s : Scanned). text_at s c.args.token) c.tokens-2.ensures in
+    let other : (if same_name new f then None else declaring_field names.module_read c.args.owner new) ≡ Some c.in-Some.other =
+    (λ i. if same_name new (sym old i) then None else declaring_field (c.resolved-names.ensures.value i).module_read c.args.owner new) ∙ (sym c.other_field.ensures ∙ c.in-Some.is) in
+    let range = c.token_range.ensures c.in-Some.other refl ∙ ap (λ (s : Scanned). range_of (width_of unit) text (span_at s c.in-Some.other)) c.tokens-in-Some.ensures in
+    let refused = duplicated unit text place new c.args.owner f names id c.duplicate_by_token.ensures c.in-Some.other (refusal.Duplicate c.token_range.result) other (ap (λ r. refusal.Duplicate r) range) in
+    inr (subst (λ (x : Resolution). IsRefusedToField (requested_field unit text place new c.args.owner (text_at x.module_read.source c.args.token) x) c.args.owner (text_at x.module_read.source c.args.token) (refusal.Duplicate c.token_range.result)) c.resolved-names.ensures.value refused)
 
 pub returns-in_ok-tokens-in-None-clause-answers : goal.returns-in_ok-tokens-in-None-clause-answers
 returns-in_ok-tokens-in-None-clause-answers g c = λ place.
     let unit = g.T.TextStore.unit_of c.args.store.now in
     let text = g.T.TextStore.content c.args.store.now in
     let new = c.args.new.now in
-    let k : ℕ = c.args.field.1 in
+    let k : ℕ = c.args.owner in
     let names = c.resolved-names.result.now in
-    let f : Name = text_at names.module_read.source c.args.field.0 in
+    let f : Name = text_at names.module_read.source c.args.token in
     let well = subst IsWellTyped (sym c.resolved-names.ensures.value) c.resolved-names.ensures.well_typed in
     let id = c.is_identifier.ensures.0 c.if-not-is_identifier.false in
-    let old = c.text_at-old.ensures ∙ ap (λ (s : Scanned). text_at s c.args.field.0) c.tokens-2.ensures in
+    let old = c.text_at-old.ensures ∙ ap (λ (s : Scanned). text_at s c.args.token) c.tokens-2.ensures in
     let other : (if same_name new f then None else declaring_field names.module_read k new) ≡ None =
     (λ i. if same_name new (sym old i) then None else declaring_field (c.resolved-names.ensures.value i).module_read k new) ∙ (sym c.other_field.ensures ∙ c.in-None.is) in
     let free : FieldFree (named_tree_of names.module_read) k f new = c.duplicate_by_token.ensures names.module_read k f new ∙ other_none (same_name new f) (declaring_field names.module_read k new) other in
@@ -58,7 +58,7 @@ returns-in_ok-tokens-in-None-clause-answers g c = λ place.
     (subst (λ (s : Scanned). Edited unit text new s c.deref.result.now c.edits_for.result) c.tokens-in-None.ensures made) in
     let found = subst (λ (x : Resolution). AreNames x.module_read.source.tokens 0 c.in_ok-tokens-in-None.tokens.items) (sym c.resolved-names.ensures.value) c.in_ok-tokens-in-None.ensures.names in
     let are = subst (AreNames names.module_read.source.tokens 0) value found in
-    subst (λ (x : Resolution). AnswersForField (requested_field unit text place new k (text_at x.module_read.source c.args.field.0) x) k (text_at x.module_read.source c.args.field.0) c.edits_for.result) c.resolved-names.ensures.value
+    subst (λ (x : Resolution). AnswersForField (requested_field unit text place new k (text_at x.module_read.source c.args.token) x) k (text_at x.module_read.source c.args.token) c.edits_for.result) c.resolved-names.ensures.value
     (field_answered unit text place new k f names well id free c.free_field_keeps_modules.ensures c.renamed_at_tokens.ensures c.renamed_words_spell.ensures c.names_replace_names.ensures are c.edits_for.result there)
 
 pub returns-in_ok-tokens-in-None-clause-own_name : goal.returns-in_ok-tokens-in-None-clause-own_name
@@ -66,12 +66,12 @@ returns-in_ok-tokens-in-None-clause-own_name g c = λ id own.
     let unit = g.T.TextStore.unit_of c.args.store.now in
     let text = g.T.TextStore.content c.args.store.now in
     let new = c.args.new.now in
-    let k : ℕ = c.args.field.1 in
+    let k : ℕ = c.args.owner in
     let names = c.resolved-names.result.now in
-    let f : Name = text_at names.module_read.source c.args.field.0 in
-    let same : new ≡ f = own ∙ ap (λ (x : Resolution). text_at x.module_read.source c.args.field.0) (sym c.resolved-names.ensures.value) in
+    let f : Name = text_at names.module_read.source c.args.token in
+    let same : new ≡ f = own ∙ ap (λ (x : Resolution). text_at x.module_read.source c.args.token) (sym c.resolved-names.ensures.value) in
     let scan = subst IsScan c.tokens.ensures c.text-text.ensures.scan in
-    let old = c.text_at-old.ensures ∙ ap (λ (s : Scanned). text_at s c.args.field.0) c.tokens-2.ensures in
+    let old = c.text_at-old.ensures ∙ ap (λ (s : Scanned). text_at s c.args.token) c.tokens-2.ensures in
     let value = c.in_ok-tokens-in-None.ensures.value ∙ (λ i. field_tokens_to_rename (sym c.resolved-names.ensures.value i) k (old i) new) in
     let places = c.deref.ensures.value ∙ value in
     let made : Edited unit text new c.tokens-in-None.result.now c.deref.result.now c.edits_for.result =

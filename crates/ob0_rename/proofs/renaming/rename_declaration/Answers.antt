@@ -3,7 +3,7 @@ use Rattle.ob0_scan.specs.Scanned.{IsScan, Scanned}
 use Rattle.ob0_tree.specs.Parsed.{named_tree_of}
 use Rattle.ob0_scope.specs.Renames.{other_of, place_of}
 use Rattle.ob0_scope_table.specs.Resolution.{Resolution}
-use Rattle.ob0_analysis.specs.CheckedModules.{IsWellTyped}
+use Rattle.ob0_types.specs.CheckedModules.{IsWellTyped}
 use Rattle.ob0_edits_tokens.specs.Replaced.{AreNames}
 use Rattle.ob0_rename.specs.Answers.{AnswersDeclaration, IsRefusedTo}
 use Rattle.ob0_rename.specs.Renaming.{is_declared_as}

@@ -24,7 +24,9 @@ pub returns-in-Truth : goal.returns-in-Truth
 returns-in-Truth c =
     let a = c.args.a.now in
     let P : Lowered → Type 0 = λ l. Lowers c.args.scene.now (expression_of a.value) l in
-    truth_assigned c.args.scene.now a.target.name (items_of selector_of a.target.selectors.items) a.value c.in_ok-target.target c.in-Truth.t c.in_ok-target.ensures (subst P c.in-Truth.is c.in_ok-n.ensures.lowers)
+    let Q : lowered.Instruction → Type 0 = λ k. StatementLowers c.args.scene.now k (in_labels c.args.scene.now.resolved.now (assignment_of a)) in
+    subst Q (sym c.store_truth.ensures)
+    (truth_assigned c.args.scene.now a.target.name (items_of selector_of a.target.selectors.items) a.value c.in_ok-target.target c.in-Truth.t c.in_ok-target.ensures (subst P c.in-Truth.is c.in_ok-n.ensures.lowers))
 
 pub returns-in-Block : goal.returns-in-Block
 returns-in-Block c =

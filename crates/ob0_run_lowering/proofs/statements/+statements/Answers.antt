@@ -29,19 +29,19 @@ branches-loop-part-init t c =
     let e = in_labels r (expression_of i.condition) in
     let a = in_labels r (sequence_listed i.then.items) in
     let b : Branch = record { condition = c.in_ok-first.first; body = c.in_ok-then.then } in
-    let pushed : c.push.new.self.items ≡ b ∷ [] = c.in_ok-push.ensures.items ∙ ap (λ z. z ++ b ∷ []) c.new-branches.ensures.items in
-    let P : List Branch → Type 0 = λ made. BranchesMade scene r e a c.deref-part-items.result.now 0 made in
-    subst P (sym pushed) (branches_begin scene r e a c.deref-part-items.result.now b (condition-lowers scene i.condition c.in_ok-first.first c.in_ok-first.ensures.lowers) c.in_ok-then.ensures)
+    let P : List Branch → Type 0 = λ others. BranchesMade scene r e a c.deref-part-items.result.now 0 (b ∷ others) in
+    subst P (sym c.new-others.ensures.items) (branches_begin scene r e a c.deref-part-items.result.now b (condition-lowers scene i.condition c.in_ok-first.first c.in_ok-first.ensures.lowers) c.in_ok-then.ensures)
 
 pub branches-loop-part-preserved : goal.branches-loop-part-preserved
 branches-loop-part-preserved t c =
     let scene = c.args.scene.now in
     let r = scene.resolved.now in
     let i = out-If c.args.i.now in
+    let first : Branch = record { condition = c.loop-part.first-1; body = c.in_ok-then.then } in
     let b : Branch = record { condition = c.in_ok-condition.condition; body = c.in_ok-body.body } in
-    let P : List Branch → Type 0 = λ made. BranchesMade scene r (in_labels r (expression_of i.condition)) (in_labels r (sequence_listed i.then.items)) c.deref-part-items.result.now (c.loop-part.part-index + 1) made in
+    let P : List Branch → Type 0 = λ others. BranchesMade scene r (in_labels r (expression_of i.condition)) (in_labels r (sequence_listed i.then.items)) c.deref-part-items.result.now (c.loop-part.part-index + 1) (first ∷ others) in
     let step = branches_go_on c.part-item.result b c.loop-part.invariant c.loop-part-test.true c.part-item.is (condition-lowers scene c.part-item.result.condition c.in_ok-condition.condition c.in_ok-condition.ensures.lowers) c.in_ok-body.ensures in
-    subst P (sym c.in_ok-push-2.ensures.items) step
+    subst P (sym c.in_ok-push.ensures.items) step
 
 pub branches-returns-in-None : goal.branches-returns-in-None
 branches-returns-in-None t c =
@@ -49,12 +49,13 @@ branches-returns-in-None t c =
     let r = scene.resolved.now in
     let i = out-If c.args.i.now in
     let last = in_labels r (else_in i.otherwise) in
-    let made = lowered.chooses (all_branches c.loop-part.branches.items) (sequence_of c.new.result.items) in
+    let first : Branch = record { condition = c.loop-part.first-1; body = c.in_ok-then.then } in
+    let made = lowered.chooses (all_branches (first ∷ c.loop-part.others.items)) (sequence_of c.new.result.items) in
     let whole = branches_end (sequence_of c.new.result.items) last c.loop-part.invariant c.loop-part-test.false (none_otherwise scene r i.otherwise c.new.result.items c.in-None.is c.new.ensures.items) in
     let P : List Elsif → Type 0 = λ parts. StatementLowers scene made (branches (in_labels r (expression_of i.condition)) (in_labels r (sequence_listed i.then.items)) (in_labels r (items_of elsif_of parts)) last) in
     let Q : Tree Label sort.statement → Type 0 = λ a. StatementLowers scene made a in
     let R : lowered.Instruction → Type 0 = λ code. StatementLowers scene code (in_labels r (if_of c.args.i.now)) in
-    subst R (sym (if_rolled (record { branches = c.loop-part.branches; otherwise = c.new.result }))) (subst Q (sym (ap (in_labels r) (tree.if_parts c.args.i.now))) (subst P c.deref-part-items.ensures.value whole))
+    subst R (sym (if_rolled (record { condition = c.loop-part.first-1; body = c.in_ok-then.then; others = c.loop-part.others; otherwise = c.new.result }))) (subst Q (sym (ap (in_labels r) (tree.if_parts c.args.i.now))) (subst P c.deref-part-items.ensures.value whole))
 
 pub branches-returns-in_ok-otherwise-in-Some : goal.branches-returns-in_ok-otherwise-in-Some
 branches-returns-in_ok-otherwise-in-Some t c =
@@ -63,12 +64,13 @@ branches-returns-in_ok-otherwise-in-Some t c =
     let i = out-If c.args.i.now in
     let last = in_labels r (else_in i.otherwise) in
     let otherwise = c.in_ok-otherwise-in-Some.otherwise in
-    let made = lowered.chooses (all_branches c.loop-part.branches.items) (sequence_of otherwise.items) in
+    let first : Branch = record { condition = c.loop-part.first-1; body = c.in_ok-then.then } in
+    let made = lowered.chooses (all_branches (first ∷ c.loop-part.others.items)) (sequence_of otherwise.items) in
     let whole = branches_end (sequence_of otherwise.items) last c.loop-part.invariant c.loop-part-test.false (some_otherwise scene r i.otherwise c.in-Some.statements otherwise.items c.in-Some.is c.in_ok-otherwise-in-Some.ensures) in
     let P : List Elsif → Type 0 = λ parts. StatementLowers scene made (branches (in_labels r (expression_of i.condition)) (in_labels r (sequence_listed i.then.items)) (in_labels r (items_of elsif_of parts)) last) in
     let Q : Tree Label sort.statement → Type 0 = λ a. StatementLowers scene made a in
     let R : lowered.Instruction → Type 0 = λ code. StatementLowers scene code (in_labels r (if_of c.args.i.now)) in
-    subst R (sym (if_rolled (record { branches = c.loop-part.branches; otherwise = otherwise }))) (subst Q (sym (ap (in_labels r) (tree.if_parts c.args.i.now))) (subst P c.deref-part-items.ensures.value whole))
+    subst R (sym (if_rolled (record { condition = c.loop-part.first-1; body = c.in_ok-then.then; others = c.loop-part.others; otherwise = otherwise }))) (subst Q (sym (ap (in_labels r) (tree.if_parts c.args.i.now))) (subst P c.deref-part-items.ensures.value whole))
 
 pub sequence-loop-s-init : goal.sequence-loop-s-init
 sequence-loop-s-init t c =

@@ -2,27 +2,41 @@ use Rattle.std.proofs.Common.{arith, sym, ap, ◌∙◌}
 use Rattle.std.proofs.lemmas.Result.{err_from_is_err_and}
 use Rattle.ob0_run_machine.specs.Levels.{levels_of}
 use Rattle.ob0_run_machine.specs.View.{statement_of}
-use Rattle.ob0_run_machine.proofs.Executing.{branch_taken, branches_begin, does_statement, ending_by, branches_end, branches_fail, branches_on, leaving, repeat_begins, repeat_body_fails, repeat_bound, repeat_ends, repeat_fails, repeat_on, sequence_begins, sequence_ends, sequence_fails, sequence_on, settled, turn_made, while_begins, while_body_fails, while_bound, while_ends, while_fails, while_on}
+use Rattle.ob0_run_machine.proofs.Executing.{branch_taken, branches_begin, does_statement, ending_by, branches_end, branches_fail, branches_on, if_fails, if_passed, if_taken, leaving, repeat_begins, repeat_body_fails, repeat_bound, repeat_ends, repeat_fails, repeat_on, sequence_begins, sequence_ends, sequence_fails, sequence_on, settled, turn_made, while_begins, while_body_fails, while_bound, while_ends, while_fails, while_on}
 use Rattle.ob0_run_machine.proofs.Viewed.{if_made, repeat_made, while_made}
 use Rattle.ob0_run_machine.proofs.statements.+execution.Goals as goal
 
-pub branches-loop-branch-init : goal.branches-loop-branch-init
-branches-loop-branch-init g t c = branches_begin c.deref-branch-items.ensures.value
-
 pub branches-returns-in_err-evaluate_condition : goal.branches-returns-in_err-evaluate_condition
 branches-returns-in_err-evaluate_condition g t c = ending_by c.in_err-evaluate_condition.field-0.0 (err_from_is_err_and c.from_residual.result c.from_residual.ensures.1)
-    (branches_fail c.in_err-evaluate_condition.field-0.0 c.branch-item.result c.loop-branch.invariant c.loop-branch-test.true c.branch-item.is c.in_err-evaluate_condition.ensures)
+    (if_fails c.args.machine.now c.args.turns (levels_of c.args.level.now) c.args.i.now c.in_err-evaluate_condition.field-0.0 c.in_err-evaluate_condition.ensures)
 
 pub branches-returns-then-branch : goal.branches-returns-then-branch
-branches-returns-then-branch g t c =
-    branch_taken c.sequence.result _ c.branch-item.result c.loop-branch.invariant c.loop-branch-test.true c.branch-item.is (settled c.in_ok-evaluate_condition.ensures c.if-branch.true) c.deref.ensures.value c.sequence.ensures
+branches-returns-then-branch g t c = if_taken c.args.turns (levels_of c.args.level.now) c.args.i.now c.sequence.result _ (settled c.in_ok-evaluate_condition.ensures c.if-branch.true) c.deref.ensures.value c.sequence.ensures
 
-pub branches-loop-branch-preserved : goal.branches-loop-branch-preserved
-branches-loop-branch-preserved g t c =
-    branches_on c.branch-item.result c.loop-branch.invariant c.loop-branch-test.true c.branch-item.is (settled c.in_ok-evaluate_condition.ensures c.if-branch.false)
+pub branches-returns-then-count-eq0 : goal.branches-returns-then-count-eq0
+branches-returns-then-count-eq0 g t c = if_passed c.args.turns (levels_of c.args.level.now) c.args.i.now c.sequence_if_any.result (settled c.in_ok-evaluate_condition.ensures c.if-branch.false)
+    (branches_end {t = c.args.turns} {ls = levels_of c.args.level.now} c.sequence_if_any.result _ (branches_begin c.as_slice-others.ensures.value) (omega (arith, c.if-count-eq0.true)) c.deref-then-count-eq0.ensures.value c.sequence_if_any.ensures)
 
 pub branches-returns : goal.branches-returns
-branches-returns g t c = branches_end c.sequence_if_any.result _ c.loop-branch.invariant c.loop-branch-test.false c.deref-2.ensures.value c.sequence_if_any.ensures
+branches-returns g t c = if_passed c.args.turns (levels_of c.args.level.now) c.args.i.now c.other_branches.result (settled c.in_ok-evaluate_condition.ensures c.if-branch.false) c.other_branches.ensures
+
+pub other_branches-loop-branch-init : goal.other_branches-loop-branch-init
+other_branches-loop-branch-init g t c = branches_begin c.deref-branch-items.ensures.value
+
+pub other_branches-returns-in_err-evaluate_condition : goal.other_branches-returns-in_err-evaluate_condition
+other_branches-returns-in_err-evaluate_condition g t c = ending_by c.in_err-evaluate_condition.field-0.0 (err_from_is_err_and c.from_residual.result c.from_residual.ensures.1)
+    (branches_fail c.in_err-evaluate_condition.field-0.0 c.branch-item.result c.loop-branch.invariant c.loop-branch-test.true c.branch-item.is c.in_err-evaluate_condition.ensures)
+
+pub other_branches-returns-then-branch : goal.other_branches-returns-then-branch
+other_branches-returns-then-branch g t c =
+    branch_taken c.sequence.result _ c.branch-item.result c.loop-branch.invariant c.loop-branch-test.true c.branch-item.is (settled c.in_ok-evaluate_condition.ensures c.if-branch.true) c.deref.ensures.value c.sequence.ensures
+
+pub other_branches-loop-branch-preserved : goal.other_branches-loop-branch-preserved
+other_branches-loop-branch-preserved g t c =
+    branches_on c.branch-item.result c.loop-branch.invariant c.loop-branch-test.true c.branch-item.is (settled c.in_ok-evaluate_condition.ensures c.if-branch.false)
+
+pub other_branches-returns : goal.other_branches-returns
+other_branches-returns g t c = branches_end c.sequence_if_any.result _ c.loop-branch.invariant c.loop-branch-test.false c.deref-2.ensures.value c.sequence_if_any.ensures
 
 pub run_loop-loop-left-init : goal.run_loop-loop-left-init
 run_loop-loop-left-init g t c = while_begins

@@ -2,8 +2,8 @@ use Rattle.ob0_run_machine.specs.Levels.{levels_of}
 use Rattle.ob0_run_machine.proofs.Executing.{InBranches, InRepeat, InSequence, InWhile}
 use Rattle.ob0_run_machine.proofs.statements.+execution.Given as goal
 
-abbrev pub invariant-branches-loop-branch : goal.invariant-branches-loop-branch
-invariant-branches-loop-branch g l = InBranches (goal.F-post g l.enter) l.fn.machine l.machine l.turns (levels_of l.level) l.i l.branch-items l.branch-index
+abbrev pub invariant-other_branches-loop-branch : goal.invariant-other_branches-loop-branch
+invariant-other_branches-loop-branch g l = InBranches (goal.F-post g l.enter) l.fn.machine l.machine l.turns (levels_of l.level) l.i l.branch-items l.branch-index
 
 abbrev pub invariant-run_loop-loop-left : goal.invariant-run_loop-loop-left
 invariant-run_loop-loop-left g l = InWhile (goal.F-post g l.enter) l.fn.machine l.machine l.turns (levels_of l.level) l.w l.left

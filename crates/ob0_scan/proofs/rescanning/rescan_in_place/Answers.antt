@@ -1,11 +1,12 @@
-use Rattle.std.proofs.Common.{◌≡◌, ◌+◌, ◌-◌, ℕ, List, length, refl, sym, ap, ap₂, ◌∙◌, subst, take, drop, arith}
+use Rattle.std.proofs.Common.{◌≡◌, ◌≤◌, ◌+◌, ◌-◌, ℕ, List, length, refl, sym, ap, ap₂, ◌∙◌, subst, take, drop, arith}
 use Rattle.ob0_scan.specs.declared.lexeme.Token.{Token}
 use Rattle.ob0_scan.specs.Scanned.{Scanned, IsScanOf}
 use Rattle.ob0_scan.specs.Reused.{kinds, names_in, words_in, Reuses}
+use Rattle.ob0_scan.specs.Rescanning.{with_between}
 use Rattle.ob0_scan.proofs.Alike.{kinds_stay}
-use Rattle.ob0_scan.proofs.Named.{names_stay, words_stay}
-use Rattle.ob0_scan.proofs.SameKinds.{joined_tokens, same_tokens}
-use Rattle.ob0_scan.specs.SameKinds.{HasSameTokens}
+use Rattle.ob0_scan.proofs.Named.{back_written, front_written, names_stay, words_stay}
+use Rattle.ob0_scan.proofs.SameKinds.{joined_length, joined_tokens, same_tokens}
+use Rattle.ob0_scan.specs.SameKinds.{HasSameTokens, HasSameWords}
 use Rattle.ob0_scan.specs.declared.tokens.SameTokens.{SameTokens}
 use Rattle.ob0_scan.proofs.rescanning.rescan_in_place.Goals as goal
 
@@ -57,3 +58,22 @@ returns-in_ok-tokens-in-Ok-clause-same c =
     ap₂ (λ (x y : List Token). length x - (length y - last)) (c.tokens-in-Ok-2.ensures ∙ is) c.tokens-in-Ok.ensures in
     subst (λ (l : List Token). HasSameTokens s old l) (sym is)
     (same_tokens old b.tokens.items b.front.tokens last c.args.removed c.args.added s c.in-Ok.ensures.ok.tokens_ordered c.in-Ok.ensures.ok.tokens_inside refl refl counts)
+
+pub returns-in_ok-tokens-in-Ok-clause-written : goal.returns-in_ok-tokens-in-Ok-clause-written
+returns-in_ok-tokens-in-Ok-clause-written c =
+    let b = c.in-Ok.between in
+    let old : Scanned = c.args.old in
+    let new : Scanned = c.in_ok-tokens-in-Ok.tokens in
+    let whole = with_between old c.args.new_text.now c.args.removed c.args.added b in
+    let w = c.in-Ok.ensures.ok in
+    let last : ℕ = b.following.tokens in
+    let s : SameTokens = record { front = b.front.tokens; old_back = last; back = length c.tokens-in-Ok-2.result.now - (length c.tokens-in-Ok.result.now - last) } in
+    let counts : s.back ≡ length whole.tokens - (length old.tokens - last) =
+    ap₂ (λ (x y : List Token). length x - (length y - last)) (c.tokens-in-Ok-2.ensures ∙ ap (λ (s : Scanned). s.tokens) c.in_ok-tokens-in-Ok.ensures) c.tokens-in-Ok.ensures in
+    let inside : b.front.tokens ≤ length old.tokens = omega (arith, w.tokens_ordered, w.tokens_inside) in
+    let at : s.back ≡ b.front.tokens + length b.tokens.items = omega (arith, counts, joined_length old.tokens b.tokens.items b.front.tokens last c.args.removed c.args.added inside, w.tokens_inside) in
+    subst (λ (n : Scanned). HasSameWords s old n) (sym c.in_ok-tokens-in-Ok.ensures)
+    (record {
+      front = front_written old c.args.new_text.now c.args.from c.args.removed c.args.added b c.requires w;
+      back = back_written old c.args.new_text.now c.args.from c.args.removed c.args.added s.back b c.requires w at;
+    })

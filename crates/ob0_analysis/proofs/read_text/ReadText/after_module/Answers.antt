@@ -13,6 +13,7 @@ of_scan-requires c = record {
   old_scan = c.text-text.ensures.scan;
   new_scan = c.in-Ok.ensures.ok.scan;
   same = c.in-Ok.ensures.same;
+  written = c.in-Ok.ensures.written;
   alike = c.in-Ok.ensures.alike;
   same_names = c.in-Ok.ensures.same_names;
   same_words = c.in-Ok.ensures.same_words;

@@ -19,4 +19,4 @@ from_parts-parts-requires-clause-types c =
     let resolved = c.bindings_keep_tokens.ensures before.old new c.args.tree c.args.bindings c.in_ok-bindings.bindings before.alike before.parsed before.was.resolved
     (record { ordinals = names.ordinals; declarations = names.declarations; occurrences = names.occurrences; faults = names.faults ∙ ap (map (fault_at new)) before.was.places_are.names }) in
     c.types_keep_tokens.ensures before.old new c.args.tree c.args.bindings c.in_ok-bindings.bindings c.args.types c.in_ok-types.types before.alike before.was.types_are resolved names.ordinals
-    (record { known = found.known; fields = found.fields; faults = found.faults ∙ ap (map (fault_at new)) before.was.places_are.of_types })
+    (record { known = found.known; fields = found.fields; faulty = found.faulty; faults = found.faults ∙ ap (map (fault_at new)) before.was.places_are.of_types })

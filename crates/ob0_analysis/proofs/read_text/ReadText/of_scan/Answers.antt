@@ -1,5 +1,5 @@
-use Rattle.std.proofs.Common.{◌≡◌, refl, sym, ◌∙◌}
-use Rattle.ob0_tree.specs.Parsed.{IsParsed, parsed_by}
+use Rattle.std.proofs.Common.{refl, ◌∙◌}
+use Rattle.ob0_tree.specs.Parsed.{parsed_by}
 use Rattle.ob0_parse.proofs.Stays.{tree_stays}
 use Rattle.ob0_analysis.proofs.read_text.ReadText.of_scan.Goals as goal
 
@@ -38,3 +38,17 @@ of_same_tree-requires-clause-resolved c =
     let alike = before.alike c.if-not-same_kinds.false in
     let parsed = tree_stays (parsed_by before.old tree) (parsed_by new tree) before.was.parsed refl before.new_scan.short alike in
     λ same none. c.bindings_stay.ensures before.old new tree c.args.bindings (record { same_kinds = alike; same_names = before.same_names same }) parsed before.was.resolved none
+
+pub of_same_tree-requires-clause-before : goal.of_same_tree-requires-clause-before
+of_same_tree-requires-clause-before c =
+    let before = c.requires in
+    record {
+      old = before.old;
+      old_scan = before.old_scan;
+      new_scan = before.new_scan;
+      resolved = before.was.resolved;
+      types_are = before.was.types_are;
+      same_kinds = before.alike c.if-not-same_kinds.false;
+      same = before.same;
+      written = before.written;
+    }

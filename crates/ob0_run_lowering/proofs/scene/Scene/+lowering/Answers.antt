@@ -23,15 +23,15 @@ factor-returns-in-Designator-clause-code t c =
 
 pub locate-loop-selector-preserved : goal.locate-loop-selector-preserved
 locate-loop-selector-preserved t c =
-    fold_goes_on c.selector-item.result _ (selected_fold c.args.self.now) c.loop-selector.invariant c.loop-selector-test.true c.selector-item.is c.in_ok-at.ensures
+    fold_goes_on c.selector-item.result _ (selected_fold c.args.self.now) c.loop-selector.invariant c.loop-selector-test.true c.selector-item.is c.in_ok-at-2.ensures
 
 pub locate-returns : goal.locate-returns
 locate-returns t c =
     let scene = c.args.self.now in
     let r = scene.resolved.now in
     fold_ends (selected_fold scene) c.loop-selector.invariant c.loop-selector-test.false
-    ∙ ap (λ xs. selected_place scene (option_map (found_of (shapes_of scene.types.now)) c.base-at.result) (in_labels r (items_of selector_of xs))) c.deref-selector-items.ensures.value
-    ∙ ap (λ o. selected_place scene o (in_labels r (items_of selector_of c.args.d.now.selectors.items))) c.base-at.ensures
+    ∙ ap (λ xs. selected_place scene (option_map (found_of (shapes_of scene.types.now)) c.in_ok-at.at) (in_labels r (items_of selector_of xs))) c.deref-selector-items.ensures.value
+    ∙ ap (λ o. selected_place scene o (in_labels r (items_of selector_of c.args.d.now.selectors.items))) c.in_ok-at.ensures
 
 pub lower_expression-returns-in-Factor-clause-code : goal.lower_expression-returns-in-Factor-clause-code
 lower_expression-returns-in-Factor-clause-code t c =

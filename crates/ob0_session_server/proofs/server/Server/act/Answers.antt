@@ -1,14 +1,17 @@
+use Rattle.std.proofs.Common.{ap, refl}
 use Rattle.std.proofs.lemmas.Result.{IfOk-weaker}
 use Rattle.ob0_rpc.specs.Seen.{id_data, kinds_seen}
+use Rattle.ob0_session_answers.specs.Actions.{RepliesToActions}
 use Rattle.ob0_session_server.specs.Answers.{offers_actions}
-use Rattle.ob0_session_server.proofs.Answering.{reacts_with}
+use Rattle.ob0_session_server.proofs.Answering.{reacts_about}
 use Rattle.ob0_session_server.proofs.server.Server.act.Goals as goal
 
 pub returns : goal.returns
 returns g c =
+    let s = c.args.self.now in
     let id = id_data c.args.id.now in
-    IfOk-weaker c.reply_with.result _ _ (λ sent replies.
-    reacts_with c.self.inside.phase c.self.inside.client c.self.inside.documents c.ask.new.self c.args.self.now id c.args.uri.now
-    (λ client version unit. offers_actions unit (record
-    { id = id; client = client; uri = c.args.uri.now; version = version; range = c.args.range; only = kinds_seen c.args.only.now })) c.in_ok-outcome.outcome sent c.self.view_is c.ask.ensures.same
-    c.in_ok-outcome.ensures.outcome replies) c.reply_with.ensures
+    IfOk-weaker c.ask.result _ _ (λ sent h.
+    reacts_about s c.ask.new.self id c.args.uri.now
+    (λ version. offers_actions s.held.unit (record { id = id; client = s.client; uri = c.args.uri.now; version = version; range = c.args.range; only = kinds_seen c.args.only.now }))
+    (λ version unit text message. RepliesToActions unit (record { id = id; client = s.client; uri = c.args.uri.now; version = version; range = c.args.range; only = kinds_seen c.args.only.now }) text message) sent
+    (λ version text message a. (a.0, a.1, (message, refl, a.2))) h) (rw (ap (λ s. s.client) c.self.view_is) at c.ask.ensures)

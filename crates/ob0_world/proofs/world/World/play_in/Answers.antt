@@ -1,14 +1,16 @@
-use Rattle.std.proofs.Common.{◌∙◌, ◌+◌, map, refl, ap, subst, inr}
+use Rattle.std.proofs.Common.{◌∙◌, ◌+◌, map, refl, ap, subst}
 use Rattle.std.proofs.lemmas.List.{take_all}
 use Rattle.ob0_world.specs.Code.{event_of}
 use Rattle.ob0_world.specs.Worlds.{BothCourse}
 use Rattle.ob0_world.proofs.world.World.play_in.Goals as goal
-use Rattle.ob0_world.proofs.Courses.{plays, plays_nothing, plays_before, course_more, come_before}
+use Rattle.ob0_world.proofs.Courses.{plays, plays_nothing, plays_before, course_more, come_before, passed_before}
 use Rattle.ob0_world.proofs.Stepping.{step_made, step_failed}
 
 -- memory ran out before the first event
 pub returns-in-Err-clause-err : goal.returns-in-Err-clause-err
-returns-in-Err-clause-err g c = (inr refl, plays_nothing c.args.unit c.nothing_played.result c.nothing_played.ensures.applied c.nothing_played.ensures.made)
+returns-in-Err-clause-err g c =
+    let none = c.nothing_played.ensures in
+    plays_nothing c.args.unit c.args.events.now (record { played = c.nothing_played.result; steps = 0 }) refl none.applied none.made none.taken none.got none.unread
 
 pub loop-event-init : goal.loop-event-init
 loop-event-init g c = (c.in-Ok.world.both, c.in-Ok.ensures.start.begins, refl, c.in-Ok.ensures.start.none, c.in-Ok.ensures.start.goes_on)
@@ -19,7 +21,7 @@ returns-in-Err-step-clause-err g c =
     let i = c.loop-event.invariant in
     let failed = step_failed _ _ _ i.4 c.in-Err-step.ensures.err in
     plays_before c.args.unit c.args.events.now c.loop-event.event-index i.0 c.loop-event.world.both (record { played = c.into_played.result; steps = c.steps-steps.result }) (c.steps-steps.ensures ∙ failed.1 ∙ i.3)
-    c.loop-event-test.true i.1 i.2 (come_before _ _ c.into_played.result failed.0 c.into_played.ensures.come)
+    c.loop-event-test.true i.1 i.2 (come_before _ _ c.into_played.result failed.0 c.into_played.ensures.come) (passed_before _ _ c.into_played.result failed.0 c.into_played.ensures.passed)
 
 pub loop-event-preserved : goal.loop-event-preserved
 loop-event-preserved g c =

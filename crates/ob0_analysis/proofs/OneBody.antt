@@ -1,0 +1,95 @@
+-- Where a text differs from the one before in one body: how its tokens differ, what its names were bound to, and what its types were.
+use Rattle.std.proofs.Common.{◌≡◌, ◌<◌, ◌≤◌, ℕ, zero, suc, ◌+◌, ◌-◌, ◌||◌, Bool, true, false, nat_le, nat_lt, List, [], ◌∷◌, length, take, drop, slice_get, refl, sym, ap, ◌∙◌, arith, length-drop}
+use Rattle.std.proofs.lemmas.Bool.Decides.{nat_tests}
+use Rattle.std.proofs.lemmas.List.{length-map}
+use Rattle.ob0_scan.specs.Reused.{kinds, valueless, words_in}
+use Rattle.ob0_scan.specs.SameKinds.{HasSameTokens, HasSameWords}
+use Rattle.ob0_scan.specs.Scanned.{Scanned, Word, read_in}
+use Rattle.ob0_scan.specs.declared.lexeme.Token.{Token}
+use Rattle.ob0_scan.specs.declared.tokens.SameTokens.{SameTokens}
+use Rattle.ob0_tree.specs.Parsed.{IsParsed, parsed_by, tree_of}
+use Rattle.ob0_tree.specs.declared.tree.ModuleTree.{ModuleTree}
+use Rattle.ob0_scope.proofs.Rebound.{ordinals_outside}
+use Rattle.ob0_scope.specs.Rebound.{WasBound}
+use Rattle.ob0_scope_table.specs.Bindings.{resolution_by}
+use Rattle.ob0_scope_table.specs.OneBody.{IsBodyChange, is_in_body, is_out}
+use Rattle.ob0_scope_table.specs.Resolution.{IsResolution}
+use Rattle.ob0_scope_table.specs.declared.resolved.Bindings.{Bindings}
+use Rattle.ob0_types.specs.OneBody.{WereTypes}
+use Rattle.ob0_types.specs.declared.checked.ModuleTypes.{ModuleTypes}
+use Rattle.ob0_analysis.specs.OneBody.{HadTree}
+
+get_taken : {A : Type 0} (k : ℕ) (xs : List A) (i : ℕ) → i < k → slice_get (take k xs) i ≡ slice_get xs i
+get_taken zero xs i less = absurd (omega (arith, less))
+get_taken (suc k) [] i less = refl
+get_taken (suc k) (x ∷ xs) zero less = refl
+get_taken (suc k) (x ∷ xs) (suc i) less = get_taken k xs i (omega (arith, less))
+
+get_dropped : {A : Type 0} (k : ℕ) (xs : List A) (i j : ℕ) → k + i ≡ j → slice_get (drop k xs) i ≡ slice_get xs j
+get_dropped zero xs i j e = let here : i ≡ j = omega (arith, e) in ap (slice_get xs) here
+get_dropped (suc k) [] i j e = refl
+get_dropped (suc k) (x ∷ xs) i zero e = absurd (omega (arith, e))
+get_dropped (suc k) (x ∷ xs) i (suc j) e = get_dropped k xs i j (omega (arith, e))
+
+module _ (s : SameTokens) (old new : Scanned) (alike : kinds new.tokens ≡ kinds old.tokens) (same : HasSameTokens s old.tokens new.tokens) (written : HasSameWords s old new) where
+  abbrev before : List Word
+  before = words_in old.text old.tokens
+
+  abbrev after : List Word
+  after = words_in new.text new.tokens
+
+  as_many : length new.tokens ≡ length old.tokens
+  as_many =
+      sym (length-map new.tokens (λ (t : Token). valueless t.kind)) ∙ (ap length alike ∙ length-map old.tokens (λ (t : Token). valueless t.kind))
+
+  same_back : s.back ≡ s.old_back
+  same_back =
+      let left : length after - s.back ≡ length before - s.old_back = sym (length-drop s.back after) ∙ (ap length written.back ∙ length-drop s.old_back before) in
+      let a : length after ≡ length new.tokens = length-map new.tokens (read_in new.text) in
+      let b : length before ≡ length old.tokens = length-map old.tokens (read_in old.text) in
+      omega (arith, left, a, b, as_many, same.back_inside, same.old_back_inside)
+
+  same_outside : (i : ℕ) → is_out s.front s.old_back i ≡ true → slice_get after i ≡ slice_get before i
+  same_outside i e = one (nat_lt i s.front) refl
+    where
+      one : (b : Bool) → nat_lt i s.front ≡ b → slice_get after i ≡ slice_get before i
+      one true h =
+          let less : i < s.front = grind (arith, nat_tests) in
+          sym (get_taken s.front after i less) ∙ (ap (λ l. slice_get l i) written.front ∙ get_taken s.front before i less)
+      one false h =
+          let late : s.old_back ≤ i = past (nat_le s.old_back i) refl (sym (ap (λ b. b || nat_le s.old_back i) h) ∙ e) in
+          let there : s.back + (i - s.old_back) ≡ i = omega (arith, late, same_back) in
+          let here : s.old_back + (i - s.old_back) ≡ i = omega (arith, late) in
+          sym (get_dropped s.back after (i - s.old_back) i there) ∙ (ap (λ l. slice_get l (i - s.old_back)) written.back ∙ get_dropped s.old_back before (i - s.old_back) i here)
+        where
+          past : (b : Bool) → nat_le s.old_back i ≡ b → b ≡ true → s.old_back ≤ i
+          past true f g = grind (arith, nat_tests)
+          past false f g = absurd (cc)
+
+module _ {new : Scanned} {tree : ModuleTree} {b : Bindings} {types : ModuleTypes} {s : SameTokens} (h : HadTree new tree b types s) (lies : is_in_body s.front s.old_back (tree_of (parsed_by new tree)) ≡ true) where
+  body_change : IsBodyChange h.old (parsed_by new tree) s.front s.old_back
+  body_change = record {
+    old_scan = h.old_scan;
+    new_scan = h.new_scan;
+    same_kinds = h.same_kinds;
+    same_words = same_outside s h.old new h.same_kinds h.same h.written;
+    in_body = lies;
+  }
+
+  pub was_bound : IsParsed (parsed_by new tree) → WasBound (parsed_by new tree) b s.front s.old_back
+  was_bound parsed = record { old = h.old; change = body_change; parsed = parsed; resolved = h.resolved }
+
+  -- where they were bound again
+  pub were_types : (c : Bindings) → IsResolution (resolution_by (parsed_by new tree) c) → WereTypes (resolution_by (parsed_by new tree) c) types s.front
+  were_types c resolved = record {
+    high = s.old_back;
+    old = h.old;
+    bindings = b;
+    change = body_change;
+    bound = ordinals_outside h.old (parsed_by new tree) s.front s.old_back b c body_change h.resolved resolved;
+    types_are = h.types_are;
+  }
+
+  -- where the names are bound as they were
+  pub kept_types : WereTypes (resolution_by (parsed_by new tree) b) types s.front
+  kept_types = record { high = s.old_back; old = h.old; bindings = b; change = body_change; bound = λ token e. refl; types_are = h.types_are }

@@ -1,0 +1,83 @@
+//! A text with the tree of the text before: its names and its types, by those of that text where the two differ in one
+//! body alone.
+
+ghost use Rattle.std.specs.Prelude.{◌≡◌, true, IfOk};
+ghost use Rattle.ob0_tree.specs.Parsed.{IsParsed, parsed_by, tree_of};
+ghost use Rattle.ob0_scope.specs.Rebound.{WasBound};
+ghost use Rattle.ob0_scope_table.specs.Bindings.{resolution_by};
+ghost use Rattle.ob0_scope_table.specs.OneBody.{is_in_body};
+ghost use Rattle.ob0_scope_table.specs.Resolution.{IsResolution};
+ghost use Rattle.ob0_types.specs.CheckedModules.{AreTypesOf};
+ghost use Rattle.ob0_types.specs.OneBody.{WereTypes};
+
+use crate::parts::check_types;
+use ob0_scan::{SameTokens, Tokens};
+use ob0_scope::{bindings_of, rebind_body};
+use ob0_scope_table::{Bindings, Resolved, is_in_body};
+use ob0_tree::{Module, ModuleTree};
+use ob0_types::{ModuleTypes, types_again};
+use std::alloc::{AllocError, Global};
+
+/// Whether the tokens that may be written otherwise than in the text before lie in one body.
+pub(crate) fn is_in_one_body(
+    tokens: &Tokens,
+    tree: &ModuleTree,
+    same: SameTokens,
+) -> Result<bool, AllocError>
+    requires { IsParsed (parsed_by tokens.now tree.now) }
+    ensures { IfOk result (λ lies. lies
+        ≡ is_in_body same.front same.old_back (tree_of (parsed_by tokens.now tree.now))) }
+{
+    let read = Module::from_parts(tokens, tree);
+    is_in_body(&read, same.front, same.old_back)
+}
+
+/// What the names are bound to: where the texts differ in one body, only that one is numbered again.
+pub(crate) fn bind_again(
+    alloc: Global,
+    tokens: &Tokens,
+    tree: &ModuleTree,
+    bindings: Bindings,
+    same: SameTokens,
+    in_body: bool,
+) -> Result<Bindings, AllocError>
+    requires parsed { IsParsed (parsed_by tokens.now tree.now) }
+    requires before { in_body ≡ true
+        → WasBound (parsed_by tokens.now tree.now) bindings same.front same.old_back }
+    ensures { IfOk result (λ b. IsResolution (resolution_by (parsed_by tokens.now tree.now) b)) }
+{
+    let read = Module::from_parts(tokens, tree);
+    if in_body {
+        rebind_body(alloc, &read, bindings, same.front, same.old_back)
+    } else {
+        drop(bindings);
+        bindings_of(alloc, &read)
+    }
+}
+
+/// What checking the types finds: where the texts differ in one body, by what it found before.
+pub(crate) fn check_again(
+    alloc: Global,
+    tokens: &Tokens,
+    tree: &ModuleTree,
+    bindings: &Bindings,
+    types: ModuleTypes,
+    same: SameTokens,
+    in_body: bool,
+) -> Result<ModuleTypes, AllocError>
+    requires parsed { IsParsed (parsed_by tokens.now tree.now) }
+    requires resolved { IsResolution (resolution_by (parsed_by tokens.now tree.now) bindings.now) }
+    requires before { in_body ≡ true → WereTypes
+        (resolution_by (parsed_by tokens.now tree.now) bindings.now) types same.front }
+    ensures { IfOk result
+        (AreTypesOf (resolution_by (parsed_by tokens.now tree.now) bindings.now)) }
+{
+    if !in_body {
+        drop(types);
+        return check_types(alloc, tokens, tree, bindings);
+    }
+    let module = Module::from_parts(tokens, tree);
+    let resolved = Resolved::from_parts(&module, bindings);
+    let again = types_again(alloc, &resolved, types, same.front)?;
+    Ok(again)
+}

@@ -1,0 +1,177 @@
+-- The gaps of a text are between its tokens and comments, and make its layout.
+-- Gaps that stay may be left out, and the length of the layout can be counted by those that change (`changed_length`).
+use Rattle.std.proofs.Common.{◌≡◌, ℕ, ◌+◌, ◌-◌, ◌≤◌, Bool, true, false, not, cond, List, [], ◌∷◌, ◌++◌, length, take, drop, map, slice_range, refl, sym, ap, ap₂, ◌∙◌, arith, append_assoc, length-append, length-drop}
+use Rattle.std.proofs.Math.Seq.{drop-length}
+use Rattle.std.specs.List.{All}
+use Rattle.std.proofs.lemmas.List.{length-take-le}
+use Rattle.std.proofs.lemmas.List.Elements.{All-cons, All-nil}
+use Rattle.std.specs.Str.{bytes_eq}
+use Rattle.std.proofs.lemmas.Slice.Eq.{bytes_eq-Decides}
+use Rattle.ob0_scan.specs.Classes.{is_space}
+use Rattle.ob0_scan.specs.Lexed.{Lexeme, joined}
+use Rattle.ob0_scan.specs.Scanned.{Scanned, IsScan}
+use Rattle.ob0_text.specs.declared.edits.Indent.{Indent}
+use Rattle.ob0_text.specs.Patches.{Cut, pieced}
+use Rattle.ob0_edits_tokens.proofs.TextCuts.{Chain}
+use Rattle.ob0_layout.specs.declared.gap.Gap.{Gap}
+use Rattle.ob0_layout.specs.declared.gap.Gap.TheVariants.{Nothing, Space, Line}
+use Rattle.ob0_layout.specs.declared.line_role.LineRole.{LineRole}
+use Rattle.ob0_layout.specs.declared.sites.GapSite.{GapSite}
+use Rattle.ob0_layout.specs.Cuts.{LiesIn, gap_cut}
+use Rattle.ob0_layout.specs.Gaps.{IsWhite, all_gaps, changed_gaps, gaps, gaps_after, is_changed, laid_len}
+use Rattle.ob0_layout.specs.Layout.{PlacedLexeme, placed, indentation, gap, gap_text, spaced, laid_after, laid}
+use Rattle.ob0_layout.proofs.Apart.{indented}
+use Rattle.ob0_layout.proofs.InText.{AreIn, IsAt, IsSpaced, White, all_in, no_white}
+use Rattle.ob0_layout.proofs.Pieced.{pieced_here, pieced_later, two_parts}
+
+-- a gap, at a place or after it: white space alone is there, and is put there
+pub record IsGap (text : List ℕ) (at : ℕ) (c : Cut) : Type 0 where
+  pub up : at ≤ c.from
+  pub old : IsSpaced text c.from c.to
+  pub new : White c.new
+
+-- gaps from a place on, in order
+unfoldable pub AreGaps : List ℕ → ℕ → List Cut → Type 0
+AreGaps text at [] = Unit {0}
+AreGaps text at (c ∷ cs) = IsGap text at c × AreGaps text c.to cs
+
+laid_white : (indent : Indent) (g : Gap) → White (gap_text indent g)
+laid_white indent Nothing = no_white
+laid_white indent Space = All-cons (λ b. is_space b ≡ true) 32 [] refl no_white
+laid_white indent (Line level) = All-cons (λ b. is_space b ≡ true) 10 (indentation indent level) refl (indented indent level)
+
+gap_white : (indent : Indent) (a b : PlacedLexeme) → White (gap indent a b)
+unfolding gap
+gap_white indent a b = laid_white indent _
+
+joined_spaced : (g : List ℕ) (ls : List Lexeme) → joined (spaced g ++ ls) ≡ g ++ joined ls
+joined_spaced [] ls = refl
+joined_spaced (b ∷ bs) ls = refl
+
+module _ (text : List ℕ) where
+  earlier : (a b : ℕ) (cs : List Cut) → a ≤ b → AreGaps text b cs → AreGaps text a cs
+  unfolding AreGaps
+  earlier a b [] h are = tt
+  earlier a b (c ∷ cs) h are = (record { up = omega (arith, h, are.0.up); old = are.0.old; new = are.0.new }, are.1)
+
+  pub chain : (at : ℕ) (cs : List Cut) → AreGaps text at cs → Chain at cs
+  unfolding AreGaps
+  chain at [] are = tt
+  chain at (c ∷ cs) are = (are.0.up, are.0.old.ordered, chain c.to cs are.1)
+
+  all_white : (at : ℕ) (cs : List Cut) → AreGaps text at cs → All (IsWhite text) cs
+  unfolding AreGaps
+  all_white at [] are = All-nil (IsWhite text)
+  all_white at (c ∷ cs) are = All-cons (IsWhite text) c cs are.0.old.white (all_white c.to cs are.1)
+
+  new_white : (at : ℕ) (cs : List Cut) → AreGaps text at cs → All (λ (c : Cut). White c.new) cs
+  unfolding AreGaps
+  new_white at [] are = All-nil (λ (c : Cut). White c.new)
+  new_white at (c ∷ cs) are = All-cons (λ (c : Cut). White c.new) c cs are.0.new (new_white c.to cs are.1)
+
+  pub sites_lie : (indent : Indent) (at : ℕ) (gs : List GapSite) → AreGaps text at (map (gap_cut indent) gs) → All (LiesIn (length text)) gs
+  unfolding AreGaps
+  sites_lie indent at [] are = All-nil (LiesIn (length text))
+  sites_lie indent at (g ∷ gs) are = All-cons (LiesIn (length text)) g gs (record { ordered = are.0.old.ordered; within = are.0.old.within }) (sites_lie indent g.end gs are.1)
+
+  pub changed_are : (at : ℕ) (cs : List Cut) → AreGaps text at cs → AreGaps text at (changed_gaps text cs)
+  unfolding AreGaps
+  changed_are at [] are = tt
+  changed_are at (c ∷ cs) are = elim (is_changed text c) as (λ b. AreGaps text at (cond b (c ∷ changed_gaps text cs) (changed_gaps text cs))) [
+    | true ↦ (are.0, changed_are c.to cs are.1)
+    | false ↦ earlier at c.to (changed_gaps text cs) (omega (arith, are.0.up, are.0.old.ordered)) (changed_are c.to cs are.1)
+  ]
+
+  -- gaps that stay may be left out
+  kept_or_changed : (at : ℕ) (cs : List Cut) → AreGaps text at cs → pieced text at (changed_gaps text cs) ≡ pieced text at cs
+  unfolding pieced AreGaps
+  kept_or_changed at [] are = refl
+  kept_or_changed at (c ∷ cs) are = by_test (bytes_eq (slice_range text c.from c.to) c.new) refl (kept_or_changed c.to cs are.1)
+    where
+      by_test : (b : Bool) → bytes_eq (slice_range text c.from c.to) c.new ≡ b → pieced text c.to (changed_gaps text cs) ≡ pieced text c.to cs → pieced text at (changed_gaps text (c ∷ cs)) ≡ pieced text at (c ∷ cs)
+      by_test true e more =
+          let stays : slice_range text c.from c.to ≡ c.new = (bytes_eq-Decides (slice_range text c.from c.to) c.new).0 e in
+          ap (λ b. pieced text at (cond (not b) (c ∷ changed_gaps text cs) (changed_gaps text cs))) e
+          ∙ pieced_later text at c.to (changed_gaps text cs) (omega (arith, are.0.up, are.0.old.ordered)) (chain c.to (changed_gaps text cs) (changed_are c.to cs are.1))
+          ∙ ap (λ xs. take (c.to - at) (drop at text) ++ xs) more
+          ∙ ap (λ xs. xs ++ pieced text c.to cs) (two_parts text at c.from c.to are.0.up are.0.old.ordered)
+          ∙ append_assoc (take (c.from - at) (drop at text)) (slice_range text c.from c.to) (pieced text c.to cs)
+          ∙ ap (λ xs. take (c.from - at) (drop at text) ++ (xs ++ pieced text c.to cs)) stays
+      by_test false e more =
+          ap (λ b. pieced text at (cond (not b) (c ∷ changed_gaps text cs) (changed_gaps text cs))) e
+          ∙ ap (λ xs. take (c.from - at) (drop at text) ++ (c.new ++ xs)) more
+
+  made_length : (at : ℕ) (cs : List Cut) → AreGaps text at cs → length (pieced text at cs) ≡ laid_len (length text) at cs
+  unfolding pieced AreGaps
+  made_length at [] are = length-drop at text
+  made_length at (c ∷ cs) are =
+      let kept : length (take (c.from - at) (drop at text)) ≡ c.from - at = length-take-le (c.from - at) (drop at text) (omega (arith, length-drop at text, are.0.old.ordered, are.0.old.within, are.0.up)) in
+      length-append (take (c.from - at) (drop at text)) (c.new ++ pieced text c.to cs)
+      ∙ ap₂ (λ a b. a + b) kept (length-append c.new (pieced text c.to cs) ∙ ap (λ n. length c.new + n) (made_length c.to cs are.1))
+
+  module _ (indent : Indent) where
+    after_are : (a : PlacedLexeme) (bs : List PlacedLexeme) → AreIn text a.span.end bs → AreGaps text a.span.end (gaps_after indent (length text) a bs)
+    unfolding AreGaps AreIn
+    after_are a [] h = (record { up = omega arith; old = h; new = All-cons (λ b. is_space b ≡ true) 10 [] refl no_white }, tt)
+    after_are a (b ∷ bs) h = (
+      record { up = omega arith; old = h.0; new = gap_white indent a b },
+      earlier b.span.start b.span.end (gaps_after indent (length text) b bs) h.1.ordered (after_are b bs h.2),
+    )
+
+    gaps_are : (bs : List PlacedLexeme) → AreIn text 0 bs → AreGaps text 0 (gaps indent (length text) bs)
+    unfolding AreGaps AreIn
+    gaps_are [] h = (record { up = omega arith; old = h; new = no_white }, tt)
+    gaps_are (b ∷ bs) h = (
+      record { up = omega arith; old = h.0; new = no_white },
+      earlier b.span.start b.span.end (gaps_after indent (length text) b bs) h.1.ordered (after_are b bs h.2),
+    )
+
+    nothing_after : pieced text (length text) [] ≡ []
+    unfolding pieced
+    nothing_after = drop-length text
+
+    -- a token or comment, and then the gaps after it
+    over : (b : PlacedLexeme) (bs : List PlacedLexeme) → IsAt text b → AreIn text b.span.end bs → pieced text b.span.end (gaps_after indent (length text) b bs) ≡ joined (laid_after indent b bs)
+        → pieced text b.span.start (gaps_after indent (length text) b bs) ≡ joined (b.lexeme ∷ laid_after indent b bs)
+    over b bs is h more =
+        pieced_later text b.span.start b.span.end (gaps_after indent (length text) b bs) is.ordered (chain b.span.end (gaps_after indent (length text) b bs) (after_are b bs h))
+        ∙ ap₂ (λ xs ys. xs ++ ys) is.here more
+
+    after_made : (a : PlacedLexeme) (bs : List PlacedLexeme) → AreIn text a.span.end bs → pieced text a.span.end (gaps_after indent (length text) a bs) ≡ joined (laid_after indent a bs)
+    unfolding AreIn
+    after_made a [] h = pieced_here text a.span.end (length text) (10 ∷ []) [] ∙ ap (λ xs. 10 ∷ xs) nothing_after
+    after_made a (b ∷ bs) h =
+        pieced_here text a.span.end b.span.start (gap indent a b) (gaps_after indent (length text) b bs)
+        ∙ ap (λ xs. gap indent a b ++ xs) (over b bs h.1 h.2 (after_made b bs h.2))
+        ∙ sym (joined_spaced (gap indent a b) (b.lexeme ∷ laid_after indent b bs))
+
+    gaps_made : (bs : List PlacedLexeme) → AreIn text 0 bs → pieced text 0 (gaps indent (length text) bs) ≡ joined (laid indent bs)
+    unfolding AreIn
+    gaps_made [] h = pieced_here text 0 (length text) [] [] ∙ nothing_after
+    gaps_made (b ∷ bs) h = pieced_here text 0 b.span.start [] (gaps_after indent (length text) b bs) ∙ over b bs h.1 h.2 (after_made b bs h.2)
+
+-- the gaps of a scanned text
+module _ (indent : Indent) (s : Scanned) (scan : IsScan s) (ss : List LineRole) where
+  pub all_are : AreGaps s.text 0 (all_gaps indent s.text ss scan.lexemes)
+  all_are = gaps_are s.text indent (placed 0 0 true ss scan.lexemes) (all_in s scan ss)
+
+  pub all_changed_are : AreGaps s.text 0 (changed_gaps s.text (all_gaps indent s.text ss scan.lexemes))
+  all_changed_are = changed_are s.text 0 (all_gaps indent s.text ss scan.lexemes) all_are
+
+  pub old_is_white : All (IsWhite s.text) (all_gaps indent s.text ss scan.lexemes)
+  old_is_white = all_white s.text 0 (all_gaps indent s.text ss scan.lexemes) all_are
+
+  pub new_is_white : All (λ (c : Cut). White c.new) (all_gaps indent s.text ss scan.lexemes)
+  new_is_white = new_white s.text 0 (all_gaps indent s.text ss scan.lexemes) all_are
+
+  pub all_made : pieced s.text 0 (all_gaps indent s.text ss scan.lexemes) ≡ joined (laid indent (placed 0 0 true ss scan.lexemes))
+  all_made = gaps_made s.text indent (placed 0 0 true ss scan.lexemes) (all_in s scan ss)
+
+  pub changed_made : pieced s.text 0 (changed_gaps s.text (all_gaps indent s.text ss scan.lexemes)) ≡ joined (laid indent (placed 0 0 true ss scan.lexemes))
+  changed_made = kept_or_changed s.text 0 (all_gaps indent s.text ss scan.lexemes) all_are ∙ all_made
+
+  pub all_length : laid_len (length s.text) 0 (all_gaps indent s.text ss scan.lexemes) ≡ length (joined (laid indent (placed 0 0 true ss scan.lexemes)))
+  all_length = sym (made_length s.text 0 (all_gaps indent s.text ss scan.lexemes) all_are) ∙ ap length all_made
+
+  pub changed_length : laid_len (length s.text) 0 (changed_gaps s.text (all_gaps indent s.text ss scan.lexemes)) ≡ length (joined (laid indent (placed 0 0 true ss scan.lexemes)))
+  changed_length = sym (made_length s.text 0 (changed_gaps s.text (all_gaps indent s.text ss scan.lexemes)) all_changed_are) ∙ ap length changed_made

@@ -1,0 +1,65 @@
+-- The gaps of a text: before, between and after its tokens and comments.
+-- Rule: docs/PROTOCOL.md, Requests on documents 8.
+use Rattle.std.specs.Prelude.{ℕ, ◌+◌, ◌-◌, Bool, true, not, bytes_eq, List, [], ◌∷◌, length, filter, slice_range, string_bytes}
+use Rattle.std.specs.List.{AllPass}
+use Rattle.ob0_scan.specs.Classes.{is_space}
+use Rattle.ob0_scan.specs.Lexed.{Lexeme}
+use Rattle.ob0_text.specs.declared.edits.Edit.{Edit}
+use Rattle.ob0_text.specs.declared.edits.Indent.{Indent}
+use Rattle.ob0_text.specs.declared.position_types.Range.{Range}
+use Rattle.ob0_text.specs.Patches.{Cut}
+use Rattle.ob0_text.specs.Texts.{position_of}
+use Rattle.ob0_layout.specs.declared.line_role.LineRole.{LineRole}
+use Rattle.ob0_layout.specs.Layout.{PlacedLexeme, placed, gap}
+
+-- The gaps of a text of this length after a token or comment, where these follow it, each with what
+-- is to be there. A line break ends the text
+abbrev pub gaps_after : Indent → ℕ → PlacedLexeme → List PlacedLexeme → List Cut
+gaps_after indent len a [] = record { from = a.span.end; to = len; new = 10 ∷ [] } ∷ []
+gaps_after indent len a (b ∷ bs) =
+    record { from = a.span.end; to = b.span.start; new = gap indent a b }
+    ∷ gaps_after indent len b bs
+
+-- all its gaps: nothing is to be at the text's start
+abbrev pub gaps : Indent → ℕ → List PlacedLexeme → List Cut
+gaps indent len [] = record { from = 0; to = len; new = [] } ∷ []
+gaps indent len (a ∷ bs) =
+    record { from = 0; to = a.span.start; new = [] } ∷ gaps_after indent len a bs
+
+-- the gaps of a text that is cut into these lexemes, whose tokens have these roles
+abbrev pub all_gaps : Indent → List ℕ → List LineRole → List Lexeme → List Cut
+all_gaps indent text ss lexemes = gaps indent (length text) (placed 0 0 true ss lexemes)
+
+-- whether what is in a gap isn't what is to be there
+abbrev pub is_changed : List ℕ → Cut → Bool
+is_changed text c = not (bytes_eq (slice_range text c.from c.to) c.new)
+
+-- the gaps that change
+abbrev pub changed_gaps : List ℕ → List Cut → List Cut
+changed_gaps text cs = filter (is_changed text) cs
+
+-- what an edit says: where, and what is to be there
+pub record EditText : Type 0 where
+  pub range : Range
+  pub text : List ℕ
+
+-- the edit of a gap replaces the whole gap by what is to be there
+abbrev pub edit_of : (ℕ → ℕ) → List ℕ → Cut → EditText
+edit_of width content c = record {
+  range =
+      record { start = position_of width content c.from; end = position_of width content c.to };
+  text = c.new;
+}
+
+-- what an edit of the code says
+abbrev pub edit_text : Edit → EditText
+edit_text e = record { range = e.range; text = string_bytes e.text }
+
+-- the length of a text of which these gaps are laid out, counted from a place on
+abbrev pub laid_len : ℕ → ℕ → List Cut → ℕ
+laid_len len at [] = len - at
+laid_len len at (c ∷ cs) = (c.from - at) + (length c.new + laid_len len c.to cs)
+
+-- white space alone is in a gap of a text
+abbrev pub IsWhite : List ℕ → Cut → Type 0
+IsWhite text c = AllPass is_space (slice_range text c.from c.to)

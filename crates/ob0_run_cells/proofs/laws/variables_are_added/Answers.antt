@@ -1,5 +1,0 @@
-use Rattle.ob0_run_cells.proofs.Variables.{variables_are_added-holds}
-use Rattle.ob0_run_cells.proofs.laws.variables_are_added.Goals as goal
-
-pub returns : goal.returns
-returns c = variables_are_added-holds

@@ -1,0 +1,30 @@
+use Rattle.std.proofs.Common.{◌≡◌, ◌≤◌, ◌++◌, ℕ, List, Option, length, sym, ap, ◌∙◌, subst, arith}
+use Rattle.ob0_scan.specs.Scanned.{Scanned}
+use Rattle.ob0_tree.specs.Parsed.{tree_of}
+use Rattle.ob0_scope_table.specs.Resolution.{ordinal_in, undeclared_at}
+use Rattle.ob0_scope_table.specs.Bindings.{resolution_by}
+use Rattle.ob0_scope_numbering.specs.Marking.{started, visit_module}
+use Rattle.ob0_scope_numbering.specs.Renumbering.{module_renumbered, started_over}
+use Rattle.ob0_scope_numbering.specs.Written.{as_in}
+use Rattle.ob0_scope_numbering.proofs.BodyTables.{body_numbered}
+use Rattle.ob0_scope_numbering.proofs.Passing.{HasMarks}
+use Rattle.ob0_scope.proofs.Made.{resolution_marked}
+use Rattle.ob0_scope.proofs.TokensWith.{marks_resolved}
+use Rattle.ob0_scope.proofs.rebinding.rebind_body.Goals as goal
+
+pub returns : goal.returns
+returns c =
+    let m = c.args.read.now in
+    let was = c.requires in
+    let b = c.args.old in
+    let made_of = λ (all : List ℕ). (module_renumbered all c.args.low (tree_of m) (started_over (as_in m.source) b.ordinals.items)).marks in
+    let made : c.in_ok-ordinals.ordinals.items ≡ made_of b.declarations.items = c.in_ok-ordinals.ensures ∙ ap made_of c.deref.ensures.value in
+    let count : length c.tokens.result.now ≡ length m.source.tokens = ap length (c.tokens.ensures ∙ ap (λ (s : Scanned). s.tokens) c.tokens-tokens.ensures.source) in
+    let within : length m.source.tokens ≤ length b.ordinals.items = omega (arith, c.if-len-tokens.false, c.len.ensures, count, b.ordinals.ok) in
+    let numbered = body_numbered was.old m c.args.low c.args._high b.ordinals.items b.declarations.items was.parsed was.change (marks_resolved (resolution_by (record m { source = was.old }) b) was.resolved) was.resolved.declaring within in
+    let all = c.in_ok-report_undeclared.ensures
+    ∙ (λ i. c.in_ok-faults.faults.items ++ undeclared_at (c.tokens-tokens.ensures.source i) (c.deref-2.ensures.value i) (c.deref-3.ensures.value i)) in
+    resolution_marked m c.in_ok-ordinals.ordinals.items b.declarations.items b.occurrences.items c.in_ok-faults.faults.items c.report_undeclared.new.faults.items was.parsed
+    (subst (λ (os : List (Option ℕ)). HasMarks (ordinal_in os) (visit_module (tree_of m) (started (as_in m.source))).marks) (sym made) numbered.marks)
+    (λ token e. ap (λ (os : List (Option ℕ)). ordinal_in os token) made ∙ (numbered.elsewhere token e ∙ was.resolved.names_alone token e))
+    was.resolved.declaring was.resolved.occurring c.in_ok-faults.ensures all

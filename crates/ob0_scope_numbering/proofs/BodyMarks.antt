@@ -1,0 +1,397 @@
+-- The walk to one body marks there what the walk through all marks, and a table that had the marks of the text before has all then.
+use Rattle.std.proofs.Common.{◌≡◌, ◌<◌, ◌≤◌, ℕ, zero, suc, ◌+◌, Bool, true, false, ◌&&◌, nat_le, nat_lt, if◌then◌else◌, Option, Some, None, List, [], ◌∷◌, ◌++◌, map, length, drop, refl, sym, ap, ◌∙◌, subst, arith, append_assoc, append-nil}
+use Rattle.std.proofs.lemmas.Bool.Decides.{nat_tests}
+use Rattle.std.proofs.lemmas.List.{append_cancel_left, map-append}
+use Rattle.std.proofs.Math.Seq.{drop-append_seam}
+use Rattle.ob0_tree.specs.declared.tree.Role.{Role}
+use Rattle.ob0_tree.specs.declared.tree.Role.TheVariants as role
+use Rattle.ob0_tree.specs.Order.{Ascending, leaves, names_only}
+use Rattle.ob0_tree.specs.Places.{value_at}
+use Rattle.ob0_tree.specs.Tree.{Tree, block, body, constants, declares, declares_procedure, end, formals, has_body, identifiers, is_module, item, items, maybe, module_text, more, procedure, type_names, variables}
+use Rattle.ob0_language_names.specs.Names.{Name, as_names}
+use Rattle.ob0_language_names.specs.Parts.{procedure_name}
+use Rattle.ob0_language_names.specs.Scopes.{Scope}
+use Rattle.ob0_scope_table.specs.OneBody.{closing_name, is_in_block, is_in_body, is_in_procedure, is_in_procedures, is_out}
+use Rattle.ob0_scope_table.specs.Resolution.{declaring_only}
+use Rattle.ob0_scope_table.proofs.Plain.{declares_nothing, declaring_only-append}
+use Rattle.ob0_scope_numbering.specs.Marking.{Visit, after_heading, leave_block, marked, numbered_at, put, started, used, visit_block, visit_constant_section, visit_formals, visit_module, visit_procedure, visit_procedures, visit_type_section, visit_variable_section}
+use Rattle.ob0_scope_numbering.specs.Marks.{OrdinalMark}
+use Rattle.ob0_scope_numbering.specs.Renumbering.{caught_up, first_before, passed_over, renumber_block, renumber_procedure, renumber_procedures}
+use Rattle.ob0_scope_numbering.specs.Written.{Writing, name_at}
+use Rattle.ob0_scope_numbering.proofs.Alongside.{Adds, Alike, AllOut, Beside, Goes, Sees, adds_then, block_goes, declared_goes, ending_goes, goes_then, heading_goes, marked_goes, out_parts, out_split, procedure_goes, procedures_go, used_adds, used_goes}
+use Rattle.ob0_scope_numbering.proofs.Covered.{AllBelow, Covers, above_out, ascend_first, ascend_second, before_one, below_block, below_out, below_procedures, covers_all, covers_both, covers_more, covers_none, covers_same, is_above_out, leaves_append}
+use Rattle.ob0_scope_numbering.proofs.Tabled.{marks_again}
+use Rattle.ob0_scope_numbering.proofs.Passing.{At, Passed, at_itself, at_start, block_passed, constant_section_passed, heading_passed, pass_then, procedure_passed, procedures_passed, spelled, tokens_of, type_section_passed, used_passed, variable_section_passed}
+
+-- ---- lists
+
+all_in : (xs : List ℕ) → AllOut (λ i. true) xs
+all_in [] = tt
+all_in (x ∷ xs) = (refl, all_in xs)
+
+alike_is : (ms ns : List OrdinalMark) → Alike (λ i. true) ms ns → ms ≡ ns
+alike_is [] [] h = refl
+alike_is [] (n ∷ ns) h = absurd h
+alike_is (m ∷ ms) [] h = absurd h
+alike_is (m ∷ ms) (n ∷ ns) h = λ i. record { token = h.0 i; ordinal = h.1.0 refl i } ∷ alike_is ms ns h.1.1 i
+
+-- what was added to the same marks is the same
+same_added : (before after xs ys : List OrdinalMark) → after ≡ before ++ xs → after ≡ before ++ ys → xs ≡ ys
+same_added before after xs ys e f = append_cancel_left before xs ys (sym e ∙ f)
+
+tokens_added : (before after extra : List OrdinalMark) (ids : List ℕ) → after ≡ before ++ extra → tokens_of after ≡ tokens_of before ++ ids → tokens_of extra ≡ ids
+tokens_added before after extra ids e f = append_cancel_left (tokens_of before) (tokens_of extra) ids (sym (map-append (λ (m : OrdinalMark). m.token) before extra) ∙ (sym (ap tokens_of e) ∙ f))
+
+not_itself : (x : ℕ) → nat_lt x x ≡ false
+not_itself x = one (nat_lt x x) refl
+  where
+    one : (b : Bool) → nat_lt x x ≡ b → b ≡ false
+    one false e = refl
+    one true e = absurd (grind (arith, nat_tests))
+
+is_less : (x y : ℕ) → x < y → nat_lt x y ≡ true
+is_less x y less = one (nat_lt x y) refl
+  where
+    one : (b : Bool) → nat_lt x y ≡ b → b ≡ true
+    one true e = refl
+    one false e = absurd (grind (arith, nat_tests))
+
+-- the first before one of some that ascend
+stops_at : (x : ℕ) (xs extra : List ℕ) → AllBelow x xs → first_before x (xs ++ (x ∷ extra)) ≡ xs
+stops_at x [] extra h = ap (λ b. if b then x ∷ first_before x extra else []) (not_itself x)
+stops_at x (y ∷ ys) extra h =
+    ap (λ b. if b then y ∷ first_before x (ys ++ (x ∷ extra)) else []) (is_less y x h.0) ∙ ap (λ l. y ∷ l) (stops_at x ys extra h.1)
+
+below_second : (n : ℕ) (xs ys : List ℕ) → AllBelow n (xs ++ ys) → AllBelow n ys
+below_second n [] ys h = h
+below_second n (x ∷ xs) ys h = below_second n xs ys h.1
+
+below_more : (n m : ℕ) (xs : List ℕ) → n ≤ m → AllBelow n xs → AllBelow m xs
+below_more n m [] le h = tt
+below_more n m (x ∷ xs) le h = (omega (arith, le, h.0), below_more n m xs le h.1)
+
+ascend_past : (from : ℕ) (xs : List ℕ) (y : ℕ) (ys : List ℕ) (to : ℕ) → Ascending from (xs ++ (y ∷ ys)) to → Ascending (y + 1) ys to
+ascend_past from [] y ys to h = h.1
+ascend_past from (x ∷ xs) y ys to h = ascend_past (x + 1) xs y ys to h.1
+
+both_true : (a b : Bool) → (a && b) ≡ true → (a ≡ true) × (b ≡ true)
+both_true true b e = (refl, e)
+both_true false b e = absurd (cc)
+
+-- ---- a procedure's tokens end with its closing name
+
+-- the identifiers of a procedure but the last
+abbrev inside : Tree ℕ (item procedure) → List ℕ
+inside (declares_procedure x fs b closing) = x ∷ names_only (identifiers role.Declaring fs ++ identifiers role.Declaring b)
+
+procedure_ends : (p : Tree ℕ (item procedure)) → leaves p ≡ inside p ++ (closing_name p ∷ [])
+procedure_ends (declares_procedure x fs b closing) = simp (leaves_append, append_assoc)
+
+procedure_below : (low : ℕ) (p : Tree ℕ (item procedure)) (from to : ℕ) → closing_name p < low → Ascending from (leaves p) to → AllBelow low (leaves p)
+procedure_below low p from to less h =
+    let ends = before_one from (inside p) (closing_name p) [] to (subst (λ l. Ascending from l to) (procedure_ends p) h) in
+    subst (AllBelow low) (sym (procedure_ends p)) (both (inside p) (below_more (closing_name p) low (inside p) (omega (arith, less)) ends))
+  where
+    both : (xs : List ℕ) → AllBelow low xs → AllBelow low (xs ++ (closing_name p ∷ []))
+    both [] h = (less, tt)
+    both (x ∷ xs) h = (h.0, both xs h.1)
+
+-- what comes after a procedure
+ascend_after : (p : Tree ℕ (item procedure)) (rest : List ℕ) (from to : ℕ) → Ascending from (leaves p ++ rest) to → Ascending (closing_name p + 1) rest to
+ascend_after p rest from to h =
+    let split : leaves p ++ rest ≡ inside p ++ (closing_name p ∷ rest) = ap (λ l. l ++ rest) (procedure_ends p) ∙ append_assoc (inside p) (closing_name p ∷ []) rest in
+    ascend_past from (inside p) (closing_name p) rest to (subst (λ l. Ascending from l to) split h)
+
+-- ---- the walks
+
+module _ (old new : Writing) (all : List ℕ) (bound low high : ℕ) (same : (i : ℕ) → is_out low high i ≡ true → name_at old i ≡ name_at new i) (rise : Ascending 0 all bound) where
+  abbrev out : ℕ → Bool
+  out = is_out low high
+
+  -- the walks through the old text and through the new one
+  abbrev pub Near : Visit → Visit → Type 0
+  Near = Beside out old new same
+
+  abbrev pub NearGoes : Visit → Visit → Visit → Visit → Type 0
+  NearGoes = Goes out old new same
+
+  pub nothing_new : (i : ℕ) → true ≡ true → name_at new i ≡ name_at new i
+  nothing_new i e = refl
+
+  -- the walk to the body, and the one through the new text
+  abbrev pub On : Visit → Visit → Type 0
+  On = Beside (λ i. true) new new nothing_new
+
+  -- the walk to the body has not yet counted some declarations
+  pub record Behind (v w : Visit) : Type 0 where
+    pub first : v.writing ≡ new
+    pub second : w.writing ≡ new
+    pub scope : v.scope ≡ w.scope
+    pub behind : List ℕ
+    pub is : w.declarations ≡ v.declarations ++ behind
+
+  abbrev Itself : Visit → Type 0
+  Itself w = At w new w.scope (7 + length w.declarations)
+
+  -- what the walk to the body adds is what the walk through all adds, but for tokens out of the range
+  pub record Reaches (o w v o' w' v' : Visit) : Type 0 where
+    pub near : NearGoes o w o' w'
+    pub added : List OrdinalMark
+    pub is : v'.marks ≡ v.marks ++ added
+    pub covers : Covers out near.adds.seconds added
+
+  on_behind : (v w : Visit) → On v w → Behind v w
+  on_behind v w at = record { first = at.first; second = at.second; scope = at.scope; behind = []; is = sym at.declarations ∙ sym (append-nil v.declarations) }
+
+  caught : (x : ℕ) (extra : List ℕ) (v w : Visit) → Behind v w → all ≡ w.declarations ++ (x ∷ extra) → On (caught_up all x v) w
+  caught x extra v w at e =
+      let split : all ≡ v.declarations ++ (at.behind ++ (x ∷ extra)) = e ∙ (ap (λ ds. ds ++ (x ∷ extra)) at.is ∙ append_assoc v.declarations at.behind (x ∷ extra)) in
+      let rest : drop (length v.declarations) all ≡ at.behind ++ (x ∷ extra) = ap (drop (length v.declarations)) split ∙ drop-append_seam v.declarations (at.behind ++ (x ∷ extra)) in
+      let low_ones = before_one 0 w.declarations x extra bound (subst (λ l. Ascending 0 l bound) e rise) in
+      let below = below_second x v.declarations at.behind (subst (AllBelow x) at.is low_ones) in
+      record {
+        first = at.first;
+        second = at.second;
+        scope = at.scope;
+        declarations = ap (λ l. v.declarations ++ first_before x l) rest ∙ (ap (λ l. v.declarations ++ l) (stops_at x at.behind extra below) ∙ sym at.is);
+        outside = all_in (v.declarations ++ first_before x (drop (length v.declarations) all));
+      }
+
+  -- the same part, from the same place: all marks are the same
+  covers_part : (o w o' w' v v' : Visit) (near : Adds out old new same o w o' w') (on : Adds (λ i. true) new new nothing_new v w v' w') → Covers out near.seconds on.firsts
+  covers_part o w o' w' v v' near on =
+      subst (Covers out near.seconds) (same_added w.marks w'.marks near.seconds on.seconds near.second_is on.second_is ∙ sym (alike_is on.firsts on.seconds on.alike)) (covers_same out near.seconds)
+
+  -- the ordinals and labels that `Passing` speaks of don't matter here
+  nowhere : ℕ → Option ℕ
+  nowhere i = None
+
+  abbrev written : Option ℕ → Name → Name
+  written o x = x
+
+  abbrev value : ℕ → ℕ
+  value i = i
+
+  -- one part after another
+  joined_reach : (o w v o₁ w₁ v₁ o₂ w₂ v₂ : Visit) (near : NearGoes o w o₁ w₁) (on : Adds (λ i. true) new new nothing_new v w v₁ w₁) → Reaches o₁ w₁ v₁ o₂ w₂ v₂ → Reaches o w v o₂ w₂ v₂
+  joined_reach o w v o₁ w₁ v₁ o₂ w₂ v₂ near on r = record {
+    near = goes_then out old new same near r.near;
+    added = on.firsts ++ r.added;
+    is = r.is ∙ (ap (λ ms. ms ++ r.added) on.first_is ∙ append_assoc v.marks on.firsts r.added);
+    covers = covers_both out (covers_part o w o₁ w₁ v v₁ near.adds on) r.covers;
+  }
+
+  -- the declarations in a procedure after its name
+  abbrev others_declared : Tree ℕ (item procedure) → List ℕ
+  others_declared (declares_procedure x fs b closing) = declaring_only (identifiers role.Declaring fs ++ (identifiers role.Declaring b ++ ((role.ClosingName, closing) ∷ [])))
+
+  name_first : (q : Tree ℕ (item procedure)) → declaring_only (identifiers role.Declaring q) ≡ procedure_name q ∷ others_declared q
+  name_first (declares_procedure x fs b closing) = refl
+
+  name_passed : (q : Tree ℕ (item procedure)) (w : Visit) → (procedure_name (spelled nowhere written new value q), 7 + length w.declarations) ∷ w.scope ≡ (name_at new (procedure_name q), 7 + length w.declarations) ∷ w.scope
+  name_passed (declares_procedure x fs b closing) w = refl
+
+  statements_declare_nothing : (t : Tree ℕ (maybe body)) → declaring_only (identifiers role.Declaring t) ≡ []
+  statements_declare_nothing t = (declares_nothing tt t).plain
+
+  -- what is to be shown of procedures and statements, and of one procedure
+  abbrev Rest : Tree ℕ (items procedure) → Tree ℕ (maybe body) → Type 0
+  Rest ps statements =
+      (o w v : Visit) (from to : ℕ) (extra : List ℕ) → is_in_procedures low high ps statements ≡ true → Ascending from (leaves ps ++ leaves statements) to
+      → all ≡ w.declarations ++ (declaring_only (identifiers role.Declaring ps) ++ extra) → Itself w → Near o w → Behind v w
+      → Reaches o w v (used statements (visit_procedures ps o)) (used statements (visit_procedures ps w)) (renumber_procedures put all low ps statements v)
+
+  abbrev Here : Tree ℕ (item procedure) → Type 0
+  Here q =
+      (o w v : Visit) (from to : ℕ) (extra : List ℕ) → is_in_procedure low high q ≡ true → high ≤ closing_name q → Ascending from (leaves q) to
+      → all ≡ w.declarations ++ (declaring_only (identifiers role.Declaring q) ++ extra) → Itself w → Near o w → On v w
+      → Reaches o w v (visit_procedure q o) (visit_procedure q w) (renumber_procedure put all low q v)
+
+  -- one procedure extra: it is passed over, or the body is in it
+  one_procedure : (q : Tree ℕ (item procedure)) (ps : Tree ℕ (items procedure)) (statements : Tree ℕ (maybe body)) (o w v : Visit) (from to : ℕ) (rest : List ℕ) → Rest ps statements → Here q
+      → all ≡ w.declarations ++ (declaring_only (identifiers role.Declaring q) ++ (declaring_only (identifiers role.Declaring ps) ++ rest)) → Itself w → Near o w → On (caught_up all (procedure_name q) v) w
+      → Ascending from (leaves q ++ (leaves ps ++ leaves statements)) to → (b : Bool) → nat_lt (closing_name q) low ≡ b
+      → (if b then is_in_procedures low high ps statements else nat_le high (closing_name q) && is_in_procedure low high q) ≡ true
+      → Reaches o w v (used statements (visit_procedures ps (visit_procedure q o))) (used statements (visit_procedures ps (visit_procedure q w)))
+      (if b then renumber_procedures put all low ps statements (passed_over (procedure_name q) (caught_up all (procedure_name q) v)) else renumber_procedure put all low q (caught_up all (procedure_name q) v))
+  one_procedure q ps statements o w v from to rest later here first at near on parts true e inside_them =
+      let x = procedure_name q in
+      let v₁ = caught_up all x v in
+      let w₁ = visit_procedure q w in
+      let passed = procedure_passed nowhere written new value q w w.scope (7 + length w.declarations) at in
+      let next : all ≡ w₁.declarations ++ (declaring_only (identifiers role.Declaring ps) ++ rest) =
+      first
+      ∙ (sym (append_assoc w.declarations (declaring_only (identifiers role.Declaring q)) (declaring_only (identifiers role.Declaring ps) ++ rest))
+      ∙ ap (λ l. l ++ (declaring_only (identifiers role.Declaring ps) ++ rest)) (sym passed.declared)) in
+      let less : closing_name q < low = grind (arith, nat_tests) in
+      let outside = below_out low high (leaves q) (procedure_below low q from to less (ascend_first from (leaves q) (leaves ps ++ leaves statements) to parts)) in
+      let n = procedure_goes out old new same q o w outside near in
+      let behind₁ : Behind (passed_over x v₁) w₁ = record {
+        first = on.first;
+        second = passed.at.writing;
+        scope = (λ j. (name_at (on.first j) x, 7 + length (on.declarations j)) ∷ on.scope j) ∙ sym (passed.at.scope ∙ name_passed q w);
+        behind = declaring_only (identifiers role.Declaring q);
+        is = passed.declared ∙ ap (λ ds. ds ++ declaring_only (identifiers role.Declaring q)) (sym on.declarations);
+      } in
+      let tokens : tokens_of n.adds.seconds ≡ leaves q = tokens_added w.marks w₁.marks n.adds.seconds (leaves q) n.adds.second_is passed.tokens in
+      let covered = covers_all out n.adds.seconds (subst (AllOut out) (sym tokens) outside) in
+      let r = later (visit_procedure q o) w₁ (passed_over x v₁) from to rest inside_them (ascend_second from (leaves q) (leaves ps ++ leaves statements) to parts) next (at_itself passed.at) n.at behind₁ in
+      record { near = goes_then out old new same n r.near; added = r.added; is = r.is; covers = covers_both out covered r.covers }
+  one_procedure q ps statements o w v from to rest later here first at near on parts false e inside_it =
+      let v₁ = caught_up all (procedure_name q) v in
+      let both = both_true (nat_le high (closing_name q)) (is_in_procedure low high q) inside_it in
+      let reaches_end = both.0 in
+      let le : high ≤ closing_name q = grind (arith, nat_tests) in
+      let passed = procedure_passed nowhere written new value q w w.scope (7 + length w.declarations) at in
+      let h = here o w v₁ from to (declaring_only (identifiers role.Declaring ps) ++ rest) both.1 le (ascend_first from (leaves q) (leaves ps ++ leaves statements) to parts) first at near on in
+      let w₁ = visit_procedure q w in
+      let w₂ = visit_procedures ps w₁ in
+      let beyond = ascend_after q (leaves ps ++ leaves statements) from to parts in
+      let outside = out_split out (leaves ps) (leaves statements) (above_out low high (closing_name q + 1) (leaves ps ++ leaves statements) to (omega (arith, le)) beyond) in
+      let n = procedures_go out old new same ps (visit_procedure q o) w₁ outside.0 h.near.at in
+      let m = used_goes out old new same statements (visit_procedures ps (visit_procedure q o)) w₂ n.at in
+      let p₁ = procedures_passed nowhere written new value ps w₁ w₁.scope (7 + length w₁.declarations) (at_itself passed.at) in
+      let p₂ = used_passed nowhere written new value statements w₂ w₂.scope (7 + length w₂.declarations) tt (at_itself p₁.at) in
+      let t₁ : tokens_of n.adds.seconds ≡ leaves ps = tokens_added w₁.marks w₂.marks n.adds.seconds (leaves ps) n.adds.second_is p₁.tokens in
+      let t₂ : tokens_of m.adds.seconds ≡ leaves statements = tokens_added w₂.marks (used statements w₂).marks m.adds.seconds (leaves statements) m.adds.second_is p₂.tokens in
+      let c₁ = covers_all out n.adds.seconds (subst (AllOut out) (sym t₁) outside.0) in
+      let c₂ = covers_all out m.adds.seconds (subst (AllOut out) (sym t₂) outside.1) in
+      record {
+        near = goes_then out old new same h.near (goes_then out old new same n m);
+        added = h.added;
+        is = h.is;
+        covers = subst (Covers out (h.near.adds.seconds ++ (n.adds.seconds ++ m.adds.seconds))) (append-nil h.added) (covers_both out h.covers (covers_both out c₁ c₂));
+      }
+
+  mutual
+    pub block_reached : (b : Tree ℕ block) (o w v : Visit) (from to : ℕ) (extra : List ℕ) → is_in_block low high b ≡ true → Ascending from (leaves b) to
+        → all ≡ w.declarations ++ (declaring_only (identifiers role.Declaring b) ++ extra) → Itself w → Near o w → On v w → Reaches o w v (visit_block b o) (visit_block b w) (renumber_block put all low b v)
+    block_reached (has_body (declares cs ts vs ps) statements) o w v from to extra inside_it rising declared at near on =
+        let c = identifiers role.Declaring cs in
+        let t = identifiers role.Declaring ts in
+        let g = identifiers role.Declaring vs in
+        let p = identifiers role.Declaring ps in
+        let s = identifiers role.Declaring statements in
+        let split : names_only ((c ++ (t ++ (g ++ p))) ++ s) ≡ names_only (c ++ (t ++ g)) ++ (names_only p ++ names_only s) = simp (leaves_append, append_assoc) in
+        let parts = subst (λ l. Ascending from l to) split rising in
+        let before = below_out low high (names_only (c ++ (t ++ g))) (below_procedures low high ps statements (names_only (c ++ (t ++ g))) from to inside_it parts) in
+        let oc = out_parts out c (t ++ g) before in
+        let ot = out_parts out t g oc.1 in
+        let n = declared_goes out old new same cs ts vs o w oc.0 ot.0 ot.1 near in
+        let m = declared_goes (λ i. true) new new nothing_new cs ts vs v w (all_in (leaves cs)) (all_in (leaves ts)) (all_in (leaves vs)) on in
+        let w₁ = visit_constant_section cs w in
+        let w₂ = visit_type_section ts w₁ in
+        let w₃ = visit_variable_section vs w₂ in
+        let a = constant_section_passed nowhere written new value cs w w.scope (7 + length w.declarations) at in
+        let a₂ = type_section_passed nowhere written new value ts w₁ _ _ a.at in
+        let a₃ = variable_section_passed nowhere written new value vs w₂ _ _ a₂.at in
+        let passed = pass_then nowhere written new value a (pass_then nowhere written new value a₂ a₃) in
+        let d : (xs ys : List (Role × ℕ)) → declaring_only (xs ++ ys) ≡ declaring_only xs ++ declaring_only ys = declaring_only-append in
+        let none : declaring_only s ≡ [] = statements_declare_nothing statements in
+        let lists : declaring_only ((c ++ (t ++ (g ++ p))) ++ s) ≡ declaring_only (c ++ (t ++ g)) ++ declaring_only p = simp (declaring_only-append, append_assoc, none, append-nil) in
+        let here : all ≡ w₃.declarations ++ (declaring_only p ++ extra) =
+        declared
+        ∙ (ap (λ l. w.declarations ++ (l ++ extra)) lists
+        ∙ (ap (λ l. w.declarations ++ l) (append_assoc (declaring_only (c ++ (t ++ g))) (declaring_only p) extra)
+        ∙ (sym (append_assoc w.declarations (declaring_only (c ++ (t ++ g))) (declaring_only p ++ extra))
+        ∙ ap (λ l. l ++ (declaring_only p ++ extra)) (sym passed.declared)))) in
+        let o₃ = visit_variable_section vs (visit_type_section ts (visit_constant_section cs o)) in
+        let v₃ = visit_variable_section vs (visit_type_section ts (visit_constant_section cs v)) in
+        let rest = procedures_reached ps statements o₃ w₃ v₃ from to extra inside_it (ascend_second from (names_only (c ++ (t ++ g))) (names_only p ++ names_only s) to parts) here (at_itself passed.at) n.at (on_behind v₃ w₃ m.at) in
+        joined_reach o w v o₃ w₃ v₃ _ _ _ n m.adds rest
+
+    pub procedures_reached : (ps : Tree ℕ (items procedure)) (statements : Tree ℕ (maybe body)) (o w v : Visit) (from to : ℕ) (extra : List ℕ) → is_in_procedures low high ps statements ≡ true → Ascending from (leaves ps ++ leaves statements) to
+        → all ≡ w.declarations ++ (declaring_only (identifiers role.Declaring ps) ++ extra) → Itself w → Near o w → Behind v w
+        → Reaches o w v (used statements (visit_procedures ps o)) (used statements (visit_procedures ps w)) (renumber_procedures put all low ps statements v)
+    procedures_reached end statements o w v from to extra inside_it rising declared at near behind =
+        let n = used_goes out old new same statements o w near in
+        let m = used_adds (λ i. true) new new nothing_new statements v w (record { first = behind.first; second = behind.second; scope = behind.scope }) in
+        record { near = n; added = m.firsts; is = m.first_is; covers = covers_part o w (used statements o) (used statements w) v (used statements v) n.adds m }
+    procedures_reached (more q ps) statements o w v from to rest inside_it rising declared at near behind =
+        let iq = identifiers role.Declaring q in
+        let ips = identifiers role.Declaring ps in
+        let split : names_only (iq ++ ips) ++ leaves statements ≡ leaves q ++ (leaves ps ++ leaves statements) = simp (leaves_append, append_assoc) in
+        let parts = subst (λ l. Ascending from l to) split rising in
+        let first : all ≡ w.declarations ++ (declaring_only iq ++ (declaring_only ips ++ rest)) =
+        declared ∙ (ap (λ l. w.declarations ++ (l ++ rest)) (declaring_only-append iq ips) ∙ ap (λ l. w.declarations ++ l) (append_assoc (declaring_only iq) (declaring_only ips) rest)) in
+        let on = caught (procedure_name q) (others_declared q ++ (declaring_only ips ++ rest)) v w behind (first ∙ ap (λ l. w.declarations ++ (l ++ (declaring_only ips ++ rest))) (name_first q)) in
+        one_procedure q ps statements o w v from to rest (procedures_reached ps statements) (procedure_reached q) first at near on parts (nat_lt (closing_name q) low) refl inside_it
+
+    pub procedure_reached : (q : Tree ℕ (item procedure)) (o w v : Visit) (from to : ℕ) (extra : List ℕ) → is_in_procedure low high q ≡ true → high ≤ closing_name q → Ascending from (leaves q) to
+        → all ≡ w.declarations ++ (declaring_only (identifiers role.Declaring q) ++ extra) → Itself w → Near o w → On v w
+        → Reaches o w v (visit_procedure q o) (visit_procedure q w) (renumber_procedure put all low q v)
+    procedure_reached (declares_procedure x fs b closing) o w v from to extra inside_it le rising declared at near on =
+        let f = identifiers role.Declaring fs in
+        let i = identifiers role.Declaring b in
+        let last : List (Role × ℕ) = (role.ClosingName, closing) ∷ [] in
+        let split : x ∷ names_only (f ++ (i ++ last)) ≡ (x ∷ names_only f) ++ (names_only i ++ (closing ∷ [])) = simp (leaves_append, append_assoc) in
+        let parts = subst (λ l. Ascending from l to) split rising in
+        let own = ascend_first from (names_only i) (closing ∷ []) to (ascend_second from (x ∷ names_only f) (names_only i ++ (closing ∷ [])) to parts) in
+        let joined : (x ∷ names_only f) ++ (names_only i ++ (closing ∷ [])) ≡ ((x ∷ names_only f) ++ names_only i) ++ (closing ∷ []) = sym (append_assoc (x ∷ names_only f) (names_only i) (closing ∷ [])) in
+        let before = below_out low high (x ∷ names_only f) (below_block low high b (x ∷ names_only f) from to inside_it (ascend_first from ((x ∷ names_only f) ++ names_only i) (closing ∷ []) to (subst (λ l. Ascending from l to) joined parts))) in
+        let n = heading_goes out old new same x fs o w before.0 before.1 near in
+        let m = heading_goes (λ i. true) new new nothing_new x fs v w refl (all_in (leaves fs)) on in
+        let passed = heading_passed nowhere written new value x fs w w.scope (7 + length w.declarations) at in
+        let o₁ = after_heading (length o.declarations) (length o.scope) (visit_formals fs (numbered_at x o)) in
+        let w₁ = after_heading (length w.declarations) (length w.scope) (visit_formals fs (numbered_at x w)) in
+        let v₁ = after_heading (length v.declarations) (length v.scope) (visit_formals fs (numbered_at x v)) in
+        let lists : declaring_only ((role.Declaring, x) ∷ (f ++ (i ++ last))) ≡ declaring_only ((role.Declaring, x) ∷ f) ++ declaring_only i = simp (declaring_only-append, append-nil) in
+        let here : all ≡ w₁.declarations ++ (declaring_only i ++ extra) =
+        declared
+        ∙ (ap (λ l. w.declarations ++ (l ++ extra)) lists
+        ∙ (ap (λ l. w.declarations ++ l) (append_assoc (declaring_only ((role.Declaring, x) ∷ f)) (declaring_only i) extra)
+        ∙ (sym (append_assoc w.declarations (declaring_only ((role.Declaring, x) ∷ f)) (declaring_only i ++ extra))
+        ∙ ap (λ l. l ++ (declaring_only i ++ extra)) (sym passed.declared)))) in
+        let r = block_reached b o₁ w₁ v₁ from to extra inside_it own here (at_itself passed.at) n.at m.at in
+        let e = ending_goes out old new same x closing (7 + length o.declarations) (7 + length w.declarations) (length o.scope) (length w.scope) (visit_block b o₁) (visit_block b w₁) before.0 (ap (λ ds. 7 + length ds) near.declarations) (ap length near.scope) r.near.at in
+        let mark : OrdinalMark = record { token = closing; ordinal = Some (7 + length w.declarations) } in
+        let ends : e.adds.seconds ≡ mark ∷ [] = same_added (visit_block b w₁).marks ((visit_block b w₁).marks ++ (mark ∷ [])) e.adds.seconds (mark ∷ []) e.adds.second_is refl in
+        let closed = subst (λ ms. Covers out ms []) (sym ends) (covers_more mark (is_above_out low high closing le) covers_none) in
+        let reached = joined_reach o w v o₁ w₁ v₁ (visit_block b o₁) (visit_block b w₁) (renumber_block put all low b v₁) n m.adds r in
+        record {
+          near = goes_then out old new same reached.near e;
+          added = reached.added;
+          is = reached.is;
+          covers = subst (Covers out (reached.near.adds.seconds ++ e.adds.seconds)) (append-nil reached.added) (covers_both out reached.covers closed);
+        }
+
+  -- ---- the module
+
+  -- the marks of all three walks through a module
+  pub record Marked (m : Tree ℕ module_text) : Type 0 where
+    pub alike : Alike out (visit_module m (started old)).marks (visit_module m (started new)).marks
+    pub covers : Covers out (visit_module m (started new)).marks (marks_again all low m new)
+
+  pub module_marked : (m : Tree ℕ module_text) (to : ℕ) → is_in_body low high m ≡ true → Ascending 0 (leaves m) to → all ≡ declaring_only (identifiers role.Declaring m) → Marked m
+  module_marked (is_module x b closing) to lies rising declared =
+      let i = identifiers role.Declaring b in
+      let last : List (Role × ℕ) = (role.ModuleName, closing) ∷ [] in
+      let both = both_true (nat_le high closing) (is_in_block low high b) lies in
+      let le : high ≤ closing = grind (arith, nat_tests) in
+      let o = started old in
+      let w = started new in
+      let near : Near o w = record { first = refl; second = refl; scope = refl; declarations = refl; outside = tt } in
+      let n = marked_goes out old new same x None None o w refl near in
+      let o₁ = marked x None o in
+      let w₁ = marked x None w in
+      let at : Itself w₁ = record { writing = refl; scope = refl; next = refl; before = (at_start new).before } in
+      let on : On w w₁ = record { first = refl; second = refl; scope = refl; declarations = refl; outside = tt } in
+      let split : names_only (i ++ last) ≡ names_only i ++ (closing ∷ []) = leaves_append i last in
+      let parts : Ascending 0 ((x ∷ names_only i) ++ (closing ∷ [])) to = subst (λ l. Ascending 0 (x ∷ l) to) split rising in
+      let own : Ascending 0 (x ∷ names_only i) to = ascend_first 0 (x ∷ names_only i) (closing ∷ []) to parts in
+      let before = below_block low high b (x ∷ []) 0 to both.1 own in
+      let here : all ≡ [] ++ (declaring_only i ++ []) = declared ∙ declaring_only-append i last in
+      let r = block_reached b o₁ w₁ w (x + 1) to [] both.1 own.1 here at n.at on in
+      let e = marked_goes out old new same closing None None (visit_block b o₁) (visit_block b w₁) refl r.near.at in
+      let whole = adds_then out old new same n.adds (adds_then out old new same r.near.adds e.adds) in
+      let first_mark : OrdinalMark = record { token = x; ordinal = None } in
+      let last_mark : OrdinalMark = record { token = closing; ordinal = None } in
+      let begins : n.adds.seconds ≡ first_mark ∷ [] = same_added [] (first_mark ∷ []) n.adds.seconds (first_mark ∷ []) n.adds.second_is refl in
+      let ends : e.adds.seconds ≡ last_mark ∷ [] = same_added (visit_block b w₁).marks ((visit_block b w₁).marks ++ (last_mark ∷ [])) e.adds.seconds (last_mark ∷ []) e.adds.second_is refl in
+      let opened = subst (λ ms. Covers out ms []) (sym begins) (covers_more first_mark (below_out low high (x ∷ []) before).0 covers_none) in
+      let closed = subst (λ ms. Covers out ms []) (sym ends) (covers_more last_mark (is_above_out low high closing le) covers_none) in
+      let covered : Covers out whole.seconds (r.added ++ []) = covers_both out opened (covers_both out r.covers closed) in
+      record {
+        alike = subst (λ ms. Alike out ms (visit_module (is_module x b closing) w).marks) (sym whole.first_is) (subst (λ ms. Alike out whole.firsts ms) (sym whole.second_is) whole.alike);
+        covers = subst (λ ms. Covers out ms (renumber_block put all low b w).marks) (sym whole.second_is) (subst (Covers out whole.seconds) (append-nil r.added ∙ sym r.is) covered);
+      }

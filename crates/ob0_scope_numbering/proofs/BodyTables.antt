@@ -1,0 +1,123 @@
+-- The table of a text whose tokens are written alike but for those of one body, with that body numbered again, numbers the new text.
+use Rattle.std.proofs.Common.{◌≡◌, ◌≢◌, ◌<◌, ◌≤◌, ◌==◌, ◌||◌, ℕ, ◌+◌, Bool, true, false, Option, None, List, [], ◌∷◌, length, set, refl, sym, ap, ◌∙◌, subst, arith, get_or-set_other, get_or-set_same}
+use Rattle.std.proofs.Math.ListN.{length-set}
+use Rattle.std.specs.List.{list_any}
+use Rattle.ob0_scan.specs.Scanned.{IsScan, Scanned}
+use Rattle.ob0_tree.specs.declared.tree.Role.TheVariants as role
+use Rattle.ob0_tree.specs.Order.{Ascending, leaves}
+use Rattle.ob0_tree.specs.Parsed.{IsParsed, Parsed, tree_of}
+use Rattle.ob0_tree.specs.Tree.{identifiers}
+use Rattle.ob0_tree.proofs.Leaves.{ascending_lower, leaves_ascend}
+use Rattle.ob0_language_names.specs.Names.{as_names}
+use Rattle.ob0_language_names.specs.Scopes.{as_label}
+use Rattle.ob0_scope_table.specs.OneBody.{IsBodyChange, is_out}
+use Rattle.ob0_scope_table.specs.Resolution.{declaring_only, ordinal_in}
+use Rattle.ob0_scope_table.proofs.OneBody.{text_out}
+use Rattle.ob0_scope_numbering.specs.Marking.{started, visit_module}
+use Rattle.ob0_scope_numbering.specs.Marks.{OrdinalMark, with_marks}
+use Rattle.ob0_scope_numbering.specs.Renumbering.{module_renumbered, started_over}
+use Rattle.ob0_scope_numbering.specs.Written.{as_in}
+use Rattle.ob0_scope_numbering.proofs.Alongside.{Alike}
+use Rattle.ob0_scope_numbering.proofs.BodyMarks.{module_marked}
+use Rattle.ob0_scope_numbering.proofs.Covered.{Covers, covers_more, covers_none, covers_one, declaring_ascend}
+use Rattle.ob0_scope_numbering.proofs.Kept.{AreMarksBefore, entries_kept, marks_few, with_entries}
+use Rattle.ob0_scope_numbering.proofs.Passing.{HasMarks, at_start, module_passed, tokens_of}
+use Rattle.ob0_scope_numbering.proofs.Tabled.{body_tabled, marks_again}
+use Rattle.ob0_scope_numbering.proofs.Tables.{kept_below, kept_elsewhere}
+
+covers_ascend : (out : ℕ → Bool) {ms ns : List OrdinalMark} (low high : ℕ) → Covers out ms ns → Ascending low (tokens_of ms) high → Ascending low (tokens_of ns) high
+covers_ascend out low high covers_none h = h
+covers_ascend out low high (covers_one m p) h = (h.0, covers_ascend out (m.token + 1) high p h.1)
+covers_ascend out low high (covers_more {ms} {ns} m e p) h = ascending_lower low (m.token + 1) (tokens_of ns) high (omega (arith, h.0)) (covers_ascend out (m.token + 1) high p h.1)
+
+absent_one : (b c d : Bool) → (b || c) ≡ false → (c ≡ false → d ≡ false) → (b || d) ≡ false
+absent_one true c d e f = absurd (cc)
+absent_one false c d e f = f e
+
+absent_more : (b c d : Bool) → (b || c) ≡ false → (c ≡ false → d ≡ false) → d ≡ false
+absent_more true c d e f = absurd (cc)
+absent_more false c d e f = f e
+
+covers_absent : (out : ℕ → Bool) {ms ns : List OrdinalMark} (i : ℕ) → Covers out ms ns → list_any (λ j. j == i) (tokens_of ms) ≡ false → list_any (λ j. j == i) (tokens_of ns) ≡ false
+covers_absent out i covers_none h = h
+covers_absent out i (covers_one {ms} {ns} m p) h = absent_one (m.token == i) (list_any (λ j. j == i) (tokens_of ms)) (list_any (λ j. j == i) (tokens_of ns)) h (covers_absent out i p)
+covers_absent out i (covers_more {ms} {ns} m e p) h = absent_more (m.token == i) (list_any (λ j. j == i) (tokens_of ms)) (list_any (λ j. j == i) (tokens_of ns)) h (covers_absent out i p)
+
+covers_before : (out : ℕ → Bool) (read : ℕ → Option ℕ) (n : ℕ) {ms ns : List OrdinalMark} → Covers out ms ns → AreMarksBefore read n ms → AreMarksBefore read n ns
+covers_before out read n covers_none h = h
+covers_before out read n (covers_one m p) h = (h.0, covers_before out read n p h.1)
+covers_before out read n (covers_more m e p) h = covers_before out read n p h.1
+
+-- a mark before some is at none of their tokens
+kept_marks : (table : List (Option ℕ)) (i : ℕ) (ordinal : Option ℕ) (ms : List OrdinalMark) (high : ℕ) → Ascending (i + 1) (tokens_of ms) high → HasMarks (ordinal_in table) ms → HasMarks (ordinal_in (set table i ordinal)) ms
+kept_marks table i ordinal [] high ascend has = tt
+kept_marks table i ordinal (m ∷ ms) high ascend has =
+    let other : m.token ≢ i = omega (arith, ascend.0) in
+    (get_or-set_other table i m.token ordinal None other ∙ has.0, kept_marks table i ordinal ms high (ascending_lower (i + 1) (m.token + 1) (tokens_of ms) high (omega (arith, ascend.0)) ascend.1) has.1)
+
+alike_tokens : (out : ℕ → Bool) (ms ns : List OrdinalMark) → Alike out ms ns → tokens_of ms ≡ tokens_of ns
+alike_tokens out [] [] h = refl
+alike_tokens out [] (n ∷ ns) h = absurd h
+alike_tokens out (m ∷ ms) [] h = absurd h
+alike_tokens out (m ∷ ms) (n ∷ ns) h = λ i. h.0 i ∷ alike_tokens out ms ns h.1.1 i
+
+bounds : (low : ℕ) (xs : List ℕ) (high : ℕ) → Ascending low xs high → low ≤ high
+bounds low [] high h = h
+bounds low (x ∷ xs) high h = let later = bounds (x + 1) xs high h.1 in omega (arith, h.0, later)
+
+-- a table with the old marks has the new ones once those of the body are in it
+covered_marks : (out : ℕ → Bool) (table : List (Option ℕ)) (os : List OrdinalMark) {ms ns : List OrdinalMark} (low high : ℕ) → HasMarks (ordinal_in table) os → Alike out os ms → Covers out ms ns → Ascending low (tokens_of ms) high → high ≤ length table
+    → HasMarks (ordinal_in (with_marks table ns)) ms
+covered_marks out table os low high has alike covers_none ascend within = tt
+covered_marks out table [] low high has alike (covers_one m p) ascend within = absurd alike
+covered_marks out table [] low high has alike (covers_more m e p) ascend within = absurd alike
+covered_marks out table (o ∷ os) low high has alike (covers_one {ms} {ns} m p) ascend within =
+    let next : List (Option ℕ) = set table m.token m.ordinal in
+    let here : m.token < m.token + 1 = omega arith in
+    let others = covers_ascend out (m.token + 1) high p ascend.1 in
+    let last = bounds (m.token + 1) (tokens_of ms) high ascend.1 in
+    let inside : m.token < length table = omega (arith, last, within) in
+    let still : high ≤ length next = subst (λ n. high ≤ n) (sym (length-set table m.token m.ordinal)) within in
+    let older = kept_marks table m.token m.ordinal os high (subst (λ ts. Ascending (m.token + 1) ts high) (sym (alike_tokens out os ms alike.1.1)) ascend.1) has.1 in
+    (kept_below ns next (m.token + 1) high m.token others here ∙ get_or-set_same table m.token m.ordinal None inside, covered_marks out next os (m.token + 1) high older alike.1.1 p ascend.1 still)
+covered_marks out table (o ∷ os) low high has alike (covers_more {ms} {ns} m e p) ascend within =
+    let here : m.token < m.token + 1 = omega arith in
+    let others = covers_ascend out (m.token + 1) high p ascend.1 in
+    let same : o.ordinal ≡ m.ordinal = alike.1.0 (subst (λ i. out i ≡ true) (sym alike.0) e) in
+    (kept_below ns table (m.token + 1) high m.token others here ∙ (ap (ordinal_in table) (sym alike.0) ∙ (has.0 ∙ same)), covered_marks out table os (m.token + 1) high has.1 alike.1.1 p ascend.1 within)
+
+-- the marks of the two texts are alike but in the range
+pub body_alike : (old : Scanned) (m : Parsed) (low high : ℕ) → IsParsed m → IsBodyChange old m low high
+    → Alike (is_out low high) (visit_module (tree_of m) (started (as_in old))).marks (visit_module (tree_of m) (started (as_in m.source))).marks
+body_alike old m low high parsed change =
+    let all = declaring_only (identifiers role.Declaring (tree_of m)) in
+    let rising = leaves_ascend m parsed in
+    let rise = declaring_ascend (identifiers role.Declaring (tree_of m)) 0 (length m.source.tokens) rising in
+    (module_marked (as_in old) (as_in m.source) all (length m.source.tokens) low high (λ i e. sym (text_out old m low high change i e)) rise (tree_of m) (length m.source.tokens) change.in_body rising refl).alike
+
+-- what is said of a body that is numbered again
+pub record Renumbered (m : Parsed) (table : List (Option ℕ)) (made : List (Option ℕ)) : Type 0 where
+  pub marks : HasMarks (ordinal_in made) (visit_module (tree_of m) (started (as_in m.source))).marks
+  pub elsewhere : (i : ℕ) → list_any (λ j. j == i) (leaves (tree_of m)) ≡ false → ordinal_in made i ≡ ordinal_in table i
+
+pub body_numbered : (old : Scanned) (m : Parsed) (low high : ℕ) (table : List (Option ℕ)) (all : List ℕ) → IsParsed m → IsBodyChange old m low high → HasMarks (ordinal_in table) (visit_module (tree_of m) (started (as_in old))).marks
+    → all ≡ declaring_only (identifiers role.Declaring (tree_of m)) → length m.source.tokens ≤ length table
+    → Renumbered m table (module_renumbered all low (tree_of m) (started_over (as_in m.source) table)).marks
+body_numbered old m low high table all parsed change has declared within =
+    let out = is_out low high in
+    let w = as_in m.source in
+    let n = length m.source.tokens in
+    let rising = leaves_ascend m parsed in
+    let declared_rise = subst (λ l. Ascending 0 l n) (sym declared) (declaring_ascend (identifiers role.Declaring (tree_of m)) 0 n rising) in
+    let marked = module_marked (as_in old) w all n low high (λ i e. sym (text_out old m low high change i e)) declared_rise (tree_of m) n change.in_body rising declared in
+    let news = (visit_module (tree_of m) (started w)).marks in
+    let again = marks_again all low (tree_of m) w in
+    let passed = module_passed (λ i. None) (as_label as_names) w (tree_of m) (started w) (at_start w) in
+    let ascend : Ascending 0 (tokens_of news) n = subst (λ ts. Ascending 0 ts n) (sym passed.tokens) rising in
+    let few = marks_few m w parsed change.new_scan in
+    let kept : with_entries table again ≡ with_marks table again = entries_kept few.read few.bound again table few.small (covers_before out few.read few.bound marked.covers few.before) in
+    let made : (module_renumbered all low (tree_of m) (started_over w table)).marks ≡ with_marks table again = body_tabled all low (tree_of m) w table ∙ kept in
+    record {
+      marks = subst (λ (t : List (Option ℕ)). HasMarks (ordinal_in t) news) (sym made) (covered_marks out table (visit_module (tree_of m) (started (as_in old))).marks 0 n has marked.alike marked.covers ascend within);
+      elsewhere = λ i e. ap (λ (t : List (Option ℕ)). ordinal_in t i) made ∙ kept_elsewhere again table i (covers_absent out i marked.covers (ap (list_any (λ j. j == i)) passed.tokens ∙ e));
+    }

@@ -1,0 +1,154 @@
+-- A walk that goes to one body alone: it sees there what the walk through all sees, and whatever it passes over has no token of the range.
+use Rattle.std.proofs.Common.{◌≡◌, ◌<◌, ◌≤◌, ℕ, zero, suc, ◌+◌, Bool, true, false, ◌&&◌, ◌||◌, nat_le, nat_lt, if◌then◌else◌, Option, Some, None, List, [], ◌∷◌, ◌++◌, map, length, drop, refl, sym, ap, ap₂, ◌∙◌, subst, arith, append_assoc, append-nil}
+use Rattle.std.proofs.lemmas.List.{map-append}
+use Rattle.std.proofs.lemmas.Bool.Decides.{nat_tests}
+use Rattle.ob0_tree.specs.declared.tree.Role.{Role}
+use Rattle.ob0_tree.specs.declared.tree.Role.TheVariants as role
+use Rattle.ob0_tree.specs.Order.{Ascending, leaves, names_only}
+use Rattle.ob0_tree.specs.Tree.{Tree, block, body, declares, declares_procedure, end, has_body, identifiers, item, items, maybe, more, procedure}
+use Rattle.ob0_tree.proofs.Leaves.{ascending_bounds, ascending_lower}
+use Rattle.ob0_language_names.specs.Names.{Name, as_names}
+use Rattle.ob0_language_names.specs.Parts.{procedure_name}
+use Rattle.ob0_scope_table.specs.OneBody.{begins_by, closing_name, is_in_block, is_in_procedure, is_in_procedures, is_out}
+use Rattle.ob0_scope_table.specs.Resolution.{declaring_only}
+use Rattle.ob0_scope_numbering.specs.Marks.{OrdinalMark}
+use Rattle.ob0_scope_numbering.proofs.Alongside.{AllOut, out_both, out_split}
+use Rattle.ob0_scope_numbering.proofs.Passing.{tokens_of}
+
+-- ---- numbers that ascend
+
+pub ascend_first : (low : ℕ) (xs ys : List ℕ) (high : ℕ) → Ascending low (xs ++ ys) high → Ascending low xs high
+ascend_first low [] ys high h = ascending_bounds low ys high h
+ascend_first low (x ∷ xs) ys high h = (h.0, ascend_first (x + 1) xs ys high h.1)
+
+pub ascend_second : (low : ℕ) (xs ys : List ℕ) (high : ℕ) → Ascending low (xs ++ ys) high → Ascending low ys high
+ascend_second low [] ys high h = h
+ascend_second low (x ∷ xs) ys high h = ascending_lower low (x + 1) ys high (omega (arith, h.0)) (ascend_second (x + 1) xs ys high h.1)
+
+-- the declaring ones of some identifiers ascend as these do
+pub declaring_ascend : (xs : List (Role × ℕ)) (low high : ℕ) → Ascending low (names_only xs) high → Ascending low (declaring_only xs) high
+declaring_ascend [] low high h = h
+declaring_ascend ((role.Declaring, n) ∷ xs) low high h = (h.0, declaring_ascend xs (n + 1) high h.1)
+declaring_ascend ((role.LookedUp, n) ∷ xs) low high h = ascending_lower low (n + 1) (declaring_only xs) high (omega (arith, h.0)) (declaring_ascend xs (n + 1) high h.1)
+declaring_ascend ((role.ClosingName, n) ∷ xs) low high h = ascending_lower low (n + 1) (declaring_only xs) high (omega (arith, h.0)) (declaring_ascend xs (n + 1) high h.1)
+declaring_ascend ((role.FieldName, n) ∷ xs) low high h = ascending_lower low (n + 1) (declaring_only xs) high (omega (arith, h.0)) (declaring_ascend xs (n + 1) high h.1)
+declaring_ascend ((role.ModuleName, n) ∷ xs) low high h = ascending_lower low (n + 1) (declaring_only xs) high (omega (arith, h.0)) (declaring_ascend xs (n + 1) high h.1)
+
+-- all are before a number
+abbrev pub AllBelow : ℕ → List ℕ → Type 0
+AllBelow n [] = Unit {0}
+AllBelow n (i ∷ is) = (i < n) × AllBelow n is
+
+pub below_first : (n : ℕ) (xs ys : List ℕ) → AllBelow n (xs ++ ys) → AllBelow n xs
+below_first n [] ys h = tt
+below_first n (x ∷ xs) ys h = (h.0, below_first n xs ys h.1)
+
+below_more : (n m : ℕ) (xs : List ℕ) → n ≤ m → AllBelow n xs → AllBelow m xs
+below_more n m [] le h = tt
+below_more n m (x ∷ xs) le h = (omega (arith, le, h.0), below_more n m xs le h.1)
+
+-- those before one of some that ascend
+pub before_one : (low : ℕ) (xs : List ℕ) (y : ℕ) (ys : List ℕ) (high : ℕ) → Ascending low (xs ++ (y ∷ ys)) high → AllBelow y xs
+before_one low [] y ys high h = tt
+before_one low (x ∷ xs) y ys high h =
+    let later = ascend_second (x + 1) xs (y ∷ ys) high h.1 in
+    (omega (arith, later.0), before_one (x + 1) xs y ys high h.1)
+
+is_below_out : (low high i : ℕ) → i < low → is_out low high i ≡ true
+is_below_out low high i less = one (nat_lt i low) refl
+  where
+    one : (b : Bool) → nat_lt i low ≡ b → (b || nat_le high i) ≡ true
+    one true e = refl
+    one false e = absurd (grind (arith, nat_tests))
+
+pub is_above_out : (low high i : ℕ) → high ≤ i → is_out low high i ≡ true
+is_above_out low high i le = one (nat_lt i low) (nat_le high i) refl
+  where
+    one : (b c : Bool) → nat_le high i ≡ c → (b || c) ≡ true
+    one true c e = refl
+    one false true e = refl
+    one false false e = absurd (grind (arith, nat_tests))
+
+pub below_out : (low high : ℕ) (xs : List ℕ) → AllBelow low xs → AllOut (is_out low high) xs
+below_out low high [] h = tt
+below_out low high (x ∷ xs) h = (is_below_out low high x h.0, below_out low high xs h.1)
+
+pub above_out : (low high from : ℕ) (xs : List ℕ) (to : ℕ) → high ≤ from → Ascending from xs to → AllOut (is_out low high) xs
+above_out low high from [] to le h = tt
+above_out low high from (x ∷ xs) to le h = (is_above_out low high x (omega (arith, le, h.0)), above_out low high (x + 1) xs to (omega (arith, le, h.0)) h.1)
+
+-- ---- what is before the body that a range lies in is before the range
+
+both_true : (a b : Bool) → (a && b) ≡ true → (a ≡ true) × (b ≡ true)
+both_true true b e = (refl, e)
+both_true false b e = absurd (cc)
+
+begun : (low high : ℕ) (pre : List ℕ) (xs : List (Role × ℕ)) (from to : ℕ) → begins_by low xs ≡ true → Ascending from (pre ++ names_only xs) to → AllBelow low pre
+begun low high pre [] from to e h = absurd (cc)
+begun low high pre (x ∷ xs) from to e h = let le : x.1 ≤ low = grind (arith, nat_tests) in below_more x.1 low pre le (before_one from pre x.1 (names_only xs) to h)
+
+pub leaves_append : (xs ys : List (Role × ℕ)) → names_only (xs ++ ys) ≡ names_only xs ++ names_only ys
+leaves_append xs ys = map-append (λ (x : Role × ℕ). x.1) xs ys
+
+-- the leaves before a block's procedures and statements
+abbrev pub sections : Tree ℕ block → List (Role × ℕ)
+sections (has_body (declares cs ts vs ps) statements) = identifiers role.Declaring cs ++ (identifiers role.Declaring ts ++ identifiers role.Declaring vs)
+
+module _ (low high : ℕ) where
+  mutual
+    pub below_block : (b : Tree ℕ block) (pre : List ℕ) (from to : ℕ) → is_in_block low high b ≡ true → Ascending from (pre ++ leaves b) to → AllBelow low pre
+    below_block (has_body (declares cs ts vs ps) statements) pre from to e h =
+        let c = identifiers role.Declaring cs in
+        let t = identifiers role.Declaring ts in
+        let v = identifiers role.Declaring vs in
+        let p = identifiers role.Declaring ps in
+        let s = identifiers role.Declaring statements in
+        let split : pre ++ names_only ((c ++ (t ++ (v ++ p))) ++ s) ≡ (pre ++ names_only (c ++ (t ++ v))) ++ (names_only p ++ names_only s) =
+        simp (leaves_append, append_assoc) in
+        below_first low pre (names_only (c ++ (t ++ v)))
+        (below_procedures ps statements (pre ++ names_only (c ++ (t ++ v))) from to e (subst (λ l. Ascending from l to) split h))
+
+    pub below_procedures : (ps : Tree ℕ (items procedure)) (statements : Tree ℕ (maybe body)) (pre : List ℕ) (from to : ℕ) → is_in_procedures low high ps statements ≡ true → Ascending from (pre ++ (leaves ps ++ leaves statements)) to → AllBelow low pre
+    below_procedures end statements pre from to e h = begun low high pre (identifiers role.Declaring statements) from to e h
+    below_procedures (more p ps) statements pre from to e h =
+        one (below_procedures ps statements (pre ++ leaves p) from to) (below_procedure p pre from to) (nat_lt (closing_name p) low) e
+      where
+        one : (is_in_procedures low high ps statements ≡ true → Ascending from ((pre ++ leaves p) ++ (leaves ps ++ leaves statements)) to → AllBelow low (pre ++ leaves p))
+            → (is_in_procedure low high p ≡ true → Ascending from (pre ++ leaves p) to → AllBelow low pre)
+            → (b : Bool) → (if b then is_in_procedures low high ps statements else nat_le high (closing_name p) && is_in_procedure low high p) ≡ true → AllBelow low pre
+        one later here true g =
+            let split : pre ++ (names_only (identifiers role.Declaring p ++ identifiers role.Declaring ps) ++ leaves statements) ≡ (pre ++ leaves p) ++ (leaves ps ++ leaves statements) = simp (leaves_append, append_assoc) in
+            below_first low pre (leaves p) (later g (subst (λ l. Ascending from l to) split h))
+        one later here false g =
+            let split : pre ++ (names_only (identifiers role.Declaring p ++ identifiers role.Declaring ps) ++ leaves statements) ≡ (pre ++ leaves p) ++ (leaves ps ++ leaves statements) = simp (leaves_append, append_assoc) in
+            here (both_true (nat_le high (closing_name p)) (is_in_procedure low high p) g).1 (ascend_first from (pre ++ leaves p) (leaves ps ++ leaves statements) to (subst (λ l. Ascending from l to) split h))
+
+    pub below_procedure : (p : Tree ℕ (item procedure)) (pre : List ℕ) (from to : ℕ) → is_in_procedure low high p ≡ true → Ascending from (pre ++ leaves p) to → AllBelow low pre
+    below_procedure (declares_procedure x fs b closing) pre from to e h =
+        let f = identifiers role.Declaring fs in
+        let i = identifiers role.Declaring b in
+        let last : List (Role × ℕ) = (role.ClosingName, closing) ∷ [] in
+        let split : pre ++ (x ∷ names_only (f ++ (i ++ last))) ≡ ((pre ++ (x ∷ names_only f)) ++ names_only i) ++ (closing ∷ []) = simp (leaves_append, append_assoc) in
+        below_first low pre (x ∷ names_only f)
+        (below_block b (pre ++ (x ∷ names_only f)) from to e (ascend_first from ((pre ++ (x ∷ names_only f)) ++ names_only i) (closing ∷ []) to (subst (λ l. Ascending from l to) split h)))
+
+-- ---- marks of which some are passed over
+
+-- the first marks are the second ones, and others at tokens that pass a test
+pub data Covers (out : ℕ → Bool) : List OrdinalMark → List OrdinalMark → Type 0 where
+  covers_none : Covers out [] []
+  covers_one : {ms ns : List OrdinalMark} → (m : OrdinalMark) → Covers out ms ns → Covers out (m ∷ ms) (m ∷ ns)
+  covers_more : {ms ns : List OrdinalMark} → (m : OrdinalMark) → out m.token ≡ true → Covers out ms ns → Covers out (m ∷ ms) ns
+
+pub covers_both : (out : ℕ → Bool) {a b c d : List OrdinalMark} → Covers out a b → Covers out c d → Covers out (a ++ c) (b ++ d)
+covers_both out covers_none q = q
+covers_both out (covers_one m p) q = covers_one m (covers_both out p q)
+covers_both out (covers_more m e p) q = covers_more m e (covers_both out p q)
+
+pub covers_same : (out : ℕ → Bool) (ms : List OrdinalMark) → Covers out ms ms
+covers_same out [] = covers_none
+covers_same out (m ∷ ms) = covers_one m (covers_same out ms)
+
+pub covers_all : (out : ℕ → Bool) (ms : List OrdinalMark) → AllOut out (tokens_of ms) → Covers out ms []
+covers_all out [] o = covers_none
+covers_all out (m ∷ ms) o = covers_more m o.0 (covers_all out ms o.1)

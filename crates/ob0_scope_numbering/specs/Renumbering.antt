@@ -1,0 +1,72 @@
+-- A module's identifiers, gone through again where a range of tokens lies in one body: the declarations on the way
+-- to it, and its statements.
+-- Rule: none; for contracts of the walk over identifiers.
+use Rattle.std.specs.Prelude.{ℕ, ◌+◌, nat_lt, List, [], ◌∷◌, ◌++◌, Option, length, drop, if◌then◌else◌}
+use Rattle.ob0_tree.specs.Tree.{Tree, block, body, declares, declares_procedure, end, has_body, is_module, item, items, maybe, module_text, more, procedure}
+use Rattle.ob0_language_names.specs.Names.{as_names}
+use Rattle.ob0_language_names.specs.Parts.{procedure_name}
+use Rattle.ob0_language_names.specs.Scopes.{predeclared_scope}
+use Rattle.ob0_scope_numbering.specs.Tabling as tabling
+use Rattle.ob0_scope_numbering.specs.Visiting as visit
+use Rattle.ob0_scope_numbering.specs.Visiting.{Visit, after_heading, numbered_at, used, visible, visit_constant_section, visit_formals, visit_type_section, visit_variable_section}
+use Rattle.ob0_scope_numbering.specs.Written.{Writing}
+use Rattle.ob0_scope_table.specs.OneBody.{closing_name}
+
+-- the first tokens, as long as they are before one
+abbrev pub first_before : ℕ → List ℕ → List ℕ
+first_before token [] = []
+first_before token (x ∷ xs) = if nat_lt x token then x ∷ first_before token xs else []
+
+-- all declarations before a token are counted
+abbrev pub caught_up : {M : Type 0} → List ℕ → ℕ → Visit M → Visit M
+caught_up all token v =
+    record v {
+      declarations = v.declarations ++ first_before token (drop (length v.declarations) all);
+    }
+
+-- a declaration is counted
+abbrev pub counted : {M : Type 0} → ℕ → Visit M → Visit M
+counted token v = record v { declarations = v.declarations ++ (token ∷ []) }
+
+-- a procedure's name is visible, and what is in it is passed over
+abbrev pub passed_over : {M : Type 0} → ℕ → Visit M → Visit M
+passed_over x v = visible x (7 + length v.declarations) v
+
+-- an identifier's ordinal is put to the others; the module has these declarations, and the range begins here
+module _ {M : Type 0} (put : ℕ → Option ℕ → M → M) (all : List ℕ) (low : ℕ) where
+  abbrev mutual
+    -- a block: its sections, and then its statements or one of its procedures
+    pub renumber_block : Tree ℕ block → Visit M → Visit M
+    renumber_block (has_body (declares cs ts vs ps) statements) v =
+        renumber_procedures ps statements
+        (visit_variable_section put vs (visit_type_section put ts (visit_constant_section put cs v)))
+
+    -- the first procedure that doesn't close before the range; if there is none, the statements
+    pub renumber_procedures : Tree ℕ (items procedure) → Tree ℕ (maybe body) → Visit M → Visit M
+    renumber_procedures end statements v = used put statements v
+    renumber_procedures (more p ps) statements v =
+        if nat_lt (closing_name p) low
+        then renumber_procedures ps statements
+        (passed_over (procedure_name p) (caught_up all (procedure_name p) v))
+        else renumber_procedure p (caught_up all (procedure_name p) v)
+
+    -- a procedure: its name, its parameters and its block
+    pub renumber_procedure : Tree ℕ (item procedure) → Visit M → Visit M
+    renumber_procedure (declares_procedure x fs b closing) v =
+        renumber_block b (after_heading (length v.declarations) (length v.scope)
+        (visit_formals put fs (numbered_at put x v)))
+
+-- before the first identifier, with a table of ordinals
+abbrev pub started_over : Writing → List (Option ℕ) → tabling.Visit
+started_over writing table =
+    record {
+      writing = writing;
+      scope = predeclared_scope as_names;
+      declarations = [];
+      uses = [];
+      marks = table;
+    }
+
+-- after the body that a range of tokens lies in
+abbrev pub module_renumbered : List ℕ → ℕ → Tree ℕ module_text → tabling.Visit → tabling.Visit
+module_renumbered all low (is_module x b closing) v = renumber_block tabling.put all low b v

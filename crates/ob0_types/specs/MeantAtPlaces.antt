@@ -1,0 +1,32 @@
+-- What the identifiers at the places of a module's text mean: names, or else fields.
+-- Rule: docs/PROTOCOL.md, Requests on documents 3 to 6.
+use Rattle.std.specs.Prelude.{⊤, ℕ, Option, Some, None, option_map}
+use Rattle.ob0_scope_table.specs.Resolution.{Resolution}
+use Rattle.ob0_scope.specs.NamesAtPlaces.{name_on}
+use Rattle.ob0_scope.specs.declared.naming.Named as named
+use Rattle.ob0_types_fields.specs.Identifiers.{field_at}
+use Rattle.ob0_types.specs.declared.meant.Identified.{Identified}
+use Rattle.ob0_types.specs.declared.meant.Meant.{Meant}
+use Rattle.ob0_types.specs.declared.meant.Meant.TheVariants.{Name, Field}
+
+-- an identifier that is bound to a declaration means it
+abbrev pub name_meant : named.Named → Identified
+name_meant n = record { token = n.token; means = Name n.ordinal }
+
+-- an identifier of a field, by its token and the ordinal of its record, means the field
+abbrev pub field_meant : ℕ × ℕ → Identified
+field_meant x = record { token = x.0; means = Field x.1 }
+
+-- the name, or else the field
+abbrev pub meant_by : Option named.Named → Option (ℕ × ℕ) → Option Identified
+meant_by (Some n) f = Some (name_meant n)
+meant_by None f = option_map field_meant f
+
+-- what the identifier means that a place is on
+abbrev pub meant_at : Resolution → ℕ → Option Identified
+meant_at r offset = meant_by (name_on r.module_read offset) (field_at r offset)
+
+-- it is a field
+abbrev pub IsField : Meant → Type 0
+IsField (Name ordinal) = ⊥
+IsField (Field k) = ⊤

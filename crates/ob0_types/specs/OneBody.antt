@@ -1,0 +1,51 @@
+-- What was found of a module's types before its tokens changed in the statements of one body.
+-- Rule: docs/LANGUAGE.md, Types 8, Faults of scopes and types 1.
+use Rattle.std.specs.Prelude.{◌≡◌, ℕ, true, nat_lt, if◌then◌else◌}
+use Rattle.ob0_tree.specs.Tree.{Tree, block, declares, declares_procedure, end, has_body, is_module, item, items, module_text, more, procedure}
+use Rattle.ob0_scan.specs.Scanned.{Scanned}
+use Rattle.ob0_scope_table.specs.Bindings.{resolution_by}
+use Rattle.ob0_scope_table.specs.OneBody.{IsBodyChange, closing_name, is_out}
+use Rattle.ob0_scope_table.specs.Resolution.{Resolution, ordinal_in}
+use Rattle.ob0_scope_table.specs.declared.resolved.Bindings.{Bindings}
+use Rattle.ob0_tree.specs.Parsed.{Parsed}
+use Rattle.ob0_types.specs.CheckedModules.{AreTypesOf}
+use Rattle.ob0_types.specs.declared.checked.ModuleTypes.{ModuleTypes}
+
+-- a range of tokens that lies in the statements of one block, from `low` on: the block's closing name
+abbrev mutual
+  -- of a block with this closing name, or of one in it
+  pub closing_in_block : ℕ → ℕ → Tree ℕ block → ℕ
+  closing_in_block low own (has_body (declares cs ts vs ps) statements) = closing_among low own ps
+
+  -- of the first procedure that doesn't close before it, or of one in that; where all close before
+  -- it, of the block
+  pub closing_among : ℕ → ℕ → Tree ℕ (items procedure) → ℕ
+  closing_among low own end = own
+  closing_among low own (more p ps) =
+      if nat_lt (closing_name p) low
+      then closing_among low own ps
+      else closing_in_procedure low p
+
+  -- of a procedure, or of one in it
+  pub closing_in_procedure : ℕ → Tree ℕ (item procedure) → ℕ
+  closing_in_procedure low (declares_procedure x fs b closing) = closing_in_block low closing b
+
+-- of a module, or of a procedure in it
+abbrev pub closing_in_module : ℕ → Tree ℕ module_text → ℕ
+closing_in_module low (is_module x b closing) = closing_in_block low closing b
+
+-- a module over the tokens of another text
+abbrev pub over_text : Scanned → Parsed → Parsed
+over_text source m =
+    record { source = source; name = m.name; block = m.block; closing = m.closing }
+
+-- These are the types of a module before some of its tokens changed, from `low` on, which lie in one
+-- body: all others are written as they were, and bound as they were.
+pub record WereTypes (r : Resolution) (types : ModuleTypes) (low : ℕ) : Type 0 where
+  pub high : ℕ
+  pub old : Scanned
+  pub bindings : Bindings
+  pub change : IsBodyChange old r.module_read low high
+  pub bound : (token : ℕ) → is_out low high token ≡ true
+      → ordinal_in r.ordinals token ≡ ordinal_in bindings.ordinals.items token
+  pub types_are : AreTypesOf (resolution_by (over_text old r.module_read) bindings) types

@@ -1,0 +1,270 @@
+-- Nothing is reported of a body of which nothing was reported before the tokens of the module changed in others.
+use Rattle.std.proofs.Common.{◌≡◌, ℕ, Bool, true, false, List, [], ◌∷◌, ◌++◌, map, Option, Some, None, length, refl, sym, ap, ◌∙◌, subst, arith, true≢false}
+use Rattle.std.proofs.lemmas.List.{length-map, nil_from_length}
+use Rattle.ob0_scan.specs.Scanned.{Scanned}
+use Rattle.ob0_scan.specs.declared.fault.Fault.{Fault}
+use Rattle.ob0_tree.specs.declared.tree.Role.TheVariants as role
+use Rattle.ob0_tree.specs.Parsed.{tree_of}
+use Rattle.ob0_tree.specs.Tree.{Tree, block, body, declares, declares_procedure, end, has_body, identifiers, is_module, item, items, maybe, module_text, more, procedure}
+use Rattle.ob0_language_names.specs.Parts.{formal_sections, module_block, section_constants, section_types, section_variables}
+use Rattle.ob0_scope_table.specs.BodyAlone.{EachToken}
+use Rattle.ob0_scope_table.specs.FaultTokens.{AreAtSameTokens, fault_at}
+use Rattle.ob0_scope_table.specs.Resolution.{IsResolution, Resolution, declaring_only}
+use Rattle.ob0_types_check.specs.AlikeBut.{BlockBut, IsAlikeAt, ProcedureBut, ProceduresBut, Unless}
+use Rattle.ob0_types_check.specs.DeclarationFaults.{KnownHeading, after_heading, reported_body, reported_constants, reported_sections, reported_types, reported_variables}
+use Rattle.ob0_types_check.specs.Known.{Reported}
+use Rattle.ob0_types_check.specs.Operations.{◌>>=◌}
+use Rattle.ob0_types_check.specs.SoFar.{SoFar, at_first, predeclared_meanings}
+use Rattle.ob0_types_check.specs.SomeBodies.{AllPass, SomeBodiesReported, Walked, WereFaulty, block_with, body_if, every, faulty_bodies, module_with, procedure_with, procedures_with, with_faulty}
+use Rattle.ob0_types_check.proofs.Chains.{reported_equal}
+use Rattle.ob0_types_check.proofs.ReportedWith.{further}
+use Rattle.ob0_types_check.proofs.SameFaults.{Alike, Alikeness}
+use Rattle.ob0_types_check.proofs.SameModules.{body_same, constants_each, constants_same, formals_each, heading_after, heading_new, heading_old, sections_same, so_over, types_each, types_same, variables_each, variables_same}
+
+-- ---- the bodies of which something is reported
+
+module _ (test : ℕ → Bool) where
+  all_before : (xs ys : List ℕ) → AllPass test (xs ++ ys) → AllPass test xs
+  all_before [] ys h = tt
+  all_before (x ∷ xs) ys h = (h.0, all_before xs ys h.1)
+
+  all_last : (xs : List ℕ) (y : ℕ) → AllPass test (xs ++ y ∷ []) → test y ≡ true
+  all_last [] y h = h.0
+  all_last (x ∷ xs) y h = all_last xs y h.1
+
+  all_and : (xs : List ℕ) (y : ℕ) → AllPass test xs → test y ≡ true → AllPass test (xs ++ y ∷ [])
+  all_and [] y h q = (q, tt)
+  all_and (x ∷ xs) y h q = (h.0, all_and xs y h.1 q)
+
+  -- they only become more
+  faulty_before : (faults : List Fault) (own : ℕ) (xs : List ℕ) → AllPass test (with_faulty faults own xs) → AllPass test xs
+  faulty_before [] own xs h = h
+  faulty_before (fault ∷ faults) own xs h = all_before xs (own ∷ []) h
+
+  mutual
+    unfolding block_with
+
+    before_block : (own : ℕ) (w : Walked) (b : Tree ℕ block) → AllPass test (block_with every own w b).known.faulty → AllPass test w.faulty
+    before_block own w (has_body (declares cs ts vs ps) a) h =
+        let q = (reported_constants w.so_far (section_constants cs)).known in
+        let r = (reported_types q (section_types ts)).known in
+        let s = (reported_variables r (section_variables vs)).known in
+        let v = (procedures_with every (further w s) ps).known in
+        before_procedures (further w s) ps (faulty_before (reported_body v.so_far a).faults own v.faulty h)
+
+    before_procedures : (w : Walked) (ps : Tree ℕ (items procedure)) → AllPass test (procedures_with every w ps).known.faulty → AllPass test w.faulty
+    before_procedures w end h = h
+    before_procedures w (more d rest) h = before_procedure w d (before_procedures (procedure_with every w d).known rest h)
+
+    before_procedure : (w : Walked) (d : Tree ℕ (item procedure)) → AllPass test (procedure_with every w d).known.faulty → AllPass test w.faulty
+    before_procedure w (declares_procedure x fs b closing) h =
+        let g = (reported_sections (record { formals = []; following = w.so_far }) (formal_sections fs)).known in
+        before_block closing (further w (after_heading x g)) b h
+
+-- those of which something is reported among the wanted ones are wanted
+module _ (wanted : ℕ → Bool) where
+  abbrev Wants : List ℕ → Type 0
+  Wants bodies = AllPass wanted bodies
+
+  faulty_wanted : (w : Walked) (own : ℕ) (a : Tree ℕ (maybe body)) → Wants w.faulty → Wants (body_if (wanted own) own w a).known.faulty
+  faulty_wanted w own a h = one (wanted own) refl
+    where
+      added : (faults : List Fault) → wanted own ≡ true → Wants (with_faulty faults own w.faulty)
+      added [] e = h
+      added (fault ∷ faults) e = all_and wanted w.faulty own h e
+
+      one : (b : Bool) → wanted own ≡ b → Wants (body_if b own w a).known.faulty
+      one true e = added (reported_body w.so_far a).faults e
+      one false e = h
+
+  mutual
+    unfolding block_with
+
+    block_wanted : (own : ℕ) (w : Walked) (b : Tree ℕ block) → Wants w.faulty → Wants (block_with wanted own w b).known.faulty
+    block_wanted own w (has_body (declares cs ts vs ps) a) h =
+        let q = (reported_constants w.so_far (section_constants cs)).known in
+        let r = (reported_types q (section_types ts)).known in
+        let s = (reported_variables r (section_variables vs)).known in
+        faulty_wanted (procedures_with wanted (further w s) ps).known own a (procedures_wanted (further w s) ps h)
+
+    procedures_wanted : (w : Walked) (ps : Tree ℕ (items procedure)) → Wants w.faulty → Wants (procedures_with wanted w ps).known.faulty
+    procedures_wanted w end h = h
+    procedures_wanted w (more d rest) h = procedures_wanted (procedure_with wanted w d).known rest (procedure_wanted w d h)
+
+    procedure_wanted : (w : Walked) (d : Tree ℕ (item procedure)) → Wants w.faulty → Wants (procedure_with wanted w d).known.faulty
+    procedure_wanted w (declares_procedure x fs b closing) h =
+        let g = (reported_sections (record { formals = []; following = w.so_far }) (formal_sections fs)).known in
+        block_wanted closing (further w (after_heading x g)) b h
+
+-- ---- in two texts
+
+-- what is known comes of one value; and the second is reported as the third is
+pub record One {Z A : Type 0} (f g : Z → A) (r s d : Reported A) : Type 0 where
+  pub value : Z
+  pub before : r.known ≡ f value
+  pub after : s.known ≡ g value
+  pub same : s ≡ d
+
+of_alike : {Z A : Type 0} {old new : Scanned} {f g : Z → A} {r s : Reported A} → Alike old new f g r s → One f g r s s
+of_alike p = record { value = p.value; before = p.before; after = p.after; same = refl }
+
+-- steps, where something is known of the end in the old text, and so of each
+one_then : {Z A Y B : Type 0} {f g : Z → A} {h k : Y → B} {t u v : Reported A} (J : A → Type 0) (K : B → Type 0) (next other another : A → Reported B) → ((x : A) → K (next x).known → J x) → (J t.known → One f g t u v)
+    → ((z : Z) → K (next (f z)).known → One h k (next (f z)) (other (g z)) (another (g z)))
+    → K (t >>= next).known → One h k (t >>= next) (u >>= other) (v >>= another)
+one_then {Z} {A} {Y} {B} {f} {g} {h} {k} {t} {u} {v} J K next other another down p q holds =
+    let a : One f g t u v = p (down t.known holds) in
+    let b : One h k (next (f a.value)) (other (g a.value)) (another (g a.value)) = q a.value (subst (λ x. K (next x).known) a.before holds) in
+    let known : v.known ≡ g a.value = sym (ap (λ (x : Reported A). x.known) a.same) ∙ a.after in
+    let last : other u.known ≡ another v.known = ap other a.after ∙ (b.same ∙ ap another (sym known)) in
+    record {
+      value = b.value;
+      before = ap (λ x. (next x).known) a.before ∙ b.before;
+      after = ap (λ x. (other x).known) a.after ∙ b.after;
+      same = reported_equal (ap (λ (x : Reported B). x.known) last) (λ i. (a.same i).faults ++ (last i).faults);
+    }
+
+-- faults at the same tokens as none are none
+none_same_tokens : (old new : Scanned) (before after : List Fault) → AreAtSameTokens old new before after → before ≡ [] → after ≡ []
+none_same_tokens old new before after h none =
+    let count : length before ≡ length h.tokens = ap length h.in_old ∙ length-map h.tokens (fault_at old) in
+    let nothing : length before ≡ 0 = ap length none in
+    h.in_new ∙ ap (map (fault_at new)) (nil_from_length h.tokens (omega (arith, count, nothing)))
+
+-- what goes along in both texts: what is known, and the bodies of which something was reported in the one and in the other
+record Both : Type 0 where
+  so : SoFar
+  in_old : List ℕ
+  in_new : List ℕ
+
+module _ (old new : Scanned) (os ns : List (Option ℕ)) (P : ℕ → Type 0) (w : Alikeness old new os ns P) (wanted : ℕ → Bool) where
+  abbrev so_before : SoFar → SoFar
+  so_before p = so_over old os p
+
+  abbrev so_now : SoFar → SoFar
+  so_now p = so_over new ns p
+
+  abbrev walked_before : Both → Walked
+  walked_before z = record { so_far = so_before z.so; faulty = z.in_old }
+
+  abbrev walked_now : Both → Walked
+  walked_now z = record { so_far = so_now z.so; faulty = z.in_new }
+
+  abbrev further_both : Both → SoFar → Both
+  further_both z p = record { so = p; in_old = z.in_old; in_new = z.in_new }
+
+  abbrev With : Reported Walked → Reported Walked → Reported Walked → Type 0
+  With r s d = One walked_before walked_now r s d
+
+  -- all are wanted of which something was reported in the old text
+  abbrev Were : Walked → Type 0
+  Were v = Wants wanted v.faulty
+
+  abbrev nothing_of : {A : Type 0} → A → Type 0
+  nothing_of x = Unit {0}
+
+  none_unless : (faults : List Fault) (own : ℕ) (xs : List ℕ) → wanted own ≡ false → Wants wanted (with_faulty faults own xs) → faults ≡ []
+  none_unless [] own xs e h = refl
+  none_unless (fault ∷ faults) own xs e h = absurd (true≢false (sym (all_last wanted xs own h) ∙ e))
+
+  body_with : (own : ℕ) (z : Both) (a : Tree ℕ (maybe body)) → Unless (wanted own) (EachToken P a) → Were (body_if true own (walked_before z) a).known
+      → With (body_if true own (walked_before z) a) (body_if true own (walked_now z) a) (body_if (wanted own) own (walked_now z) a)
+  body_with own z a each were = one (wanted own) refl each
+    where
+      before_faults : List Fault
+      before_faults = (reported_body (so_before z.so) a).faults
+
+      now_faults : List Fault
+      now_faults = (reported_body (so_now z.so) a).faults
+
+      at_end : Both
+      at_end = record { so = z.so; in_old = with_faulty before_faults own z.in_old; in_new = with_faulty now_faults own z.in_new }
+
+      one : (b : Bool) → wanted own ≡ b → Unless b (EachToken P a) → With (body_if true own (walked_before z) a) (body_if true own (walked_now z) a) (body_if b own (walked_now z) a)
+      one true e each = record { value = at_end; before = refl; after = refl; same = refl }
+      one false e each =
+          let none : now_faults ≡ [] = none_same_tokens old new before_faults now_faults (body_same old new os ns P w z.so a each).faults (none_unless before_faults own z.in_old e were) in
+          record {
+            value = at_end;
+            before = refl;
+            after = refl;
+            same = λ i. record { known = record { so_far = so_now z.so; faulty = with_faulty (none i) own z.in_new }; faults = none i };
+          }
+
+  -- a block after a heading
+  inside : (closing : ℕ) (z : Both) (b : Tree ℕ block) (x : ℕ) (g : KnownHeading) → P x
+      → ((y : Both) → Were (block_with every closing (walked_before y) b).known → With (block_with every closing (walked_before y) b) (block_with every closing (walked_now y) b) (block_with wanted closing (walked_now y) b))
+      → Were (block_with every closing (further (walked_before z) (after_heading x (heading_old old new os ns P w g))) b).known
+      → With (block_with every closing (further (walked_before z) (after_heading x (heading_old old new os ns P w g))) b) (block_with every closing (further (walked_now z) (after_heading x (heading_new old new os ns P w g))) b)
+      (block_with wanted closing (further (walked_now z) (after_heading x (heading_new old new os ns P w g))) b)
+  inside closing z b x g each again were =
+      let a = heading_after old new os ns P w x g each in
+      let last : SoFar = after_heading x (heading_new old new os ns P w g) in
+      let start : Were (block_with every closing (walked_before (further_both z a.value)) b).known = subst (λ q. Were (block_with every closing (further (walked_before z) q) b).known) a.before were in
+      subst (λ q. With (block_with every closing (further (walked_before z) q) b) (block_with every closing (further (walked_now z) last) b) (block_with wanted closing (further (walked_now z) last) b)) (sym a.before)
+      (subst (λ q. With (block_with every closing (walked_before (further_both z a.value)) b) (block_with every closing (further (walked_now z) q) b) (block_with wanted closing (further (walked_now z) q) b)) (sym a.after) (again (further_both z a.value) start))
+
+  mutual
+    unfolding block_with
+
+    block_one : (own : ℕ) (z : Both) (b : Tree ℕ block) → BlockBut P wanted own b → Were (block_with every own (walked_before z) b).known
+        → With (block_with every own (walked_before z) b) (block_with every own (walked_now z) b) (block_with wanted own (walked_now z) b)
+    block_one own z (has_body (declares cs ts vs ps) a) h =
+        one_then nothing_of Were (λ q. reported_types q (section_types ts) >>= (λ r. reported_variables r (section_variables vs) >>= (λ s. procedures_with every (further (walked_before z) s) ps >>= (λ t. body_if true own t a))))
+        (λ q. reported_types q (section_types ts) >>= (λ r. reported_variables r (section_variables vs) >>= (λ s. procedures_with every (further (walked_now z) s) ps >>= (λ t. body_if true own t a))))
+        (λ q. reported_types q (section_types ts) >>= (λ r. reported_variables r (section_variables vs) >>= (λ s. procedures_with wanted (further (walked_now z) s) ps >>= (λ t. body_if (wanted own) own t a))))
+        (λ x k. tt) (λ k. of_alike (constants_same old new os ns P w z.so (section_constants cs) (constants_each old new os ns P w cs h.0)))
+        (λ q.
+        one_then nothing_of Were (λ r. reported_variables r (section_variables vs) >>= (λ s. procedures_with every (further (walked_before z) s) ps >>= (λ t. body_if true own t a)))
+        (λ r. reported_variables r (section_variables vs) >>= (λ s. procedures_with every (further (walked_now z) s) ps >>= (λ t. body_if true own t a)))
+        (λ r. reported_variables r (section_variables vs) >>= (λ s. procedures_with wanted (further (walked_now z) s) ps >>= (λ t. body_if (wanted own) own t a)))
+        (λ x k. tt) (λ k. of_alike (types_same old new os ns P w q (section_types ts) (types_each old new os ns P w ts h.1)))
+        (λ r.
+        one_then nothing_of Were (λ s. procedures_with every (further (walked_before z) s) ps >>= (λ t. body_if true own t a)) (λ s. procedures_with every (further (walked_now z) s) ps >>= (λ t. body_if true own t a))
+        (λ s. procedures_with wanted (further (walked_now z) s) ps >>= (λ t. body_if (wanted own) own t a))
+        (λ x k. tt) (λ k. of_alike (variables_same old new os ns P w r (section_variables vs) (variables_each old new os ns P w vs h.2)))
+        (λ s.
+        one_then Were Were (λ t. body_if true own t a) (λ t. body_if true own t a) (λ t. body_if (wanted own) own t a)
+        (λ t k. faulty_before wanted (reported_body t.so_far a).faults own t.faulty k)
+        (procedures_one (further_both z s) ps h.3) (λ y. body_with own y a h.4))))
+
+    procedures_one : (z : Both) (ps : Tree ℕ (items procedure)) → ProceduresBut P wanted ps → Were (procedures_with every (walked_before z) ps).known
+        → With (procedures_with every (walked_before z) ps) (procedures_with every (walked_now z) ps) (procedures_with wanted (walked_now z) ps)
+    procedures_one z end h were = record { value = z; before = refl; after = refl; same = refl }
+    procedures_one z (more d rest) h were =
+        one_then Were Were (λ v. procedures_with every v rest) (λ v. procedures_with every v rest) (λ v. procedures_with wanted v rest)
+        (λ v k. before_procedures wanted v rest k)
+        (procedure_one z d h.0) (λ y. procedures_one y rest h.1) were
+
+    procedure_one : (z : Both) (d : Tree ℕ (item procedure)) → ProcedureBut P wanted d → Were (procedure_with every (walked_before z) d).known
+        → With (procedure_with every (walked_before z) d) (procedure_with every (walked_now z) d) (procedure_with wanted (walked_now z) d)
+    procedure_one z (declares_procedure x fs b closing) h =
+        one_then nothing_of Were (λ g. block_with every closing (further (walked_before z) (after_heading x g)) b) (λ g. block_with every closing (further (walked_now z) (after_heading x g)) b)
+        (λ g. block_with wanted closing (further (walked_now z) (after_heading x g)) b)
+        (λ x k. tt) (λ k. of_alike (sections_same old new os ns P w (record { formals = []; following = z.so }) (formal_sections fs) (formals_each old new os ns P w fs h.1)))
+        (λ g. inside closing z b x g h.0 (λ y. block_one closing y b h.2))
+
+-- ---- a module
+
+abbrev closing_of : Tree ℕ module_text → ℕ
+closing_of (is_module x b closing) = closing
+
+pub some_bodies_reported : SomeBodiesReported
+some_bodies_reported wanted r is w =
+    let old = w.old in
+    let likeness : Alikeness old.module_read.source r.module_read.source old.ordinals r.ordinals (IsAlikeAt old r) = record { count = w.alike.count; written = λ k h. h.written; value = λ k h. h.value; bound = λ k h. h.bound } in
+    let tree = w.alike.tree in
+    let declared : r.declarations ≡ old.declarations = is.declaring ∙ (ap (λ t. declaring_only (identifiers role.Declaring t)) tree ∙ sym w.resolved.declaring) in
+    let first : at_first r ≡ so_over r.module_read.source r.ordinals (at_first old) = ap (λ (ds : List ℕ). record { source = r.module_read.source; ordinals = r.ordinals; declared = predeclared_meanings ++ map (λ token. None) ds; made = [] }) declared in
+    let b : Tree ℕ block = module_block (tree_of old.module_read) in
+    let own : r.module_read.closing ≡ old.module_read.closing = ap closing_of tree in
+    let start : Both = record { so = at_first old; in_old = []; in_new = [] } in
+    let one = block_one old.module_read.source r.module_read.source old.ordinals r.ordinals (IsAlikeAt old r) likeness wanted old.module_read.closing start b w.alike.alike.1 w.faulty in
+    let read : (test : ℕ → Bool) → module_with test r ≡ block_with test old.module_read.closing (record { so_far = so_over r.module_read.source r.ordinals (at_first old); faulty = [] }) b = λ test. λ i. block_with test (own i) (record { so_far = first i; faulty = [] }) (module_block (tree i)) in
+    read wanted ∙ (sym one.same ∙ sym (read every))
+
+-- which bodies something is reported of is known by going through the wanted ones
+pub faulty_stay : (wanted : ℕ → Bool) (r : Resolution) → IsResolution r → WereFaulty wanted r → AllPass wanted (faulty_bodies r)
+faulty_stay wanted r is w =
+    subst (λ (t : Reported Walked). Wants wanted t.known.faulty) (some_bodies_reported wanted r is w)
+    (block_wanted wanted r.module_read.closing (record { so_far = at_first r; faulty = [] }) (module_block (tree_of r.module_read)) tt)

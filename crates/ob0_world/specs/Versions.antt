@@ -1,0 +1,116 @@
+-- The versions that answers name: what they are, and what a client does that goes by them.
+-- An editor can't compare openings with a client that has none. This says why a version is enough: an answer names the
+-- document that was asked about, with the version that it had then.
+-- Rule: none; laws of client and server, on LSP 3.17, OptionalVersionedTextDocumentIdentifier.
+use Rattle.std.specs.Prelude.{◌≡◌, ◌⊎◌, ⊤, ℕ, ℤ, pos, negsuc, List, [], ◌∷◌, ◌==◌, All, Bool, false, Option, Some, None, option_and_then, option_map, if◌then◌else◌, codes}
+use Rattle.serde_json.specs.Data.{Data}
+use Rattle.serde_json.specs.Find.{get, at, as_array, as_number, as_integer}
+use Rattle.ob0_text.specs.declared.position_types.Unit.{Unit}
+use Rattle.ob0_rpc.specs.Members.{text_member}
+use Rattle.ob0_rpc.specs.Messages.{ReadsContent}
+use Rattle.ob0_world_editor.specs.Heard.{request_number}
+use Rattle.ob0_world_editor.specs.Understood.{titled_action, edits_for}
+use Rattle.ob0_world_rules.specs.Asks.{Ask, rename, inline_here, inline_all, format}
+use Rattle.ob0_world_rules.specs.Edited.{Replacement, edited, whole_text}
+use Rattle.ob0_world_rules.specs.Editing.{Done, rewrites, applies}
+use Rattle.ob0_world_rules.specs.Ends.{Open, SentAsk, Editor, request_numbered, open_at}
+use Rattle.ob0_world_rules.specs.Happens.{Event}
+use Rattle.ob0_world.specs.Worlds.{Both, Begins, BothCourse}
+
+-- ---- what an answer names
+
+-- the uri and the version in a document's identifier
+abbrev pub identified : Data → Option (List ℕ × ℤ)
+identified d =
+    option_and_then
+    (λ uri. option_map (λ version. (uri, version))
+    (option_and_then as_integer (option_and_then as_number (get (codes "version") d))))
+    (text_member (codes "uri") d)
+
+-- those of the first document of a WorkspaceEdit
+abbrev pub named_by_edit : Data → Option (List ℕ × ℤ)
+named_by_edit edit =
+    option_and_then identified (option_and_then (get (codes "textDocument"))
+    (option_and_then (at 0) (get (codes "documentChanges") edit)))
+
+-- the WorkspaceEdit of the action with this title
+abbrev pub edit_of_action : List ℕ → Data → Option Data
+edit_of_action title value =
+    option_and_then (get (codes "edit")) (option_and_then (titled_action title) (as_array value))
+
+-- the WorkspaceEdit in a result: that of a rename is one, and that of an inlining has actions, each
+-- with one; a layout has none, but a list of edits
+abbrev pub edit_in_result : Ask → Data → Option Data
+edit_in_result (rename position name) value = Some value
+edit_in_result (inline_here position) value = edit_of_action (codes "Inline here") value
+edit_in_result (inline_all position) value = edit_of_action (codes "Inline everywhere") value
+edit_in_result (format indent) value = None
+
+-- the uri and the version that an answer names
+abbrev pub named_in : Ask → Data → Option (List ℕ × ℤ)
+named_in ask answer =
+    option_and_then named_by_edit
+    (option_and_then (edit_in_result ask) (get (codes "result") answer))
+
+-- a request for a layout
+abbrev pub IsLayout : Ask → Type 0
+IsLayout (rename position name) = ⊥
+IsLayout (inline_here position) = ⊥
+IsLayout (inline_all position) = ⊥
+IsLayout (format indent) = ⊤
+
+-- An answer names the document that was asked about, with the version that it had then, where it has
+-- edits; one about a layout names none.
+abbrev pub NamesAsked : SentAsk → Data → Type 0
+NamesAsked a answer =
+    (named_in a.ask answer ≡ Some (a.uri, pos a.version))
+    ⊎ ((edits_for a.ask answer ≡ []) ⊎ IsLayout a.ask)
+
+-- where this content is an answer, it answers one of these requests and names what that was about
+abbrev pub NamesItsAsk : List SentAsk → List ℕ → Type 0
+NamesItsAsk requested content =
+    (answer : Data) (k : ℕ)
+    → ReadsContent content (Some answer)
+    → option_and_then request_number (get (codes "id") answer) ≡ Some k
+    → (a : SentAsk) × (request_numbered requested k ≡ Some a) × NamesAsked a answer
+
+-- The law: whatever happened, so does each content that waits for the editor. Each that it gets has
+-- waited.
+abbrev pub VersionsAreNamed : Type 0
+VersionsAreNamed =
+    (unit : Unit) (begin : Both) (events : List Event) (now : Both)
+    → Begins unit begin
+    → BothCourse begin events now
+    → All (NamesItsAsk now.ends.editor.requested) now.wire.to_editor
+
+-- ---- a client that goes by them
+
+-- a document has this version
+abbrev pub has_version : ℤ → Open → Bool
+has_version (pos v) d = d.version == v
+has_version (negsuc v) d = false
+
+-- What a client makes of the edits of an answer that goes by the uri and the version in it: they are
+-- made of the document that is open under this uri, where it has this version and no two of them
+-- share a character.
+abbrev pub applies_by_version : Editor → List ℕ → ℤ → List Replacement → Option Done
+applies_by_version e uri version edits =
+    option_and_then
+    (λ d. option_and_then
+    (λ text. Some (rewrites e uri d text (whole_text text ∷ [])
+    (record { uri = uri; before = d.text; after = text } ∷ [])))
+    (if has_version version d then edited e.unit d.text edits else None))
+    (open_at e uri)
+
+-- the document hasn't been opened again since it was asked about: it is closed, or in that opening
+abbrev pub IsNotReopened : Editor → SentAsk → Type 0
+IsNotReopened e a = (d : Open) → open_at e a.uri ≡ Some d → d.opening ≡ a.opening
+
+-- The law: where its document wasn't opened again, a client that goes by the version that an answer
+-- names makes of the edits what this editor makes.
+abbrev pub VersionsSuffice : Type 0
+VersionsSuffice =
+    (e : Editor) (k : ℕ) (a : SentAsk) (edits : List Replacement)
+    → request_numbered e.requested k ≡ Some a
+    → IsNotReopened e a
+    → applies_by_version e a.uri (pos a.version) edits ≡ applies e k edits

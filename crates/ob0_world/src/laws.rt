@@ -1,0 +1,14 @@
+//! What holds of client and server together.
+ghost use Rattle.ob0_world.specs.Versions.{VersionsAreNamed, VersionsSuffice};
+
+/// An answer with edits names the document that was asked about, with the version that it had then, as
+/// `documentChanges` has it. (That to a request for a layout is a list of edits, and names none.)
+pub fn versions_are_named()
+    ensures { VersionsAreNamed }
+{}
+
+/// A client that goes by the version that an answer names, and drops what it asked about a document before this was
+/// opened again, makes of each answer what the editor of the model makes of it.
+pub fn versions_suffice()
+    ensures { VersionsSuffice }
+{}

@@ -1,0 +1,88 @@
+"""What can stay of an analysis after a change, by the rule of docs/ARCHITECTURE.md ("What is kept of a text"): all that is known
+where the tokens are written as they were; the tree or the refusal where they are of the kinds that they were, and then all bodies
+but one where the change lies in that one."""
+from __future__ import annotations
+
+from typing import List, NamedTuple, Optional
+
+from harness import Message
+from reference.parser import Node, Parser, Refused
+from reference.scanner import Token, scan
+
+WORDS, BODY, REFUSED = "written as before", "in one body", "refused alike"
+DECLARATIONS, TOKENS, LEXEMES = "not in one body", "other tokens", "faults of lexemes"
+SHORT = (WORDS, BODY, REFUSED)
+
+
+class Lexed(NamedTuple):
+    """A text that has lexemes, with its tokens."""
+
+    text: str
+    tokens: List[Token]
+
+
+class Body(NamedTuple):
+    """Where the statements of a block begin and end in a text."""
+
+    start: int
+    end: int
+
+
+def lexed(text: str) -> Optional[Lexed]:
+    """None where a lexeme is at fault."""
+    tokens, faults = scan(text)
+    return None if faults else Lexed(text, [it for it in tokens if it.kind not in ("comment", "end")])
+
+
+def bodies(node: Node) -> list[Body]:
+    """The bodies of a block and of those in it, from BEGIN to the closing name."""
+    found = [it for procedure in node.procedures for it in bodies(procedure)]
+    begin = [it for it in node.words if it.kind == "BEGIN"]
+    return found + [Body(it.end, node.closing.start) for it in begin]
+
+
+def tree_of(text: Lexed) -> Optional[Node]:
+    """None where the parser refuses the text."""
+    try:
+        return Parser(text.text, scan(text.text)[0]).module()
+    except Refused:
+        return None
+
+
+def changed_body(old: Lexed, new: Lexed) -> tuple[str, Optional[Body]]:
+    """What stays where the tokens are of the kinds that they were, and the body of the new text in which the change lies."""
+    tree = tree_of(new)
+    if tree is None:
+        return REFUSED, None
+    different = [at for at, (one, other) in enumerate(zip(old.tokens, new.tokens)) if one.text != other.text]
+    first, last = new.tokens[different[0]].start, new.tokens[different[-1]].end
+    inside = [it for it in bodies(tree) if it.start <= first and last <= it.end]
+    return (BODY, inside[0]) if inside else (DECLARATIONS, None)
+
+
+def way_of(old: Optional[Lexed], new: Optional[Lexed]) -> tuple[str, Optional[Body]]:
+    """What can stay of the analysis of the last text that had lexemes, and the body in which the change lies, if it lies in one."""
+    if old is None or new is None:
+        return LEXEMES, None
+    if [it.kind for it in old.tokens] != [it.kind for it in new.tokens]:
+        return TOKENS, None
+    if [it.text for it in old.tokens] == [it.text for it in new.tokens]:
+        return WORDS, None
+    return changed_body(old, new)
+
+
+NAMES = ("Duplicate", "Undeclared", "EndName")
+
+
+def faults_about(published: list[Message], text: str, body: Body) -> set[str]:
+    """Which faults a module has: of names or of types, and before a body, in it or after it."""
+    starts = [0]
+    for line in text.splitlines(keepends=True):
+        starts.append(starts[-1] + len(line))
+    found = set()
+    for it in published:
+        start = it["range"]["start"]
+        at = starts[min(start["line"], len(starts) - 1)] + start["character"]
+        where = "before it" if at < body.start else "in it" if at < body.end else "after it"
+        found.add(f"{'names' if it['code'] in NAMES else 'types'} {where}")
+    return found
