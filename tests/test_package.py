@@ -416,7 +416,7 @@ def in_kakoune() -> None:
         opened = [f"edit '{os.path.join(TOP, it)}'; echo -to-file '{work}/type of {os.path.basename(it)}' %opt{{filetype}}" for it in examples()]
         script = f"""edit new.mod; execute-keys 'iMODULE N; END N.<esc>'; write; echo -to-file '{work}/type of new.mod' %opt{{filetype}}
           {'; '.join(opened)}; kill!"""
-        status, said = run_plainly(["timeout", "60", "kak", "-ui", "dummy", "-e", script], environment, work)
+        status, said = run_plainly(["timeout", "-k", "10", "300", "kak", "-ui", "dummy", "-e", script], environment, work)
         same({text_of(work, f"type of {it}") for it in ("new.mod", *names)}, {"ob0"}, said)
 
 

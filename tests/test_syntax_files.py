@@ -384,7 +384,7 @@ def kakoune_indents() -> None:
             lines = ["".join(keys.get(sign, sign) for sign in line.strip()) for line in text.rstrip("\n").split("\n")]
             file = os.path.join(room, f"{os.path.basename(name)}.ob0")
             script = f"edit '{file}'; execute-keys -with-hooks 'i{'<ret>'.join(lines)}<esc>'; write; kill!"
-            status, said = run_plainly(["timeout", "60", "kak", "-ui", "dummy", "-e", script], own, room)
+            status, said = run_plainly(["timeout", "-k", "10", "300", "kak", "-ui", "dummy", "-e", script], own, room)
             holds(os.path.exists(file), f"{name}: Kakoune ended with {status}: {said[-500:]}")
             same(text_of(file), text, f"{name} as it was typed")
 
