@@ -30,7 +30,7 @@ sys.path.insert(0, os.path.join(HERE, "lib"))
 import harness  # noqa: E402
 
 FORK = multiprocessing.get_context("fork")
-LONGEST = 3 * 3600  # seconds that a test may take: the waits of the slowest one are shorter together
+LONGEST = 3600  # seconds that a test may take
 
 
 def load() -> None:

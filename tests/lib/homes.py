@@ -4,9 +4,12 @@ from __future__ import annotations
 import contextlib
 import os
 import shlex
+import shutil
 import signal
 import subprocess
 import sys
+import tempfile
+from collections.abc import Iterator
 from typing import Any
 
 import harness
@@ -16,6 +19,17 @@ from screen import Screen
 from snippets import snippets
 
 SECONDS = 900  # the longest that an editor may take (also where the machine has much else to do)
+
+
+@contextlib.contextmanager
+def temporary() -> Iterator[str]:
+    """A folder that is taken away at the end, but for what a program that was started there still writes into it (tests/run.py takes
+    that away too)."""
+    room = tempfile.mkdtemp()
+    try:
+        yield room
+    finally:
+        shutil.rmtree(room, ignore_errors=True)
 
 
 def at_home(room: str, editor: str) -> dict[str, str]:
