@@ -27,7 +27,8 @@ sys.dont_write_bytecode = True
 HERE = os.path.dirname(os.path.abspath(__file__))
 sys.path.insert(0, os.path.join(HERE, "lib"))
 
-import harness  # noqa: E402
+import harness  # noqa: E402 (it says where the scripts are)
+import editors  # noqa: E402
 
 FORK = multiprocessing.get_context("fork")
 LONGEST = 3600  # seconds that a test may take
@@ -99,7 +100,7 @@ class Running:
             if self.told.poll():
                 found = self.told.recv()
                 self.process.join(60)
-        except EOFError:
+        except (EOFError, OSError):
             self.process.join(60)
             found = Outcome(False, f"its process ended with {self.process.exitcode}")
         self.process.kill()
@@ -167,6 +168,10 @@ def main(words: list[str]) -> int:
         if not words:
             print("0 passed, 1 failed")
             return 1
+    if not words:
+        # (looked for once, and not by each test that wants it)
+        for tool in editors.TOOLS:
+            editors.is_here(tool)
     passed, failed = counted(chosen)
     print(f"{passed} passed, {failed} failed")
     return 1 if failed else 0
