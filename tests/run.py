@@ -103,24 +103,31 @@ class Running:
         except (EOFError, OSError):
             self.process.join(60)
             found = Outcome(False, f"its process ended with {self.process.exitcode}")
+        self.end_now()
+        return found
+
+    def end_now(self) -> None:
         self.process.kill()
         self.process.join()
         self.told.close()
         shutil.rmtree(self.room, ignore_errors=True)
-        return found
 
 
 def all_tried(places: list[int], processors: int) -> Iterator[tuple[int, Outcome]]:
     """What comes of the tests at these places of the table, as they end: as many side by side as there are processors."""
     left = places[::-1]
     running: List[Running] = []
-    while left or running:
-        while left and len(running) < processors:
-            running.append(Running(left.pop()))
-        multiprocessing.connection.wait([it.told for it in running], timeout=60)
-        for it in [it for it in running if it.has_ended()]:
-            running.remove(it)
-            yield it.at, it.outcome()
+    try:
+        while left or running:
+            while left and len(running) < processors:
+                running.append(Running(left.pop()))
+            multiprocessing.connection.wait([it.told for it in running], timeout=60)
+            for it in [it for it in running if it.has_ended()]:
+                running.remove(it)
+                yield it.at, it.outcome()
+    finally:
+        for it in running:
+            it.end_now()
 
 
 def played(places: list[int]) -> Iterator[tuple[int, Outcome, bool]]:
