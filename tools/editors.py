@@ -98,7 +98,8 @@ def install(packages: list[str]) -> str | None:
     environment = {**os.environ, "DEBIAN_FRONTEND": "noninteractive"}
     how: dict[str, Any] = {"stdin": subprocess.DEVNULL, "stdout": subprocess.PIPE, "stderr": subprocess.STDOUT, "env": environment}
     try:
-        words += ["apt-get", *packages]
+        # (another one that installs is waited for)
+        words += ["apt-get", "-o", "DPkg::Lock::Timeout=600", *packages]
         ran = subprocess.run(words, timeout=1800, check=False, **how)
     except (OSError, subprocess.TimeoutExpired) as why:
         return str(why)
