@@ -34,12 +34,9 @@ class Screen:
         return self
 
     def __exit__(self, *why: object) -> None:
-        # (with what it has started)
-        with contextlib.suppress(ProcessLookupError):
-            os.killpg(self.process, signal.SIGKILL)
         if self.status is None:
             os.kill(self.process, signal.SIGKILL)
-            os.waitpid(self.process, 0)
+            self.take_status()
         os.close(self.terminal)
 
     def read(self, seconds: float) -> bool:
@@ -67,11 +64,16 @@ class Screen:
 
     def has_ended(self) -> bool:
         """Whether the program has ended: then its status is known."""
-        if self.status is None:
-            process, ended = os.waitpid(self.process, os.WNOHANG)
-            if process:
-                self.status = os.WEXITSTATUS(ended) if os.WIFEXITED(ended) else -os.WTERMSIG(ended)
+        if self.status is None and os.waitid(os.P_PID, self.process, os.WEXITED | os.WNOHANG | os.WNOWAIT):
+            self.take_status()
         return self.status is not None
+
+    def take_status(self) -> None:
+        """Takes the status of the program, which has ended or is about to, and ends what it has started."""
+        with contextlib.suppress(ProcessLookupError):
+            os.killpg(self.process, signal.SIGKILL)
+        ended = os.waitpid(self.process, 0)[1]
+        self.status = os.WEXITSTATUS(ended) if os.WIFEXITED(ended) else -os.WTERMSIG(ended)
 
     def shows(self, pattern: bytes, what: str, seconds: float = 300) -> None:
         """Waits until what was drawn since the last keys has this."""
