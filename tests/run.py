@@ -5,9 +5,9 @@
   tests/run.py --list     their names
 
 A test that wants an editor or another program that isn't here is left out, by name; where words are given and there is no
-program yet, so is each test that runs it. A test that drives an editor or another program and fails is run once more, when
-all others have ended, and counts as failed where it fails again; what it says is printed both times. The last line is
-'N passed, M failed'."""
+program yet, so is each test that runs it. A test that drives an editor or another program and fails is run once more, when all
+others have ended, and counts as failed where it fails again; what it says is printed both times. The last line is 'N passed, M
+failed'."""
 from __future__ import annotations
 
 import glob

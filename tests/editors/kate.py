@@ -74,9 +74,14 @@ def is_shown(name: str) -> bool:
     return bool(told("search", "--onlyvisible", "--name", name))
 
 
-def is_listing() -> bool:
-    """Whether a list of commands or a menu, which has no name, is there beside the window with the text."""
-    return len(told("search", "--onlyvisible", "--class", "kate")) > 1
+def windows() -> set[str]:
+    """The windows that are there. (Lists of commands and menus have no name.)"""
+    return {*told("search", "--onlyvisible", "--class", "kate")}
+
+
+def new_window(before: set[str]) -> set[str]:
+    """What is there beside these windows."""
+    return windows() - before
 
 
 def takes_keys(name: str) -> bool:
@@ -89,8 +94,9 @@ def command(name: str, comes: Callable[[], Any]) -> Any:
     # (Kate 25 lists a switch whose name begins alike above one of them; chosen twice that is as it was)
     for below in 0, 0, 1, 1:
         try:
+            before = windows()
             keys("ctrl+alt+i")
-            waited("the list of commands", is_listing, 60)
+            waited("the list of commands", functools.partial(new_window, before), 60)
             typed(name)
             keys(*["Down"] * below, "Return")
             return waited(name, comes, 60)
@@ -160,10 +166,11 @@ def names() -> None:
 
 def inlining() -> None:
     # (with the name selected: Kate requests them for a whole line else)
+    before = windows()
     keys("shift+Right", "alt+Return")
     found = waited("code actions", lambda: answers("textDocument/codeAction"))[-1]
     say("offered", [it["title"] for it in found])
-    waited("the menu", is_listing)
+    waited("the menu", functools.partial(new_window, before))
     say("acted", after("acted", lambda: keys("Down", "Return")))
     say("text", saving())
 
