@@ -79,6 +79,7 @@ class Running:
     def __init__(self, at: int) -> None:
         self.at, self.end = at, time.monotonic() + LONGEST
         self.room = tempfile.mkdtemp(prefix="ob0-")
+        os.chmod(self.room, 0o711)  # (a program that a test runs as another user has to get through)
         self.told, telling = FORK.Pipe(duplex=False)
 
         def tell() -> None:
