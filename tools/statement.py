@@ -91,7 +91,7 @@ KEPT: dict[int, dict[tuple[str, str], str]] = {
 # (what they name besides and the page unfolds in a later part, and what it says: this is believed)
 BELIEVED: dict[int, list[tuple[str, str]]] = {
     1: [
-        ("WellTypedText, SameRun", "the text is one of a well-typed module; these two give the same output and end, for every input and all bounds"),
+        ("WellTypedText, SameRun", "the text is one of a well-typed module; the modules of two texts give the same output and end, for every input and all bounds"),
         ("WasMadeFor", "at some moment of these events the editor has the document open, with the version and the text of the publication"),
         ("last_publication", "the last of these publications for a uri"),
         ("start", "nothing was opened yet, and all lists are empty; positions are counted in this unit (`Unit`: UTF-16 units or bytes)"),
@@ -187,7 +187,7 @@ LATER: dict[Key, str] = {
 }
 # (what is no definition of this repository's crates, or a type of the code whose words suffice)
 WORDS = (
-    ("Noted", "a reader or a writer, and notes of it: whether a call has failed, whether it is flushed, how it was read", "`ob0_session`"),
+    ("Noted", "a reader or a writer, with notes of its calls", "`ob0_session`"),
     ("R.remaining d, W.contents d", "the bytes that a device has left to give, and those that were written to it, where its type knows them", "`std::io`"),
 )
 WIRED = (
@@ -211,7 +211,7 @@ PARTS: list[tuple[str, list[str], str, str]] = [
             "an event leaves is determined (the law `one_step`).",
             "*The server* (`Replies`) publishes diagnostics of each document that was opened or changed, and answers each request, with edits or "
             "none. It has a document's version and text (`InStep`), or doesn't know its text (`OutOfStep`, as after a notification that it couldn't "
-            "read, `Lost`). The editor sends no `Lost`; once all is taken the server has its documents, all `InStep` (`server_mirrors`).",
+            "read, `Lost`). The editor sends no `Lost`; once all is taken the server has its documents, each `InStep` (the law `server_mirrors`).",
             "*The editor* (`done_by`) sends each opening, change, close and request. At any time it may apply the edits of an answer that it "
             "keeps (`applies`), where the document is the same opening with the same version as when it asked. (It counts openings, which no "
             "real editor does: see part 4.)",
@@ -233,19 +233,18 @@ PARTS: list[tuple[str, list[str], str, str]] = [
     (
         "Part 3: the tie to the program",
         [
-            "*The model and a session.* A session is the server of the protocol: in a state it replies to a content, and is in another "
+            "*The model and a session.* A session is the server of the protocol: in a state it replies to a content, and then is in another "
             "(`Answers`). `play_in` returns edits, publications and contents. By `Plays` there is a course in which each "
             "event of the model was an event of a session too (`BothStep`), from an `initialize` with fixed capabilities on (`Begins`): when "
             "the server takes a message, the session replies to the first content that waits; nothing else moves it (`MovesWire`). After each "
             "event the contents that wait say the messages of the model, and the session's documents are the model's (`IsTied`). The session "
-            "took `taken`, and sent `got`, which the editor has taken, and then `unread`. The contract says that there are such a session and "
-            "course, and not how the body of `play_in` found them: it makes the events by `World::step`, whose contract (part 9) says the "
-            "same of each.",
+            "took `taken`, and sent `got`, which the editor has taken, and then `unread`. (`play_in` makes the events by `World::step`, whose "
+            "contract, in part 9, says the same of each.)",
             "*What the program calls.* `ob0 serve` calls `ob0_session::serve`, the first contract below, over standard input and output, "
-            "whose types don't know the bytes that passed: there what follows is tested. Its status is that of an `Ok`, or 3, 4 or 5 "
-            "(docs/PROTOCOL.md, The program). By the contract the bytes that `serve` has read have contents (`Feeds`), "
-            "and those that it has written are the frames of what a session replies to the first of these in turn (`Served`); the table says "
-            "to which, for each result.",
+            "whose types don't know the bytes that passed: there what follows is tested. Its status is that of an `Ok`, else 3, 4 or, at `Memory`, "
+            "5 (docs/PROTOCOL.md, The program). By the contract the bytes that `serve` has read have contents (`Feeds`), "
+            "and those that it has written are the frames of what a session replies to these in turn, up to one of them (`Served`): up to which, the "
+            "table says for each result.",
             "Each clause is of the moment at which `serve` returns. That it writes and flushes all replies before it reads on is inferred (part "
             "6), and no theorem. (The comment's 'whatever came before' isn't of a failed read: after that nothing is flushed.)",
             "*What joins them.* What a session replies to contents in turn is a `Conversation`, by docs/PROTOCOL.md as a function (`reacts`). "
@@ -253,7 +252,7 @@ PARTS: list[tuple[str, list[str], str, str]] = [
             "`serve` one of the bytes that it has read and written. The law `a_conversation_is_served`, the second contract below, says that "
             "they are the same: where `serve` returns and has read exactly the frames of `taken`, it has written exactly the frames of `got` "
             "and `unread`, if none of `taken` is longer than a content may be, and neither an allocation nor the writer failed. So it doesn't "
-            "matter that the program doesn't call `play_in`, nor how its body found what it returns. At its `Err` this holds of the events "
+            "matter that the program doesn't call `play_in`, nor how this found what it returns. At its `Err` this holds of the events "
             "before; of those that follow no tie is proved, only the law of the model and the contract of `serve`.",
         ],
         "that what `play_in` returns as taken and sent is what `serve`, where it has read the one, has written when it returns",
@@ -323,8 +322,8 @@ ROWS = """
 | `Err(Truncated)` | all replies; no `exit` came, and the input is at its end, inside a message | no device failed; flushed |
 | `Err(Read)` | all replies to the contents read; no `exit` came | the reader failed, the writer didn't; flushed |
 | `Err(TooManyReads)` | all replies to the contents read; no `exit` came | 2^40 pieces were read, and at least as many bytes; no device failed; flushed |
-| `Err(Write)` | all replies to the first of the contents, but perhaps not the last bytes of these frames | the writer failed, the reader didn't |
-| `Err(Memory)` | all replies to the first of the contents, none in part | no device failed; flushed |
+| `Err(Write)` | all replies to the contents up to one of them, or of these frames the first bytes alone | the writer failed, the reader didn't |
+| `Err(Memory)` | all replies to the contents up to one of them (or none), each whole | no device failed; flushed |
 """
 AFTER_ROWS = (
     "A *piece* is what one read gives. *Flushed*: if the writer was flushed before the call, or anything was written in it, the "
@@ -339,7 +338,7 @@ SENTENCE = (
 # (what it says and doesn't, an item each)
 PREMISES = (
     "*The theorem* is the contract of `play_in`, for each list of fewer than 2^63 - 1 events for which it returns an `Ok`. And it is a law "
-    "of the model, without any call: whatever state a list of events leads to, `Holds` is true of it (`in_every_interleaving`).",
+    "of the model: whatever state a list of events leads to, `Holds` is true of it (`in_every_interleaving`).",
     "*Well-typed* is a text that docs/LANGUAGE.md allows (`WellTypedText`, part 7). A run ends as it should, by an error, or at a bound.",
     "*An applied edit* is all that one answer replaces, made at once: of a rename, of an inlining of a constant at one use or everywhere, or of a "
     "formatting (`Applied` has the text before and after). The editor applies an answer in the document that it asked about, while that is open "
@@ -362,11 +361,11 @@ PREMISES = (
     "of Unicode scalar values, so half of a surrogate pair can't be in one.",
     "*The program*: `ob0 serve` calls `ob0_session::serve`. `play_in`, which the program doesn't call, also returns all contents that "
     "a session took and sent in these events. Where `serve` returns and has read the frames of what that session took, it has written the "
-    "frames of what it sent, unless an allocation or the writer failed (part 3: `Plays`, the contract of `serve`, and the law "
+    "frames of what it sent, unless an allocation or the writer failed (part 3, the law "
     "`a_conversation_is_served`). Every function returns, and in none is anything undefined (docs/PROMISES.md, Safe and total).",
     "*Memory*: where an allocation fails `play_in` returns an `Err`. All of this then holds of the events before the one at which it "
-    "failed, or no session had begun and nothing has passed (`PlaysBefore`). `serve` has then written whole replies to the first of "
-    "the contents, and returns `Err(Memory)`: the session has ended, and what it sent remains valid. No contract can say that an allocation did "
+    "failed, or no session had begun and nothing has passed (`PlaysBefore`). `serve` has then written all replies to the contents up to one of "
+    "them, each whole, and returns `Err(Memory)`: the session has ended, and what it sent remains valid. No contract can say that an allocation did "
     "fail: a function that fails always would meet these too. That ours don't is tested.",
     "*Not promised*: that a list of events leads somewhere (an `Ok` shows it of its list), and that a message that waits is ever taken; when "
     "`serve` writes a reply, since its clauses are of its return (that it writes and flushes it before it reads on is inferred in part 6, and "
@@ -402,6 +401,7 @@ READING = (
     "written has w, with `put` at its end; where the type of a device knows no bytes these say nothing.",
 )
 # (and of that of the others)
+OTHERS = "The notation of the other parts"
 MORE = (
     "*Facts*: `¬ A` is 'not A', `≢` is not equal; `⊤` and the library's `Unit {0}` always hold (`Unit` alone is what positions are counted "
     "in). `OnOk result P` says P where the result is an `Ok`.",
@@ -433,10 +433,12 @@ MODEL, TEXTS, WIRE, LANGUAGE, RIGHT, STEPS = range(4, 10)
 HOW = (
     "Whoever believes that these definitions say what they are meant to say knows what is proved; proofs and code needn't be "
     "read. Parts 0 to 3 say what is promised, and of which program; with this section and the notation they are read in an hour. What they "
-    "name and don't unfold is *believed*: tables have it in words. Parts 4 to 6 unfold it, part 7 says what a module is "
+    "name and don't unfold is *believed* in that hour: tables have it in words. Above all it is that a module and its run are those of "
+    "docs/LANGUAGE.md (`WellTypedText`, `SameRun`), that a session is docs/PROTOCOL.md (`reacts`), and that bytes and contents are read as the "
+    "words of part 3 say. Parts 4 to 6 unfold the rest of the model, texts and the wire, part 7 says what a module is "
     "and does, part 8 which edits are right answers; part 9 has laws and details. "
-    "Each of these says what one may believe instead, and what else speaks for that: laws, which are proved of the definitions, and tests. "
-    "(The code is proved to do what the definitions say, so its tests try these too.)"
+    "Each of these says what one may believe instead, and what speaks for that: laws, which are proved of the definitions, and tests (of the "
+    "code, which is proved to do what these say)."
 )
 WHOLE = (
     "No definition that the headline needs is left out, but for those that the tables of parts 3 and 6 give with a file: this is the work "
@@ -832,7 +834,7 @@ class Page:
     def how_to_read(self) -> list[str]:
         """What is said between part 0 and part 1."""
         head = ["## How to read it", "", *wrapped(HOW), "", *wrapped(WHOLE), "", *wrapped(PACES + " " + self.left_out()), ""]
-        tail = ["", "## The notation", "", *listed(READING), ""]
+        tail = ["", "## The notation", "", *listed(READING), "", f"Parts {MODEL} to {STEPS} have [more](#{slug(OTHERS)}).", ""]
         table: list[str] = []
         for _ in range(2):  # (the table is to be read too)
             table = self.table(head + table + tail)
@@ -850,7 +852,7 @@ class Page:
         out += self.first_lines() + self.how_to_read()
         for part in range(1, len(PARTS)):
             if part == HOUR_ENDS + 1:
-                out += ["## The notation of the other parts", "", *listed(MORE), ""]
+                out += [f"## {OTHERS}", "", *listed(MORE), ""]
             out += self.part_lines(part)
         out += ["## Names of the standard library", ""]
         by_module: dict[str, set[str]] = {}
