@@ -116,7 +116,7 @@ def names_once() -> None:
 
 
 def rows() -> dict[str, list[int]]:
-    """The rows of the page's table of parts by what they begin with: definitions, lines, words, minutes, minutes of a faster reader."""
+    """The rows of the page's table of parts: definitions, lines, words, minutes, minutes of a faster reader."""
     found = re.findall(r"^\| (?:\[(Part \d)[^|]*|([^|\[]*)) ((?:\| [\d,]+ ){5})\|$", text_of(PAGE), re.M)
     return {part or name: [int(it.replace(",", "")) for it in numbers.split("|")[1:]] for part, name, numbers in found}
 
@@ -140,20 +140,24 @@ def counts_hold() -> None:
         for i in range(2):
             same(table[name][i], sum(table[f"Part {part}"][i] for part in range(last)), f"{name}, column {i}")
     for part in range(10):
-        pieces = [piece for at, text in fenced("agda") if str(at).startswith(f"Part {part}") for piece in re.split(r"\n\n+(?=\S)", text)]
-        types = [it for at, text in fenced("rust") if str(at).startswith(f"Part {part}") for it in re.findall(r"^pub (?:struct|enum) ", text, re.M)]
-        same(len(pieces) + len(types), table[f"Part {part}"][0], f"the definitions of part {part}")
+        agda, rust = (
+            "\n\n".join(text for at, text in fenced(language) if str(at).startswith(f"Part {part}"))
+            for language in ("agda", "rust")
+        )
+        found = len(re.split(r"\n\n+(?=\S)", agda)) + len(re.findall(r"^pub (?:struct|enum) ", rust, re.M))
+        same(found, table[f"Part {part}"][0], f"the definitions of part {part}")
 
 
 @test("statement: the contract of what the program calls, both sides of that of `play_in`, and what joins them are in part 3")
 def tie_is_there() -> None:
     shown = "\n".join(text for part, text in [*fenced("agda"), *fenced("rust")] if str(part).startswith("Part 3"))
-    for wanted in ("pub fn serve<", "record Plays ", "PlaysBefore :", "record BothStep ", "record IsTied ", "record Served ", "ConversationIsServed :"):
-        holds(wanted in shown, f"part 3 hasn't {wanted!r}")
+    wanted = ["pub fn serve<", "record Plays ", "PlaysBefore :", "record BothStep ", "record IsTied ", "record Served "]
+    for it in [*wanted, "ConversationIsServed :"]:
+        holds(it in shown, f"part 3 hasn't {it!r}")
 
 
 def read_in(part: str, pace: int) -> float:
-    """The minutes that a part takes at 200 words and so many lines a minute, counted on the page as it stands, without lists of links."""
+    """The minutes that a part takes at 200 words and so many lines a minute, on the page, without lists of links."""
     text = re.sub(r"^(?:Elsewhere: .*(?:\n.+)*|#.*|[|]-.*)$", "", part, flags=re.M)
     code = "\n".join(re.findall(r"^```\w+\n(.*?)^```$", text, re.M | re.S))
     lines = re.findall(r"^ *(?!--|//)[^\s].*$", code, re.M)
@@ -184,25 +188,34 @@ def nothing_unsaid() -> None:
     groups = re.findall(r"^### `(\w+)` of `(\w+)`\n(?:(?!^#).*\n)*?```agda\n((?:(?!```).*\n)*)", hour, re.M)
     first = hour[: hour.index("\n## How to read it")]
     groups += [(file, "ob0_world_rules", first) for file in ("Headline", "Laws")]
-    shown = [(crate, file, name) for file, crate, text in groups for name in definitions(text) if name in counted.files[crate, file][0]]
+    shown = [
+        (crate, file, name)
+        for file, crate, text in groups
+        for name in definitions(text)
+        if name in counted.files[crate, file][0]
+    ]
     holds(len(shown) > 35, f"hardly any definition is in parts 0 to 3: {shown}")
-    said = {name.rpartition(".")[2] for name in re.findall(r"`([^`|]+)`", "\n".join(re.findall(r"^\| (`.*?) \|", hour, re.M)))}
-    said |= {name for _, _, name in shown}
+    tables = "\n".join(re.findall(r"^\| (`.*?) \|", hour, re.M))
+    said = {name.rpartition(".")[2] for name in re.findall(r"`([^`|]+)`", tables)} | {name for _, _, name in shown}
     missing = set()
     for crate, file, name in shown:
         own, others = counted.files[crate, file]
         text = re.sub(r"^ +pub \w+(?= :)", "", own[name], flags=re.M)
         for word in re.findall(r"[^\s(){}\[\];,.\"]+", text):
             home = (crate, file, word) if word in own else counted.home(*others[word]) if word in others else None
+            if home is None:
+                continue
             # (a case is said by its type)
-            if home and home[2] not in said and next(iter(definitions(counted.files[home[0], home[1]][0][home[2]]))) not in said:
+            of_type = next(iter(definitions(counted.files[home[0], home[1]][0][home[2]])))
+            if home[2] not in said and of_type not in said:
                 missing.add(f"{word}, by {name} of {file}")
     same(sorted(missing), [], "what parts 0 to 3 name and don't say")
 
 
 @test("statement: the laws and tests that speak for what is believed are there")
 def spoken_for() -> None:
-    sources = "\n".join(text_of(os.path.relpath(path, TOP)) for path in glob.glob(os.path.join(TOP, "crates", "*", "src", "*.rt")))
+    paths = glob.glob(os.path.join(TOP, "crates", "*", "src", "*.rt"))
+    sources = "\n".join(text_of(os.path.relpath(path, TOP)) for path in paths)
     said = re.findall(r"For that speak (.*?)\n\n", text_of(PAGE), re.S)
     same(len(said), 6, "how many parts say what speaks for them")
     named = [name for text in said for name in re.findall(r"`([a-z]\w*_\w+)`", text) if not name.startswith("ob0_")]
