@@ -307,7 +307,8 @@ PARTS: list[tuple[str, list[str], str, str]] = [
             "to the first content that waits; nothing else moves it (`MovesWire`). After each event the contents that "
             "wait say the messages of the model, and the session's documents are the model's (`IsTied`). The session "
             "took `taken`, and sent `got`, which the editor has taken, and then `unread`. (`play_in` makes the events "
-            "by `World::step`, whose contract, in part 9, says the same of each.)",
+            "by [`World::step`](#part-9-steps-laws-and-details), whose contract says the same of each, and at an `Err` "
+            "that what has come and passed before remains.)",
             "*What the program calls.* `ob0 serve` calls `ob0_session::serve`, the first contract below, over standard "
             "input and output, whose types don't know the bytes that passed: there what follows is tested. Its status "
             "is that of an `Ok`, else 3, 4 or, at `Memory`, 5 (docs/PROTOCOL.md, The program). By the contract the "
@@ -538,9 +539,9 @@ WHOLE = (
     "file: this is the work of the page's script, and a test counts them in another way."
 )
 PACES = (
-    f"Times are of {WORDS_A_MINUTE} words and {LINES_A_MINUTE} lines a minute, in the last column of {LINES_ONCE_USED} "
-    "lines, for who is used to the notation. Lines are those of definitions in the sources (of contracts in the times "
-    "alone); words are all others, without lists of links."
+    f"Times are of {WORDS_A_MINUTE} words and {LINES_A_MINUTE} lines a minute, for who knows types; in the last column "
+    f"of {LINES_ONCE_USED} lines, for who is used to the notation. Lines are those of definitions in the sources (of "
+    "contracts in the times alone); words are all others, without lists of links."
 )
 
 
