@@ -121,7 +121,7 @@ def rows() -> dict[str, list[int]]:
     return {part or name: [int(it.replace(",", "")) for it in numbers.split("|")[1:]] for part, name, numbers in found}
 
 
-SUMS = {"**An hour: all of these**": 4, "**Without the language, with the tie**": 7, "**With the language**": 8}
+SUMS = {"**The first reading: all of these**": 4, "**Without the language, with the tie**": 7, "**With the language**": 8}
 
 
 @test("statement: without the language the page has at most 150 definitions and 640 lines, with it 395 and 2,250")
@@ -151,9 +151,18 @@ def counts_hold() -> None:
 @test("statement: the contract of what the program calls, both sides of that of `play_in`, and what joins them are in part 3")
 def tie_is_there() -> None:
     shown = "\n".join(text for part, text in [*fenced("agda"), *fenced("rust")] if str(part).startswith("Part 3"))
-    wanted = ["pub fn serve<", "record Plays ", "PlaysBefore :", "record BothStep ", "record IsTied ", "record Served "]
+    wanted = ["pub fn serve<", "record Plays ", "PlaysBefore :", "record BothStep ", "record IsTied "]
     for it in [*wanted, "ConversationIsServed :"]:
         holds(it in shown, f"part 3 hasn't {it!r}")
+    wire = "\n".join(text for part, text in fenced("agda") if str(part).startswith("Part 6"))
+    for it in ("record Served ", "Serves :", "MayServe :"):
+        holds(it in wire, f"part 6 hasn't {it!r}")
+
+
+def first_reading() -> str:
+    """Parts 0 to 3."""
+    page = text_of(PAGE)
+    return page[: page.index("\n## The other parts, and how long each takes\n")]
 
 
 def read_in(part: str, pace: int) -> float:
@@ -166,7 +175,7 @@ def read_in(part: str, pace: int) -> float:
     return (len(words) - len(in_lines)) / 200 + len(lines) / pace
 
 
-@test("statement: the times that the page names aren't less than its words and lines take, and parts 0 to 3 take an hour")
+@test("statement: the times that the page names aren't less than its words and lines take, and parts 0 to 3 take 50 minutes")
 def times_hold() -> None:
     page, table = text_of(PAGE), rows()
     parts = re.split(r"^(?=## )", page, flags=re.M)
@@ -175,27 +184,27 @@ def times_hold() -> None:
             needed = next(read_in(it, pace) for it in parts if it.startswith(f"## Part {part}"))
             said = table[f"Part {part}"][column]
             holds(needed <= said, f"part {part} takes {needed:.1f} minutes, and not {said}")
-        hour = read_in(page[: page.index("\n## The notation of the other parts")], pace)
-        said = table["**An hour: all of these**"][column]
-        holds(hour <= said <= 60, f"parts 0 to 3 take {hour:.1f} minutes, and not {said}")
+        first = read_in(first_reading(), pace)
+        said = table["**The first reading: all of these**"][column]
+        holds(first <= said <= 50, f"parts 0 to 3 take {first:.1f} minutes, and not {said}")
 
 
 @test("statement: what parts 0 to 3 name is in them, in words at least")
 def nothing_unsaid() -> None:
     counted = Counted()
-    page = text_of(PAGE)
-    hour = page[: page.index("\n## The notation of the other parts")]
-    groups = re.findall(r"^### `(\w+)` of `(\w+)`\n(?:(?!^#).*\n)*?```agda\n((?:(?!```).*\n)*)", hour, re.M)
-    first = hour[: hour.index("\n## How to read it")]
-    groups += [(file, "ob0_world_rules", first) for file in ("Headline", "Laws")]
+    read = first_reading()
+    groups = re.findall(r"^### `(\w+)` of `(\w+)`\n(?:(?!^#).*\n)*?```agda\n((?:(?!```).*\n)*)", read, re.M)
+    first = read[: read.index("\n## The notation")]
+    groups += [(file, "ob0_world_rules", first) for file in ("Headline", "Laws", "Answers")]
     shown = [
         (crate, file, name)
         for file, crate, text in groups
         for name in definitions(text)
         if name in counted.files[crate, file][0]
     ]
-    holds(len(shown) > 35, f"hardly any definition is in parts 0 to 3: {shown}")
-    tables = "\n".join(re.findall(r"^\| (`.*?) \|", hour, re.M))
+    holds(len(shown) > 30, f"hardly any definition is in parts 0 to 3: {shown}")
+    sections = re.findall(r"^### (?:Believed in part \d|Named and not unfolded)\n\n((?:\|.*\n)+)", read, re.M)
+    tables = "\n".join(re.findall(r"^\| \[?(`.*?) \|", "\n".join(sections), re.M))
     said = {name.rpartition(".")[2] for name in re.findall(r"`([^`|]+)`", tables)} | {name for _, _, name in shown}
     missing = set()
     for crate, file, name in shown:

@@ -3,7 +3,7 @@
 is there once, with its comment.
 
 A definition is needed where a contract of the page names it, or a needed definition does (tools/definitions.py). Parts 0
-to 3 unfold some (`KEPT`) and are read in an hour; of the others that they name they have words (`BELIEVED`), and later
+to 3 unfold some (`KEPT`) and are read first; of the others that they name they have words (`BELIEVED`), and later
 parts unfold them. Some are nowhere unfolded (`CLOSED`). With --check the page isn't written: it fails where the page
 isn't of these sources."""
 from __future__ import annotations
@@ -35,25 +35,26 @@ LAW = ("ob0_world_determined", "laws", "a_conversation_is_served")
 STEP = ("ob0_world", "world", "step")
 # (laws that the words name)
 LAWS = [("ob0_world_rules", "laws", name) for name in ("one_step", "a_course_fits", "answers_are_one", "edits_keep_the_run", "server_mirrors")]
-LAWS += [("ob0_world", "laws", "versions_suffice")]
+LAWS += [("ob0_world", "laws", "versions_suffice"), ("ob0_world_determined", "laws", "one_output")]
 # (the contracts that a part shows)
 SHOWN = {0: HEADLINE, 3: [SERVE, LAW], 9: [STEP, *LAWS]}
 # (on the first screen, in this order)
-FIRST = [("ob0_world_rules", "Headline", name) for name in ("Headline", "Holds", "KeepsTheRun", "IsRight", "AreUpToDate")]
+FIRST = [("ob0_world_rules", "Headline", name) for name in ("Headline", "Holds", "KeepsTheRun", "IsRight")]
+FIRST += [("ob0_world_rules", "Answers", "IsEmptyIfCorrect"), ("ob0_world_rules", "Headline", "AreUpToDate")]
 FIRST += [("ob0_world_rules", "Laws", "InEveryInterleaving")]
 # (where the part on edits begins)
 EDITS = [("ob0_world_rules", "Answers", name) for name in ("GivesEdits", "Refuses")]
 # (what is named and not unfolded, and what it says)
 CLOSED = {
-    ("ob0_session_server", "Answers", "reacts"): "docs/PROTOCOL.md as a function, all but the framing: of a state and "
-    "of what a content means, the state afterwards and what is to be said",
+    ("ob0_session_server", "Answers", "reacts"): "docs/PROTOCOL.md as a function, all but the framing: the state after "
+    "a content, and what is to be said",
     ("ob0_session_server", "Answers", "SaysReply"): "nothing is sent, or one content, the JSON text of what is to be "
     "said: a publication, a result or an error, as docs/PROTOCOL.md has it",
     ("ob0_rpc", "Messages", "ReadsContent"): "the bytes are the JSON text of this value; none, where they aren't JSON",
     ("ob0_rpc", "Messages", "meaning"): "a request with its id, method and params, a notification, a response, or no "
         "message",
-    ("ob0_session_server", "Answers", "ServerState"): "what a session keeps: how far its lifecycle is (`phase`), what "
-    "the client can do, and the open documents (`held`)",
+    ("ob0_session_server", "Answers", "ServerState"): "a session's lifecycle (`phase`), what its client can do, and "
+    "its documents (`held`)",
     ("ob0_session_server", "Answers", "start"): "the state of a new session, before `initialize`",
     ("ob0_session_server", "Answers", "begins"): "the state after the `initialize` of this client, with no document "
         "open",
@@ -69,167 +70,125 @@ CLOSED = {
     "leave this (they have at most one such list: the law `feeding_is_determined`)",
     ("ob0_frame", "Framing", "Rest"): "what is left: `Framing.Open` with the bytes of a part of a message, or "
         "`Broken`, what no message begins with",
-    ("ob0_frame", "Frames", "frame"): "the message with this content, as it is written: its head, which gives the "
-        "length, and it",
+    ("ob0_frame", "Frames", "frame"): "the message with this content: a head that gives the length, and the content",
     ("ob0_frame", "Head", "max_content"): "16,777,216, the bytes that a content may have",
 }
+# (what the words of part 3 name of these)
+SAID = [("ob0_session_server", "Answers", "reacts")]
 # (what parts 1 to 3 unfold, by file, in the order of the page)
 KEPT: dict[int, dict[tuple[str, str], str]] = {
     1: {
         ("ob0_world_rules", "Ends"): "Ends ToServer ToEditor Editor Open Applied Made",
-        ("ob0_world_rules", "Happens"): "Event Course Happens after_act ServerTakes",
+        ("ob0_world_rules", "Happens"): "Event Course Happens ServerTakes",
         ("ob0_world_rules", "Editing"): "done_by applies if_same",
-        ("ob0_world_rules", "Serving"): "Replies Publishes",
-        ("ob0_world_rules", "Answers"): "IsEmptyIfCorrect",
     },
     2: {
         ("ob0_world_rules", "Edited"): "Replacement edited",
-        ("ob0_text", "Patches"): "patched_by_cuts pieced are_apart",
+        ("ob0_text", "Patches"): "patched_by_cuts",
     },
     3: {
         ("ob0_world", "Worlds"): "Plays PlaysBefore BothStep IsTied",
         ("ob0_world_determined", "Determined"): "ConversationIsServed",
-        ("ob0_session", "Serving"): "Served",
     },
 }
 # (what they name besides and the page unfolds in a later part, and what it says: this is believed)
 BELIEVED: dict[int, list[tuple[str, str]]] = {
     1: [
-        (
-            "WellTypedText, SameRun",
-            "the text is one of a well-typed module; the modules of two texts give the same output and end, for every "
-            "input and all bounds",
-        ),
-        (
-            "WasMadeFor",
-            "at some moment of these events the editor has the document open, with the version and the text of the "
-            "publication",
-        ),
+        ("WellTypedText", "the text is one of a well-typed module, by docs/LANGUAGE.md"),
+        ("SameRun", "the modules of two texts give the same output and end, for every input and all bounds"),
+        ("WasMadeFor", "at some moment of these events the editor had the document open with this version and text"),
         ("last_publication", "the last of these publications for a uri"),
+        ("Unit", "what positions are counted in: UTF-16 units or bytes"),
+        ("start", "nothing was opened yet, and all lists are empty"),
+        ("EditorDocuments", "the documents that are open in the editor"),
+        ("open_at", "the document of a uri that is open in the editor, if there is one"),
+        ("Ask", "a rename of what is at a place, an inlining of a constant at the use there or everywhere, a formatting"),
+        ("Act", "what the editor may do: the cases of `done_by`"),
+        ("Done", "what an act leaves: the editor, what it sends and what it applies"),
+        ("after_act", "what is sent waits for the server, last; what is applied is added to `applied`"),
+        ("opens", "the document is open with version 1 and a number that no other opening has; an opening is sent"),
+        ("rewrites", "the document has this text and the next version; the changes are sent; the last list is what was "
+            "applied"),
+        ("closes", "the document isn't open any more; a close is sent"),
+        ("asks", "the request is kept in `requested`, and sent"),
+        ("stays", "the editor is this one; nothing is sent or applied"),
+        ("after_taking", "the first message that waits for the editor is taken; an answer that has edits is kept"),
+        ("Answer", "an answer that is kept"),
+        ("kept_answer", "the edits of the answer to request k, if the editor keeps it"),
+        ("without_answer", "the editor without the answer to request k"),
+        ("SentAsk", "a request that was sent: its `uri`, and the `opening` and `version` that the document had then"),
+        ("request_numbered", "the request with this number"),
+        ("after_changes", "the text after changes, each of the result of the one before"),
+        ("whole_text", "the change that gives the whole text"),
+        ("OpenDocuments", "the documents that the server has, each `InStep` or `OutOfStep`"),
+        ("DocumentEvent", "that a document is opened, changed, lost or closed"),
+        ("after_message", "the server's documents after a message"),
         (
-            "start",
-            "nothing was opened yet, and all lists are empty; positions are counted in this unit (`Unit`: UTF-16 units "
-            "or bytes)",
-        ),
-        ("EditorDocuments, open_at", "the documents that are open in the editor; the one of a uri, if there is one"),
-        ("Ask", "a rename of what is at a place; an inlining of a constant at the use there, or at all; a formatting"),
-        (
-            "Act, Done",
-            "what the editor may do, the cases of `done_by`; what that leaves: the editor, what it sends and what it "
-            "applies",
-        ),
-        (
-            "opens, rewrites, closes, asks",
-            "the editor does so, and sends one message, which says it. A document is opened with version 1 and a "
-            "number that no other opening has; `rewrites` gives it this text and the next version, and applies what "
-            "comes last; a request is kept in `requested`",
-        ),
-        ("stays", "the editor is this one, and nothing is sent or applied"),
-        (
-            "after_taking, reads, Answer",
-            "the editor takes the first message that waits for it; it keeps an answer that has edits, and nothing of "
-            "other messages; the answer to a request",
-        ),
-        (
-            "kept_answer, without_answer",
-            "the edits of the answer to request k, if the editor keeps it; the editor without it",
-        ),
-        (
-            "SentAsk, request_numbered",
-            "a request as the editor keeps it: the `uri`, and the `opening` and `version` of then; the one with this "
-            "number",
-        ),
-        (
-            "after_changes, whole_text",
-            "the text after changes, each of the result of the one before; the change that gives the whole text",
-        ),
-        (
-            "OpenDocuments, Document, document_at",
-            "the documents that are open in the server, each `InStep` or `OutOfStep`; the one of a uri, if there is "
-            "one",
-        ),
-        (
-            "DocumentEvent, TextChange, after_message",
-            "that a document is opened, changed (by these changes), lost or closed; the server's documents after a "
-            "message that says so",
+            "Replies",
+            "what is sent for a message, and the publications made by that: for a notification see "
+            "`RepliesToNotification`; for a request one answer, with its number and the edits of `IsAnswer`",
         ),
         (
             "RepliesToNotification",
-            "what `Publishes` says, of a document that was opened or changed, as it is then; nothing for `Lost`; for a "
-            "close of an open document an empty list without a version, and nothing made",
+            "of a document that was opened or changed and is now `InStep`: one publication (and `Made`) with its "
+            "version and text, of which `IsEmptyIfCorrect` holds; of an open one that was closed: an empty list "
+            "without a version, and nothing made; else nothing",
         ),
         (
             "IsAnswer",
-            "of a document `InStep` the edits that were requested (`GivesEdits`), or none where they are refused "
-            "(`Refuses`) or its text isn't a well-typed module; of another none",
+            "of a document `InStep` the edits of `GivesEdits`, or none: where `Refuses` holds, or its text isn't a "
+            "well-typed module; of any other document none",
         ),
+        ("GivesEdits", "these edits are what was requested, by docs/PROTOCOL.md"),
+        ("Refuses", "docs/PROTOCOL.md refuses such edits of this text"),
     ],
     2: [
         ("Range", "from one position to another"),
-        (
-            "Cut, cut_at",
-            "`from` and `to`, between which characters are taken out, and those that are put there (`new`); the cut of "
-            "a range: how many characters are before its two positions, the lesser first",
-        ),
+        ("Cut", "where characters are taken out, and those that are put there"),
+        ("cut_at", "the cut of a range: between the characters at its two positions, the lesser first"),
         ("width_of", "how many units a character has"),
-        ("in_text_order", "the cuts by their starts, then by their ends; those at one place in the order of the list"),
-        ("all_apart", "any two of them `are_apart`"),
+        ("in_text_order", "the cuts by their starts, then by their ends, then as in the list"),
+        ("pieced", "what cuts in this order make of the text from a place on"),
+        ("all_apart", "no two of the cuts share a character (an insertion strictly inside another cut does)"),
     ],
     3: [
-        (
-            "Played, PlayFault",
-            "what `play_in` returns at an `Ok`, and at an `Err`: `played`, and `steps`, how many events went before",
-        ),
-        (
-            "code.Event, event_of",
-            "an event of the code; the same as one of the model (`Take` is `take_message`, and so on)",
-        ),
-        ("all_applied, all_made", "the edits and the publications that the code returns, part for part"),
-        (
-            "Both, Wire, SessionState",
-            "the model (`ends`) and the `wire`: a session (`serving`, or failed), the contents that it has `taken`, "
-            "those that wait for it (`to_server`), those that the editor has `got`, and those that wait for the editor "
-            "(`to_editor`)",
-        ),
+        ("Played", "what `play_in` returns at an `Ok`"),
+        ("PlayFault", "what it returns at an `Err`: `played`, and `steps`, how many events went before"),
+        ("code.Event", "an event of the code"),
+        ("event_of", "the same as an event of the model (`Take` is `take_message`, and so on)"),
+        ("all_applied", "the edits that the code returns"),
+        ("all_made", "the publications that the code returns"),
+        ("Both", "the model (`ends`) and the `wire`: a `session` and the columns of the table above"),
+        ("SessionState", "the session is `serving`, in a state, or has `failed`"),
         (
             "Begins",
-            "the session has taken the JSON of this editor's `initialize`, and the editor has got the reply; nothing "
-            "else was done",
+            "the session has taken the JSON of `initialize`, whose capabilities are fixed: this unit, and what part 0 "
+            "says; the editor has got the reply; the model is at `start`",
         ),
         ("BothCourse", "these events, each a `BothStep`, lead from the one to the other"),
-        (
-            "HasCome, HasPassed",
-            "what the code returns are the edits and publications, and the contents, that are at this end",
-        ),
+        ("HasCome", "the edits and publications that are returned are those of this state"),
+        ("HasPassed", "the contents that are returned are `taken`, `got` and `to_editor` of this wire"),
         (
             "MovesWire",
-            "at the server's event the session takes the first content that waits for it, and what it replies "
-            "(`Answers`) waits after the others; what the editor writes waits after the others, and what it takes is "
-            "the first; nothing else moves",
+            "the contents move as in the table above; at the server's event the session goes on from state to state by "
+            "`Answers`, at others it stays",
         ),
-        (
-            "AllSay",
-            "as many contents as messages, and by the protocol's own reader each is the notification or the request "
-            "that its message means",
-        ),
+        ("AllSay", "as many contents as messages; each content is the notification or request that its message means"),
         ("PlaysNothing", "no event was made, no edit or publication has come, and no content has passed"),
-        (
-            "Conversation",
-            "what the session replies (`Answers`) to these contents in turn, all of it in order, from the one state to "
-            "the other",
-        ),
+        ("Answers", "a session in a state replies to a content by these contents, and then is in this state (`reacts`)"),
+        ("Conversation", "these contents in turn have these replies in turn (`Answers`), from state to state"),
         ("bytes", "contents as the lists of their bytes"),
-        ("Serves, MayServe", "the table above, case by case; the same, whatever the devices did"),
-        ("IsWritten, ServeFault", "the result is neither `Err(Memory)` nor `Err(Write)`; the faults of the table"),
-        (
-            "device_of, has_failed, is_flushed, reads_of",
-            "of `Noted`: the device; a call of it has returned an error; a flush has succeeded since the last write, "
-            "or nothing was written; how it was read",
-        ),
-        (
-            "IsTaken, AreAllRead, IsFlushedAfter",
-            "at most 2^40 reads, of at most 8,192 bytes each; 2^40 reads; flushed, as below the table",
-        ),
+        ("Serves", "the table of results, case by case"),
+        ("MayServe", "`Serves` of some failures, without what it says of flushes, counts of reads and the input's end"),
+        ("IsWritten", "the result is neither `Err(Memory)` nor `Err(Write)`"),
+        ("ServeFault", "the errors of the table of results"),
+        ("device_of", "of a `Noted`: the device"),
+        ("has_failed", "of a `Noted`: a call of its device has returned an error"),
+        ("is_flushed", "of a `Noted`: a flush has succeeded since the last write, or nothing was written"),
+        ("reads_of", "of a `Noted`: how it was read"),
+        ("IsTaken", "the bytes were taken by at most 2^40 reads, of at most 8,192 bytes each"),
+        ("AreAllRead", "2^40 reads were made"),
+        ("IsFlushedAfter", "flushed, as below the table of results"),
     ],
 }
 # (what the headline or its tie names and the last part unfolds)
@@ -264,25 +223,35 @@ WIRED = (
 LATER_TYPES = [("ob0_scan", "lexeme", "Reserved"), ("ob0_scan", "lexeme", "Symbol")]
 # (the sections of docs/LANGUAGE.md by which the language is ordered)
 SECTIONS = ["Runs", "Types", "Scopes", "Nesting and limits", "Grammar", "Lexemes"]
+# (a list of events and the contents: `Wire`)
+WORKED = """
+| After | `taken` | `to_server` | `got` | `to_editor` |
+|---|---|---|---|---|
+| `begin` | I | | i | |
+| the editor opens a document | I | O | i | |
+| `serve` | I O | | i | d |
+| the editor takes d and requests a rename | I O | R | i d | |
+| `serve` | I O R | | i d | r |
+| the editor takes r and applies it | I O R | C | i d r | |
+"""
 # (the title of a part, what it says in words, what one may believe instead of it, and what else speaks for that)
 PARTS: list[tuple[str, list[str], str, str]] = [
     ("Part 0: the headline", [], "", ""),
     (
         "Part 1: client and server",
         [
-            "`Ends` has client and server. The editor has documents, the requests that it sent and the answers that it "
-            "keeps; the server has documents; between them is a queue each way; and there are the edits applied and "
-            "the publications made so far. An `Event` is one of three: the editor acts, the server takes the first "
-            "message that waits for it and sends what it replies, the editor takes the first that waits for it. "
-            "`Happens` says what each leaves, and `Course` what a list of them leaves. What an event leaves is "
-            "determined (the law `one_step`).",
-            "*The server* (`Replies`) publishes diagnostics of each document that was opened or changed, and answers "
-            "each request, with edits or none. It has a document's version and text (`InStep`), or doesn't know its "
-            "text (`OutOfStep`, as after a notification that it couldn't read, `Lost`). The editor sends no `Lost`; "
-            "once all is taken the server has its documents, each `InStep` (the law `server_mirrors`).",
-            "*The editor* (`done_by`) sends each opening, change, close and request. At any time it may apply the "
-            "edits of an answer that it keeps (`applies`), where the document is the same opening with the same "
-            "version as when it asked. (That it counts openings doesn't matter: part 4.)",
+            "`Ends` is the state of both ends. The editor has documents, the requests that it sent and the answers that "
+            "it keeps. The server has documents. Between them is a queue each way. An `Event` is one of three: the editor acts; the server takes the first "
+            "message that waits for the server, and sends what it replies; the editor takes the first message that "
+            "waits for the editor. `Happens` says what one event leaves (at most one state: the law `one_step`), "
+            "`Course` what a list of events leaves.",
+            "*The server* publishes diagnostics of each document that was opened or changed, and answers each request "
+            "with edits or none. It knows a document's version and text (`InStep`) or doesn't (`OutOfStep`, after a "
+            "notification that it couldn't read, `Lost`). The model's editor sends no `Lost`: when no message waits "
+            "for the server, its documents are the editor's, each `InStep` (the law `server_mirrors`).",
+            "*The editor* sends each opening, change, close and request. It may apply an answer that it keeps at any "
+            "time, while its document is the same opening with the same version as at the request. (A real editor "
+            "needn't count openings: part 4.)",
         ],
         "what part 0 says of the editor, of what is between the two, and of an applied edit",
         "",
@@ -290,9 +259,8 @@ PARTS: list[tuple[str, list[str], str, str]] = [
     (
         "Part 2: patches",
         [
-            "A position is a line and a number of units from the line's start; before it are all earlier lines, and of "
-            "its own at most that number of units. Edits are made at once: each takes out what is between its two "
-            "positions in the old text and puts its own text there, and no two may share a character.",
+            "A position is a line and a number of units from the line's start. Edits are made at once: each takes out "
+            "what is between its two positions in the old text, and puts its own text there.",
         ],
         "LSP 3.17 on lists of edits",
         "",
@@ -300,31 +268,39 @@ PARTS: list[tuple[str, list[str], str, str]] = [
     (
         "Part 3: the tie to the program",
         [
-            "*The model and a session.* A session is the server of the protocol: in a state it replies to a content, "
-            "and then is in another (`Answers`). `play_in` returns edits, publications and contents. By `Plays` there "
-            "is a course in which each event of the model was an event of a session too (`BothStep`), from an "
-            "`initialize` with fixed capabilities on (`Begins`): when the server takes a message, the session replies "
-            "to the first content that waits; nothing else moves it (`MovesWire`). After each event the contents that "
-            "wait say the messages of the model, and the session's documents are the model's (`IsTied`). The session "
-            "took `taken`, and sent `got`, which the editor has taken, and then `unread`. (`play_in` makes the events "
-            "by [`World::step`](#part-9-steps-laws-and-details), whose contract says the same of each, and at an `Err` "
-            "that what has come and passed before remains.)",
-            "*What the program calls.* `ob0 serve` calls `ob0_session::serve`, the first contract below, over standard "
-            "input and output, whose types don't know the bytes that passed: there what follows is tested. Its status "
-            "is that of an `Ok`, else 3, 4 or, at `Memory`, 5 (docs/PROTOCOL.md, The program). By the contract the "
-            "bytes that `serve` has read have contents (`Feeds`), and those that it has written are the frames of what "
-            "a session replies to these in turn, up to one of them (`Served`): up to which, the table says for each "
-            "result.",
-            "Each clause is of the moment at which `serve` returns, and none says when it writes (part 6 infers it). "
-            "(The comment's 'whatever came before' isn't of a failed read: after that nothing is flushed.)",
-            "*What joins them.* What a session replies to contents in turn is a `Conversation`, by docs/PROTOCOL.md as "
-            "a function (`reacts`). `play_in` promises one of the contents that it returns, `serve` one of the bytes "
-            "that it has read and written. The law `a_conversation_is_served`, the second contract below, says that "
-            "they are the same: where `serve` returns and has read exactly the frames of `taken`, it has written "
-            "exactly the frames of `got` and `unread`, if none of `taken` is longer than a content may be, and neither "
-            "an allocation nor the writer failed. So it doesn't matter that the program doesn't call `play_in`, nor "
-            "how this found what it returns. At its `Err` this holds of the events before; of those that follow no tie "
-            "is proved, only the law of the model and the contract of `serve`.",
+            "1. *`play_in` returns an `Ok`*, for fewer than 2^63 - 1 events. Then `Plays` holds of the edits, "
+            "publications and contents that it returns.\n"
+            "2. *So each event of the model was one of a session.* `course` goes from `begin` to `end` by a `BothStep` "
+            "for each event. `begin.ends` is the model's `start`, and each `BothStep` contains `Happens`; so, by "
+            "`only`, `end.ends` is the `end` of `Headline`. After each event the contents that wait say the messages "
+            "that wait, and the session's documents are the model's (`IsTied`). The session is `serving` throughout: "
+            "`Begins` and `MovesWire` leave it no other state.\n"
+            "3. *So the contents are a `Conversation`*, from the state before `initialize` on: `taken` are taken, "
+            "`got ++ unread` are sent.\n"
+            "4. *So its frames are written.* By the law `a_conversation_is_served`, with `got ++ unread` as its `sent`, "
+            "the bytes written are the frames of `sent`. It supposes that no content of `taken` is longer than "
+            "16,777,216 bytes, that the bytes read are exactly the frames of `taken`, that the result is neither "
+            "`Err(Memory)` nor `Err(Write)` (`IsWritten`), and `MayServe`.\n"
+            "5. *`serve` writes them.* Its contract gives `Serves` at its return, if neither device had failed before. "
+            "`MayServe` follows by its definition, with no law: it is `Serves` with less.\n"
+            "6. *The program writes them*: `ob0 serve` calls `ob0_session::serve` over standard input and output. "
+            "Their types know no bytes, so this step is tested.",
+            "So it doesn't matter that the program doesn't call `play_in`. How a session ends:",
+            "- *The input ends* after the frames of `taken`: the chain as it stands, with status 1.\n"
+            "- *`shutdown` and `exit` follow.* The model has no such messages, so more bytes are read than the frames "
+            "of `taken`. By the law [`one_output`](#part-9-steps-laws-and-details) what is written for the first bytes "
+            "of an input begins what is written for more of it, unless an allocation or the writer fails in the call "
+            "for more. So the frames of `got ++ unread` come first, then those of the replies to what follows. Status "
+            "0 needs both. (That this law and that of step 4 give this together is inferred.)\n"
+            "- *`serve` still runs*: its contract is of its return. What it wrote before is inferred in part 6, and "
+            "tested.\n"
+            "- *A session fails* when an allocation fails: in an `Ok` of `play_in` none has (step 2). At its `Err` the "
+            "chain holds of the events before; of those that follow, the law `in_every_interleaving` alone. At "
+            "`Err(Memory)` of `serve` the table of results holds.",
+            "A small conversation: I is the content of `initialize`, O of an opening, R of a request for a rename, C of "
+            "the change after the applied edit; i and r are the replies to I and R, d the diagnostics. `play_in` "
+            "returns `to_editor` as `unread`.",
+            WORKED,
         ],
         "that where `serve` has read what `play_in` returns as taken, it has written, when it returns, what that "
         "returns as sent",
@@ -393,20 +369,20 @@ PARTS: list[tuple[str, list[str], str, str]] = [
 ]
 # (what `serve` has written, by what it returns: `Serves`)
 ROWS = """
-| `serve` returns | and has written the frames of | and of this call |
-|---|---|---|
-| `Ok(status)` | all replies up to an `exit`, which gives the status; or all replies, with status 1, where no `exit` came and the input is at its end, between messages | no device failed; flushed |
-| `Err(BadHead)` | all replies to the contents before the place from which no message can begin; no `exit` came | no device failed; flushed |
-| `Err(Truncated)` | all replies; no `exit` came, and the input is at its end, inside a message | no device failed; flushed |
-| `Err(Read)` | all replies to the contents read; no `exit` came | the reader failed, the writer didn't; flushed |
-| `Err(TooManyReads)` | all replies to the contents read; no `exit` came | 2^40 pieces were read, and at least as many bytes; no device failed; flushed |
-| `Err(Write)` | all replies to the contents up to one of them, or of these frames the first bytes alone | the writer failed, the reader didn't |
-| `Err(Memory)` | all replies to the contents up to one of them (or none), each whole | no device failed; flushed |
+| `serve` returns | The program's status | It has written the frames of | Devices |
+|---|---|---|---|
+| `Ok(status)` | `status` | all replies up to an `exit`, which gives the status; or, with status 1, all replies, where no `exit` came and the input ends between messages | none failed |
+| `Err(BadHead)` | 3 | all replies to the contents before the place where no message can begin; no `exit` came | none failed |
+| `Err(Truncated)` | 3 | all replies; no `exit` came, and the input ends inside a message | none failed |
+| `Err(Read)` | 4 | all replies to the contents read; no `exit` came | the reader alone failed |
+| `Err(TooManyReads)` | 4 | all replies to the contents read, by 2^40 reads and from at least as many bytes; no `exit` came | none failed |
+| `Err(Write)` | 4 | all replies to the contents up to one of them, or these frames' first bytes alone | the writer alone failed |
+| `Err(Memory)` | 5 | all replies to the contents up to one of them (perhaps none), each whole | none failed |
 """
 AFTER_ROWS = (
-    "A *device* is the reader or the writer, a *piece* what one read gives. *Flushed*: if the writer was flushed "
-    "before the call, or anything was written in it, the writer is flushed at the return. The head of a content that "
-    "is too long is one with which no message begins: the row of `BadHead`."
+    "A *device* is the reader or the writer. Except at `Err(Write)` it is *flushed*: if the writer was flushed before "
+    "the call, or `serve` wrote anything, the writer is flushed at the return. A content that is too long has a head "
+    "with which no message begins."
 )
 SENTENCE = (
     "> In every interleaving of an editor and the server, each edit that the editor applies to a well-typed document "
@@ -414,91 +390,98 @@ SENTENCE = (
     "and loop turns; and an open document's latest diagnostics are empty exactly when the text they were made for is a "
     "well-typed module."
 )
-# (what it says and doesn't, an item each)
+OPENING = (
+    "`ob0` is a language server for Oberon-0: an *editor* starts it and speaks with it by LSP 3.17. A *session* is what "
+    "one server has taken and sent, from `initialize` on."
+)
+# (what its words mean, an item each)
+MEANINGS = (
+    "*Well-typed* is a text that docs/LANGUAGE.md allows. A *run* ends as it should, by an error, or at a bound.",
+    "*An applied edit* is all that one answer replaces, made at once: of a rename, an inlining of a constant at one use "
+    "or everywhere, or a formatting. The editor applies an answer only to the opening of the document that it asked "
+    "about, with the version of then; else it drops the answer. That the text before was well-typed is a conclusion "
+    "(`before_fits`); so is that no two replacements share a character (the law `edits_keep_the_run`).",
+    "*The latest diagnostics* of a document are the last list with a version that the server published for its uri, "
+    "taken by the editor or not. (At a close comes an empty list without a version.) The document had the text that "
+    "they were made for, with that version, in this opening or an earlier one (`made_for`). When the server has taken "
+    "all messages, they are of the present version and text (`latest_made`); until then there may be none.",
+)
+# (what it supposes, an item each)
 PREMISES = (
-    "*The theorem* is the contract of `play_in`, for each list of fewer than 2^63 - 1 events for which it returns an "
-    "`Ok`. And it is a law of the model: whatever state a list of events leads to, `Holds` is true of it "
-    "(`in_every_interleaving`).",
-    "*Well-typed* is a text that docs/LANGUAGE.md allows (`WellTypedText`, part 7). A run ends as it should, by an "
-    "error, or at a bound.",
-    "*An applied edit* is all that one answer replaces, made at once: of a rename, of an inlining of a constant at one "
-    "use or everywhere, or of a formatting (`Applied` has the text before and after). The editor applies an answer to "
-    "the document that it asked about, while that is open as it was then: the same opening (not closed since) with the "
-    "same version, so the same text. Otherwise, or where two of its replacements share a character (in no answer do "
-    "they), it drops it. All are made in well-typed texts (`before_fits`).",
-    "*The latest diagnostics* of a document are the last list that the server published for its uri with a version "
-    "(`last_publication`), whether the editor has taken it or not. Once the server has taken all messages, each open "
-    "document has one, of its present version and text (`latest_made`). Until then there may be none, or the last is "
-    "of a text that the document had with that version, in this opening or an earlier one (`made_for`). At a close the "
-    "server publishes an empty list without a version, which isn't counted.",
-    "*Premise, the editor*: It holds with any editor that sends every change, makes the edits of an answer at once and "
-    "as the protocol says, and drops an answer whose document was changed, or closed and opened again, since it asked. "
+    "*Of the list*: fewer than 2^63 - 1 events (`few`).",
+    "*Of the editor*: It holds with any editor that sends every change, makes the edits of an answer at once and as "
+    "the protocol says, and drops an answer whose document was changed, or closed and opened again, since it asked. "
     "Changes are sent in order, columns are counted as LSP does, and to take no keys until the answer comes is as good "
-    "as to drop it. This is our conclusion, and no theorem. It is proved of a model that does so (part 1): it opens, "
-    "changes and closes documents, requests these edits, and applies or drops what it gets; it counts versions from 1, "
-    "sends the whole text after an edit, takes edits that name their document's version and code actions that hold "
-    "their edits, and writes the contents that `play_in` returns. Of a real editor, which may write others (other JSON "
-    "or ids, a hover between), nothing is proved but what `serve` replies (part 3): that the headline holds with it is "
-    "for tests to show.",
-    "*Premise, between the two*: nothing is lost, added or reordered. A message is a *content*, its JSON text, in a "
-    "*frame*, after a head with its length. No content of the editor is longer than 16,777,216 bytes (a longer one "
-    "ends `serve`). A text is a list of Unicode scalar values, so half of a surrogate pair can't be in one.",
-    "*The program*: `ob0 serve` calls `ob0_session::serve`. `play_in`, which the program doesn't call, also returns "
-    "all contents that a session took and sent in these events. Where `serve` returns and has read the frames of what "
-    "that session took, it has written the frames of what it sent, unless an allocation or the writer failed (part 3, "
-    "the law `a_conversation_is_served`). Every function returns, and in none is anything undefined (docs/PROMISES.md, "
-    "Safe and total).",
-    "*Memory*: at an `Err` of `play_in`, which says that an allocation failed, all of this holds of the events before "
-    "the one at which it failed, or no session had begun and nothing has passed (`PlaysBefore`). At `Err(Memory)` "
-    "`serve` has written all replies to the contents up to one of them, each whole: the session has ended, what it "
-    "sent remains valid, and the program's status is 5. No contract can say that an allocation did fail: a function "
-    "that fails always would meet these too. That ours don't is tested.",
-    "*Not promised*: that a list of events leads somewhere (an `Ok` shows it of its list), and that a message that "
-    "waits is ever taken; when `serve` writes a reply, since its clauses are of its return (that it writes and flushes "
-    "it before it reads on is inferred in part 6, and tested); which diagnostics are in a list that isn't empty; that "
-    "a request gets edits, except as part 8 says; anything of other requests and of another editor; time, and that "
-    "memory and the stack suffice. `main`, which calls `serve`, has no contract; and `serve` is proved of a reader and "
-    "a writer whose types know the bytes that passed, which the standard streams' don't. Both are tested.",
-    "*Trusted*: the checker and compiler of Rattle (Rust with contracts), the contracts of its libraries, and that the "
-    "definitions of this page say what they are meant to say (README.md, What is trusted).",
+    "as to drop it. The model's editor does so. It counts versions from 1, sends the whole text after an edit, and "
+    "says in `initialize` that it takes edits that name their document's version and code actions that hold edits.",
+    "*Between the two*: nothing is lost, added or reordered. A message is a *content*, its JSON text, in a *frame*: "
+    "after a head with its length. No content of the editor is longer than 16,777,216 bytes (a longer one ends "
+    "`serve`, as 2^40 reads do). A text is a list of Unicode scalar values: half of a surrogate pair can't be in one.",
+    "*Of `serve`*: neither device had failed before the call (`reads`, `writes`); it has read exactly the frames of "
+    "what the session took; it has returned; neither an allocation nor the writer failed.",
+)
+# (what is claimed; what proves it, what it is inferred from, what tests it, and what is trusted)
+CLAIMS = """
+| Claim | Proved by | Inferred from | Tested by | Trusted |
+|---|---|---|---|---|
+| the headline, with the model's editor | the contract of `play_in`, at an `Ok`; the law `in_every_interleaving`, of each state that events lead to | | | |
+| the headline, with another editor, which may write other contents | | the model: our conclusion, no theorem | editors/README.md | |
+| `play_in` returns the contents that a session took and sent | its contract | | | |
+| nothing is lost between the two | (a premise) | | | pipes |
+| `serve` has written the frames of what that session sent | its contract and the law `a_conversation_is_served`, for a reader and a writer whose types know their bytes | | | |
+| where more is read, as `shutdown` and `exit`, these frames come first | | the law `one_output` (part 3) | tests/test_lifecycle.py | |
+| it writes and flushes a reply before it reads on | | its contract (part 6) | tests/test_stream.py | |
+| all this with standard input and output, whose types know no bytes | | | tests/test_stream.py, tests/test_devices.py | |
+| `main` calls `serve` and hands its status on | | | tests/test_lifecycle.py | |
+| every function returns, and in none is anything undefined | the checker | | | Rattle's checker and compiler, its libraries' contracts |
+| where an allocation fails: this holds of the events before (or no session had begun); `serve` has written whole replies to the contents up to one | `PlaysBefore`; the contract of `serve` | | | |
+| they report that only where one failed (no contract can say it) | | | docs/ROBUSTNESS.md | |
+| memory, stack and time suffice | (not promised) | | docs/ROBUSTNESS.md | |
+| events lead somewhere; a message that waits is taken | (not promised; an `Ok` shows the first) | | | |
+| which diagnostics are in a list; that a request gets edits | (not promised here; of edits see part 8) | | | |
+| the definitions say what is meant | | | what each part names | the reader |
+"""
+BESIDE = (
+    "`Plays` contains `Headline unit (map event_of events) ..` and a conversation (part 3). The contract's `Event` is "
+    "the code's; `event_of` makes it the model's. `only` says that there is at most one end; an `Ok` shows that there "
+    "is one. `Ends` is a state of both ends, `end` that after all events. `Holds` is of one state `w`; 'waits for it' "
+    "is 'for the server'. `applied` and `made` are all edits and publications so far."
 )
 # (what a reader has to know of the notation of parts 0 to 3, an item each)
 READING = (
-    "*This page*: a heading '`X` of `ob0_y`' is a group of definitions, the file X of the crate crates/ob0_y; types "
-    "come first, and what a definition uses comes after it. *Rule* is the text that the group states; *Elsewhere* "
-    "leads to what it uses of other groups.",
+    "*This page*: '`X` of `ob0_y`' is the file X of the crate crates/ob0_y; *Elsewhere* leads to what it uses of other "
+    "files.",
     "*Definitions*: `name : type`, and then equations, by cases; `_` is any other case. `data` lists the cases of a "
-    "type; a `record` is a value with named parts, or a list of facts that all hold. `record { a = x; b = y }` is one "
-    "with these parts, `record e { a = x }` is `e` with that part replaced. `abbrev`, `unfoldable`, `pub` and the 0 of "
-    "`Type 0` matter to the checker alone.",
+    "type; a `record` is a value with named parts, or a list of facts that all hold. `record { a = x }` is one with "
+    "this part, `record e { a = x }` is `e` with that part replaced. `abbrev`, `unfoldable`, `pub` and the 0 of `Type "
+    "0` matter to the checker alone.",
     "*Facts*: `(x : A) → B` is 'for all x', `A → B` 'if A then B', `A × B` 'A and B', `(x : A) × B` 'some x with B', "
     "`A ⊎ B` 'A or B', `A ↔ B` 'A exactly if B', `≡` equality; `⊥` never holds. `IsTrue b` is `b ≡ true`; `All P xs` "
     "says P of each element, `MatchOption o P f` says P where `o` has no value, and else f of it.",
-    "*Values*: `λ x. y` gives y for x; `let x = y in z` gives y a name in z. In a `do`, `x ← o` takes the value out of "
-    "`o`; where `o` has none, the whole has none (so has `o >>= f`). `is_some o` says whether `o` has a value, "
-    "`unwrap_or o x` is that or x. `==` and `nat_le` (≤) give truth values. `pos n` is the number n of ℤ; in ℕ `n - m` "
-    "is 0 where m is the larger.",
+    "*Values*: `λ x. y` gives y for x; `let` names a value (in a `do` for the lines below). In a `do`, `x ← o` takes "
+    "the value out of `o`; where `o` has none, the whole has none (so has `o >>= f`). `is_some o` says whether `o` has "
+    "a value, `unwrap_or o x` is that or x. `==` and `&&` give truth values. `pos n` is the number n of ℤ.",
     "*Lists*: `x ∷ xs` has x first, `xs ++ ys` joins two; `take` and `drop` cut after n elements, `flat_map f xs` "
-    "joins the lists f x. A text is the list of its characters, a uri and a content that of its bytes. A `Vec` of the "
-    "code has the list `items`; `Global` is the allocator.",
-    "*Names*: no definition has the name of another (but parts of records, cases and arguments may: `answers` is a "
-    "case and a part, `Answers` a relation). Where two files define a name, the later on this page has its file's "
-    "before it: `start` is the model's beginning, `Answers.start` a session's. `code.Event` is a type of the code, "
-    "where the model has one of that name.",
-    "*Contracts*: `result` is what is returned, `x.now` what an argument is, `x.old` and `x.new` what it was and is "
-    "afterwards; `IfOk result f` and `IfErr result f` say f of the value of an `Ok` and of the error of an `Err`. "
-    "`requires` is for the caller to see to. A *law* is a function that does nothing: its contract is what is proved. "
-    "`Consumes r s taken` says that a reader that had r to give has s left, having given `taken`, `IsAtEnd s` that "
-    "none is left, and `Appends v w put` that a writer that had v written has w, with `put` at its end; where the type "
-    "of a device knows no bytes these say nothing.",
+    "joins the lists f x. A text is the list of its characters, a uri and a content that of its bytes. `v.items` "
+    "is the list of a `Vec` of the code.",
+    "*Names*: where two files define a name, the one that is later on this page is shown with its file's: `start` is "
+    "the model's, `Answers.start` a session's. Parts of records and cases of types may have any name: `answers` is a "
+    "case and a part, `Answers` a relation, `serve` an event and a function.",
+    "*Contracts*: `few`, `ok` and such are names of clauses. `result` is what is returned, `x.now` what an argument "
+    "is, `x.old` and `x.new` what it was and is afterwards; `IfOk result f` and `IfErr result f` say f of the value of "
+    "an `Ok` and of the error of an `Err`. `requires` is for the caller to see to. A *law* is a function that does "
+    "nothing: its contract is what is proved. `Consumes r s taken` says that a reader that had r to give has s left, "
+    "having given `taken`; `IsAtEnd s` that none is left; `Appends v w put` that a writer that had v written has w, "
+    "with `put` at its end.",
 )
 # (and of that of the others)
 OTHERS = "The notation of the other parts"
 MORE = (
+    "*This page*: what a definition uses comes after it. *Rule* is the text that the definitions of a file state.",
     "*Facts*: `¬ A` is 'not A', `≢` is not equal; `⊤` and the library's `Unit {0}` always hold (`Unit` alone is what "
     "positions are counted in). `OnOk result P` says P where the result is an `Ok`.",
     "*Values*: `elim x [ p ↦ y | q ↦ z ]` is y or z, by what x is. `negsuc n` is -(n + 1); in ℕ are `zero` and `suc "
-    "n`. `not` and `nat_lt` (<) give truth values. `p.0` and `p.1` are the parts of a pair. `option_to_list` is a list "
+    "n`, and `n - m` is 0 where m is larger. `not`, `nat_lt` (<) and `nat_le` (≤) give truth values. `p.0` and `p.1` are the parts of a pair. `option_to_list` is a list "
     "of a value or none.",
     "*Lists and texts*: `fold f a xs` goes over a list from its beginning, `list_all p xs` is p of all; `slice_get xs "
     "n` is the element with index n, if there is one; `bytes_eq` says whether two are equal. A text is the list of its "
@@ -515,24 +498,24 @@ NAMED = "Named and not unfolded"
 HEAD_OF_NAMES = ["| Name | What it says | File or part |", "|---|---|---|"]
 # (how many words and lines of definitions are read in a minute, and how many of these by who is used to the notation)
 WORDS_A_MINUTE, LINES_A_MINUTE, LINES_ONCE_USED = 200, 6, 10
-# (the last part of the hour, and how many minutes parts 0 to 3 may take with the notation)
-HOUR_ENDS, HOUR = 3, 60
+# (the last part of the first reading, and how many minutes parts 0 to 3 may take with the notation)
+FIRST_ENDS, FIRST_TAKES = 3, 50
 # (how long a line of code may be)
 WIDTH = 100
-# (the parts after those of the hour)
+# (the parts after those of the first reading)
 MODEL, TEXTS, WIRE, LANGUAGE, RIGHT, STEPS = range(4, 10)
 
 
-# (how to read the page)
+# (how to read the other parts)
+LATER_PARTS = "The other parts, and how long each takes"
 HOW = (
     "Whoever believes that these definitions say what they are meant to say knows what is proved; proofs and code "
-    "needn't be read. Parts 0 to 3 say what is promised, and of which program; with this section and the notation they "
-    "are read in an hour. What they name and don't unfold is *believed* in that hour: tables have it in words. Above "
-    "all it is that a module and its run are those of docs/LANGUAGE.md (`WellTypedText`, `SameRun`), that a session is "
-    "docs/PROTOCOL.md (`reacts`), and that bytes and contents are read as the words of part 3 say. Parts 4 to 6 unfold "
-    "the rest of the model, texts and the wire, part 7 says what a module is and does, part 8 which edits are right "
-    "answers; part 9 has laws and details. Each of these says what one may believe instead, and what speaks for that: "
-    "laws, which are proved of the definitions, and tests (of the code, which is proved to do what these say)."
+    "needn't be read. What parts 0 to 3 name and don't unfold is *believed* by their tables. Above all it is that a "
+    "module and its run are those of docs/LANGUAGE.md (`WellTypedText`, `SameRun`), that a session is docs/PROTOCOL.md "
+    "(`reacts`), and that bytes and contents are read as the words of part 3 say. Parts 4 to 6 unfold the rest of the "
+    "model, texts and the wire, part 7 says what a module is and does, part 8 which edits are right answers; part 9 "
+    "has laws and details. Each says what one may believe instead, and what speaks for that: laws, which are proved of "
+    "the definitions, and tests (of the code, which is proved to do what these say)."
 )
 WHOLE = (
     "No definition that the headline needs is left out, but for those that the tables of parts 3 and 6 give with a "
@@ -704,7 +687,7 @@ class Page:
                     self.homes[item] = group.heading(by_rule)
                     if isinstance(item, Block):
                         self.take_names(item, taken)
-        needed = [need for part in KEPT for need in self.named_in(part)]
+        needed = [need for part in KEPT for need in self.named_in(part)] + [block for block, (key, _) in self.closed.items() if key in SAID]
         for block in self.closed:
             self.homes[block] = NAMED if block in needed else f"{NAMED}, of part {WIRE}"
             self.take_names(block, taken)
@@ -781,13 +764,13 @@ class Page:
         lines = [line.lstrip() for item in items for line in item.code]
         return len(items), sum(bool(line) and not line.startswith(("--", "//")) for line in lines)
 
-    def group_lines(self, group: Group, by_rule: bool) -> list[str]:
+    def group_lines(self, group: Group, by_rule: bool, titled: bool) -> list[str]:
         heading = group.heading(by_rule)
         out = [f"### {heading}", ""]
         if group.file is None:
             code = [line for i, item in enumerate(group.items) for line in ([""] if i else []) + self.lines_of(item)]
             return [*out, "```rust", *code, "```", ""]
-        out += [*wrapped(re.sub(r"\s*Rule: none.*$", "", group.file.title)), ""]
+        out += [*wrapped(re.sub(r"\s*Rule: none.*$", "", group.file.title)), ""] if titled else []
         out += self.fenced(group.items)
         return out + self.elsewhere(group.items, heading)
 
@@ -832,13 +815,18 @@ class Page:
         out = self.words(part) + self.contracts(part)
         out += self.named_lines(part) + self.believed_lines(part)
         for group in self.groups[part]:
-            out += self.group_lines(group, part == LANGUAGE)
+            out += self.group_lines(group, part == LANGUAGE, titled=part > FIRST_ENDS)
         return out
 
     def words(self, part: int) -> list[str]:
         out: list[str] = []
-        for i, paragraph in enumerate(PARTS[part][1]):
-            out += [*wrapped(f"*In words.* {paragraph}" if i == 0 else paragraph), ""]
+        for paragraph in PARTS[part][1]:
+            if paragraph.startswith("\n|"):
+                out += [*paragraph.strip().splitlines(), ""]
+            else:
+                # (an item of a list is a line of the text)
+                lines = paragraph.split("\n")
+                out += [line for item in lines for line in wrapped(item, hanging(item))] + [""]
         return out
 
     def contracts(self, part: int) -> list[str]:
@@ -876,22 +864,21 @@ class Page:
         return [f"### {heading}", "", *HEAD_OF_NAMES, *rows, ""] if rows else []
 
     def believed_lines(self, part: int) -> list[str]:
-        """What a part of the hour names and a later one unfolds, which is believed. It stops where a name is missing."""
+        """What a part of the first reading names and a later one unfolds, which is believed. It stops where a name is missing."""
         if part not in BELIEVED:
             return []
         by_name = {shown: item for (item, _), shown in self.names.items()}
         rows = []
-        for names, says in BELIEVED[part]:
-            links = {self.link(by_name[name]): 0 for name in names.split(", ")}
-            rows.append(f"| {ticked(names)} | {says} | {', '.join(links)} |")
-        said = {by_name[name] for rows_of in BELIEVED.values() for names, _ in rows_of for name in names.split(", ")}
-        unfolded = [item for at in range(HOUR_ENDS + 1) for item in self.items_of(at)]
+        for name, says in BELIEVED[part]:
+            rows.append(f"| [`{name}`](#{slug(self.homes[by_name[name]])}) | {says} |")
+        said = {by_name[name] for rows_of in BELIEVED.values() for name, _ in rows_of}
+        unfolded = [item for at in range(FIRST_ENDS + 1) for item in self.items_of(at)]
         for need in self.named_in(part) + (self.named_in(0) if part == 1 else []):
             is_said = need in said or need in self.closed or need in unfolded
             # (the notation has operators, and a type of the code is said with what has it)
             if isinstance(need, Block) and not is_said and not need.names[0].startswith("◌"):
                 common.stop(f"part {part} names {need.names[0]}, which is neither unfolded nor believed there")
-        return [f"### Believed in part {part}", "", *HEAD_OF_NAMES, *rows, ""]
+        return [f"### Believed in part {part}", "", "| Name | What it says |", "|---|---|", *rows, ""]
 
     def link(self, item: Item) -> str:
         """Where an item is defined, with its part."""
@@ -901,52 +888,55 @@ class Page:
     def items_of(self, part: int) -> list[Item]:
         return [*self.first] if part == 0 else [item for group in self.groups[part] for item in group.items]
 
-    def table(self, how: list[str]) -> list[str]:
-        """The parts with their sizes, and what some of them are together. `how` is what is said before part 1."""
+    def table(self, others: list[str]) -> list[str]:
+        """The parts with their sizes, and what some of them are together. `others` is what is said before part 4."""
         head = f"| Part | Definitions | Lines | Words | Minutes | At {LINES_ONCE_USED} lines |"
         rows = [head, "|---|---|---|---|---|---|"]
         sizes = [self.size(part) for part in range(len(PARTS))]
         counted = [self.counts(self.items_of(part)) for part in range(len(PARTS))]
 
-        def row(name: str, first: int, last: int, others: Sequence[Size] = ()) -> None:
+        def row(name: str, first: int, last: int, more: Sequence[Size] = ()) -> None:
             many, lines = summed(counted[first : last + 1])
-            size = summed([*sizes[first : last + 1], *others])
+            size = summed([*sizes[first : last + 1], *more])
             times = f"{minutes(size):,} | {minutes(size, LINES_ONCE_USED):,}"
             rows.append(f"| {name} | {many} | {lines:,} | {size[0]:,} | {times} |")
 
-        before = read_of(how)
+        notation, after = read_of(self.notation()), read_of(others)
         for part, (title, _, _, _) in enumerate(PARTS):
             row(f"[{title}](#{slug(title)})", part, part)
             if part == 0:
-                row("How to read it, and the notation", 0, -1, [before])
-            if part == HOUR_ENDS:
-                row("**An hour: all of these**", 0, part, [before])
-                if minutes(summed([*sizes[: part + 1], before])) > HOUR:
-                    rows.insert(0, f"parts 0 to {part} take more than {HOUR} minutes with the notation:")
+                row("The notation", 0, -1, [notation])
+            if part == FIRST_ENDS:
+                row("**The first reading: all of these**", 0, part, [notation])
+                if minutes(summed([*sizes[: part + 1], notation])) > FIRST_TAKES:
+                    rows.insert(0, f"parts 0 to {part} take more than {FIRST_TAKES} minutes with the notation:")
                     common.stop("\n".join(rows))
+                row(LATER_PARTS, 0, -1, [after])
             if part == WIRE:
-                row("**Without the language, with the tie**", 0, part, [before])
+                row("**Without the language, with the tie**", 0, part, [notation, after])
             if part == LANGUAGE:
-                row("**With the language**", 0, part, [before])
+                row("**With the language**", 0, part, [notation, after])
         return rows
 
     def first_lines(self) -> list[str]:
-        out = [*quoted(SENTENCE), ""]
-        out += listed(PREMISES)
-        out += ["", "(The notation is "
-            "[below](#the-notation).)", "", "```rust", *between(contract(*name) for name in HEADLINE), "```", ""]
-        return out + self.fenced(self.first) + self.elsewhere(self.first, PARTS[0][0], roots(self.sources, HEADLINE))
+        out = [*wrapped(OPENING), "", *quoted(SENTENCE), "", *listed(MEANINGS), ""]
+        out += ["Premises:", "", *listed(PREMISES), "", *CLAIMS.strip().splitlines(), ""]
+        out += ["```rust", *between(contract(*name) for name in HEADLINE), "```", ""]
+        out += [*self.fenced(self.first), *wrapped(BESIDE), ""]
+        return out + self.elsewhere(self.first, PARTS[0][0], roots(self.sources, HEADLINE))
 
-    def how_to_read(self) -> list[str]:
+    def notation(self) -> list[str]:
         """What is said between part 0 and part 1."""
-        head = ["## How to read "
-            "it", "", *wrapped(HOW), "", *wrapped(WHOLE), "", *wrapped(PACES + " " + self.left_out()), ""]
-        tail = ["", "## The "
-            "notation", "", *listed(READING), "", f"Parts {MODEL} to {STEPS} have [more](#{slug(OTHERS)}).", ""]
+        return ["## The "
+            "notation", "", *listed(READING), ""]
+
+    def other_parts(self) -> list[str]:
+        """What is said after the first reading."""
+        head = [f"## {LATER_PARTS}", "", *wrapped(HOW), "", *wrapped(WHOLE), "", *wrapped(PACES + " " + self.left_out()), ""]
         table: list[str] = []
         for _ in range(2):  # (the table is to be read too)
-            table = self.table(head + table + tail)
-        return [*head, *table, *tail]
+            table = self.table([*head, *table])
+        return [*head, *table, ""]
 
     def left_out(self) -> str:
         """What isn't counted in the rows of several parts."""
@@ -958,10 +948,10 @@ class Page:
 
     def text(self) -> str:
         out = ["# The statement", "", f"<!-- Made by `make statement` of the sources. -->", "", f"## {PARTS[0][0]}", ""]
-        out += self.first_lines() + self.how_to_read()
+        out += self.first_lines() + self.notation()
         for part in range(1, len(PARTS)):
-            if part == HOUR_ENDS + 1:
-                out += [f"## {OTHERS}", "", *listed(MORE), ""]
+            if part == FIRST_ENDS + 1:
+                out += self.other_parts() + [f"## {OTHERS}", "", *listed(MORE), ""]
             out += self.part_lines(part)
         out += ["## Names of the standard library", ""]
         by_module: dict[str, set[str]] = {}
@@ -1056,6 +1046,12 @@ def wrapped(text: str, indent: str = "") -> list[str]:
     kept = re.sub(r"\[?`[^`]*`(?:\]\([^)]*\))?", lambda at: at[0].replace(" ", "\N{NO-BREAK SPACE}"), text)
     lines = textwrap.wrap(kept, 120, subsequent_indent=indent, break_on_hyphens=False, break_long_words=False)
     return [line.replace("\N{NO-BREAK SPACE}", " ") for line in lines]
+
+
+def hanging(item: str) -> str:
+    """How far the lines of an item are indented that follow its first."""
+    mark = re.match(r"(?:- |\d\. )", item)
+    return " " * len(mark[0]) if mark else ""
 
 
 def quoted(text: str) -> list[str]:
