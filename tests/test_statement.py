@@ -121,7 +121,7 @@ def rows() -> dict[str, list[int]]:
     return {part or name: [int(it.replace(",", "")) for it in numbers.split("|")[1:]] for part, name, numbers in found}
 
 
-SUMS = {"**The first reading: all of these**": 4, "**Without the language, with the tie**": 7, "**With the language**": 8}
+SUMS = {"**The first reading**": 4, "**Without the language, with the tie**": 7, "**With the language**": 8}
 
 
 @test("statement: without the language the page has at most 150 definitions and 640 lines, with it 395 and 2,250")
@@ -175,7 +175,7 @@ def read_in(part: str, pace: int) -> float:
     return (len(words) - len(in_lines)) / 200 + len(lines) / pace
 
 
-@test("statement: the times that the page names aren't less than its words and lines take, and parts 0 to 3 take 50 minutes")
+@test("statement: the times of the page aren't less than its words and lines take, and parts 0 to 3 take 50 minutes")
 def times_hold() -> None:
     page, table = text_of(PAGE), rows()
     parts = re.split(r"^(?=## )", page, flags=re.M)
@@ -185,7 +185,7 @@ def times_hold() -> None:
             said = table[f"Part {part}"][column]
             holds(needed <= said, f"part {part} takes {needed:.1f} minutes, and not {said}")
         first = read_in(first_reading(), pace)
-        said = table["**The first reading: all of these**"][column]
+        said = table["**The first reading**"][column]
         holds(first <= said <= 50, f"parts 0 to 3 take {first:.1f} minutes, and not {said}")
 
 

@@ -102,7 +102,7 @@ BELIEVED: dict[int, list[tuple[str, str]]] = {
         ("start", "nothing was opened yet, and all lists are empty"),
         ("EditorDocuments", "the documents that are open in the editor"),
         ("open_at", "the document of a uri that is open in the editor, if there is one"),
-        ("Ask", "a rename of what is at a place, an inlining of a constant at the use there or everywhere, a formatting"),
+        ("Ask", "a rename at a place, an inlining of a constant at the use there or everywhere, a formatting"),
         ("Act", "what the editor may do: the cases of `done_by`"),
         ("Done", "what an act leaves: the editor, what it sends and what it applies"),
         ("after_act", "what is sent waits for the server, last; what is applied is added to `applied`"),
@@ -158,7 +158,7 @@ BELIEVED: dict[int, list[tuple[str, str]]] = {
         ("event_of", "the same as an event of the model (`Take` is `take_message`, and so on)"),
         ("all_applied", "the edits that the code returns"),
         ("all_made", "the publications that the code returns"),
-        ("Both", "the model (`ends`) and the `wire`: a `session` and the columns of the table above"),
+        ("Both", "the model (`ends`) and the `wire`: a `session` and the columns of the small conversation"),
         ("SessionState", "the session is `serving`, in a state, or has `failed`"),
         (
             "Begins",
@@ -170,12 +170,12 @@ BELIEVED: dict[int, list[tuple[str, str]]] = {
         ("HasPassed", "the contents that are returned are `taken`, `got` and `to_editor` of this wire"),
         (
             "MovesWire",
-            "the contents move as in the table above; at the server's event the session goes on from state to state by "
-            "`Answers`, at others it stays",
+            "the contents move as in the small conversation; at the server's event the session goes on from state to "
+            "state by `Answers`, at others it stays",
         ),
         ("AllSay", "as many contents as messages; each content is the notification or request that its message means"),
         ("PlaysNothing", "no event was made, no edit or publication has come, and no content has passed"),
-        ("Answers", "a session in a state replies to a content by these contents, and then is in this state (`reacts`)"),
+        ("Answers", "in a state a session replies to a content by these contents, and this is its next state (`reacts`)"),
         ("Conversation", "these contents in turn have these replies in turn (`Answers`), from state to state"),
         ("bytes", "contents as the lists of their bytes"),
         ("Serves", "the table of results, case by case"),
@@ -240,18 +240,17 @@ PARTS: list[tuple[str, list[str], str, str]] = [
     (
         "Part 1: client and server",
         [
-            "`Ends` is the state of both ends. The editor has documents, the requests that it sent and the answers that "
-            "it keeps. The server has documents. Between them is a queue each way. An `Event` is one of three: the editor acts; the server takes the first "
-            "message that waits for the server, and sends what it replies; the editor takes the first message that "
-            "waits for the editor. `Happens` says what one event leaves (at most one state: the law `one_step`), "
-            "`Course` what a list of events leaves.",
+            "`Ends` is the state of both ends. The editor has documents, the requests that it sent and the answers "
+            "that it keeps. The server has documents. Between them is a queue each way. An `Event` is one of three: "
+            "the editor acts; the server takes the first message that waits for the server, and sends what it "
+            "replies; the editor takes the first message that waits for the editor. `Happens` says what one event "
+            "leaves (at most one state: the law `one_step`), `Course` what a list of events leaves.",
             "*The server* publishes diagnostics of each document that was opened or changed, and answers each request "
             "with edits or none. It knows a document's version and text (`InStep`) or doesn't (`OutOfStep`, after a "
             "notification that it couldn't read, `Lost`). The model's editor sends no `Lost`: when no message waits "
             "for the server, its documents are the editor's, each `InStep` (the law `server_mirrors`).",
             "*The editor* sends each opening, change, close and request. It may apply an answer that it keeps at any "
-            "time, while its document is the same opening with the same version as at the request. (A real editor "
-            "needn't count openings: part 4.)",
+            "time, while its document is the same opening with the same version as at the request.",
         ],
         "what part 0 says of the editor, of what is between the two, and of an applied edit",
         "",
@@ -268,7 +267,7 @@ PARTS: list[tuple[str, list[str], str, str]] = [
     (
         "Part 3: the tie to the program",
         [
-            "1. *`play_in` returns an `Ok`*, for fewer than 2^63 - 1 events. Then `Plays` holds of the edits, "
+            "1. *`play_in` returns an `Ok`*, with `few`. Then `Plays` holds of the edits, "
             "publications and contents that it returns.\n"
             "2. *So each event of the model was one of a session.* `course` goes from `begin` to `end` by a `BothStep` "
             "for each event. `begin.ends` is the model's `start`, and each `BothStep` contains `Happens`; so, by "
@@ -277,16 +276,17 @@ PARTS: list[tuple[str, list[str], str, str]] = [
             "`Begins` and `MovesWire` leave it no other state.\n"
             "3. *So the contents are a `Conversation`*, from the state before `initialize` on: `taken` are taken, "
             "`got ++ unread` are sent.\n"
-            "4. *So its frames are written.* By the law `a_conversation_is_served`, with `got ++ unread` as its `sent`, "
-            "the bytes written are the frames of `sent`. It supposes that no content of `taken` is longer than "
-            "16,777,216 bytes, that the bytes read are exactly the frames of `taken`, that the result is neither "
+            "4. *So its frames are written.* By the law `a_conversation_is_served`, with `got ++ unread` as its "
+            "`sent`, the bytes written are the frames of `sent`. It supposes that no content of `taken` is longer "
+            "than 16,777,216 bytes, that the bytes read are exactly the frames of `taken`, that the result is neither "
             "`Err(Memory)` nor `Err(Write)` (`IsWritten`), and `MayServe`.\n"
             "5. *`serve` writes them.* Its contract gives `Serves` at its return, if neither device had failed before. "
-            "`MayServe` follows by its definition, with no law: it is `Serves` with less.\n"
+            "`MayServe` follows by its definition: it is `Serves` with less.\n"
             "6. *The program writes them*: `ob0 serve` calls `ob0_session::serve` over standard input and output. "
             "Their types know no bytes, so this step is tested.",
             "So it doesn't matter that the program doesn't call `play_in`. How a session ends:",
-            "- *The input ends* after the frames of `taken`: the chain as it stands, with status 1.\n"
+            "- *The input ends* after the frames of `taken`: the chain as it stands, with status 1 where no read "
+            "fails.\n"
             "- *`shutdown` and `exit` follow.* The model has no such messages, so more bytes are read than the frames "
             "of `taken`. By the law [`one_output`](#part-9-steps-laws-and-details) what is written for the first bytes "
             "of an input begins what is written for more of it, unless an allocation or the writer fails in the call "
@@ -297,13 +297,12 @@ PARTS: list[tuple[str, list[str], str, str]] = [
             "- *A session fails* when an allocation fails: in an `Ok` of `play_in` none has (step 2). At its `Err` the "
             "chain holds of the events before; of those that follow, the law `in_every_interleaving` alone. At "
             "`Err(Memory)` of `serve` the table of results holds.",
-            "A small conversation: I is the content of `initialize`, O of an opening, R of a request for a rename, C of "
-            "the change after the applied edit; i and r are the replies to I and R, d the diagnostics. `play_in` "
+            "A small conversation: I is the content of `initialize`, O of an opening, R of a request for a rename, C "
+            "of the change after the applied edit; i and r are the replies to I and R, d the diagnostics. `play_in` "
             "returns `to_editor` as `unread`.",
             WORKED,
         ],
-        "that where `serve` has read what `play_in` returns as taken, it has written, when it returns, what that "
-        "returns as sent",
+        "that `serve` writes what `play_in` returns as sent, for what that returns as taken",
         "",
     ),
     (
@@ -380,7 +379,7 @@ ROWS = """
 | `Err(Memory)` | 5 | all replies to the contents up to one of them (perhaps none), each whole | none failed |
 """
 AFTER_ROWS = (
-    "A *device* is the reader or the writer. Except at `Err(Write)` it is *flushed*: if the writer was flushed before "
+    "Except at `Err(Write)` it is *flushed*: if the writer was flushed before "
     "the call, or `serve` wrote anything, the writer is flushed at the return. A content that is too long has a head "
     "with which no message begins."
 )
@@ -391,16 +390,16 @@ SENTENCE = (
     "well-typed module."
 )
 OPENING = (
-    "`ob0` is a language server for Oberon-0: an *editor* starts it and speaks with it by LSP 3.17. A *session* is what "
-    "one server has taken and sent, from `initialize` on."
+    "`ob0` is a language server for Oberon-0: an *editor* starts it and speaks with it by LSP 3.17. A *session* is "
+    "what one server has taken and sent, from `initialize` on."
 )
 # (what its words mean, an item each)
 MEANINGS = (
     "*Well-typed* is a text that docs/LANGUAGE.md allows. A *run* ends as it should, by an error, or at a bound.",
-    "*An applied edit* is all that one answer replaces, made at once: of a rename, an inlining of a constant at one use "
-    "or everywhere, or a formatting. The editor applies an answer only to the opening of the document that it asked "
-    "about, with the version of then; else it drops the answer. That the text before was well-typed is a conclusion "
-    "(`before_fits`); so is that no two replacements share a character (the law `edits_keep_the_run`).",
+    "*An applied edit* is all that one answer replaces, made at once: of a rename, an inlining of a constant at one "
+    "use or everywhere, or a formatting. The editor applies an answer only to the opening of the document that it "
+    "asked about, with the version of then; else it drops the answer. That the text before was well-typed is a "
+    "conclusion (`before_fits`); so is that no two replacements share a character (the law `edits_keep_the_run`).",
     "*The latest diagnostics* of a document are the last list with a version that the server published for its uri, "
     "taken by the editor or not. (At a close comes an empty list without a version.) The document had the text that "
     "they were made for, with that version, in this opening or an earlier one (`made_for`). When the server has taken "
@@ -417,8 +416,9 @@ PREMISES = (
     "*Between the two*: nothing is lost, added or reordered. A message is a *content*, its JSON text, in a *frame*: "
     "after a head with its length. No content of the editor is longer than 16,777,216 bytes (a longer one ends "
     "`serve`, as 2^40 reads do). A text is a list of Unicode scalar values: half of a surrogate pair can't be in one.",
-    "*Of `serve`*: neither device had failed before the call (`reads`, `writes`); it has read exactly the frames of "
-    "what the session took; it has returned; neither an allocation nor the writer failed.",
+    "*Of `serve`*: neither *device*, its reader and its writer, had failed before the call (`reads`, `writes`); it "
+    "has read exactly the frames of what the session took; it has returned; neither an allocation nor the writer "
+    "failed.",
 )
 # (what is claimed; what proves it, what it is inferred from, what tests it, and what is trusted)
 CLAIMS = """
@@ -432,15 +432,16 @@ CLAIMS = """
 | where more is read, as `shutdown` and `exit`, these frames come first | | the law `one_output` (part 3) | tests/test_lifecycle.py | |
 | it writes and flushes a reply before it reads on | | its contract (part 6) | tests/test_stream.py | |
 | all this with standard input and output, whose types know no bytes | | | tests/test_stream.py, tests/test_devices.py | |
-| `main` calls `serve` and hands its status on | | | tests/test_lifecycle.py | |
+| `main`, which has no contract, calls `serve` and hands its status on | | | tests/test_lifecycle.py | |
 | every function returns, and in none is anything undefined | the checker | | | Rattle's checker and compiler, its libraries' contracts |
 | where an allocation fails: this holds of the events before (or no session had begun); `serve` has written whole replies to the contents up to one | `PlaysBefore`; the contract of `serve` | | | |
-| they report that only where one failed (no contract can say it) | | | docs/ROBUSTNESS.md | |
+| `play_in` and `serve` report a failed allocation only where one failed (no contract can say it) | | | docs/ROBUSTNESS.md | |
 | memory, stack and time suffice | (not promised) | | docs/ROBUSTNESS.md | |
 | events lead somewhere; a message that waits is taken | (not promised; an `Ok` shows the first) | | | |
 | which diagnostics are in a list; that a request gets edits | (not promised here; of edits see part 8) | | | |
 | the definitions say what is meant | | | what each part names | the reader |
 """
+SIGNS = "(`×` is 'and', `→` 'if .. then' or 'for all', `≡` equality; more is [below](#the-notation).)"
 BESIDE = (
     "`Plays` contains `Headline unit (map event_of events) ..` and a conversation (part 3). The contract's `Event` is "
     "the code's; `event_of` makes it the model's. `only` says that there is at most one end; an `Ok` shows that there "
@@ -469,7 +470,7 @@ READING = (
     "case and a part, `Answers` a relation, `serve` an event and a function.",
     "*Contracts*: `few`, `ok` and such are names of clauses. `result` is what is returned, `x.now` what an argument "
     "is, `x.old` and `x.new` what it was and is afterwards; `IfOk result f` and `IfErr result f` say f of the value of "
-    "an `Ok` and of the error of an `Err`. `requires` is for the caller to see to. A *law* is a function that does "
+    "an `Ok` and of the error of an `Err`. `requires` is a premise. A *law* is a function that does "
     "nothing: its contract is what is proved. `Consumes r s taken` says that a reader that had r to give has s left, "
     "having given `taken`; `IsAtEnd s` that none is left; `Appends v w put` that a writer that had v written has w, "
     "with `put` at its end.",
@@ -481,8 +482,8 @@ MORE = (
     "*Facts*: `¬ A` is 'not A', `≢` is not equal; `⊤` and the library's `Unit {0}` always hold (`Unit` alone is what "
     "positions are counted in). `OnOk result P` says P where the result is an `Ok`.",
     "*Values*: `elim x [ p ↦ y | q ↦ z ]` is y or z, by what x is. `negsuc n` is -(n + 1); in ℕ are `zero` and `suc "
-    "n`, and `n - m` is 0 where m is larger. `not`, `nat_lt` (<) and `nat_le` (≤) give truth values. `p.0` and `p.1` are the parts of a pair. `option_to_list` is a list "
-    "of a value or none.",
+    "n`, and `n - m` is 0 where m is larger. `not`, `nat_lt` (<) and `nat_le` (≤) give truth values. `p.0` and `p.1` "
+    "are the parts of a pair. `option_to_list` is a list of a value or none.",
     "*Lists and texts*: `fold f a xs` goes over a list from its beginning, `list_all p xs` is p of all; `slice_get xs "
     "n` is the element with index n, if there is one; `bytes_eq` says whether two are equal. A text is the list of its "
     "bytes or of its characters, as the comments say: `codes` and `string_bytes` give bytes, of a text written here "
@@ -510,12 +511,12 @@ MODEL, TEXTS, WIRE, LANGUAGE, RIGHT, STEPS = range(4, 10)
 LATER_PARTS = "The other parts, and how long each takes"
 HOW = (
     "Whoever believes that these definitions say what they are meant to say knows what is proved; proofs and code "
-    "needn't be read. What parts 0 to 3 name and don't unfold is *believed* by their tables. Above all it is that a "
-    "module and its run are those of docs/LANGUAGE.md (`WellTypedText`, `SameRun`), that a session is docs/PROTOCOL.md "
-    "(`reacts`), and that bytes and contents are read as the words of part 3 say. Parts 4 to 6 unfold the rest of the "
-    "model, texts and the wire, part 7 says what a module is and does, part 8 which edits are right answers; part 9 "
-    "has laws and details. Each says what one may believe instead, and what speaks for that: laws, which are proved of "
-    "the definitions, and tests (of the code, which is proved to do what these say)."
+    "needn't be read. What parts 0 to 3 name and don't unfold is *believed*: their tables have it in words. Above all "
+    "it is that a module and its run are those of docs/LANGUAGE.md (`WellTypedText`, `SameRun`), that a session is "
+    "docs/PROTOCOL.md (`reacts`), and that bytes and contents are read as the words of part 3 say. Parts 4 to 6 "
+    "unfold the rest of the model, texts and the wire, part 7 says what a module is and does, part 8 which edits are "
+    "right answers; part 9 has laws and details. Each says what one may believe instead, and what speaks for that: "
+    "laws, which are proved of the definitions, and tests (of the code, which is proved to do what these say)."
 )
 WHOLE = (
     "No definition that the headline needs is left out, but for those that the tables of parts 3 and 6 give with a "
@@ -687,7 +688,8 @@ class Page:
                     self.homes[item] = group.heading(by_rule)
                     if isinstance(item, Block):
                         self.take_names(item, taken)
-        needed = [need for part in KEPT for need in self.named_in(part)] + [block for block, (key, _) in self.closed.items() if key in SAID]
+        needed = [need for part in KEPT for need in self.named_in(part)]
+        needed += [block for block, (key, _) in self.closed.items() if key in SAID]
         for block in self.closed:
             self.homes[block] = NAMED if block in needed else f"{NAMED}, of part {WIRE}"
             self.take_names(block, taken)
@@ -864,7 +866,7 @@ class Page:
         return [f"### {heading}", "", *HEAD_OF_NAMES, *rows, ""] if rows else []
 
     def believed_lines(self, part: int) -> list[str]:
-        """What a part of the first reading names and a later one unfolds, which is believed. It stops where a name is missing."""
+        """What parts 0 to 3 name and a later one unfolds, which is believed. It stops where a name is missing."""
         if part not in BELIEVED:
             return []
         by_name = {shown: item for (item, _), shown in self.names.items()}
@@ -907,7 +909,7 @@ class Page:
             if part == 0:
                 row("The notation", 0, -1, [notation])
             if part == FIRST_ENDS:
-                row("**The first reading: all of these**", 0, part, [notation])
+                row("**The first reading**", 0, part, [notation])
                 if minutes(summed([*sizes[: part + 1], notation])) > FIRST_TAKES:
                     rows.insert(0, f"parts 0 to {part} take more than {FIRST_TAKES} minutes with the notation:")
                     common.stop("\n".join(rows))
@@ -921,7 +923,7 @@ class Page:
     def first_lines(self) -> list[str]:
         out = [*wrapped(OPENING), "", *quoted(SENTENCE), "", *listed(MEANINGS), ""]
         out += ["Premises:", "", *listed(PREMISES), "", *CLAIMS.strip().splitlines(), ""]
-        out += ["```rust", *between(contract(*name) for name in HEADLINE), "```", ""]
+        out += [*wrapped(SIGNS), "", "```rust", *between(contract(*name) for name in HEADLINE), "```", ""]
         out += [*self.fenced(self.first), *wrapped(BESIDE), ""]
         return out + self.elsewhere(self.first, PARTS[0][0], roots(self.sources, HEADLINE))
 
@@ -932,7 +934,8 @@ class Page:
 
     def other_parts(self) -> list[str]:
         """What is said after the first reading."""
-        head = [f"## {LATER_PARTS}", "", *wrapped(HOW), "", *wrapped(WHOLE), "", *wrapped(PACES + " " + self.left_out()), ""]
+        paces = PACES + " " + self.left_out()
+        head = [f"## {LATER_PARTS}", "", *wrapped(HOW), "", *wrapped(WHOLE), "", *wrapped(paces), ""]
         table: list[str] = []
         for _ in range(2):  # (the table is to be read too)
             table = self.table([*head, *table])
