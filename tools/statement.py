@@ -64,8 +64,8 @@ CLOSED = {
     ("ob0_world_editor", "Beginning", "initialize_message"): "the JSON of its `initialize`",
     ("ob0_world_editor", "Heard", "SaysToServer"): "by the protocol's own reader the content is the notification or "
     "the request that this message of the model means",
-    ("ob0_world_editor", "Understood", "understood"): "what the editor reads in a content: a publication, or the edits "
-    "that answer a request that it sent",
+    ("ob0_world_editor", "Understood", "understood"): "what a content says to the editor: a publication, or edits that "
+    "answer a request",
     ("ob0_frame", "Framing", "Feeds"): "these bytes, after what was left before, are messages with these contents, and "
     "leave this (they have at most one such list: the law `feeding_is_determined`)",
     ("ob0_frame", "Framing", "Rest"): "what is left: `Framing.Open` with the bytes of a part of a message, or "
@@ -252,7 +252,7 @@ PARTS: list[tuple[str, list[str], str, str]] = [
             "*The editor* sends each opening, change, close and request. It may apply an answer that it keeps at any "
             "time, while its document is the same opening with the same version as at the request.",
         ],
-        "what part 0 says of the editor, of what is between the two, and of an applied edit",
+        "what part 0 says",
         "",
     ),
     (
@@ -411,8 +411,9 @@ PREMISES = (
     "*Of the editor*: It holds with any editor that sends every change, makes the edits of an answer at once and as "
     "the protocol says, and drops an answer whose document was changed, or closed and opened again, since it asked. "
     "Changes are sent in order, columns are counted as LSP does, and to take no keys until the answer comes is as good "
-    "as to drop it. The model's editor does so. It counts versions from 1, sends the whole text after an edit, and "
-    "says in `initialize` that it takes edits that name their document's version and code actions that hold edits.",
+    "as to drop it. The model's editor does so. It "
+    "sends the whole text after an edit, and says in `initialize` that it takes edits that name their document's "
+    "version and code actions that hold edits.",
     "*Between the two*: nothing is lost, added or reordered. A message is a *content*, its JSON text, in a *frame*: "
     "after a head with its length. No content of the editor is longer than 16,777,216 bytes (a longer one ends "
     "`serve`, as 2^40 reads do). A text is a list of Unicode scalar values: half of a surrogate pair can't be in one.",
@@ -804,11 +805,15 @@ class Page:
         return [need for need in self.sources.needs(block) if need in found]
 
     def part_lines(self, part: int) -> list[str]:
-        title, _, believe, behind = PARTS[part]
+        head = wrapped(self.head_of(part, time_of(self.size(part))))
+        return [f"## {PARTS[part][0]}", "", *head, "", *self.body(part)]
+
+    def head_of(self, part: int, time: str) -> str:
+        """What a part says of itself."""
+        _, _, believe, behind = PARTS[part]
         many, lines = self.counts(self.items_of(part))
-        head = f"{many} definitions, {lines:,} lines: {time_of(self.size(part))}. Or believe {believe}."
-        head += f" For that speak {behind}." if behind else ""
-        return [f"## {title}", "", *wrapped(head), "", *self.body(part)]
+        head = f"{many} definitions, {lines:,} lines: {time}. Or believe {believe}."
+        return head + (f" For that speak {behind}." if behind else "")
 
     def body(self, part: int) -> list[str]:
         """What is under the heading of a part, and under what it says of itself."""
@@ -849,7 +854,9 @@ class Page:
     def count_size(self, part: int) -> Size:
         lines = self.counts(self.items_of(part))[1]
         lines += sum(read_of(["```", *contract(*name)])[1] for name in SHOWN.get(part, []))
-        return read_of(self.body(part))[0] + read_of([PARTS[part][2], PARTS[part][3]])[0], lines
+        # (any time has as many words)
+        head = [self.head_of(part, "0 minutes")] if part else []
+        return read_of([*head, "", *self.body(part)])[0], lines
 
     def named_lines(self, part: int) -> list[str]:
         """What a part names and the page doesn't unfold, or does in a part that it doesn't count."""
