@@ -431,11 +431,11 @@ CLAIMS = """
 | nothing is lost between the two | (a premise) | | | pipes |
 | `serve` has written the frames of what that session sent | its contract and the law `a_conversation_is_served`, for a reader and a writer whose types know their bytes | | | |
 | where more is read, as `shutdown` and `exit`, these frames come first | | the law `one_output` (part 3) | tests/test_lifecycle.py | |
-| it writes and flushes a reply before it reads on | | its contract (part 6) | tests/test_stream.py | |
+| `serve` writes and flushes a reply before it reads on | | its contract (part 6) | tests/test_stream.py | |
 | all this with standard input and output, whose types know no bytes | | | tests/test_stream.py, tests/test_devices.py | |
 | `main`, which has no contract, calls `serve` and hands its status on | | | tests/test_lifecycle.py | |
 | every function returns, and in none is anything undefined | the checker | | | Rattle's checker and compiler, its libraries' contracts |
-| where an allocation fails: this holds of the events before (or no session had begun); `serve` has written whole replies to the contents up to one | `PlaysBefore`; the contract of `serve` | | | |
+| where an allocation fails: the headline holds of the events before (or no session had begun); `serve` has written whole replies to the contents up to one | `PlaysBefore`; the contract of `serve` | | | |
 | `play_in` and `serve` report a failed allocation only where one failed (no contract can say it) | | | docs/ROBUSTNESS.md | |
 | memory, stack and time suffice | (not promised) | | docs/ROBUSTNESS.md | |
 | events lead somewhere; a message that waits is taken | (not promised; an `Ok` shows the first) | | | |
@@ -446,8 +446,8 @@ SIGNS = "(`×` is 'and', `→` 'if .. then' or 'for all', `≡` equality; more i
 BESIDE = (
     "`Plays` contains `Headline unit (map event_of events) ..` and a conversation (part 3). The contract's `Event` is "
     "the code's; `event_of` makes it the model's. `only` says that there is at most one end; an `Ok` shows that there "
-    "is one. `Ends` is a state of both ends, `end` that after all events. `Holds` is of one state `w`; 'waits for it' "
-    "is 'for the server'. `applied` and `made` are all edits and publications so far."
+    "is one. `end` is the state after all events. `Holds` is of one state `w`; 'waits for it' is 'for the server'. "
+    "`applied` and `made` are all edits and publications so far."
 )
 # (what a reader has to know of the notation of parts 0 to 3, an item each)
 READING = (
