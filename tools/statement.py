@@ -446,7 +446,7 @@ SIGNS = "(`×` is 'and', `→` 'if .. then' or 'for all', `≡` equality; more i
 BESIDE = (
     "`Plays` contains `Headline unit (map event_of events) ..` and a conversation (part 3). The contract's `Event` is "
     "the code's; `event_of` makes it the model's. `only` says that there is at most one end; an `Ok` shows that there "
-    "is one. `end` is the state after all events. `Holds` is of one state `w`; 'waits for it' is 'for the server'. "
+    "is one. `end` is the state after all events. "
     "`applied` and `made` are all edits and publications so far."
 )
 # (what a reader has to know of the notation of parts 0 to 3, an item each)
