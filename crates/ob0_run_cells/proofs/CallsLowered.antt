@@ -24,7 +24,7 @@ use Rattle.ob0_run_cells.proofs.PlacedDeclarations.{FramePlaced, block-placed, p
 use Rattle.ob0_run_cells.proofs.PlacedEnvironments.{from-placed, inward-fits, slots-fit}
 use Rattle.ob0_run_cells.proofs.Places.{store-size}
 use Rattle.ob0_run_cells.proofs.Represented.{numbers-append, numbers-take}
-use Rattle.ob0_run_cells.proofs.Variables.{variables_are_dropped-holds}
+use Rattle.ob0_run_cells.proofs.Variables.{variables_are_dropped}
 
 pub numbers-zero : (n : ℕ) → HaveNumbers (replicate n (pos 0))
 numbers-zero zero i = refl
@@ -34,7 +34,7 @@ numbers-zero (suc n) (suc i) = numbers-zero n i
 -- what a call has of its own is dropped in both
 pub drop_variables-represents : (typing now others : StoreTyping) (old : Store) (base : ℕ) (p : execution.MachineProgress) (q : Progress) → now ≡ typing ++ others → StoreFits typing old → base ≡ length (all_cells old) → ProgressRepresents now p q → ProgressRepresents typing (execution.drop_variables base p) (drop_variables (length old) q)
 drop_variables-represents typing now others old base (execution.running low) (running s) e fits is h =
-    let (kept, cells) = variables_are_dropped-holds typing others old s.store fits (subst (λ all. StoreFits all s.store) e h.store_fits) in
+    let (kept, cells) = variables_are_dropped typing others old s.store fits (subst (λ all. StoreFits all s.store) e h.store_fits) in
     record {
       store_fits = kept;
       same_cells = (λ i. take (is i) (h.same_cells i)) ∙ sym cells;

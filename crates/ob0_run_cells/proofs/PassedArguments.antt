@@ -14,12 +14,11 @@ use Rattle.ob0_language_runs.proofs.SoundStatements.{first-argument}
 use Rattle.ob0_run_machine.specs.Evaluation as machine
 use Rattle.ob0_run_machine.specs.Execution as execution
 use Rattle.ob0_run_machine.specs.Lowered as lowered
-use Rattle.ob0_run_cells.specs.CellLaws.{HoldsSlice}
 use Rattle.ob0_run_cells.specs.Cells.{address, all_cells, cells_of, size, sizes}
 use Rattle.ob0_run_cells.specs.LoweredStatements.{ArgumentMeans, ArgumentsMean, Body, HaveNumbers, ProgressRepresents, Represents, ShowsBody, StatementMeans, Target, argument_addresses, argument_cells}
 use Rattle.ob0_run_cells.specs.Lowering.{Has32Bits, Slot, end_of, outcome_of, place_of_designator, value_of_expression}
 use Rattle.ob0_run_cells.proofs.LoweredOutcomes.{Led, ended-same, given-same, grouped-then}
-use Rattle.ob0_run_cells.proofs.Places.{places_are_slices-holds, store-size}
+use Rattle.ob0_run_cells.proofs.Places.{HoldsSlice, places_are_slices, store-size}
 use Rattle.ob0_run_cells.proofs.Represented.{alone-cells, as_cell-same, moment, moment-shown, number-at, numbers-append, numbers-drop, numbers-take, place-at, truth-at, truth-number}
 
 -- both give what is related, or both end alike
@@ -151,7 +150,7 @@ module _ {N : Type 0} (checked : Typed N) (slots : N → Slot) (targets : N → 
       (subst (λ w. Both (λ p a. Passes b.typing (f ∷ []) done p (a ∷ [])) (execution.pass b.levels (lowered.by_block q n) done) w) (sym (grouped-then (place here) (λ p. or_stuck (read_place store p)) (λ v. gives (value_argument v))))
       (both-then (λ a p. (a ≡ address b.typing p) × PlaceFits b.typing p f.shape) (λ p a. Passes b.typing (f ∷ []) done p (a ∷ [])) (machine.address b.levels done.cells q) (place here) (λ a. machine.gives (execution.pass_cells done (execution.block_at done.cells a n))) (λ p. or_stuck (read_place store p) >>= (λ v. gives (value_argument v)))
       (both-led b.typing f.shape (machine.address b.levels done.cells q) (place here) (place-at checked slots targets b shown q f.shape place hq store passed done.cells fits same numbers))
-      (λ a p r. let at_p : HoldsSlice b.typing store p f.shape = places_are_slices-holds b.typing store p f.shape fits r.1 in
+      (λ a p r. let at_p : HoldsSlice b.typing store p f.shape = places_are_slices b.typing store p f.shape fits r.1 in
       let w : Value = at_p.value in
       let m : sizes b.typing ≡ length (all_cells store) = sym (store-size b.typing store fits) in
       let block : execution.block_at done.cells a n ≡ cells_of w =

@@ -23,8 +23,8 @@ use Rattle.ob0_run_cells.specs.Cells.{address, all_cells, cells_of, size, sizes}
 use Rattle.ob0_run_cells.specs.LoweredStatements.{argument_addresses, argument_cells}
 use Rattle.ob0_run_cells.specs.Lowering.{Slot, held, by_reference, slot_address}
 use Rattle.ob0_run_cells.proofs.PlacedEnvironments.{placing-grows}
-use Rattle.ob0_run_cells.proofs.Places.{addresses_stay-holds}
-use Rattle.ob0_run_cells.proofs.Variables.{initial_cells_are_zero-holds, variables_are_added-holds}
+use Rattle.ob0_run_cells.proofs.Places.{addresses_stay}
+use Rattle.ob0_run_cells.proofs.Variables.{initial_cells_are_zero, variables_are_added}
 
 pub sizes-append : (typing : StoreTyping) (s : Shape) → sizes (typing ++ s ∷ []) ≡ sizes typing + size s
 sizes-append [] s = omega arith
@@ -89,7 +89,7 @@ module _ {N : Type 0} (table : RoutineTable N) where
       → FramePlaced table (typing ++ s ∷ []) ls base ((x, a_variable s) ∷ checked) (record p { placing = (x, in_slot slot) ∷ p.placing; cells = p.cells + size s }) (record { env = (x, a_variable record { variable = length f.store; path = [] }) ∷ f.env; store = f.store ++ v ∷ [] })
       × (all_cells (f.store ++ v ∷ []) ≡ all_cells f.store ++ cells_of v)
   variable-placed typing ls base checked p f x slot s v at hv h =
-      let added = variables_are_added-holds typing f.store s v h.store_fits hv in
+      let added = variables_are_added typing f.store s v h.store_fits hv in
       let counted : base + p.cells ≡ sizes typing = h.cells_counted in
       let total : sizes (typing ++ s ∷ []) ≡ sizes typing + size s = sizes-append typing s in (
         record {
@@ -105,7 +105,7 @@ module _ {N : Type 0} (table : RoutineTable N) where
       → (n : ℕ) × ((place_names at xs (size s) p).cells ≡ p.cells + n) × Extends table typing ls base (bind_names xs (a_variable s) checked) (place_names at xs (size s) p) f.store (replicate n (pos 0)) (allocate xs (initial s) f)
   names-placed typing ls base at is [] s checked p f h = (0, omega arith, extends-here typing ls base checked p f h)
   names-placed typing ls base at is (x ∷ xs) s checked p f h =
-      let (fits, zero_cells) = initial_cells_are_zero-holds s in
+      let (fits, zero_cells) = initial_cells_are_zero s in
       let (one, cells) = variable-placed typing ls base checked p f x (at p.cells) s (initial s) (is p.cells) fits h in
       let (n, count, more_of) = names-placed (typing ++ s ∷ []) ls base at is xs s ((x, a_variable s) ∷ checked) (record p { placing = (x, in_slot (at p.cells)) ∷ p.placing; cells = p.cells + size s }) (record { env = (x, a_variable record { variable = length f.store; path = [] }) ∷ f.env; store = f.store ++ initial s ∷ [] }) one in (
         size s + n,
@@ -204,7 +204,7 @@ arguments-stay typing others [] [] h = refl
 arguments-stay typing others [] (a ∷ args) h = absurd h
 arguments-stay typing others (f ∷ fs) [] h = absurd h
 arguments-stay typing others (f ∷ fs) (place_argument p ∷ args) h =
-    let (fit, stays) = addresses_stay-holds typing others p f.shape h.1 in λ i. stays i ∷ arguments-stay typing others fs args h.2 i
+    let (fit, stays) = addresses_stay typing others p f.shape h.1 in λ i. stays i ∷ arguments-stay typing others fs args h.2 i
 arguments-stay typing others (f ∷ fs) (value_argument v ∷ args) h = arguments-stay typing others fs args h.2
 
 module _ {N : Type 0} (table : RoutineTable N) where

@@ -10,7 +10,7 @@ use Rattle.ob0_run_machine.specs.Evaluation.{Level, Levels}
 use Rattle.ob0_run_cells.specs.Activations.{IsPlaced, RoutineTable, Placing, PlacingFits, Whereabouts, at_target, first_slot, from_name, in_slot, inward, inward_slot, inward_whereabouts, nowhere}
 use Rattle.ob0_run_cells.specs.Cells.{address}
 use Rattle.ob0_run_cells.specs.Lowering.{Slot, held, by_reference, of_module, slot_address}
-use Rattle.ob0_run_cells.proofs.Places.{addresses_stay-holds}
+use Rattle.ob0_run_cells.proofs.Places.{addresses_stay}
 
 module _ {N : Type 0} (table : RoutineTable N) where
   -- the bindings from a name's first on are placed too
@@ -49,7 +49,7 @@ module _ {N : Type 0} (table : RoutineTable N) where
   grows-here : (typing others : StoreTyping) (ls : Levels) (checked : TypeEnvironment N) (Fits Grown : Levels → Placing N → Type 0) → ((ls : Levels) (placing : Placing N) → Fits ls placing → Grown ls placing) → (x : N) (o : Object Shape Signature) (w : Whereabouts) (r : Object Place (ProcedureText N))
       → IsPlaced table typing ls checked Fits x o w r → IsPlaced table (typing ++ others) ls checked Grown x o w r
   grows-here typing others ls checked Fits Grown grow x (a_variable s) (in_slot slot) (a_variable p) h =
-      let (fit, stays) = addresses_stay-holds typing others p s h.0 in (fit, h.1 ∙ sym stays)
+      let (fit, stays) = addresses_stay typing others p s h.0 in (fit, h.1 ∙ sym stays)
   grows-here typing others ls checked Fits Grown grow x (a_procedure s) (at_target t) (a_procedure c) h = (h.0, grow (drop t.up ls) h.0 h.1, h.2)
   grows-here typing others ls checked Fits Grown grow x (a_type s) nowhere (a_type u) h = tt
   grows-here typing others ls checked Fits Grown grow x (a_constant v) nowhere (a_constant w) h = tt

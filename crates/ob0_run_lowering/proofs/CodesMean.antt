@@ -17,7 +17,9 @@ use Rattle.ob0_language_values.specs.Values.{Outcome, Shape, Value, array_shape,
 use Rattle.ob0_run_machine.specs.Lowered as lowered
 use Rattle.ob0_run_cells.specs.Cells.{size}
 use Rattle.ob0_run_cells.specs.Lowering.{Evaluated, Leads, NumberLeads, NumberMeans, RestOfChain, Slot, TruthLeads, TruthMeans, ValueAt, addends_left, multipliers_left, value_of_expression, value_of_factor, value_of_simple, value_of_term}
-use Rattle.ob0_run_cells.proofs.Lowered.{addends_lower-holds, conjunctions_lower-holds, disjunctions_lower-holds, negations_lower-holds, operators_end-holds, products_lower-holds, relations_lower-holds, sums_lower-holds, terms_lower-holds}
+use Rattle.ob0_run_cells.proofs.LoweredNumbers as numbers
+use Rattle.ob0_run_cells.proofs.LoweredOutcomes.{difference-operates, product-operates, quotient-operates, remainder-operates, sum-operates}
+use Rattle.ob0_run_cells.proofs.LoweredTruths as truths
 use Rattle.ob0_run_lowering.specs.Codes.{ExpressionCode, CodeMeans, a_block, a_number, a_truth, added, multiplied, negated, no_code, related, signed}
 
 pub some_inj : {A : Type 0} {x y : A} → Some x ≡ Some y → x ≡ y
@@ -73,14 +75,14 @@ module _ (checked : Typed Label) (slots : Label → Slot) where
         two-codes (AddedLeads o) em en h (step m n hn hm)
 
     pub added-leads : (o : AddOperator) (c d : ExpressionCode) (x y z : Shape) → add_type o x y ≡ Some z → CodeLeads checked slots c x (addends_left (more (adds o e) rest)) whole → CodeMeans checked slots d y (value_of_term e) → AddedLeads o c d z
-    added-leads add_operator.Add c d integer_shape integer_shape z h hc hd = numbers-added add_operator.Add c d z (λ m n hn hm. (addends_lower-holds checked slots m n e rest whole hn).0 hm) h hc hd
+    added-leads add_operator.Add c d integer_shape integer_shape z h hc hd = numbers-added add_operator.Add c d z (λ m n hn hm. numbers.addend-leads checked slots add_operator.Add lowered.sum sum-operates (λ x. refl) m n e rest whole hn hm) h hc hd
     added-leads add_operator.Add c d integer_shape boolean_shape z h hc hd = absurd (cc)
     added-leads add_operator.Add c d integer_shape (array_shape k n s) z h hc hd = absurd (cc)
     added-leads add_operator.Add c d integer_shape (record_shape k fs) z h hc hd = absurd (cc)
     added-leads add_operator.Add c d boolean_shape y z h hc hd = absurd (cc)
     added-leads add_operator.Add c d (array_shape k n s) y z h hc hd = absurd (cc)
     added-leads add_operator.Add c d (record_shape k fs) y z h hc hd = absurd (cc)
-    added-leads add_operator.Subtract c d integer_shape integer_shape z h hc hd = numbers-added add_operator.Subtract c d z (λ m n hn hm. (addends_lower-holds checked slots m n e rest whole hn).1 hm) h hc hd
+    added-leads add_operator.Subtract c d integer_shape integer_shape z h hc hd = numbers-added add_operator.Subtract c d z (λ m n hn hm. numbers.addend-leads checked slots add_operator.Subtract lowered.difference difference-operates (λ x. refl) m n e rest whole hn hm) h hc hd
     added-leads add_operator.Subtract c d integer_shape boolean_shape z h hc hd = absurd (cc)
     added-leads add_operator.Subtract c d integer_shape (array_shape k n s) z h hc hd = absurd (cc)
     added-leads add_operator.Subtract c d integer_shape (record_shape k fs) z h hc hd = absurd (cc)
@@ -90,7 +92,7 @@ module _ (checked : Typed Label) (slots : Label → Slot) where
     added-leads add_operator.Or c d boolean_shape boolean_shape z h hc hd =
         let (t, et, ht) = truth-leads c (addends_left (more (adds add_operator.Or e) rest)) whole hc in
         let (u, eu, hu) = truth-code d (value_of_term e) hd in
-        two-codes (AddedLeads add_operator.Or) et eu h (disjunctions_lower-holds checked slots t u e rest whole hu ht)
+        two-codes (AddedLeads add_operator.Or) et eu h (truths.either-leads checked slots t u e rest whole hu ht)
     added-leads add_operator.Or c d boolean_shape integer_shape z h hc hd = absurd (cc)
     added-leads add_operator.Or c d boolean_shape (array_shape k n s) z h hc hd = absurd (cc)
     added-leads add_operator.Or c d boolean_shape (record_shape k fs) z h hc hd = absurd (cc)
@@ -110,21 +112,21 @@ module _ (checked : Typed Label) (slots : Label → Slot) where
         two-codes (MultipliedLeads o) em en h (step m n hn hm)
 
     pub multiplied-leads : (o : MultiplyOperator) (c d : ExpressionCode) (x y z : Shape) → multiply_type o x y ≡ Some z → CodeLeads checked slots c x (multipliers_left (more (multiplies o f) rest)) whole → CodeMeans checked slots d y (value_of_factor f) → MultipliedLeads o c d z
-    multiplied-leads multiply_operator.Multiply c d integer_shape integer_shape z h hc hd = numbers-multiplied multiply_operator.Multiply c d z (λ m n hn hm. (products_lower-holds checked slots m n f rest whole hn).0 hm) h hc hd
+    multiplied-leads multiply_operator.Multiply c d integer_shape integer_shape z h hc hd = numbers-multiplied multiply_operator.Multiply c d z (λ m n hn hm. numbers.multiplier-leads checked slots multiply_operator.Multiply lowered.product product-operates (λ x. refl) m n f rest whole hn hm) h hc hd
     multiplied-leads multiply_operator.Multiply c d integer_shape boolean_shape z h hc hd = absurd (cc)
     multiplied-leads multiply_operator.Multiply c d integer_shape (array_shape k n s) z h hc hd = absurd (cc)
     multiplied-leads multiply_operator.Multiply c d integer_shape (record_shape k fs) z h hc hd = absurd (cc)
     multiplied-leads multiply_operator.Multiply c d boolean_shape y z h hc hd = absurd (cc)
     multiplied-leads multiply_operator.Multiply c d (array_shape k n s) y z h hc hd = absurd (cc)
     multiplied-leads multiply_operator.Multiply c d (record_shape k fs) y z h hc hd = absurd (cc)
-    multiplied-leads multiply_operator.Divide c d integer_shape integer_shape z h hc hd = numbers-multiplied multiply_operator.Divide c d z (λ m n hn hm. (products_lower-holds checked slots m n f rest whole hn).1 hm) h hc hd
+    multiplied-leads multiply_operator.Divide c d integer_shape integer_shape z h hc hd = numbers-multiplied multiply_operator.Divide c d z (λ m n hn hm. numbers.multiplier-leads checked slots multiply_operator.Divide lowered.quotient quotient-operates (λ x. refl) m n f rest whole hn hm) h hc hd
     multiplied-leads multiply_operator.Divide c d integer_shape boolean_shape z h hc hd = absurd (cc)
     multiplied-leads multiply_operator.Divide c d integer_shape (array_shape k n s) z h hc hd = absurd (cc)
     multiplied-leads multiply_operator.Divide c d integer_shape (record_shape k fs) z h hc hd = absurd (cc)
     multiplied-leads multiply_operator.Divide c d boolean_shape y z h hc hd = absurd (cc)
     multiplied-leads multiply_operator.Divide c d (array_shape k n s) y z h hc hd = absurd (cc)
     multiplied-leads multiply_operator.Divide c d (record_shape k fs) y z h hc hd = absurd (cc)
-    multiplied-leads multiply_operator.Modulo c d integer_shape integer_shape z h hc hd = numbers-multiplied multiply_operator.Modulo c d z (λ m n hn hm. (products_lower-holds checked slots m n f rest whole hn).2 hm) h hc hd
+    multiplied-leads multiply_operator.Modulo c d integer_shape integer_shape z h hc hd = numbers-multiplied multiply_operator.Modulo c d z (λ m n hn hm. numbers.multiplier-leads checked slots multiply_operator.Modulo lowered.remainder remainder-operates (λ x. refl) m n f rest whole hn hm) h hc hd
     multiplied-leads multiply_operator.Modulo c d integer_shape boolean_shape z h hc hd = absurd (cc)
     multiplied-leads multiply_operator.Modulo c d integer_shape (array_shape k n s) z h hc hd = absurd (cc)
     multiplied-leads multiply_operator.Modulo c d integer_shape (record_shape k fs) z h hc hd = absurd (cc)
@@ -134,7 +136,7 @@ module _ (checked : Typed Label) (slots : Label → Slot) where
     multiplied-leads multiply_operator.And c d boolean_shape boolean_shape z h hc hd =
         let (t, et, ht) = truth-leads c (multipliers_left (more (multiplies multiply_operator.And f) rest)) whole hc in
         let (u, eu, hu) = truth-code d (value_of_factor f) hd in
-        two-codes (MultipliedLeads multiply_operator.And) et eu h (conjunctions_lower-holds checked slots t u f rest whole hu ht)
+        two-codes (MultipliedLeads multiply_operator.And) et eu h (truths.both-leads checked slots t u f rest whole hu ht)
     multiplied-leads multiply_operator.And c d boolean_shape integer_shape z h hc hd = absurd (cc)
     multiplied-leads multiply_operator.And c d boolean_shape (array_shape k n s) z h hc hd = absurd (cc)
     multiplied-leads multiply_operator.And c d boolean_shape (record_shape k fs) z h hc hd = absurd (cc)
@@ -149,8 +151,8 @@ module _ (checked : Typed Label) (slots : Label → Slot) where
   value-begins q s f rest h = (value_of_factor f, h, λ z shown. refl)
 
   pub term-begins : (c : ExpressionCode) (x : Shape) (f : Tree Label factor) (rest : Tree Label (items multiplier)) → CodeMeans checked slots c x (value_of_factor f) → CodeLeads checked slots c x (multipliers_left rest) (value_of_term (product f rest))
-  term-begins (a_number n) integer_shape f rest h = (terms_lower-holds checked slots f rest).0 n h
-  term-begins (a_truth t) boolean_shape f rest h = (terms_lower-holds checked slots f rest).1 t h
+  term-begins (a_number n) integer_shape f rest h = numbers.product-begins checked slots f rest n h
+  term-begins (a_truth t) boolean_shape f rest h = truths.product-begins checked slots f rest t h
   term-begins (a_block q n) (array_shape k m s) f rest h = (h.0, value-begins q (array_shape k m s) f rest h.1)
   term-begins (a_block q n) (record_shape k fs) f rest h = (h.0, value-begins q (record_shape k fs) f rest h.1)
   term-begins (a_number n) boolean_shape f rest h = absurd h
@@ -168,8 +170,8 @@ module _ (checked : Typed Label) (slots : Label → Slot) where
   value-signed q s e rest h = (value_of_term e, h, λ z shown. refl)
 
   unsigned-begins : (c : ExpressionCode) (x : Shape) (e : Tree Label term) (rest : Tree Label (items addend)) → CodeMeans checked slots c x (value_of_term e) → CodeLeads checked slots c x (addends_left rest) (value_of_simple (sum None e rest))
-  unsigned-begins (a_number n) integer_shape e rest h = ((sums_lower-holds checked slots e rest).0 n h).0
-  unsigned-begins (a_truth t) boolean_shape e rest h = (sums_lower-holds checked slots e rest).1 t h
+  unsigned-begins (a_number n) integer_shape e rest h = numbers.sum-begins checked slots e rest n h
+  unsigned-begins (a_truth t) boolean_shape e rest h = truths.sum-begins checked slots e rest t h
   unsigned-begins (a_block q n) (array_shape k m s) e rest h = (h.0, value-signed q (array_shape k m s) e rest h.1)
   unsigned-begins (a_block q n) (record_shape k fs) e rest h = (h.0, value-signed q (record_shape k fs) e rest h.1)
   unsigned-begins (a_number n) boolean_shape e rest h = absurd h
@@ -191,11 +193,11 @@ module _ (checked : Typed Label) (slots : Label → Slot) where
 
     pub sum-begins : (g : Option Sign) (c : ExpressionCode) (x y : Shape) → sign_type g x ≡ Some y → CodeMeans checked slots c x (value_of_term e) → SignedLeads g c y
     sum-begins None c x y h hc = one-code None c c y x refl h (unsigned-begins c x e rest hc)
-    sum-begins (Some sign.Plus) c integer_shape y h hc = let (n, en, hn) = number-code c (value_of_term e) hc in one-code (Some sign.Plus) c (a_number n) y integer_shape en h ((sums_lower-holds checked slots e rest).0 n hn).1
+    sum-begins (Some sign.Plus) c integer_shape y h hc = let (n, en, hn) = number-code c (value_of_term e) hc in one-code (Some sign.Plus) c (a_number n) y integer_shape en h (numbers.plus-begins checked slots e rest n hn)
     sum-begins (Some sign.Plus) c boolean_shape y h hc = absurd (cc)
     sum-begins (Some sign.Plus) c (array_shape k m s) y h hc = absurd (cc)
     sum-begins (Some sign.Plus) c (record_shape k fs) y h hc = absurd (cc)
-    sum-begins (Some sign.Minus) c integer_shape y h hc = let (n, en, hn) = number-code c (value_of_term e) hc in one-code (Some sign.Minus) c (a_number n) y integer_shape en h ((sums_lower-holds checked slots e rest).0 n hn).2
+    sum-begins (Some sign.Minus) c integer_shape y h hc = let (n, en, hn) = number-code c (value_of_term e) hc in one-code (Some sign.Minus) c (a_number n) y integer_shape en h (numbers.minus-begins checked slots e rest n hn)
     sum-begins (Some sign.Minus) c boolean_shape y h hc = absurd (cc)
     sum-begins (Some sign.Minus) c (array_shape k m s) y h hc = absurd (cc)
     sum-begins (Some sign.Minus) c (record_shape k fs) y h hc = absurd (cc)
@@ -211,34 +213,28 @@ module _ (checked : Typed Label) (slots : Label → Slot) where
       given-end (gives v) k h = h v
       given-end (ends x) k h = refl
 
-  pub leads-end : (c : ExpressionCode) (x : Shape) (rest : RestOfChain Label Value) (whole : Evaluated Label Value) → ((z : _) (v : Value) → rest z v ≡ gives v)
-      → ((n : lowered.Number) → NumberLeads checked slots n rest whole → NumberMeans checked slots n whole) → ((t : lowered.Truth) → TruthLeads checked slots t rest whole → TruthMeans checked slots t whole)
-      → CodeLeads checked slots c x rest whole → CodeMeans checked slots c x whole
-  leads-end (a_number n) integer_shape rest whole ends_here numbers truths h = numbers n h
-  leads-end (a_truth t) boolean_shape rest whole ends_here numbers truths h = truths t h
-  leads-end (a_block q n) (array_shape k m s) rest whole ends_here numbers truths h = (h.0, value-whole q (array_shape k m s) rest whole ends_here h.1)
-  leads-end (a_block q n) (record_shape k fs) rest whole ends_here numbers truths h = (h.0, value-whole q (record_shape k fs) rest whole ends_here h.1)
-  leads-end (a_number n) boolean_shape rest whole ends_here numbers truths h = absurd h
-  leads-end (a_number n) (array_shape k m s) rest whole ends_here numbers truths h = absurd h
-  leads-end (a_number n) (record_shape k fs) rest whole ends_here numbers truths h = absurd h
-  leads-end (a_truth t) integer_shape rest whole ends_here numbers truths h = absurd h
-  leads-end (a_truth t) (array_shape k m s) rest whole ends_here numbers truths h = absurd h
-  leads-end (a_truth t) (record_shape k fs) rest whole ends_here numbers truths h = absurd h
-  leads-end (a_block q n) integer_shape rest whole ends_here numbers truths h = absurd h
-  leads-end (a_block q n) boolean_shape rest whole ends_here numbers truths h = absurd h
-  leads-end no_code x rest whole ends_here numbers truths h = absurd h
+  pub leads-end : (c : ExpressionCode) (x : Shape) (rest : RestOfChain Label Value) (whole : Evaluated Label Value) → ((z : _) (v : Value) → rest z v ≡ gives v) → CodeLeads checked slots c x rest whole → CodeMeans checked slots c x whole
+  leads-end (a_number n) integer_shape rest whole ends_here h = numbers.number-whole checked slots n rest whole ends_here h
+  leads-end (a_truth t) boolean_shape rest whole ends_here h = truths.truth-whole checked slots t rest whole ends_here h
+  leads-end (a_block q n) (array_shape k m s) rest whole ends_here h = (h.0, value-whole q (array_shape k m s) rest whole ends_here h.1)
+  leads-end (a_block q n) (record_shape k fs) rest whole ends_here h = (h.0, value-whole q (record_shape k fs) rest whole ends_here h.1)
+  leads-end (a_number n) boolean_shape rest whole ends_here h = absurd h
+  leads-end (a_number n) (array_shape k m s) rest whole ends_here h = absurd h
+  leads-end (a_number n) (record_shape k fs) rest whole ends_here h = absurd h
+  leads-end (a_truth t) integer_shape rest whole ends_here h = absurd h
+  leads-end (a_truth t) (array_shape k m s) rest whole ends_here h = absurd h
+  leads-end (a_truth t) (record_shape k fs) rest whole ends_here h = absurd h
+  leads-end (a_block q n) integer_shape rest whole ends_here h = absurd h
+  leads-end (a_block q n) boolean_shape rest whole ends_here h = absurd h
+  leads-end no_code x rest whole ends_here h = absurd h
 
   pub addends-end : (c : ExpressionCode) (x : Shape) (whole : Evaluated Label Value) → CodeLeads checked slots c x (addends_left end) whole → CodeMeans checked slots c x whole
   unfolding evaluate
-  addends-end c x whole h =
-      let ended = operators_end-holds checked slots whole in
-      leads-end c x (addends_left end) whole (λ z v. refl) (λ n. ended.number_sum n) (λ t. ended.truth_sum t) h
+  addends-end c x whole h = leads-end c x (addends_left end) whole (λ z v. refl) h
 
   pub multipliers-end : (c : ExpressionCode) (x : Shape) (whole : Evaluated Label Value) → CodeLeads checked slots c x (multipliers_left end) whole → CodeMeans checked slots c x whole
   unfolding evaluate
-  multipliers-end c x whole h =
-      let ended = operators_end-holds checked slots whole in
-      leads-end c x (multipliers_left end) whole (λ z v. refl) (λ n. ended.number_term n) (λ t. ended.truth_term t) h
+  multipliers-end c x whole h = leads-end c x (multipliers_left end) whole (λ z v. refl) h
 
   -- an expression without a relation is its sum, and what is in parentheses evaluates to the same
 
@@ -253,7 +249,7 @@ module _ (checked : Typed Label) (slots : Label → Slot) where
   pub negated-means : (f : Tree Label factor) (c : ExpressionCode) (x s : Shape) → complement_type x ≡ Some s → CodeMeans checked slots c x (value_of_factor f) → CodeMeans checked slots (negated c) s (value_of_factor (negation f))
   negated-means f c boolean_shape s h hc =
       let (t, et, ht) = truth-code c (value_of_factor f) hc in
-      subst (λ s. CodeMeans checked slots (negated c) s (value_of_factor (negation f))) (some_inj h) (subst (λ c. CodeMeans checked slots (negated c) boolean_shape (value_of_factor (negation f))) (sym et) (negations_lower-holds checked slots f t ht))
+      subst (λ s. CodeMeans checked slots (negated c) s (value_of_factor (negation f))) (some_inj h) (subst (λ c. CodeMeans checked slots (negated c) boolean_shape (value_of_factor (negation f))) (sym et) (truths.negation-means checked slots f t ht))
   negated-means f c integer_shape s h hc = absurd (cc)
   negated-means f c (array_shape k m t) s h hc = absurd (cc)
   negated-means f c (record_shape k fs) s h hc = absurd (cc)
@@ -273,9 +269,9 @@ module _ (checked : Typed Label) (slots : Label → Slot) where
     related-means r c d integer_shape integer_shape z h hc hd =
         let (m, em, hm) = number-code c (value_of_simple a) hc in
         let (n, en, hn) = number-code d (value_of_simple b) hd in
-        two-codes (RelatedMeans r) em en h ((relations_lower-holds checked slots a b).0 r m n hm hn)
-    related-means relation.Equal c d boolean_shape boolean_shape z h hc hd = truths-related relation.Equal c d z (λ t u ht hu. ((relations_lower-holds checked slots a b).1 t u ht hu).0) h hc hd
-    related-means relation.NotEqual c d boolean_shape boolean_shape z h hc hd = truths-related relation.NotEqual c d z (λ t u ht hu. ((relations_lower-holds checked slots a b).1 t u ht hu).1) h hc hd
+        two-codes (RelatedMeans r) em en h (truths.related-means checked slots a b r m n hm hn)
+    related-means relation.Equal c d boolean_shape boolean_shape z h hc hd = truths-related relation.Equal c d z (truths.same-means checked slots a b) h hc hd
+    related-means relation.NotEqual c d boolean_shape boolean_shape z h hc hd = truths-related relation.NotEqual c d z (truths.different-means checked slots a b) h hc hd
     related-means relation.Less c d boolean_shape boolean_shape z h hc hd = absurd (cc)
     related-means relation.LessEqual c d boolean_shape boolean_shape z h hc hd = absurd (cc)
     related-means relation.Greater c d boolean_shape boolean_shape z h hc hd = absurd (cc)
