@@ -1,9 +1,9 @@
 -- Assignments and the standard procedures in lowered code.
-use Rattle.std.proofs.Common.{◌≡◌, ℕ, ◌+◌, ◌≤◌, true, ◌&&◌, List, [], ◌∷◌, ◌++◌, length, take, drop, ℤ, if◌then◌else◌, nat_le, Some, None, Option, sym, refl, ap, ◌∙◌, subst}
+use Rattle.std.proofs.Common.{◌≡◌, ℕ, ◌+◌, ◌≤◌, true, ◌&&◌, List, [], ◌∷◌, ◌++◌, length, take, drop, ℤ, if◌then◌else◌, nat_le, Some, Option, sym, refl, ap, ◌∙◌, subst}
 use Rattle.std.proofs.lemmas.Bool.{le-leb}
 use Rattle.ob0_tree.specs.Tree.{Tree, arguments, assigns, calls, expression, items, maybe, selector}
 use Rattle.ob0_language_types.specs.Arguments.{arguments_listed}
-use Rattle.ob0_language_types.specs.Expressions.{Object, Standard, a_constant, a_procedure, a_standard, a_type, a_variable, designate, evaluate, reads, writes, writes_line}
+use Rattle.ob0_language_types.specs.Expressions.{Object, Standard, a_standard, designate, evaluate, reads, writes, writes_line}
 use Rattle.ob0_language_types.specs.WellTyped.{Mode, Typed, by_place, by_value}
 use Rattle.ob0_language_values.specs.Values.{Outcome, Place, Shape, Value, boolean_shape, ends, gives, integer_shape, number, or_stuck, read_place, truth, ◌>>=◌}
 use Rattle.ob0_language_runs.specs.Fitting.{ObjectFits, PlaceFits, StoreTyping}
@@ -20,11 +20,7 @@ use Rattle.ob0_run_cells.proofs.Represented.{alone-cells, moment, moment-shown, 
 
 pub standard-is : (typing : StoreTyping) (q : Standard) (a : Option (Object Place (List Mode))) → ObjectFits typing (Some (a_standard q)) a → a ≡ Some (a_standard q)
 standard-is typing q (Some (a_standard p)) h = ap (λ q. Some (a_standard q)) (sym h)
-standard-is typing q None h = absurd h
-standard-is typing q (Some (a_type s)) h = absurd h
-standard-is typing q (Some (a_constant v)) h = absurd h
-standard-is typing q (Some (a_variable p)) h = absurd h
-standard-is typing q (Some (a_procedure p)) h = absurd h
+standard-is typing q _ h = absurd h
 
 -- cells copied
 

@@ -3,7 +3,7 @@ use Rattle.std.proofs.Common.{◌≡◌, ℕ, zero, suc, ◌+◌, ◌*◌, ◌<�
 use Rattle.std.proofs.Math.Nat.{add_assoc, add_comm, add-zero, add-mod-mod, mod-add-mod}
 use Rattle.std.proofs.lemmas.Option.{get_or_from_slice_get}
 use Rattle.ob0_tree.specs.Tree.{Tree, designator, end, expression, field, index, items, more, selector}
-use Rattle.ob0_language_types.specs.Expressions.{Meanings, Object, a_constant, a_procedure, a_standard, a_type, a_variable, designate, element_step, evaluate, follow, object_place, object_value}
+use Rattle.ob0_language_types.specs.Expressions.{Meanings, Object, a_constant, a_variable, designate, element_step, evaluate, follow, object_place, object_value}
 use Rattle.ob0_language_types.specs.Typing.{shape_of_field}
 use Rattle.ob0_language_types.specs.WellTyped.{Mode, Typed}
 use Rattle.ob0_language_values.specs.Values.{FieldShapes, Index, Outcome, Place, Shape, Step, Store, Value, Values, array_shape, at_field, at_index, at_path, boolean_shape, count_values, elements, ends, gives, integer_shape, number, or_stuck, part, read_place, record_shape, truth, ◌>>=◌}
@@ -22,19 +22,11 @@ use Rattle.ob0_run_cells.proofs.Places.{numbers_are_cells, parts_have_addresses,
 
 pub constant-is : (typing : StoreTyping) (v : Value) (a : Option (Object Place (List Mode))) → ObjectFits typing (Some (a_constant v)) a → a ≡ Some (a_constant v)
 constant-is typing v (Some (a_constant w)) h = ap (λ v. Some (a_constant v)) (sym h)
-constant-is typing v None h = absurd h
-constant-is typing v (Some (a_type s)) h = absurd h
-constant-is typing v (Some (a_variable p)) h = absurd h
-constant-is typing v (Some (a_procedure p)) h = absurd h
-constant-is typing v (Some (a_standard p)) h = absurd h
+constant-is typing v _ h = absurd h
 
 pub variable-is : (typing : StoreTyping) (s : Shape) (a : Option (Object Place (List Mode))) → ObjectFits typing (Some (a_variable s)) a → (p : Place) × (a ≡ Some (a_variable p)) × PlaceFits typing p s
 variable-is typing s (Some (a_variable p)) h = (p, refl, h)
-variable-is typing s None h = absurd h
-variable-is typing s (Some (a_type t)) h = absurd h
-variable-is typing s (Some (a_constant v)) h = absurd h
-variable-is typing s (Some (a_procedure p)) h = absurd h
-variable-is typing s (Some (a_standard p)) h = absurd h
+variable-is typing s _ h = absurd h
 
 -- what lies further on
 

@@ -1,11 +1,11 @@
 -- Arguments passed by lowered code, and calls.
 -- `Both R`: both outcomes give what R relates, or end alike. `use-both`, `both-then` compose it.
-use Rattle.std.proofs.Common.{◌≡◌, ℕ, zero, suc, ◌+◌, ◌-◌, ◌≤◌, Bool, true, List, [], ◌∷◌, ◌++◌, length, take, drop, ℤ, if◌then◌else◌, Some, None, Option, sym, refl, ap, ◌∙◌, subst, arith, append-nil, append_assoc, length-append, length-drop}
+use Rattle.std.proofs.Common.{◌≡◌, ℕ, zero, suc, ◌+◌, ◌-◌, ◌≤◌, Bool, true, List, [], ◌∷◌, ◌++◌, length, take, drop, ℤ, if◌then◌else◌, Some, Option, sym, refl, ap, ◌∙◌, subst, arith, append-nil, append_assoc, length-append, length-drop}
 use Rattle.std.proofs.lemmas.Bool.{le-leb}
 use Rattle.std.proofs.lemmas.List.{drop-append-le, take-append-le}
 use Rattle.ob0_tree.specs.Tree.{Tree, arguments, calls, expression, items, maybe, selector}
 use Rattle.ob0_language_types.specs.Arguments.{arguments_listed}
-use Rattle.ob0_language_types.specs.Expressions.{Object, a_constant, a_procedure, a_standard, a_type, a_variable, designate, evaluate}
+use Rattle.ob0_language_types.specs.Expressions.{Object, a_procedure, designate, evaluate}
 use Rattle.ob0_language_types.specs.WellTyped.{Formal, Mode, Signature, Typed}
 use Rattle.ob0_language_values.specs.Values.{Outcome, Place, Shape, Store, Value, ends, gives, number, or_stuck, read_place, truth, ◌>>=◌}
 use Rattle.ob0_language_runs.specs.Fitting.{ArgumentsFit, HasShape, ObjectFits, PlaceFits, StoreFits, StoreTyping, modes_in}
@@ -30,14 +30,12 @@ Both R _ _ = ⊥
 pub both-then : {A B C D : Type 0} (R : A → B → Type 0) (Q : C → D → Type 0) (o : machine.StepResult A) (w : Outcome B) (k : A → machine.StepResult C) (j : B → Outcome D) → Both R o w → ((a : A) (b : B) → R a b → Both Q (k a) (j b)) → Both Q (machine.◌>>=◌ o k) (w >>= j)
 both-then R Q (machine.gives a) (gives b) k j h each = each a b h
 both-then R Q (machine.ends x) (ends y) k j h each = h
-both-then R Q (machine.gives a) (ends y) k j h each = absurd h
-both-then R Q (machine.ends x) (gives b) k j h each = absurd h
+both-then R Q _ _ k j h each = absurd h
 
 pub both-made : {A B D : Type 0} (R : A → B → Type 0) (Q : A → D → Type 0) (o : machine.StepResult A) (w : Outcome B) (g : B → D) → Both R o w → ((a : A) (b : B) → R a b → Q a (g b)) → Both Q o (w >>= (λ b. gives (g b)))
 both-made R Q (machine.gives a) (gives b) g h each = each a b h
 both-made R Q (machine.ends x) (ends y) g h each = h
-both-made R Q (machine.gives a) (ends y) g h each = absurd h
-both-made R Q (machine.ends x) (gives b) g h each = absurd h
+both-made R Q _ _ g h each = absurd h
 
 pub both-led : (typing : StoreTyping) (shape : Shape) (o : machine.StepResult ℕ) (w : Outcome Place) → Led typing shape o w → Both (λ a p. (a ≡ address typing p) × PlaceFits typing p shape) o w
 both-led typing shape (machine.gives a) (gives p) h = (given-same a (address typing p) h.is_same, h.is_place)
@@ -173,18 +171,11 @@ module _ {N : Type 0} (checked : Typed N) (slots : N → Slot) (targets : N → 
       (λ p a one. both-made (λ q args. Passes b.typing fs p q args) (λ q args. Passes b.typing (f ∷ fs) done q args) (execution.pass_all b.levels cs p) (evaluate_arguments b.active store (modes_in fs) es) (λ rest. a ∷ rest)
       (arguments-passed fs cs es h.1 p (passed ++ argument_cells (a ∷ [])) (one.cells_passed ∙ (ap (λ l. l ++ argument_cells (a ∷ [])) same ∙ append_assoc (all_cells store) passed (argument_cells (a ∷ [])))) one.have_numbers)
       (λ q args more_passed. passes-on b.typing f fs done p q a args one more_passed))
-  arguments-passed [] [] (e ∷ es) h done passed same numbers = absurd h
-  arguments-passed [] (c ∷ cs) es h done passed same numbers = absurd h
-  arguments-passed (f ∷ fs) [] es h done passed same numbers = absurd h
-  arguments-passed (f ∷ fs) (c ∷ cs) [] h done passed same numbers = absurd h
+  arguments-passed _ _ _ h done passed same numbers = absurd h
 
 pub procedure-is : (typing : StoreTyping) (signature : Signature) (a : Option (Object Place (List Mode))) → ObjectFits typing (Some (a_procedure signature)) a → a ≡ Some (a_procedure (modes_in signature))
 procedure-is typing signature (Some (a_procedure modes)) h = ap (λ m. Some (a_procedure m)) h
-procedure-is typing signature None h = absurd h
-procedure-is typing signature (Some (a_type s)) h = absurd h
-procedure-is typing signature (Some (a_constant v)) h = absurd h
-procedure-is typing signature (Some (a_variable p)) h = absurd h
-procedure-is typing signature (Some (a_standard p)) h = absurd h
+procedure-is typing signature _ h = absurd h
 
 pub call-means : {N : Type 0} (checked : Typed N) (slots : N → Slot) (targets : N → Target) (x : N) (es : Tree N (maybe arguments)) (signature : Signature) (cs : List lowered.LoweredArgument) → checked.object_for x ≡ Some (a_procedure signature) → ArgumentsMean checked slots signature cs (arguments_listed es)
     → StatementMeans checked slots targets (lowered.calls (targets x).procedure (targets x).up cs) (calls x es)

@@ -194,26 +194,23 @@ module _ {N : Type 0} (table : RoutineTable N) where
 -- parameters
 
 pub index-of_drop : (xs : List ℕ) (j y : ℕ) (ys : List ℕ) → drop j xs ≡ y ∷ ys → (slice_index_or xs j 0 ≡ y) × (drop (suc j) xs ≡ ys)
-index-of_drop [] zero y ys e = absurd (cc)
-index-of_drop [] (suc j) y ys e = absurd (cc)
 index-of_drop (x ∷ xs) zero y ys e = (ap (λ l. slice_index_or l 0 0) e, ap (drop 1) e)
 index-of_drop (x ∷ xs) (suc j) y ys e = index-of_drop xs j y ys e
+index-of_drop [] zero y ys e = absurd (cc)
+index-of_drop [] (suc j) y ys e = absurd (cc)
 
 pub arguments-stay : (typing others : StoreTyping) (fs : Signature) (args : List Argument) → ArgumentsFit typing fs args → argument_addresses (typing ++ others) args ≡ argument_addresses typing args
 arguments-stay typing others [] [] h = refl
-arguments-stay typing others [] (a ∷ args) h = absurd h
-arguments-stay typing others (f ∷ fs) [] h = absurd h
 arguments-stay typing others (f ∷ fs) (place_argument p ∷ args) h =
     let (fit, stays) = addresses_stay typing others p f.shape h.1 in λ i. stays i ∷ arguments-stay typing others fs args h.2 i
 arguments-stay typing others (f ∷ fs) (value_argument v ∷ args) h = arguments-stay typing others fs args h.2
+arguments-stay typing others _ _ h = absurd h
 
 module _ {N : Type 0} (table : RoutineTable N) where
   pub parameters-placed : (typing : StoreTyping) (l : Level) (ls : Levels) (ps : List (TypedParameter N)) (args : List Argument) (checked : TypeEnvironment N) (p : Placed N) (f : Frame N) → FramePlaced table typing (l ∷ ls) l.base checked p f
       → ArgumentsFit typing (map (λ p. p.formal) ps) args → drop p.reference_places l.addresses ≡ argument_addresses typing args
       → (g : Frame N) × (bind_parameters (map as_parameter ps) args f ≡ Some g) × Extends table typing (l ∷ ls) l.base (bind_typed ps checked) (place_parameters ps p) f.store (argument_cells args) g
   parameters-placed typing l ls [] [] checked p f h fit there = (f, refl, extends-here table typing (l ∷ ls) l.base checked p f h)
-  parameters-placed typing l ls [] (a ∷ args) checked p f h fit there = absurd fit
-  parameters-placed typing l ls (q ∷ ps) [] checked p f h fit there = absurd fit
   parameters-placed typing l ls (q ∷ ps) (place_argument place ∷ args) checked p f h fit there =
       let (first, rest) = index-of_drop l.addresses p.reference_places (address typing place) (argument_addresses typing args) there in
       let p₁ : Placed N = record p { placing = (q.name, in_slot (by_reference 0 p.reference_places)) ∷ p.placing; reference_places = suc p.reference_places } in
@@ -234,3 +231,4 @@ module _ {N : Type 0} (table : RoutineTable N) where
         subst (λ m. Extends table typing (l ∷ ls) l.base (bind_typed ps ((q.name, a_variable s) ∷ checked)) (place_parameters ps (place_parameter m q.name (size s) p)) f.store (cells_of v ++ argument_cells args) g) (sym fit.0)
             (extends-then table typing (typing ++ s ∷ []) (s ∷ []) (l ∷ ls) l.base (bind_typed ps ((q.name, a_variable s) ∷ checked)) (place_parameters ps p₁) f.store (f.store ++ v ∷ []) (cells_of v) (argument_cells args) g refl cells part),
       )
+  parameters-placed typing l ls _ _ checked p f h fit there = absurd fit

@@ -11,22 +11,20 @@ use Rattle.ob0_run_cells.proofs.Splits.{Lies, lies-following, lies-first, lies-w
 
 pub store-size : (typing : StoreTyping) (store : Store) → StoreFits typing store → length (all_cells store) ≡ sizes typing
 store-size [] [] h = refl
-store-size [] (v ∷ store) h = absurd h
-store-size (s ∷ typing) [] h = absurd h
 store-size (s ∷ typing) (v ∷ store) h =
     length-append (cells_of v) (all_cells store) ∙ (ap (λ n. n + length (all_cells store)) (cells-size v s h.0) ∙ ap (λ n. size s + n) (store-size typing store h.1))
+store-size _ _ h = absurd h
 
 -- a variable lies after the older ones
 pub variable-lies : (typing : StoreTyping) (store : Store) (n : ℕ) (s : Shape) → StoreFits typing store → slice_get typing n ≡ Some s
     → (v : Value) × (slice_get store n ≡ Some v) × HasShape v s × Lies all_cells store v (slice_set store n) (sizes (take n typing))
 variable-lies [] [] n s h e = absurd (cc)
-variable-lies [] (v ∷ store) n s h e = absurd h
-variable-lies (t ∷ typing) [] n s h e = absurd h
 variable-lies (t ∷ typing) (v ∷ store) zero s h e =
     (v, refl, of_some (λ s. HasShape v s) e h.0, lies-first all_cells (v ∷ store) v (slice_set (v ∷ store) zero) (all_cells store) refl (λ new. refl))
 variable-lies (t ∷ typing) (v ∷ store) (suc n) s h e =
     let (w, ew, hw, l) = variable-lies typing store n s h.1 e in
     (w, ew, hw, lies-following all_cells all_cells (v ∷ store) store w (slice_set (v ∷ store) (suc n)) (slice_set store n) (cells_of v) (size t) (sizes (take n typing)) refl (λ new. refl) (cells-size v t h.0) l)
+variable-lies _ _ n s h e = absurd h
 
 -- what lies at a place, and what writing it makes of the store
 abbrev pub PlaceLies : StoreTyping → Store → Place → Shape → Type 0

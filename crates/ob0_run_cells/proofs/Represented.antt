@@ -43,8 +43,7 @@ Follows typing k j = (low : execution.MachineState) (s : State) → Represents t
 pub going-on : (typing : StoreTyping) (p : execution.MachineProgress) (q : Progress) (k : execution.MachineState → execution.MachineProgress) (j : State → Progress) → ProgressRepresents typing p q → Follows typing k j → ProgressRepresents typing (execution.continue_with p k) (continue_with q j)
 going-on typing (execution.running low) (running s) k j h follows = follows low s h
 going-on typing (execution.stopped e out) (stopped f written) k j h follows = h
-going-on typing (execution.running low) (stopped f written) k j h follows = absurd h
-going-on typing (execution.stopped e out) (running s) k j h follows = absurd h
+going-on typing _ _ k j h follows = absurd h
 
 -- a condition that evaluates to the same in every state
 abbrev pub SameConditions : StoreTyping → (execution.MachineState → machine.StepResult Bool) → (State → Outcome Value) → Type 0

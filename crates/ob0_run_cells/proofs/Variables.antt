@@ -37,9 +37,8 @@ cells-append (v ∷ a) b = ap (λ l. cells_of v ++ l) (cells-append a b) ∙ sym
 -- a type added is the one at the place of a variable added
 pub taken-all : (typing : StoreTyping) (store : Store) (s : Shape) → StoreFits typing store → sizes (take (length store) (typing ++ s ∷ [])) ≡ sizes typing
 taken-all [] [] s h = refl
-taken-all [] (v ∷ store) s h = absurd h
-taken-all (t ∷ typing) [] s h = absurd h
 taken-all (t ∷ typing) (v ∷ store) s h = ap (λ n. size t + n) (taken-all typing store s h.1)
+taken-all _ _ s h = absurd h
 
 -- a store with a variable more, whose cells come after those of all others, from the size of their types on
 pub record AddsVariable (typing : StoreTyping) (store : Store) (s : Shape) (v : Value) : Type 0 where
@@ -61,18 +60,16 @@ variables_are_added typing store s v h hv =
 
 pub cut-fits : (typing others : StoreTyping) (old new : Store) → StoreFits typing old → StoreFits (typing ++ others) new → StoreFits typing (take (length old) new)
 cut-fits [] others [] new h k = tt
-cut-fits [] others (v ∷ old) new h k = absurd h
-cut-fits (t ∷ typing) others [] new h k = absurd h
 cut-fits (t ∷ typing) others (v ∷ old) [] h k = absurd k
 cut-fits (t ∷ typing) others (v ∷ old) (w ∷ new) h k = (k.0, cut-fits typing others old new h.1 k.1)
+cut-fits _ others _ new h k = absurd h
 
 pub cut-split : (typing others : StoreTyping) (old new : Store) → StoreFits typing old → StoreFits (typing ++ others) new → (rest : Store) × (new ≡ take (length old) new ++ rest)
 cut-split [] others [] new h k = (new, refl)
-cut-split [] others (v ∷ old) new h k = absurd h
-cut-split (t ∷ typing) others [] new h k = absurd h
 cut-split (t ∷ typing) others (v ∷ old) [] h k = absurd k
 cut-split (t ∷ typing) others (v ∷ old) (w ∷ new) h k =
     let (rest, e) = cut-split typing others old new h.1 k.1 in (rest, ap (λ l. w ∷ l) e)
+cut-split _ others _ new h k = absurd h
 
 -- a store cut back to the variables of an older one has as many cells as that
 pub variables_are_dropped : (typing others : StoreTyping) (old new : Store) → StoreFits typing old → StoreFits (typing ++ others) new

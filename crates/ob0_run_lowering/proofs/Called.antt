@@ -186,9 +186,8 @@ arguments_go_on {scene = scene} {fs = fs} {es = es} {n = n} {made = made} f e a 
 over : (scene : Scene) (fs : List formal.Formal) (es : List Expression) → min (length fs) (length es) ≡ 0 → ArgumentsLower scene (signature_in scene fs) [] (all_in_labels scene.resolved.now es)
 unfolding arguments_fit
 over scene [] [] h checked slots targets sees fits = tt
-over scene [] (e ∷ es) h checked slots targets sees fits = absurd (cc)
-over scene (f ∷ fs) [] h checked slots targets sees fits = absurd (cc)
 over scene (f ∷ fs) (e ∷ es) h checked slots targets sees fits = absurd (omega (arith, h))
+over scene _ _ h checked slots targets sees fits = absurd (cc)
 
 pub arguments_end : {scene : Scene} {fs : List formal.Formal} {es : List Expression} {n : ℕ} {made : List argument.Argument} → ArgumentsMade scene fs es n made → n ≡ min (length fs) (length es)
     → ArgumentsLower scene (signature_in scene fs) (map argument_of made) (all_in_labels scene.resolved.now es)

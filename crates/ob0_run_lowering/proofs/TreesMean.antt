@@ -4,11 +4,11 @@ use Rattle.ob0_tree.specs.Tree.{Tree, addend, adds, compares, designator, end, e
 use Rattle.ob0_tree.specs.Places.{value_at}
 use Rattle.ob0_language_names.specs.Names.{Label, label_text}
 use Rattle.ob0_scope_table.specs.InLabels.{in_labels, label_in}
-use Rattle.ob0_language_types.specs.Expressions.{Meanings, Object, a_constant, a_procedure, a_standard, a_type, a_variable}
+use Rattle.ob0_language_types.specs.Expressions.{Meanings, Object, a_constant, a_variable}
 use Rattle.ob0_language_types.specs.Typing.{add_type, complement_type, constant_of, element_type, field_type, multiply_type, object_type, relation_type, sign_type, type_at, type_of, type_of_addends, type_of_factor, type_of_multipliers, type_of_simple, type_of_term, value_type}
 use Rattle.ob0_language_types.specs.WellTyped.{Signature, Typed}
 use Rattle.ob0_language_types.proofs.TypedElsewhere.{then_some}
-use Rattle.ob0_language_values.specs.Values.{Place, Shape, Value, array_shape, boolean_shape, elements, integer_shape, members, number, record_shape, truth}
+use Rattle.ob0_language_values.specs.Values.{Place, Shape, Value, array_shape, boolean_shape, integer_shape, number, record_shape, truth}
 use Rattle.ob0_run_machine.specs.Evaluation as machine
 use Rattle.ob0_run_machine.specs.Lowered as lowered
 use Rattle.ob0_run_cells.specs.Cells.{field_offset, size}
@@ -60,8 +60,7 @@ module _ (checked : Typed Label) (slots : Label → Slot) where
       → CodeMeans checked slots (constant_code v) s (value_of_factor (designator x path))
   constant-means x (number n) path s e fit h = number-constant x n path s e (fit n refl) h
   constant-means x (truth b) path s e fit h = truth-constant x b path s e h
-  constant-means x (elements vs) path s e fit h = absurd (cc)
-  constant-means x (members k ms) path s e fit h = absurd (cc)
+  constant-means x _ path s e fit h = absurd (cc)
 
   -- what is at the place of a designator
 
@@ -83,9 +82,7 @@ module _ (checked : Typed Label) (slots : Label → Slot) where
         ap (option_map (λ t. found_at (part_at q (field_offset fs (label_text x))) t)) (ap (field_type (record_shape k fs)) (sym same) ∙ h),
         subst (λ y. PlaceLeads checked slots (part_at q (field_offset fs y)) t rest whole) same (places.field-leads checked slots q k fs x t rest whole leads h),
       )
-  field-step written q integer_shape x t rest whole leads h = absurd (cc)
-  field-step written q boolean_shape x t rest whole leads h = absurd (cc)
-  field-step written q (array_shape k n u) x t rest whole leads h = absurd (cc)
+  field-step written q _ x t rest whole leads h = absurd (cc)
 
   element-step : (c : ExpressionCode) (q : lowered.Place) (z i t : Shape) (e : Tree Label expression) (rest : Tree Label (items selector)) (whole : Evaluated Label Place)
       → PlaceLeads checked slots q z (more (index e) rest) whole → element_type z i ≡ Some t → CodeMeans checked slots c i (value_of_expression e)
@@ -97,12 +94,7 @@ module _ (checked : Typed Label) (slots : Label → Slot) where
         leads-from checked slots (element_at_place q m n (size u)) (lowered.element q m n (size u) 0) t rest whole (element-same q m n (size u))
             (subst (λ t. PlaceLeads checked slots (lowered.element q m n (size u) 0) t rest whole) (some_inj h) (places.index-leads checked slots q k n u e m rest whole leads hm)),
       )
-  element-step c q (array_shape k n u) boolean_shape t e rest whole leads h hc = absurd (cc)
-  element-step c q (array_shape k n u) (array_shape j m v) t e rest whole leads h hc = absurd (cc)
-  element-step c q (array_shape k n u) (record_shape j gs) t e rest whole leads h hc = absurd (cc)
-  element-step c q integer_shape i t e rest whole leads h hc = absurd (cc)
-  element-step c q boolean_shape i t e rest whole leads h hc = absurd (cc)
-  element-step c q (record_shape k fs) i t e rest whole leads h hc = absurd (cc)
+  element-step c q _ _ t e rest whole leads h hc = absurd (cc)
 
 module _ (scene : Scene) (checked : Typed Label) (slots : Label → Slot) (targets : Label → Target) (sees : Sees scene checked slots targets) (small : HasSmall scene) where
   -- the place at the end of a path
@@ -133,10 +125,7 @@ module _ (scene : Scene) (checked : Typed Label) (slots : Label → Slot) (targe
       subst (λ c. CodeMeans checked slots c s (value_of_factor (designator x (in_labels scene.resolved.now path))))
       (sym (ap (λ o. named_code (constant_of o) (selected_place scene (base_found scene x) (in_labels scene.resolved.now path))) there))
       (constant-means checked slots x v (in_labels scene.resolved.now path) s e (λ n en. small.constants x n (there ∙ ap (λ v. Some (a_constant v)) en)) h)
-  named-means x path s None selected e h = absurd (cc)
-  named-means x path s (Some (a_type t)) selected e h = absurd (cc)
-  named-means x path s (Some (a_procedure p)) selected e h = absurd (cc)
-  named-means x path s (Some (a_standard p)) selected e h = absurd (cc)
+  named-means x path s _ selected e h = absurd (cc)
 
   mutual
     unfolding type_of
