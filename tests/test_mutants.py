@@ -11,13 +11,14 @@ from typing import Iterable, List, Optional, Tuple
 from unittest import mock
 
 import build
+import checks
 import common
 import edits
 import mutants
 import reading
 import wrong_bodies
+from checks import Said
 from harness import TOP, holds, same, test
-from wrong_bodies import Said
 
 MUTANT = "units_are_characters"
 GOAL = "note: src/passes.rt:120:1: it is not proved that what the function ensures holds when it returns (`returns-in-Utf16`)\n"
@@ -231,6 +232,58 @@ def many_judged() -> None:
     same(word("returns-clause-broken"), wrong_bodies.REFUSED, "any clause, where the first line names none")
     for goal in ("cut_messages-requires-clause-bad", "overflow_add-len"):
         same(word(goal), wrong_bodies.ELSEWHERE, f"{goal}, where it names none")
+
+
+@test("mutants: of many in one check one that stands on a function that isn't proved is tried again, unless its clause refuses it")
+def many_waiting() -> None:
+    source = reading.Source("ob0_frame")
+    crate = wrong_bodies.Crate("ob0_frame", edits.edits_of("ob0_frame", source), source)
+    edit, other = (next(it for it in crate.chosen if word in it.name) for word in ("goes_on_after_bad_head", "takes_a_longer_head"))
+    waits = "fn ob0_frame::framer::Framer::feed: not proved; it calls `ob0_frame::head::stage_of`, which is not proved"
+    refused_stage = "fn ob0_frame::head::stage_of: no proof: `search` did not prove it"
+
+    def taken(goal: str, how: int = wrong_bodies.AMONG, chosen: Tuple[edits.Edit, ...] = (edit, other)) -> Tuple[Optional[str], List[int]]:
+        crate.running = 1
+        note = f"note: src/framer.rt:60:9: it is not proved that what the function ensures holds (`{goal}`)"
+        said = Said("\n".join([refused_stage, note, waits, "only=2 proved=0", ""]), 1)
+        settled, groups = crate.take(wrong_bodies.Group(list(chosen), how), said)
+        return settled[edit].word if edit in settled else None, [it.how for it in groups if edit in it.edits]
+
+    same(taken("returns-clause-bad"), (wrong_bodies.REFUSED, []), "its clause")
+    same(taken("returns-clause-broken"), (None, [wrong_bodies.APART]), "another clause, among others")
+    same(taken("returns-clause-broken", wrong_bodies.APART), (None, [wrong_bodies.ALONE]), "another clause, apart from them")
+    same(taken("returns-clause-broken", wrong_bodies.ALONE, (edit,)), (wrong_bodies.ELSEWHERE, []), "another clause, alone")
+
+
+@test("mutants: no two of one check have one proof, and of those that are tried apart none stands on another")
+def groups() -> None:
+    source = reading.Source("ob0_frame")
+    crate = wrong_bodies.Crate("ob0_frame", edits.edits_of("ob0_frame", source), source)
+    holds("head::stage_of" in crate.below["framer::Framer::feed"], "what a function stands on")
+    for is_apart in (False, True):
+        found = crate.groups(crate.chosen, is_apart)
+        same(sorted(it.path for group in found for it in group), sorted(it.path for it in crate.chosen), "each once")
+        pairs = [(one, other) for group in found for at, one in enumerate(group) for other in group[:at]]
+        same([(a.name, b.name) for a, b in pairs if wrong_bodies.proofs(a) & wrong_bodies.proofs(b)], [], "of one proof")
+        holds(not is_apart or not any(crate.are_joined(*it) for it in pairs), "that stand on each other")
+    same([len(it) > wrong_bodies.MOST for it in found], [False] * len(found), "more than go into one check")
+
+
+@test("mutants: where the checker can't find a function by its name, all of its crate are checked")
+def asked_for_all() -> None:
+    source = reading.Source("ob0_frame")
+    edit = next(it for it in edits.edits_of("ob0_frame", source) if "takes_a_longer_head" in it.name)
+    asked: List[List[str]] = []
+
+    class Named(checks.Libraries):
+        def words(self, crate: str, only: Iterable[str]) -> Optional[List[str]]:
+            asked.append(list(only))
+            print_line = "print('rattle: error: `ob0_frame` has no function')" if asked[-1] else "print('logic=not-proved')"
+            return [sys.executable, "-c", print_line]
+
+    os.makedirs(build.ROOMS, exist_ok=True)
+    said = wrong_bodies.check("ob0_frame", [edit], Named(os.path.join(build.ROOMS, "libraries-of-a-test")))
+    same((asked, said.text), ([["head::stage_of"], []], "logic=not-proved\n"), "what is asked for")
 
 
 @test("mutants: the libraries are those of which `rt ci` says that they are proved")

@@ -270,6 +270,23 @@ class Source:
             found += [function] * is_seen
         return found
 
+    def below(self) -> dict[str, set[str]]:
+        """Of each proof those that it may stand on: of what its functions name, and of what these name in turn."""
+        named: dict[str, set[str]] = {}
+        for it in self.functions:
+            named.setdefault(it.name, set()).add(it.proof)
+        found: dict[str, set[str]] = {it.proof: set() for it in self.functions}
+        for it in self.functions:
+            found[it.proof].update(proof for word in it.words for proof in named.get(word, ()))
+        for proof, reached in found.items():
+            waiting = list(reached)
+            while waiting:
+                more = found[waiting.pop()] - reached
+                reached |= more
+                waiting += more
+            reached.discard(proof)
+        return found
+
     def proved_with(self, functions: Iterable[Function]) -> list[Function]:
         """The functions that have one proof with some: functions that call each other have one."""
         proofs = {it.proof for it in functions}
