@@ -191,7 +191,7 @@ def judged_before() -> None:
     edit.file, kept = copy, wrong_bodies.Judged(path)
     holds(not kept.has(edit), "one that wasn't tried")
     refused_by = "framer::Framer::feed returns-clause-bad at src/framer.rt:60"
-    kept.keep(edit, wrong_bodies.Verdict(wrong_bodies.REFUSED, "a goal", (refused_by,)))
+    kept.keep(edit, kept.sum_of(edit), wrong_bodies.Verdict(wrong_bodies.REFUSED, "a goal", (refused_by,)))
     kept.write()
     again = wrong_bodies.Judged(path)
     holds(again.has(edit), "one that was refused")
@@ -208,7 +208,7 @@ def judged_before() -> None:
     with open(copy, "a", encoding="utf-8") as file:
         file.write("\n")
     holds(not wrong_bodies.Judged(path).has(edit), "one that changed")
-    kept.keep(edit, wrong_bodies.Verdict(wrong_bodies.PROVED, "proved"))
+    kept.keep(edit, kept.sum_of(edit), wrong_bodies.Verdict(wrong_bodies.PROVED, "proved"))
     holds(not kept.has(edit), "one that was proved later")
     shutil.rmtree(room)
 

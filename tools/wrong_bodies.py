@@ -91,11 +91,11 @@ class Judged:
         found = self.found.get(edit.path, {})
         return found.get("sum") == self.sum_of(edit) and is_met(edit, found.get("goals", []))
 
-    def keep(self, edit: Edit, verdict: Verdict) -> None:
-        """Keeps that a mutant was refused, and of another that it wasn't."""
+    def keep(self, edit: Edit, tried_on: str, verdict: Verdict) -> None:
+        """Keeps that a mutant was refused, with the sum of what it was tried on, and of another that it wasn't."""
         self.found.pop(edit.path, None)
         if verdict.is_refused:
-            self.found[edit.path] = {"sum": self.sum_of(edit), "why": verdict.why, "goals": list(verdict.goals)}
+            self.found[edit.path] = {"sum": tried_on, "why": verdict.why, "goals": list(verdict.goals)}
 
     def write(self) -> None:
         os.makedirs(os.path.dirname(os.path.abspath(self.path)), exist_ok=True)
@@ -264,6 +264,8 @@ class Run:
         self.crates, self.lanes, self.is_quiet, self.judged = crates, options.lanes, options.quiet, judged
         self.timer, self.left = common.Timer(), sum(len(it.chosen) for it in crates)
         self.running: Dict[Future[Said], Tuple[Crate, Group]] = {}
+        # (what is written meanwhile isn't what was tried)
+        self.sums = {it: judged.sum_of(it) for crate in crates for it in crate.chosen}
 
     def start(self, pool: ThreadPoolExecutor, crate: Crate, groups: List[Group], libraries: Libraries) -> None:
         for group in groups:
@@ -292,7 +294,7 @@ class Run:
     def keep(self, crate: Crate, group: Group, settled: Dict[Edit, Verdict]) -> None:
         self.left -= len(settled)
         for edit, verdict in settled.items():
-            self.judged.keep(edit, verdict)
+            self.judged.keep(edit, self.sums[edit], verdict)
         self.judged.write()
         print(f"[{self.timer}] {crate.name}: of {len(group.edits)} in one check {len(settled)} are judged; {self.left} are left", flush=True)
 
