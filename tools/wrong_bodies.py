@@ -141,7 +141,8 @@ def refusal(edit: Edit, said: Said, refused: List[Tuple[str, str]]) -> Verdict:
     """What to say of functions that are refused for what they do themselves."""
     uncovered = [it for it, _ in refused if "does not cover" in said.verdicts[it]]
     if len(uncovered) == len(refused):
-        return Verdict(NOT_JUDGED, f"the checker doesn't cover such a body, so no contract was tried: {said.verdicts[uncovered[0]][:200]}")
+        reason = said.verdicts[uncovered[0]][:200]
+        return Verdict(NOT_JUDGED, f"the checker doesn't cover such a body, so no contract was tried: {reason}")
     named = next((it for it in refused if said.refusing(*it)), refused[0])
     goals = [f"{proof or '?'} {goal}" for it, proof in refused for goal in said.refusing(it, proof)]
     word = REFUSED if is_met(edit, goals) else ELSEWHERE
@@ -175,9 +176,9 @@ class Crate:
             counts = [sum(proofs(it) == proofs(other) for other in left) for it in left]
             found = [[] for _ in range(max([-(-len(left) // MOST), *counts]))]
         for edit in left:
-            fits: Callable[[List[Edit]], bool] = lambda it: len(it) < MOST and not any(proofs(edit) & proofs(other) for other in it)
             joined: Callable[[List[Edit]], int] = lambda it: sum(self.are_joined(edit, other) for other in it)
-            open_ones = [it for it in found if fits(it) and not (is_apart and joined(it))] if proofs(edit) else []
+            open_ones = [it for it in found if len(it) < MOST and not any(proofs(edit) & proofs(other) for other in it)]
+            open_ones = [it for it in open_ones if proofs(edit) and not (is_apart and joined(it))]
             if open_ones:
                 min(open_ones, key=lambda it: (joined(it), len(it))).append(edit)
             else:
@@ -254,7 +255,8 @@ def proofs(edit: Edit) -> Set[str]:
 
 def said_of(counts: Iterable[int]) -> str:
     """The counts of a run."""
-    return ", ".join(f"{count} {word}" for count, word in zip(counts, ("refused by their clause", "refused elsewhere", "proved", "not judged")))
+    words = ("refused by their clause", "refused elsewhere", "proved", "not judged")
+    return ", ".join(f"{count} {word}" for count, word in zip(counts, words))
 
 
 class Run:
@@ -296,7 +298,8 @@ class Run:
         for edit, verdict in settled.items():
             self.judged.keep(edit, self.sums[edit], verdict)
         self.judged.write()
-        print(f"[{self.timer}] {crate.name}: of {len(group.edits)} in one check {len(settled)} are judged; {self.left} are left", flush=True)
+        said = f"of {len(group.edits)} in one check {len(settled)} are judged"
+        print(f"[{self.timer}] {crate.name}: {said}; {self.left} are left", flush=True)
 
     def say(self, crate: Crate) -> None:
         """Says what the mutants of a crate came to."""
@@ -334,8 +337,8 @@ def try_crates(chosen: Dict[str, List[str]], options: argparse.Namespace, judged
     if before:
         print(f"{before} of them were refused before, in their present form")
     spent = os.times()
-    of_processors = common.clock(spent.children_user + spent.children_system)
-    print(f"{said_of(counts)}, in {sum(it.checks for it in crates)} checks, {options.lanes} side by side: {run.timer}, of the processors {of_processors}")
+    took = f"{run.timer}, of the processors {common.clock(spent.children_user + spent.children_system)}"
+    print(f"{said_of(counts)}, in {sum(it.checks for it in crates)} checks, {options.lanes} side by side: {took}")
     return 1 if any(counts[1:]) else 0
 
 
