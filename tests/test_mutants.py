@@ -99,6 +99,9 @@ def proof_of_cycle() -> None:
     said = Said("\n".join(errors), 1)
     same(said.proof_errors("ob0_text::low::Visit::block", "low::+blocks"), errors[:1], "of methods")
     same(said.proof_errors("ob0_text::low::block", "low::+blocks"), errors[1:2], "of functions")
+    errors = [f"./proofs/calls/{at}/Answers.antt:9:3: error: `returns`: a type" for at in ("+call+fn-call-enter", "call", "+called+fn-called-enter")]
+    said = Said("\n".join(errors), 1)
+    same(said.proof_errors("ob0_run_machine::calls::call", "calls::call"), errors[:2], "of a function and its closure")
 
 
 @test("mutants: one that is made right again fails")

@@ -63,12 +63,13 @@ class Said:
 
     def proof_errors(self, symbol: str, proof: str) -> list[str]:
         """The errors in the files of a function's proof."""
-        # (that of a cycle is where the prover has its functions: of methods that is below their type)
+        # (that of a cycle is where the prover has its functions: of methods that is below their type. A function that calls itself by
+        # a closure has one with that, without a name of its own)
         *above, name = symbol.partition("::")[2].split("::")
         cycle = re.search(r"\+\w+$", proof)
-        start = "/".join(["proofs", *above, cycle[0] if cycle else name]) + "/"
+        starts = tuple("/".join(["proofs", *above, it]) for it in (f"{cycle[0] if cycle else name}/", f"+{name}+"))
         errors = ((it, ERROR.match(it)) for it in self.text.split("\n"))
-        return [line for line, at in errors if at and at[1].startswith(start)]
+        return [line for line, at in errors if at and at[1].startswith(starts)]
 
     def refusing(self, symbol: str, proof: str) -> list[str]:
         """The goals of a function that were not proved, and those that the answers in its proof don't prove any more, though all that
