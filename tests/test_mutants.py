@@ -34,6 +34,7 @@ class Turned(reading.Function):
     def __init__(self, crate: str, path: str) -> None:  # pylint: disable=super-init-not-called
         *module, self.name = path.split("::")
         self.crate, self.module, self.owner, self.trait, self.proof = crate, tuple(module), "", "", path
+        self.home = self.module
 
 
 class Text(edits.Edit):
@@ -183,6 +184,15 @@ def asked_of_trait() -> None:
     edits_here = edits.edits_of("ob0_session_answers", source)
     asked = {it.name: mutants.Mutant(it, source).asked for it in edits_here if it.is_of_gate}
     same(asked[f"{edits.OF_GATE}/diagnostics_always_empty.edit"], ["diagnostics::PublishRequestDocumentRequest::answer"], "of a type with a lifetime")
+
+
+@test("mutants: a method is asked for, and named, in the module of its type")
+def asked_of_type() -> None:
+    found = [it for it in reading.Source("ob0_run_lowering").functions if it.name in ("locate_argument", "number_of")]
+    same([it.file for it in found], ["src/expressions.rt"] * 2, "where they are")
+    same(sorted(it.checked_as for it in found), ["expressions::number_of", "scene::Scene::locate_argument"], "their names")
+    named = {it.name: it.is_named("ob0_run_lowering::scene::Scene::locate_argument") for it in found}
+    same(named, {"locate_argument": True, "number_of": False}, "which of them is meant")
 
 
 @test("mutants: what was refused is tried again where the mutant or its crate changed, and what wasn't refused always")
