@@ -10,20 +10,18 @@ from __future__ import annotations
 
 import os
 import re
-import shutil
-import subprocess
 import tempfile
 from concurrent.futures import ThreadPoolExecutor
-from collections.abc import Callable
-from typing import Any, Iterable, NamedTuple, Optional, Tuple
+from typing import Iterable, NamedTuple, Optional, Tuple
 
 import build
+import checks
 import common
 import edits
 import reading
 import wrong_bodies
 from common import TOP
-from wrong_bodies import Said
+from checks import Said
 
 # What a try comes to. Only after the last another try can say more.
 REFUSED, ELSEWHERE, PROVED = "refused", "refused elsewhere", "NOT REFUSED"
@@ -51,10 +49,10 @@ class Outcome(NamedTuple):
 def judge(edit: edits.Edit, claim: edits.Claim, said: Said, functions: Iterable[reading.Function]) -> Outcome:
     """What a check says of a mutant. It is refused where the function that its first line names is not proved; elsewhere, where no
     goal of a clause that the line names is among what refuses it."""
-    error = wrong_bodies.unreadable(said, edit)
+    error = checks.unreadable(said, edit)
     if error:
         return Outcome(edit, BAD, f"it can't be read, so no contract was tried: {error}")
-    symbols = {it: f.proof for it in said.verdicts for f in functions if f.is_named(it)}
+    symbols = checks.symbols_of(said, functions)
     refused = [it for it in symbols if said.own(it)]
     if said.status == COULD_NOT_TELL:
         return Outcome(edit, LIMIT, "the prover stopped at a limit of its own and refused nothing")
@@ -63,7 +61,7 @@ def judge(edit: edits.Edit, claim: edits.Claim, said: Said, functions: Iterable[
     if not refused or not said.ended:
         return Outcome(edit, NOT_TRIED, f"the check doesn't judge `{claim.function}`: {said.text[-300:].strip()}")
     goals = [goal for it in refused for goal in said.refusing(it, symbols[it])]
-    named = [it for it in goals if claim.is_goal(wrong_bodies.name_of(it))]
+    named = [it for it in goals if claim.is_goal(edits.name_of(it))]
     if named:
         return Outcome(edit, REFUSED, f"`{claim.function}`, {named[0]}")
     errors = [it for name in refused for it in said.proof_errors(name, symbols[name])]
@@ -71,47 +69,15 @@ def judge(edit: edits.Edit, claim: edits.Claim, said: Said, functions: Iterable[
     return Outcome(edit, ELSEWHERE, f"`{claim.function}` is refused, but not by {' or '.join(claim.clauses)}: {others[:300]}")
 
 
-class Libraries:
-    """The libraries that `rt ci` proves: hard links to them, made as it says that each is proved. (At its end it puts back what
-    was in the crates' folders before.)"""
-
-    def __init__(self, folder: str) -> None:
-        self.folder = folder
-        self.proved: set[str] = set()
-        shutil.rmtree(folder, ignore_errors=True)
+class Libraries(checks.Libraries):
+    """The libraries that `rt ci` proves, taken as it says that each is proved. (At its end it puts back what was in the crates'
+    folders before.)"""
 
     def take(self, line: str) -> None:
         """Takes a crate's library where a line of `rt ci` says that the crate is proved."""
         found = HAS_PROVED.match(line.rstrip())
-        if not found:
-            return
-        self.proved.add(found[1])
-        made = os.path.join(TOP, "crates", found[1], "out", "rlib", f"{found[1]}.rlib")
-        try:
-            shutil.copytree(made, self.place(found[1]), copy_function=build.link)
-        except (OSError, shutil.Error):
-            # (a program has none; what lacks another crate's is tried without these)
-            shutil.rmtree(self.place(found[1]), ignore_errors=True)
-
-    def place(self, crate: str) -> str:
-        return os.path.join(self.folder, f"{crate}.rlib")
-
-    def words(self, crate: str, only: Iterable[str]) -> Optional[list[str]]:
-        """The command that checks some functions of a crate over these libraries (all where none is given), or None where one
-        lacks."""
-        lines = common.listed()
-        below = [it for it in common.below(crate) if it != crate]
-        if not all(os.path.isdir(self.place(it)) for it in below):
-            return None
-        kit = os.path.dirname(os.path.dirname(reading.rattle()))
-        of_kit: Callable[[str], str] = lambda it: os.path.join(kit, "rlibs", f"{it}.rlib")
-        used = {it: self.place(it) if it in lines else of_kit(it) for it in ["std", *lines[crate]]}
-        words = [reading.rattle(), "check", "--crate-name", crate, "src/lib.rt", "--links", f"{crate}=", "--jobs", "1"]
-        words += [word for name, place in used.items() for word in ("--extern", f"{name}={place}")]
-        words += ["-L", f"dependency={os.path.join(kit, 'rlibs')}", "-L", f"dependency={self.folder}"]
-        words += ["--antt-project", os.path.join(kit, "rattle", "logic", "antt-project.json")]
-        words += ["--logic-built", os.path.join(kit, "logic_built")]
-        return words + [word for it in only for word in ("--only", it)]
+        if found:
+            self.add(found[1])
 
 
 class Mutant:
@@ -149,28 +115,14 @@ class Mutant:
             return Outcome(self.edit, NOT_TRIED, "`rt ci` left no library of it, or of a crate below")
         words += ["--incremental", os.path.join(KEPT, self.edit.crate)]
         with tempfile.TemporaryDirectory(dir=build.ROOMS) as room:
-            self.furnish(room)
-            how: dict[str, Any] = {"stdin": subprocess.DEVNULL, "stdout": subprocess.PIPE, "stderr": subprocess.STDOUT}
-            ran = subprocess.run(words, cwd=room, check=False, **how)
-        return judge(self.edit, self.claim, Said(ran.stdout.decode(errors="replace"), ran.returncode), self.functions)
+            checks.furnish(room, self.edit.crate, [self.edit])
+            return judge(self.edit, self.claim, checks.check(words, room), self.functions)
 
-    def furnish(self, room: str) -> None:
-        """Puts the crate's sources with this mutant into a folder."""
-        for part in ("src", "specs", "proofs"):
-            folder = os.path.join(TOP, "crates", self.edit.crate, part)
-            if os.path.isdir(folder):
-                shutil.copytree(folder, os.path.join(room, part))
-        for path in {it for it, _ in self.edit.lines}:
-            with open(os.path.join(room, path), encoding="utf-8") as file:
-                text = file.read()
-            with open(os.path.join(room, path), "w", encoding="utf-8") as file:
-                file.write(wrong_bodies.with_bodies(text, path, [self.edit]))
-
-    def try_over_kept(self, room: wrong_bodies.Room) -> Outcome:
-        """Tries it by a check of the whole crate, over what a check of it has kept."""
+    def try_over_kept(self, libraries: checks.Libraries) -> Outcome:
+        """Tries it over what a check of the crate has kept."""
         if not self.claim:
             return Outcome(self.edit, BAD, self.fault or "")
-        return judge(self.edit, self.claim, room.check([self.edit]), self.functions)
+        return judge(self.edit, self.claim, wrong_bodies.check(self.edit.crate, [self.edit], libraries), self.functions)
 
 
 def mutants_of_gate() -> list[Mutant]:
@@ -206,20 +158,10 @@ def try_side_by_side(chosen: list[Mutant], libraries: Libraries, lanes: int, is_
 
 def try_over_all(left: list[Mutant]) -> list[Outcome]:
     """Tries mutants of which nothing is known, one by one, over what a check of all crates keeps."""
-    if build.main(["--check"]):
+    if build.prove_libraries(common.listed()):
         return [say(Outcome(it.edit, NOT_TRIED, "not all crates are proved")) for it in left]
-    found, named = [], common.libraries()
-    for crate in dict.fromkeys(it.edit.crate for it in left):
-        chosen = [it for it in left if it.edit.crate == crate]
-        if not wrong_bodies.prove(crate, build.processors()):
-            found += [say(Outcome(it.edit, NOT_TRIED, "the crate itself isn't proved")) for it in chosen]
-            continue
-        room = wrong_bodies.Room(crate, named, build.processors())
-        try:
-            found += [say(it.try_over_kept(room)) for it in chosen]
-        finally:
-            room.leave()
-    return found
+    libraries = wrong_bodies.libraries_of(it.edit.crate for it in left)
+    return [say(it.try_over_kept(libraries)) for it in left]
 
 
 def count_of_readme() -> int:
