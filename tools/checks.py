@@ -30,7 +30,7 @@ class Said:
         self.text, self.status = text, status
         self.verdicts: dict[str, str] = dict(VERDICT.findall(text))
         # (with --only the last line is another)
-        self.ended = bool(re.search(r"^(?:logic=|only=\d+ proved=\d+)", text, re.M))
+        self.ended = bool(re.search(r"^(?:logic=|only=\d+ (?:proved|holes)=\d+)", text, re.M))
 
     def is_proved(self) -> bool:
         """Whether all that was checked is proved."""

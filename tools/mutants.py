@@ -2,10 +2,12 @@
 first line names.
 
 `make test` calls this after `rt ci`, over the libraries that `rt ci` has proved. A mutant is tried by a check of the function that
-it turns and of what that calls (`rattle check --only`), those of one crate one after the other, each over what the ones before it
-kept in this run; as many crates side by side as processors and memory allow. Where such a check ends without a verdict it is made
-once more, alone; where that has none either, the whole crate is checked with the mutant; and where a library lacks, all crates are
-proved as `make check` does, and the mutant is tried over what that keeps."""
+it turns (`rattle check --only`), those of one crate one after the other, each over what the ones before it kept in this run; as many
+crates side by side as processors and memory allow. Of each other function of the crate the check has the contract alone, which is
+all that a proof rests on, and which `rt ci` has proved: it has no body, and a hole for a proof. A mutant that isn't refused so by a
+clause that it names is tried with what its function calls. Where such a check ends without a verdict it is made once more, alone;
+where that has none either, the whole crate is checked with the mutant; and where a library lacks, all crates are proved as
+`make check` does, and the mutant is tried over what that keeps."""
 from __future__ import annotations
 
 import os
@@ -36,6 +38,15 @@ COUNT = re.compile(r"every proof, (\d+) wrong versions")
 HAS_PROVED = re.compile(r"rt: (\w+) (?:proved$|is kept: )")
 # (the exit status of a check in which the prover stopped at a limit of its own, and refused nothing)
 COULD_NOT_TELL = 3
+# What a check reads beside the mutant's functions: the contracts of the others, what they call, or the whole crate.
+CONTRACTS, CALLED, WHOLE = "contracts", "called", "whole"
+# What stands in place of a body that is not proved, and of its proof.
+NO_BODY = "unreachable!()"
+HOLE = """use Rattle.{crate}.proofs.{module}.Statement.{{statement}}
+
+pub {name}_spec : {{M : Type 1}} → statement M
+{name}_spec = ?
+"""
 
 
 class Outcome(NamedTuple):
@@ -105,24 +116,67 @@ class Mutant:
         """The paths under which its functions are asked for."""
         return sorted({it.checked_as for it in self.named})
 
-    def try_over(self, libraries: Libraries, is_whole: bool = False) -> Outcome:
-        """Tries it by a check of its functions alone, or of the whole crate, over what those before it kept."""
+    def try_over(self, libraries: Libraries, reads: str) -> Outcome:
+        """Tries it by a check of its functions, which reads so much beside them, over what those before it kept."""
         if self.fault or not self.claim:
             return Outcome(self.edit, BAD, self.fault or "")
-        only = [] if is_whole else self.asked
-        words = libraries.words(self.edit.crate, only) if self.edit.crate in libraries.proved else None
+        words = libraries.words(self.edit.crate, [] if reads == WHOLE else self.asked) if self.edit.crate in libraries.proved else None
         if not words:
             return Outcome(self.edit, NOT_TRIED, "`rt ci` left no library of it, or of a crate below")
         words += ["--incremental", os.path.join(KEPT, self.edit.crate)]
         with tempfile.TemporaryDirectory(dir=build.ROOMS) as room:
             checks.furnish(room, self.edit.crate, [self.edit])
-            return judge(self.edit, self.claim, checks.check(words, room), self.functions)
+            if reads == CONTRACTS:
+                self.leave_contracts(room)
+                words.append("--allow-holes")
+            found = judge(self.edit, self.claim, checks.check(words, room), self.functions)
+        # (over holes nothing is proved, and what another clause refuses may be for what a stub lacks)
+        return found._replace(word=NOT_TRIED) if reads == CONTRACTS and found.word != REFUSED else found
+
+    def leave_contracts(self, room: str) -> None:
+        """Leaves of each function but those with this mutant the contract alone."""
+        own = {it.proof for it in self.functions}
+        others = [it for it in self.source.functions if it.has_body and not it.is_test and it.proof not in own]
+        for path in {it.file for it in others}:
+            with open(os.path.join(room, path), encoding="utf-8") as file:
+                lines = file.read().split("\n")
+            for it in others:
+                if it.file == path:
+                    take_body(lines, it)
+            with open(os.path.join(room, path), "w", encoding="utf-8") as file:
+                file.write("\n".join(lines))
+        for it in others:
+            *above, name = it.checked_as.split("::")
+            # (the proof of a cycle is beside its functions; one without a body is in no cycle)
+            for last in (name, it.proof.rpartition("::")[2]):
+                remove_proof(os.path.join(room, "proofs", *above, last))
+            folder = os.path.join(room, "proofs", *above, name)
+            os.makedirs(folder, exist_ok=True)
+            with open(os.path.join(folder, "Proof.antt"), "w", encoding="utf-8") as file:
+                file.write(HOLE.format(crate=it.crate, module=".".join([*above, name]), name=name))
 
     def try_over_kept(self, libraries: checks.Libraries) -> Outcome:
         """Tries it over what a check of the crate has kept."""
         if not self.claim:
             return Outcome(self.edit, BAD, self.fault or "")
         return judge(self.edit, self.claim, wrong_bodies.check(self.edit.crate, [self.edit], libraries), self.functions)
+
+
+def take_body(lines: list[str], function: reading.Function) -> None:
+    """Takes the body of a function from the lines of its file, and what says that it is in a cycle of calls."""
+    for at in range(function.first - 1, function.opens):
+        if lines[at].strip().startswith("#[cycle("):
+            lines[at] = ""
+    if function.opens < function.last:
+        lines[function.opens : function.last - 1] = [""] * (function.last - 1 - function.opens)
+        lines[function.last - 1] = f"{NO_BODY} {lines[function.last - 1]}"
+
+
+def remove_proof(folder: str) -> None:
+    """Removes the files of a function's proof. (Its folder may have others below.)"""
+    for name in build.OF_PROOFS:
+        if os.path.isfile(os.path.join(folder, name)):
+            os.remove(os.path.join(folder, name))
 
 
 def mutants_of_gate() -> list[Mutant]:
@@ -140,13 +194,13 @@ def say(outcome: Outcome) -> Outcome:
     return outcome
 
 
-def try_side_by_side(chosen: list[Mutant], libraries: Libraries, lanes: int, is_whole: bool) -> list[Tuple[Mutant, Outcome]]:
+def try_side_by_side(chosen: list[Mutant], libraries: Libraries, lanes: int, reads: str) -> list[Tuple[Mutant, Outcome]]:
     """Tries mutants, those of some crates side by side, and says what each came to, but for those that can be tried in another
     way."""
     os.makedirs(KEPT, exist_ok=True)
 
     def one(mutant: Mutant) -> Tuple[Mutant, Outcome]:
-        found = mutant.try_over(libraries, is_whole)
+        found = mutant.try_over(libraries, reads)
         return mutant, found if found.word == NOT_TRIED else say(found)
 
     def of_crate(crate: str) -> list[Tuple[Mutant, Outcome]]:
@@ -188,8 +242,8 @@ def try_all(libraries: Libraries, lanes: int, is_gate_passed: bool) -> tuple[int
     """Tries all mutants of the gate, and returns how many were refused, and how many were not. Those of crates that the gate didn't
     prove are not tried."""
     left, settled = mutants_of_gate(), []
-    for count, is_whole in ((lanes, False), (1, False), (lanes, True)):
-        found = try_side_by_side(left, libraries, count, is_whole)
+    for count, reads in ((lanes, CONTRACTS), (lanes, CALLED), (1, CALLED), (lanes, WHOLE)):
+        found = try_side_by_side(left, libraries, count, reads)
         left = [it for it, outcome in found if outcome.word == NOT_TRIED]
         settled += [outcome for _, outcome in found if outcome.word != NOT_TRIED]
     unknown = [outcome for _, outcome in found if outcome.word == NOT_TRIED]

@@ -25,6 +25,8 @@ class Function:
         self.name, self.is_pub, self.words = name, is_pub, [it.text for it in words]
         self.file, self.first, self.last = scope.file, words[0].line, words[-1].line
         self.head, self.has_body = heading(self.words), self.words[-1] == "}"
+        # (the line on which its body begins)
+        self.opens = words[min(len(self.head), len(words) - 1)].line
         cycle = re.search(r"# \[ cycle \( (\w+)", " ".join(self.head))
         self.proof = "::".join([*self.module, f"+{cycle[1]}"]) if cycle else self.path
         self.home = self.module  # where the checker names it: a method, in the module of its type
