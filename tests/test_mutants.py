@@ -374,12 +374,33 @@ def whole_run() -> None:
     right = mutant(folder, "right", line, f"{line} ")
     bad = mutant(folder, "bad", line, f"{line} | lf()")
     lost = mutant(folder, "lost", "        [b'y']", line)
-    words = [it.try_over(libraries).word for it in (right, bad, lost)]
+    words = [it.try_over(libraries, mutants.CALLED).word for it in (right, bad, lost)]
     same(words, [mutants.PROVED, mutants.BAD, mutants.BAD], "what each comes to")
+    words = [it.try_over(libraries, mutants.CONTRACTS).word for it in (refused, right, bad)]
+    same(words, [mutants.REFUSED, mutants.NOT_TRIED, mutants.NOT_TRIED], "what each comes to over contracts alone")
     same(counts_with(wanted=1), (1, 0), "one that is refused")
     same(counts_with(right, bad, lost, wanted=4), (1, 3), "one that is made right again, one that doesn't compile, one without its text")
     same(counts_with(wanted=2), (1, 1), "one whose file isn't there")
     unnamed = Unnamed(libraries.folder)
     unnamed.proved.add("ob0_frame")
     same(counts_with(right, wanted=2, libraries=unnamed), (1, 1), "where a check of the function alone has no verdict, one of the crate")
+    shutil.rmtree(folder)
+
+
+@test("mutants: over contracts alone each other function has no body, and a hole for a proof")
+def contracts() -> None:
+    folder = tempfile.mkdtemp()
+    chosen = mutant(folder, "chosen", "        [b'\\n'] | [b'\\r', b'\\n']", "        [b'x'] | [b'\\r', b'\\n']")
+    room = os.path.join(folder, "room")
+    chosen.furnish(room)
+    chosen.leave_contracts(room)
+    source = chosen.source
+    for it in source.functions:
+        with open(os.path.join(room, it.file), encoding="utf-8") as file:
+            lines = file.read().split("\n")[it.opens - 1 : it.last]
+        is_own = it.name == "ends_in_empty_line"
+        holds(it.opens == it.last or (mutants.NO_BODY in lines[-1]) != is_own, f"{it.path}: {lines}")
+        proof = os.path.join(room, "proofs", *it.checked_as.split("::"))
+        holds(is_own or os.path.isfile(os.path.join(proof, "Proof.antt")), f"{it.path} has no hole")
+        holds(is_own or not os.path.exists(os.path.join(proof, "Answers.antt")), f"{it.path} has its answers")
     shutil.rmtree(folder)
