@@ -392,7 +392,7 @@ def contracts() -> None:
     folder = tempfile.mkdtemp()
     chosen = mutant(folder, "chosen", "        [b'\\n'] | [b'\\r', b'\\n']", "        [b'x'] | [b'\\r', b'\\n']")
     room = os.path.join(folder, "room")
-    chosen.furnish(room)
+    checks.furnish(room, chosen.edit.crate, [chosen.edit])
     chosen.leave_contracts(room)
     source = chosen.source
     for it in source.functions:
