@@ -2,6 +2,13 @@
 //! with ample memory, and allocations that fail.
 #![tactic(auto)]
 
+/// A table: `TEXT => WANTED;` for each row, or `FIRST, SECOND => WANTED;`.
+#[cfg(test)]
+macro_rules! rows {
+    ($($first:expr, $second:expr => $wanted:expr;)*) => { &[$(($first, $second, $wanted)),*] };
+    ($($text:expr => $wanted:expr;)*) => { &[$(($text, $wanted)),*] };
+}
+
 #[cfg(test)]
 mod frame;
 #[cfg(test)]

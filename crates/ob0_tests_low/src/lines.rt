@@ -1,12 +1,9 @@
 //! Stores of lines beside whole texts: each change of short texts, and long lines.
 
-use ob0_text::{Lines, Position, Range, TextStore, Unit, Whole};
+use crate::text::{at, range_of};
+use ob0_text::{Lines, Range, TextStore, Unit, Whole};
 use std::alloc::{AllocError, Global};
 use std::process::Abort;
-
-fn at(line: u64, character: u64) -> Position {
-    Position { line, character }
-}
 
 static TEXTS: &[&str] = &[
     "",
@@ -31,10 +28,10 @@ fn have_same_lines(a: &Lines, b: &Lines) -> bool {
     a.as_str() == b.as_str()
 }
 
-/// Whether two stores have the same places.
-fn have_same_places(a: &Lines, b: &Whole) -> bool {
-    for line in 0..10 {
-        for character in 0..8 {
+/// Whether two stores have the same places, up to a line and a character.
+fn have_same_places(a: &Lines, b: &Whole, lines: u64, characters: u64) -> bool {
+    for line in 0..lines {
+        for character in 0..characters {
             let place = at(line, character);
             if a.offset(place) != b.offset(place) {
                 return false;
@@ -79,23 +76,19 @@ fn agree(alloc: Global, text: &str, unit: Unit, range: Range, new: &str) -> bool
         return false;
     }
     match replace_range::<Whole>(alloc, text, unit, range, new) {
-        Ok(whole) => have_same_places(&lines, &whole),
+        Ok(whole) => have_same_places(&lines, &whole, 10, 8),
         Err(_refused) => false,
     }
-}
-
-fn range_of(start: Position, end: Position) -> Range {
-    Range { start, end }
 }
 
 /// Whether they agree after a change that begins in a line and ends some lines further, in one unit, and after one
 /// that begins and ends in the line, in the other.
 fn agree_from(alloc: Global, text: &str, new: &str, line: u64, further: u64) -> bool {
-    let range = range_of(at(line, 1), at(line.saturating_add(further), further));
+    let range = range_of((line, 1), (line.saturating_add(further), further));
     if !agree(alloc, text, Unit::Utf16, range, new) {
         return false;
     }
-    let range = range_of(at(line, 0), at(line, further));
+    let range = range_of((line, 0), (line, further));
     agree(alloc, text, Unit::Utf8, range, new)
 }
 
@@ -139,26 +132,13 @@ static LONG: &[&str] = &[
     0123456789 0123456789 0123456789 0123456789 0123456789",
 ];
 
-/// Whether the positions far in the lines have the same offsets in both stores.
-fn have_same_offsets(lines: &Lines, whole: &Whole) -> bool {
-    for line in 0..4 {
-        for character in 0..160 {
-            let place = at(line, character);
-            if lines.offset(place) != whole.offset(place) {
-                return false;
-            }
-        }
-    }
-    true
-}
-
 /// Whether the two stores of a text are alike far in its lines.
 fn are_alike_far_in(alloc: Global, text: &str, unit: Unit) -> bool {
     let Ok(lines) = Lines::from_str_in(alloc, text, unit) else {
         return false;
     };
     match Whole::from_str_in(alloc, text, unit) {
-        Ok(whole) => have_same_offsets(&lines, &whole),
+        Ok(whole) => have_same_places(&lines, &whole, 4, 160),
         Err(_refused) => false,
     }
 }
@@ -182,10 +162,15 @@ static COLUMNS: &[&[u64]] = &[
 ];
 
 /// Whether a change gives the same text in both stores, and replaces the same bytes.
-fn change_both(lines: &mut Lines, whole: &mut Whole, place: Position) -> Result<bool, AllocError> {
-    let end = at(place.line, place.character.saturating_add(2));
-    let bytes = lines.replace_at(range_of(place, end), "é-")?;
-    let others = whole.replace_at(range_of(place, end), "é-")?;
+fn change_both(
+    lines: &mut Lines,
+    whole: &mut Whole,
+    line: u64,
+    column: u64,
+) -> Result<bool, AllocError> {
+    let range = range_of((line, column), (line, column.saturating_add(2)));
+    let bytes = lines.replace_at(range, "é-")?;
+    let others = whole.replace_at(range, "é-")?;
     Ok(bytes == others && lines.as_str() == whole.as_str())
 }
 
@@ -193,7 +178,7 @@ fn change_both(lines: &mut Lines, whole: &mut Whole, place: Position) -> Result<
 fn stay_alike(lines: &mut Lines, whole: &mut Whole, columns: &[u64]) -> Result<bool, AllocError> {
     for line in 0..3 {
         for column in columns {
-            if !change_both(lines, whole, at(line, *column))? {
+            if !change_both(lines, whole, line, *column)? {
                 return Ok(false);
             }
         }
@@ -208,10 +193,7 @@ fn are_changed_alike(alloc: Global, text: &str, unit: Unit, columns: &[u64]) -> 
     let Ok(mut whole) = Whole::from_str_in(alloc, text, unit) else {
         return false;
     };
-    match stay_alike(&mut lines, &mut whole, columns) {
-        Ok(alike) => alike,
-        Err(AllocError) => false,
-    }
+    stay_alike(&mut lines, &mut whole, columns) == Ok(true)
 }
 
 #[test]

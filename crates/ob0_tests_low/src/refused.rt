@@ -1,31 +1,14 @@
 //! What documents and a text are left as where the memory of a call is refused.
 
-use crate::text::{ChangeRow, changes_of, is_in_step};
-use ob0_text::{Change, Documents, Held, Lines, Position, Range, TextStore};
+use crate::text::{CHANGED_BY_THREE, OPENED, THREE_CHANGES, changes_of, is_in_step, range_of};
+use ob0_text::{Change, Documents, Held, Lines, TextStore};
 use std::alloc::{AllocError, Global};
 use std::process::Abort;
-
-const OPENED: &str = "a\rb";
-
-/// Three changes of a note, and what they make of the text that was opened.
-static ROWS: &[ChangeRow] = &[
-    ((1, 0), (1, 0), "\n"),
-    ((1, 1), (1, 1), "\nc"),
-    ((2, 0), (2, 1), "d"),
-];
-
-const CHANGED: &str = "a\r\nb\nd";
 
 fn is_out_of_step(documents: &Documents<Lines>, uri: &str) -> bool {
     match documents.get(uri) {
         Some(Held::OutOfStep) => true,
-        Some(
-            Held::InStep {
-                version: _version,
-                text: _text,
-            },
-        ) => false,
-        None => false,
+        _ => false,
     }
 }
 
@@ -42,15 +25,15 @@ fn opens(documents: &mut Documents<Lines>, uri: &str) -> bool {
 /// Changes a document by a note: it is in step where the note was taken, and else out of step.
 fn changes(documents: &mut Documents<Lines>, uri: &str, note: &[Change]) -> bool {
     match documents.did_change(uri, 2, note) {
-        Ok(_bytes) => is_in_step(documents, uri, (2, CHANGED)),
+        Ok(_bytes) => is_in_step(documents, uri, (2, CHANGED_BY_THREE)),
         Err(AllocError) => is_out_of_step(documents, uri),
     }
 }
 
 fn note_of(alloc: Global) -> Result<Vec<Change>, AllocError> {
-    match changes_of(alloc, ROWS) {
+    match changes_of(alloc, THREE_CHANGES) {
         Ok(note) => Ok(note),
-        Err(AllocError) => changes_of(alloc, ROWS),
+        Err(AllocError) => changes_of(alloc, THREE_CHANGES),
     }
 }
 
@@ -85,23 +68,10 @@ fn store_of(alloc: Global) -> Result<Lines, AllocError> {
 
 /// Whether a text is as it was where a replacement is refused.
 fn is_left(store: &mut Lines) -> bool {
-    let here = Position {
-        line: 1,
-        character: 0,
-    };
-    let range = Range {
-        start: here,
-        end: here,
-    };
-    let wanted = if store
-        .replace(range, "\nmore than there was room for")
-        .is_ok()
-    {
-        "a\r\nmore than there was room forb"
-    } else {
-        OPENED
-    };
-    store.as_str() == wanted
+    match store.replace(range_of((1, 0), (1, 0)), "\nmore than there was room for") {
+        Ok(()) => store.as_str() == "a\r\nmore than there was room forb",
+        Err(AllocError) => store.as_str() == OPENED,
+    }
 }
 
 fn is_text_left(alloc: Global) -> bool {

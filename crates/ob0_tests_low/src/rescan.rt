@@ -6,7 +6,7 @@ ghost use Rattle.ob0_scan.specs.Reused.{IsReplaced};
 
 use ob0_scan::laws::middle_is_replaced;
 use ob0_scan::{
-    Fault, NotRescanned, Rescan, RescanInPlace, ScanRefusal, Tokens, rescan, rescan_in_place, scan,
+    NotRescanned, Rescan, RescanInPlace, ScanRefusal, Tokens, rescan, rescan_in_place, scan,
 };
 use std::alloc::{AllocError, Global};
 use std::process::Abort;
@@ -14,8 +14,8 @@ use std::process::Abort;
 /// What comes of scanning a changed text again, beside a scan of it from nothing.
 #[derive(Clone, Copy, PartialEq, Eq)]
 enum RescanOutcome {
-    /// Both give the same, and this many tokens and comments are read again. Whether the tokens stay of the same kinds.
-    Read { count: usize, alike: bool },
+    /// Both give the same: how many tokens and comments are read again, and whether the tokens stay of the same kinds.
+    Read(usize, bool),
     /// Both refuse it for the same faults.
     Refused,
     /// The text before the change has faults.
@@ -50,10 +50,7 @@ fn compare(
 ) -> RescanOutcome {
     match again {
         Ok(found) => match scanned {
-            Ok(tokens) if are_same(&found.tokens, tokens) => RescanOutcome::Read {
-                count: found.read,
-                alike,
-            },
+            Ok(tokens) if are_same(&found.tokens, tokens) => RescanOutcome::Read(found.read, alike),
             _ => RescanOutcome::Different,
         },
         Err(refusal) => match scanned {
@@ -63,22 +60,14 @@ fn compare(
     }
 }
 
-/// The faults for which a text is refused. None where an allocation failed.
-fn faults_in(refusal: &ScanRefusal) -> Option<&[Fault]> {
-    match refusal {
-        ScanRefusal::Faults(faults) => Some(faults.as_slice()),
-        ScanRefusal::Memory => None,
-    }
-}
-
 /// Whether both refuse a text, for the same faults.
 fn refuse_alike(a: &ScanRefusal, b: &ScanRefusal) -> bool {
-    match faults_in(a) {
-        Some(faults) => match faults_in(b) {
-            Some(others) => faults == others,
-            None => false,
+    match a {
+        ScanRefusal::Faults(faults) => match b {
+            ScanRefusal::Faults(others) => faults.as_slice() == others.as_slice(),
+            ScanRefusal::Memory => false,
         },
-        None => false,
+        ScanRefusal::Memory => false,
     }
 }
 
@@ -216,12 +205,7 @@ fn is_little_read(alloc: Global, other: &str, most: usize) -> bool {
         return false;
     };
     match change_between(alloc, statements.as_str(), other) {
-        Ok(
-            RescanOutcome::Read {
-                count,
-                alike: _alike,
-            },
-        ) => count <= most,
+        Ok(RescanOutcome::Read(count, _alike)) => count <= most,
         _ => false,
     }
 }
@@ -239,13 +223,7 @@ fn little_is_read_again_in_a_long_text(rt: HostRuntime) {
 /// Texts before which `(*` is put, and what comes of it.
 static OPENED: &[(&str, RescanOutcome)] = &[
     ("MODULE M; END M.", RescanOutcome::Refused),
-    (
-        "x *)",
-        RescanOutcome::Read {
-            count: 1,
-            alike: false,
-        },
-    ),
+    ("x *)", RescanOutcome::Read(1, false)),
     ("$", RescanOutcome::Unscanned),
 ];
 
@@ -264,10 +242,7 @@ fn a_comment_is_opened_in_front(rt: HostRuntime) {
 /// kinds or don't, as is wanted.
 fn is_alike_with(alloc: Global, other: &str, wanted: bool) -> bool {
     match outcome_of(alloc, "x := ", "1", other, " + y") {
-        RescanOutcome::Read {
-            count: _count,
-            alike,
-        } => alike == wanted,
+        RescanOutcome::Read(_count, alike) => alike == wanted,
         _ => false,
     }
 }
@@ -359,10 +334,7 @@ fn are_random_changes_read(alloc: Global) -> bool {
     let mut refused: usize = 0;
     for _i in 0..10000 {
         match random_change(alloc, &mut numbers) {
-            RescanOutcome::Read {
-                count: _count,
-                alike: _alike,
-            } => read = read.saturating_add(1),
+            RescanOutcome::Read(_count, _alike) => read = read.saturating_add(1),
             RescanOutcome::Refused => refused = refused.saturating_add(1),
             RescanOutcome::Unscanned => {}
             RescanOutcome::Different => return false,

@@ -1,5 +1,6 @@
 //! Messages from outside: what they mean, and which contents aren't messages; and the bytes of answers.
 
+use crate::text::at;
 use ob0_rpc::{
     Call, Client, Id, Incoming, OneMember, RpcFault, Written, error, notification, notify, read,
     request, result, result_of,
@@ -39,27 +40,21 @@ fn kind_of(alloc: Global, content: &str) -> &'static str {
     }
 }
 
-static CONTENTS: &[(&str, &str)] = &[
-    ("", "not JSON"),
-    ("{", "not JSON"),
-    ("[]", "not a message"),
-    ("{}", "not a message"),
-    ("{\"method\":null}", "not a message"),
-    ("{\"id\":null,\"method\":\"m\"}", "not a message"),
-    ("{\"id\":1.5,\"method\":\"m\"}", "not a message"),
-    ("{\"id\":-0,\"method\":\"m\"}", "not a message"),
-    ("{\"id\":1e2,\"method\":\"m\"}", "not a message"),
-    (
-        "{\"id\":18446744073709551616,\"method\":\"m\"}",
-        "not a message",
-    ),
-    (
-        "{\"id\":18446744073709551615,\"method\":\"m\"}",
-        "greatest request",
-    ),
-    ("{\"id\":\"\",\"method\":\"m\"}", "request"),
-    ("{\"method\":\"m\",\"params\":[]}", "notice"),
-    ("{\"error\":{},\"id\":1}", "ignored"),
+static CONTENTS: &[(&str, &str)] = rows![
+    "" => "not JSON";
+    "{" => "not JSON";
+    "[]" => "not a message";
+    "{}" => "not a message";
+    r#"{"method":null}"# => "not a message";
+    r#"{"id":null,"method":"m"}"# => "not a message";
+    r#"{"id":1.5,"method":"m"}"# => "not a message";
+    r#"{"id":-0,"method":"m"}"# => "not a message";
+    r#"{"id":1e2,"method":"m"}"# => "not a message";
+    r#"{"id":18446744073709551616,"method":"m"}"# => "not a message";
+    r#"{"id":18446744073709551615,"method":"m"}"# => "greatest request";
+    r#"{"id":"","method":"m"}"# => "request";
+    r#"{"method":"m","params":[]}"# => "notice";
+    r#"{"error":{},"id":1}"# => "ignored";
 ];
 
 #[test]
@@ -158,122 +153,72 @@ fn method_word(alloc: Global, method: &str, params: &str) -> &'static str {
     }
 }
 
-const PLACE: &str = "{\"position\":{\"character\":2,\"line\":1},\"textDocument\":{\"uri\":\"u\"}}";
+const PLACE: &str = r#"{"position":{"character":2,"line":1},"textDocument":{"uri":"u"}}"#;
 
-static REQUESTS: &[(&str, &str, &str)] = &[
-    ("initialize", "null", "bad params"),
-    ("initialize", "{}", "of a client that can nothing"),
-    (
-        "initialize",
-        "{\"capabilities\":7}",
-        "of a client that can nothing",
-    ),
-    (
-        "initialize",
-        "{\"capabilities\":{\"general\":{\"positionEncodings\":[\"utf-32\"]},\
-         \"textDocument\":{\"codeAction\":{\"codeActionLiteralSupport\":true},\
-         \"rename\":{\"prepareSupport\":1}}}}",
-        "of a client that can nothing",
-    ),
-    (
-        "initialize",
-        "{\"capabilities\":{\"general\":{\"positionEncodings\":[null,\"utf-8\"]},\
-         \"textDocument\":{\"codeAction\":{\"codeActionLiteralSupport\":{}},\
-         \"rename\":{\"prepareSupport\":true}},\
-         \"workspace\":{\"workspaceEdit\":{\"documentChanges\":true}}}}",
-        "of a client that can everything",
-    ),
-    ("shutdown", "null", "shutdown"),
-    ("exit", "{}", "unknown method"),
-    ("textDocument/hover", PLACE, "hover"),
-    ("textDocument/definition", PLACE, "definition"),
-    ("textDocument/prepareRename", PLACE, "prepare a rename"),
-    ("textDocument/hover", "{}", "bad params"),
-    (
-        "textDocument/hover",
-        "{\"position\":{\"character\":1.0,\"line\":0},\"textDocument\":{\"uri\":\"u\"}}",
-        "bad params",
-    ),
-    (
-        "textDocument/hover",
-        "{\"position\":{\"character\":0,\"line\":-1},\"textDocument\":{\"uri\":\"u\"}}",
-        "bad params",
-    ),
-    (
-        "textDocument/hover",
-        "{\"position\":{\"character\":-0,\"line\":0},\"textDocument\":{\"uri\":\"u\"}}",
-        "bad params",
-    ),
-    (
-        "textDocument/hover",
-        "{\"position\":{\"character\":0,\"line\":18446744073709551616},\
-         \"textDocument\":{\"uri\":\"u\"}}",
-        "bad params",
-    ),
-    (
-        "textDocument/references",
+static REQUESTS: &[(&str, &str, &str)] = rows![
+    "initialize", "null" => "bad params";
+    "initialize", "{}" => "of a client that can nothing";
+    "initialize", r#"{"capabilities":7}"# => "of a client that can nothing";
+    "initialize",
+        "{\"capabilities\":{\"general\":{\"positionEncodings\":[\"utf-32\"]},\"textDocument\":{\"codeAction\":{\
+        \"codeActionLiteralSupport\":true},\"rename\":{\"prepareSupport\":1}}}}"
+        => "of a client that can nothing";
+    "initialize",
+        "{\"capabilities\":{\"general\":{\"positionEncodings\":[null,\"utf-8\"]},\"textDocument\":{\
+        \"codeAction\":{\"codeActionLiteralSupport\":{}},\"rename\":{\"prepareSupport\":true}},\"workspace\":{\
+        \"workspaceEdit\":{\"documentChanges\":true}}}}"
+        => "of a client that can everything";
+    "shutdown", "null" => "shutdown";
+    "exit", "{}" => "unknown method";
+    "textDocument/hover", PLACE => "hover";
+    "textDocument/definition", PLACE => "definition";
+    "textDocument/prepareRename", PLACE => "prepare a rename";
+    "textDocument/hover", "{}" => "bad params";
+    "textDocument/hover",
+        r#"{"position":{"character":1.0,"line":0},"textDocument":{"uri":"u"}}"# => "bad params";
+    "textDocument/hover",
+        r#"{"position":{"character":0,"line":-1},"textDocument":{"uri":"u"}}"# => "bad params";
+    "textDocument/hover",
+        r#"{"position":{"character":-0,"line":0},"textDocument":{"uri":"u"}}"# => "bad params";
+    "textDocument/hover",
+        "{\"position\":{\"character\":0,\"line\":18446744073709551616},\"textDocument\":{\"uri\":\"u\"}}"
+        => "bad params";
+    "textDocument/references",
         "{\"context\":{\"includeDeclaration\":true},\"position\":{\"character\":0,\
-         \"line\":18446744073709551615},\"textDocument\":{\"uri\":\"u\"}}",
-        "references and the declaration",
-    ),
-    ("textDocument/references", PLACE, "bad params"),
-    (
-        "textDocument/rename",
-        "{\"newName\":\"x\",\"position\":{\"character\":0,\"line\":0},\
-         \"textDocument\":{\"uri\":\"u\"}}",
-        "rename",
-    ),
-    ("textDocument/rename", PLACE, "bad params"),
-    (
-        "textDocument/codeAction",
+        \"line\":18446744073709551615},\"textDocument\":{\"uri\":\"u\"}}"
+        => "references and the declaration";
+    "textDocument/references", PLACE => "bad params";
+    "textDocument/rename",
+        r#"{"newName":"x","position":{"character":0,"line":0},"textDocument":{"uri":"u"}}"# => "rename";
+    "textDocument/rename", PLACE => "bad params";
+    "textDocument/codeAction",
         "{\"range\":{\"end\":{\"character\":0,\"line\":0},\"start\":{\"character\":0,\"line\":0}},\
-         \"textDocument\":{\"uri\":\"u\"}}",
-        "bad params",
-    ),
-    (
-        "textDocument/codeAction",
-        "{\"context\":{\"only\":[null]},\"range\":{\"end\":{\"character\":0,\"line\":0},\
-         \"start\":{\"character\":0,\"line\":0}},\"textDocument\":{\"uri\":\"u\"}}",
-        "bad params",
-    ),
-    (
-        "textDocument/codeAction",
-        "{\"context\":{\"only\":null},\"range\":{\"end\":{\"character\":0,\"line\":0},\
-         \"start\":{\"character\":0,\"line\":0}},\"textDocument\":{\"uri\":\"u\"}}",
-        "actions",
-    ),
-    (
-        "textDocument/codeAction",
-        "{\"context\":{\"only\":[\"\",\"refactor\"]},\"range\":{\"end\":{\"character\":0,\
-         \"line\":0},\"start\":{\"character\":0,\"line\":0}},\"textDocument\":{\"uri\":\"u\"}}",
-        "actions of two kinds",
-    ),
-    (
-        "textDocument/formatting",
-        "{\"options\":{\"insertSpaces\":true,\"tabSize\":0},\"textDocument\":{\"uri\":\"u\"}}",
-        "layout by 1",
-    ),
-    (
-        "textDocument/formatting",
-        "{\"options\":{\"insertSpaces\":true,\"tabSize\":4},\"textDocument\":{\"uri\":\"u\"}}",
-        "layout by 4",
-    ),
-    (
-        "textDocument/formatting",
-        "{\"options\":{\"insertSpaces\":true,\"tabSize\":18446744073709551615},\
-         \"textDocument\":{\"uri\":\"u\"}}",
-        "layout by 16",
-    ),
-    (
-        "textDocument/formatting",
-        "{\"options\":{\"insertSpaces\":false,\"tabSize\":4},\"textDocument\":{\"uri\":\"u\"}}",
-        "layout by tabs",
-    ),
-    (
-        "textDocument/formatting",
-        "{\"options\":{\"insertSpaces\":true,\"tabSize\":-1},\"textDocument\":{\"uri\":\"u\"}}",
-        "bad params",
-    ),
+        \"textDocument\":{\"uri\":\"u\"}}"
+        => "bad params";
+    "textDocument/codeAction",
+        "{\"context\":{\"only\":[null]},\"range\":{\"end\":{\"character\":0,\"line\":0},\"start\":{\
+        \"character\":0,\"line\":0}},\"textDocument\":{\"uri\":\"u\"}}"
+        => "bad params";
+    "textDocument/codeAction",
+        "{\"context\":{\"only\":null},\"range\":{\"end\":{\"character\":0,\"line\":0},\"start\":{\
+        \"character\":0,\"line\":0}},\"textDocument\":{\"uri\":\"u\"}}"
+        => "actions";
+    "textDocument/codeAction",
+        "{\"context\":{\"only\":[\"\",\"refactor\"]},\"range\":{\"end\":{\"character\":0,\"line\":0},\
+        \"start\":{\"character\":0,\"line\":0}},\"textDocument\":{\"uri\":\"u\"}}"
+        => "actions of two kinds";
+    "textDocument/formatting",
+        r#"{"options":{"insertSpaces":true,"tabSize":0},"textDocument":{"uri":"u"}}"# => "layout by 1";
+    "textDocument/formatting",
+        r#"{"options":{"insertSpaces":true,"tabSize":4},"textDocument":{"uri":"u"}}"# => "layout by 4";
+    "textDocument/formatting",
+        "{\"options\":{\"insertSpaces\":true,\"tabSize\":18446744073709551615},\"textDocument\":{\
+        \"uri\":\"u\"}}"
+        => "layout by 16";
+    "textDocument/formatting",
+        r#"{"options":{"insertSpaces":false,"tabSize":4},"textDocument":{"uri":"u"}}"# => "layout by tabs";
+    "textDocument/formatting",
+        r#"{"options":{"insertSpaces":true,"tabSize":-1},"textDocument":{"uri":"u"}}"# => "bad params";
 ];
 
 #[test]
@@ -336,17 +281,12 @@ fn values_are_written(rt: HostRuntime) {
 
 #[test]
 fn answers_are_written(rt: HostRuntime) {
-    let wanted = "{\"id\":-7,\"jsonrpc\":\"2.0\",\"result\":null}";
+    let wanted = r#"{"id":-7,"jsonrpc":"2.0","result":null}"#;
     assert!(rt; is_answer(rt.alloc(), &Id::Signed(-7), &(), wanted));
-    let wanted =
-        "{\"error\":{\"code\":-32700,\"message\":\"not JSON\"},\"id\":null,\"jsonrpc\":\"2.0\"}";
+    let wanted = r#"{"error":{"code":-32700,"message":"not JSON"},"id":null,"jsonrpc":"2.0"}"#;
     assert!(rt; is_error(rt.alloc(), RpcFault::NotJson, wanted));
-    let wanted = "{\"jsonrpc\":\"2.0\",\"method\":\"m\",\"params\":null}";
+    let wanted = r#"{"jsonrpc":"2.0","method":"m","params":null}"#;
     assert!(rt; is_note(rt.alloc(), "m", wanted));
-}
-
-fn position(line: u64, character: u64) -> Position {
-    Position { line, character }
 }
 
 fn is_range(alloc: Global, start: Position, end: Position, wanted: &str) -> bool {
@@ -358,8 +298,8 @@ fn ranges_are_written_as_text(rt: HostRuntime) {
     let wanted =
         "{\"id\":1,\"jsonrpc\":\"2.0\",\"result\":{\"end\":{\"character\":12345,\"line\":10},\
          \"start\":{\"character\":9,\"line\":0}}}";
-    assert!(rt; is_range(rt.alloc(), position(0, 9), position(10, 12345), wanted));
-    let most = position(u64::MAX, u64::MAX);
+    assert!(rt; is_range(rt.alloc(), at(0, 9), at(10, 12345), wanted));
+    let most = at(u64::MAX, u64::MAX);
     let wanted =
         "{\"id\":1,\"jsonrpc\":\"2.0\",\"result\":{\"end\":{\"character\":18446744073709551615,\
          \"line\":18446744073709551615},\"start\":{\"character\":18446744073709551615,\
@@ -373,10 +313,9 @@ fn is_number<W: Written + Copy>(alloc: Global, id: u64, number: W, wanted: &str)
 
 #[test]
 fn numbers_are_written_as_text(rt: HostRuntime) {
-    let wanted = "{\"id\":0,\"jsonrpc\":\"2.0\",\"result\":18446744073709551615}";
+    let wanted = r#"{"id":0,"jsonrpc":"2.0","result":18446744073709551615}"#;
     assert!(rt; is_number(rt.alloc(), 0, u64::MAX, wanted));
-    let wanted =
-        "{\"id\":18446744073709551615,\"jsonrpc\":\"2.0\",\"result\":-9223372036854775808}";
+    let wanted = r#"{"id":18446744073709551615,"jsonrpc":"2.0","result":-9223372036854775808}"#;
     assert!(rt; is_number(rt.alloc(), u64::MAX, i64::MIN, wanted));
 }
 
@@ -384,7 +323,7 @@ fn numbers_are_written_as_text(rt: HostRuntime) {
 fn values_are_written_as_text(rt: HostRuntime) {
     let wanted = "{\"id\":-7,\"jsonrpc\":\"2.0\",\"result\":\"a\\\"\\n\\u0001\"}";
     assert!(rt; is_answer(rt.alloc(), &Id::Signed(-7), &"a\"\n\u{1}", wanted));
-    let wanted = "{\"id\":0,\"jsonrpc\":\"2.0\",\"result\":[true,false]}";
+    let wanted = r#"{"id":0,"jsonrpc":"2.0","result":[true,false]}"#;
     assert!(rt;
         is_answer(
             rt.alloc(),
@@ -395,8 +334,8 @@ fn values_are_written_as_text(rt: HostRuntime) {
     );
     let entry = OneMember {
         key: "a b",
-        value: Some(position(1, 2)),
+        value: Some(at(1, 2)),
     };
-    let wanted = "{\"id\":0,\"jsonrpc\":\"2.0\",\"result\":{\"a b\":{\"character\":2,\"line\":1}}}";
+    let wanted = r#"{"id":0,"jsonrpc":"2.0","result":{"a b":{"character":2,"line":1}}}"#;
     assert!(rt; is_answer(rt.alloc(), &Id::Signed(0), &entry, wanted));
 }

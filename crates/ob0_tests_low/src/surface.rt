@@ -83,19 +83,11 @@ fn word_of_text(alloc: Global, method: &str, params: &str) -> &'static str {
     }
 }
 
-static NOTES: &[(&str, &str, &str)] = &[
-    (
-        "textDocument/didClose",
-        "{\"textDocument\":{\"uri\":\"u\"}}",
-        "read",
-    ),
-    (
-        "textDocument/didChange",
-        "{\"textDocument\":{\"uri\":\"u\"}}",
-        "unreadable, of a document",
-    ),
-    ("textDocument/didOpen", "{}", "unreadable"),
-    ("$/cancelRequest", "null", "other"),
+static NOTES: &[(&str, &str, &str)] = rows![
+    "textDocument/didClose", r#"{"textDocument":{"uri":"u"}}"# => "read";
+    "textDocument/didChange", r#"{"textDocument":{"uri":"u"}}"# => "unreadable, of a document";
+    "textDocument/didOpen", "{}" => "unreadable";
+    "$/cancelRequest", "null" => "other";
 ];
 
 #[test]
