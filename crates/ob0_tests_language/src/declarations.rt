@@ -1,36 +1,16 @@
 //! The types of declarations, and where another name for one isn't free.
 
-ghost use Rattle.std.specs.Prelude.{⊤};
-
-use crate::asking::{is_said, push_number, push_span};
-use ob0_analysis::Question;
+use crate::asking::Asked::{Bound, Free, TypeOf};
+use crate::asking::{Row, first_wrong, push_number, push_span, rows};
 use ob0_refs::captures;
-use ob0_scan::Span;
 use ob0_scope::resolve_renamed;
 use ob0_types::{Shape, WellTyped};
 use ob0_types_table::{ArrayShape, Parts, RecordShape};
 use std::alloc::{AllocError, Global};
 use std::process::Abort;
 
-/// The type of what has an ordinal.
-#[derive(Drop)]
-struct TypeOf {
-    declaration: usize,
-}
-
-impl Question for TypeOf {
-    type Answer = String;
-
-    ghost answers = { λ _ _ _. ⊤ };
-
-    fn answer(&self, alloc: Global, module: &WellTyped<'_>) -> Result<String, AllocError> {
-        let mut out = String::new(alloc);
-        push_declared(&mut out, module, self.declaration)?;
-        Ok(out)
-    }
-}
-
-fn push_declared(
+/// Adds the type of what has an ordinal.
+pub fn push_type(
     out: &mut String,
     module: &WellTyped<'_>,
     declaration: usize,
@@ -75,109 +55,74 @@ fn push_record(out: &mut String, record: &RecordShape) -> Result<(), AllocError>
 }
 
 const TYPES: &str =
-    "MODULE M; CONST c = 3; TYPE R = RECORD a, b: INTEGER END; VAR v: ARRAY c OF ARRAY 2 OF R; \
-    t: BOOLEAN; PROCEDURE P; END P; END M.";
+    "MODULE M; CONST c = 3; TYPE R = RECORD a, b: INTEGER END; VAR v: ARRAY c OF ARRAY 2 OF R; t: BOOLEAN; \
+    PROCEDURE P; END P; END M.";
 
-static TYPE_ROWS: &[(usize, &str)] = &[
-    (0, "INTEGER"),
-    (4, "none"),
-    (7, "INTEGER"),
-    (8, "RECORD 0 with 2"),
-    (9, "ARRAY 1 3 OF ARRAY 2 2 OF RECORD 0 with 2"),
-    (10, "BOOLEAN"),
-    (11, "none"),
-    (12, "none"),
+static TYPE_ROWS: &[Row] = rows![
+    TYPES, TypeOf(0) => "INTEGER";
+    TYPES, TypeOf(4) => "none";
+    TYPES, TypeOf(7) => "INTEGER";
+    TYPES, TypeOf(8) => "RECORD 0 with 2";
+    TYPES, TypeOf(9) => "ARRAY 1 3 OF ARRAY 2 2 OF RECORD 0 with 2";
+    TYPES, TypeOf(10) => "BOOLEAN";
+    TYPES, TypeOf(11) => "none";
+    TYPES, TypeOf(12) => "none";
 ];
-
-fn is_of_type(alloc: Global, declaration: usize, wanted: &str) -> bool {
-    is_said(alloc, TYPES, &TypeOf { declaration }, wanted)
-}
 
 #[test]
 fn types_of_declarations_are_known(rt: HostRuntime) {
-    for row in TYPE_ROWS {
-        assert!(rt; is_of_type(rt.alloc(), row.0, row.1), "{}", row.0);
-    }
+    let (text, wanted) = first_wrong(rt.alloc(), TYPE_ROWS, false);
+    assert!(rt; text.is_empty(), "{wanted}");
 }
 
-/// Where another name for what has an ordinal isn't free.
-#[derive(Drop)]
-struct Free {
+/// Adds where another name for what has an ordinal isn't free.
+pub fn push_capture(
+    alloc: Global,
+    out: &mut String,
+    module: &WellTyped<'_>,
     declaration: usize,
-    new: &'static str,
-}
-
-impl Question for Free {
-    type Answer = String;
-
-    ghost answers = { λ _ _ _. ⊤ };
-
-    fn answer(&self, alloc: Global, module: &WellTyped<'_>) -> Result<String, AllocError> {
-        match captures(alloc, module.resolved(), self.declaration, self.new)? {
-            None => String::from_str(alloc, "free"),
-            Some(capture) => text_of(alloc, capture.span),
-        }
+    new: &str,
+) -> Result<(), AllocError> {
+    match captures(alloc, module.resolved(), declaration, new)? {
+        None => out.push_str("free"),
+        Some(capture) => push_span(out, "", capture.span),
     }
 }
 
-fn text_of(alloc: Global, span: Span) -> Result<String, AllocError> {
-    let mut out = String::new(alloc);
-    push_span(&mut out, "", span)?;
-    Ok(out)
-}
+const NAMES: &str =
+    "MODULE M;\nVAR x: INTEGER; y: INTEGER;\nPROCEDURE P; VAR z: INTEGER; BEGIN z := x END P;\nBEGIN P END M.";
 
-const NAMES: &str = "MODULE M;\n\
-    VAR x: INTEGER; y: INTEGER;\n\
-    PROCEDURE P; VAR z: INTEGER; BEGIN z := x END P;\n\
-    BEGIN P END M.";
-
-/// The ordinal of a declaration, another name for it, and what is said of that.
-type NameRow = (usize, &'static str, &'static str);
-
-static NAME_ROWS: &[NameRow] = &[
-    (7, "y", "14-15"),
-    (7, "z", "78-79"),
-    (7, "w", "free"),
-    (10, "x", "78-79"),
-    (10, "y", "free"),
+static NAME_ROWS: &[Row] = rows![
+    NAMES, Free(7, "y") => "14-15";
+    NAMES, Free(7, "z") => "78-79";
+    NAMES, Free(7, "w") => "free";
+    NAMES, Free(10, "x") => "78-79";
+    NAMES, Free(10, "y") => "free";
 ];
-
-fn is_captured(alloc: Global, row: &NameRow) -> bool {
-    let (declaration, new, wanted) = *row;
-    is_said(alloc, NAMES, &Free { declaration, new }, wanted)
-}
 
 #[test]
 fn captures_are_found(rt: HostRuntime) {
-    for row in NAME_ROWS {
-        assert!(rt; is_captured(rt.alloc(), row), "{} as {}", row.0, row.1);
-    }
+    let (text, wanted) = first_wrong(rt.alloc(), NAME_ROWS, false);
+    assert!(rt; text.is_empty(), "{wanted}");
 }
 
-/// What the occurrences are bound to where the declaration with an ordinal has another name.
-#[derive(Drop)]
-struct BoundAfterRename {
+/// Adds what the occurrences are bound to where what has an ordinal has another name.
+pub fn push_bound(
+    alloc: Global,
+    out: &mut String,
+    module: &WellTyped<'_>,
     declaration: usize,
-    new: &'static str,
+    new: &str,
+) -> Result<(), AllocError> {
+    let bound = resolve_renamed(alloc, module.resolved(), declaration, new)?;
+    push_ordinals(out, bound.as_slice())
 }
 
-impl Question for BoundAfterRename {
-    type Answer = String;
-
-    ghost answers = { λ _ _ _. ⊤ };
-
-    fn answer(&self, alloc: Global, module: &WellTyped<'_>) -> Result<String, AllocError> {
-        let bound = resolve_renamed(alloc, module.resolved(), self.declaration, self.new)?;
-        ordinals_text(alloc, bound.as_slice())
-    }
-}
-
-fn ordinals_text(alloc: Global, ordinals: &[Option<usize>]) -> Result<String, AllocError> {
-    let mut out = String::new(alloc);
+fn push_ordinals(out: &mut String, ordinals: &[Option<usize>]) -> Result<(), AllocError> {
     for ordinal in ordinals {
-        push_ordinal(&mut out, *ordinal)?;
+        push_ordinal(out, *ordinal)?;
     }
-    Ok(out)
+    Ok(())
 }
 
 fn push_ordinal(out: &mut String, ordinal: Option<usize>) -> Result<(), AllocError> {
@@ -187,26 +132,15 @@ fn push_ordinal(out: &mut String, ordinal: Option<usize>) -> Result<(), AllocErr
     }
 }
 
-static RENAMED_ROWS: &[NameRow] = &[
-    (7, "w", " 0 0 0 10 7 9"),
-    (7, "z", " 0 0 0 10 10 9"),
-    (10, "x", " 0 0 0 10 10 9"),
-    (9, "INTEGER", " 0 0 9 10 7 9"),
+static RENAMED_ROWS: &[Row] = rows![
+    NAMES, Bound(7, "w") => " 0 0 0 10 7 9";
+    NAMES, Bound(7, "z") => " 0 0 0 10 10 9";
+    NAMES, Bound(10, "x") => " 0 0 0 10 10 9";
+    NAMES, Bound(9, "INTEGER") => " 0 0 9 10 7 9";
 ];
-
-fn is_bound_after_rename(alloc: Global, row: &NameRow) -> bool {
-    let (declaration, new, wanted) = *row;
-    is_said(alloc, NAMES, &BoundAfterRename { declaration, new }, wanted)
-}
 
 #[test]
 fn occurrences_are_bound_with_another_name(rt: HostRuntime) {
-    for row in RENAMED_ROWS {
-        assert!(rt;
-            is_bound_after_rename(rt.alloc(), row),
-            "{} as {}",
-            row.0,
-            row.1
-        );
-    }
+    let (text, wanted) = first_wrong(rt.alloc(), RENAMED_ROWS, false);
+    assert!(rt; text.is_empty(), "{wanted}");
 }

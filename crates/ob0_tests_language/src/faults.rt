@@ -1,189 +1,84 @@
 //! Faults of worked texts: code, start and end of each, in the order of their places.
 
-ghost use Rattle.std.specs.Prelude.{⊤};
-
-use crate::asking::{faults_of, is_said};
-use ob0_analysis::{Analysis, Question};
-use ob0_types::WellTyped;
+use crate::asking::Asked::Faults;
+use crate::asking::{faults_of, is_said, rows};
+use ob0_analysis::Analysis;
 use std::alloc::{AllocError, Global};
 use std::process::Abort;
 
-static ROWS: &[(&str, &str)] = &[
-    ("MODULE M; END M.", ""),
-    (
-        "MODULE M; VAR n: INTEGER; BEGIN Read(n); REPEAT Write(n); n := n - 1 UNTIL n <= 0 END M.",
-        "",
-    ),
+static ROWS: &[(&str, &str)] = rows![
+    "MODULE M; END M." => "";
+    "MODULE M; VAR n: INTEGER; BEGIN Read(n); REPEAT Write(n); n := n - 1 UNTIL n <= 0 END M." => "";
     // Lexemes.
-    (
-        "MODULE M; BEGIN 12ab $ END M.",
-        "NumberJoinsLetter 16-20; BadChar 21-22; ",
-    ),
+    "MODULE M; BEGIN 12ab $ END M." => "NumberJoinsLetter 16-20; BadChar 21-22; ";
     // Syntax: the place of the token, and what is expected there.
-    ("MODULE M; BEGIN x = 1 END M.", "Syntax 18-19; expected END"),
-    ("MODULE M; BEGIN x[0] END M.", "Syntax 21-24; expected :="),
-    (
-        "MODULE M; VAR x INTEGER; END M.",
-        "Syntax 16-23; expected :",
-    ),
-    ("MODULE M; VAR x: ; END M.", "Syntax 17-18; expected type"),
-    ("MODULE M; END M. x", "Syntax 17-18; expected end of text"),
-    ("MODULE M; BEGIN WriteLn END M", "Syntax 29-29; expected ."),
-    ("", "Syntax 0-0; expected MODULE"),
-    (
-        "MODULE M; VAR UNTIL: INTEGER; END M.",
-        "Syntax 14-19; expected END",
-    ),
-    (
-        "MODULE M; BEGIN x := a - -5 END M.",
-        "Syntax 25-26; expected expression",
-    ),
-    ("MODULE 3; END M.", "Syntax 7-8; expected identifier"),
+    "MODULE M; BEGIN x = 1 END M." => "Syntax 18-19; expected END";
+    "MODULE M; BEGIN x[0] END M." => "Syntax 21-24; expected :=";
+    "MODULE M; VAR x INTEGER; END M." => "Syntax 16-23; expected :";
+    "MODULE M; VAR x: ; END M." => "Syntax 17-18; expected type";
+    "MODULE M; END M. x" => "Syntax 17-18; expected end of text";
+    "MODULE M; BEGIN WriteLn END M" => "Syntax 29-29; expected .";
+    "" => "Syntax 0-0; expected MODULE";
+    "MODULE M; VAR UNTIL: INTEGER; END M." => "Syntax 14-19; expected END";
+    "MODULE M; BEGIN x := a - -5 END M." => "Syntax 25-26; expected expression";
+    "MODULE 3; END M." => "Syntax 7-8; expected identifier";
     // Names.
-    (
-        "MODULE M; PROCEDURE P(a: P); END P; END M.",
-        "Undeclared 25-26; ",
-    ),
-    ("MODULE M; CONST k = k; END M.", "Undeclared 20-21; "),
-    (
-        "MODULE M; PROCEDURE P; BEGIN Q END P; PROCEDURE Q; END Q; END M.",
-        "Undeclared 29-30; ",
-    ),
-    (
-        "MODULE M; VAR r: RECORD a: RECORD a: INTEGER END; a: INTEGER END; END M.",
-        "Duplicate 50-51; ",
-    ),
-    (
-        "MODULE M; PROCEDURE P(x: INTEGER); VAR x: INTEGER; END P; END M.",
-        "Duplicate 39-40; ",
-    ),
+    "MODULE M; PROCEDURE P(a: P); END P; END M." => "Undeclared 25-26; ";
+    "MODULE M; CONST k = k; END M." => "Undeclared 20-21; ";
+    "MODULE M; PROCEDURE P; BEGIN Q END P; PROCEDURE Q; END Q; END M." => "Undeclared 29-30; ";
+    "MODULE M; VAR r: RECORD a: RECORD a: INTEGER END; a: INTEGER END; END M." => "Duplicate 50-51; ";
+    "MODULE M; PROCEDURE P(x: INTEGER); VAR x: INTEGER; END P; END M." => "Duplicate 39-40; ";
     // One of each of ten kinds.
-    (
-        "MODULE M;\n\
-         CONST k = 1 DIV 0; m = 1;\n\
-         VAR i: INTEGER; b: BOOLEAN;\n\
-         PROCEDURE P(VAR j: INTEGER); BEGIN j := 1 END Q;\n\
-         BEGIN i := b; P(3); P; z := 1; i.f := 1; i[0] := 1; Write(P); m := 2 END M.",
-        "ConstFault 20-27; EndName 110-111; TypeMismatch 124-125; NotVariable 129-130; \
-         ArgumentCount 133-134; Undeclared 136-137; NotRecord 145-146; NotArray 155-156; \
-         WrongKind 171-172; NotVariable 175-176; ",
-    ),
+    "MODULE M;\nCONST k = 1 DIV 0; m = 1;\nVAR i: INTEGER; b: BOOLEAN;\n\
+        PROCEDURE P(VAR j: INTEGER); BEGIN j := 1 END Q;\n\
+        BEGIN i := b; P(3); P; z := 1; i.f := 1; i[0] := 1; Write(P); m := 2 END M." =>
+        "ConstFault 20-27; EndName 110-111; TypeMismatch 124-125; NotVariable 129-130; ArgumentCount 133-134; \
+        Undeclared 136-137; NotRecord 145-146; NotArray 155-156; WrongKind 171-172; NotVariable 175-176; ";
     // Types.
-    (
-        "MODULE M; VAR a: ARRAY 3 OF INTEGER; b: ARRAY 3 OF INTEGER; BEGIN a := b END M.",
-        "TypeMismatch 71-72; ",
-    ),
-    (
-        "MODULE M; VAR a, b: ARRAY 3 OF INTEGER; BEGIN a := b END M.",
-        "",
-    ),
-    (
-        "MODULE M; TYPE T = ARRAY 3 OF INTEGER; VAR a: T; b: T; BEGIN a := b END M.",
-        "",
-    ),
-    (
-        "MODULE M; VAR a: ARRAY 256 OF ARRAY 256 OF INTEGER; END M.",
-        "",
-    ),
-    (
-        "MODULE M; VAR a: ARRAY 256 OF ARRAY 257 OF INTEGER; END M.",
-        "TypeTooLarge 17-22; ",
-    ),
-    ("MODULE M; VAR a: ARRAY 65536 OF INTEGER; END M.", ""),
-    (
-        "MODULE M; VAR a: ARRAY 65537 OF INTEGER; END M.",
-        "ArrayLength 23-28; ",
-    ),
-    (
-        "MODULE M; VAR a: ARRAY 0 OF INTEGER; END M.",
-        "ArrayLength 23-24; ",
-    ),
-    (
-        "MODULE M; VAR b: BOOLEAN; BEGIN b := TRUE + FALSE END M.",
-        "TypeMismatch 37-41; ",
-    ),
-    (
-        "MODULE M; VAR b: BOOLEAN; BEGIN b := 1 = TRUE END M.",
-        "TypeMismatch 41-45; ",
-    ),
-    (
-        "MODULE M; VAR b: BOOLEAN; BEGIN b := u + 1 END M.",
-        "Undeclared 37-38; ",
-    ),
-    (
-        "MODULE M; VAR a: ARRAY 2 OF INTEGER; BEGIN a[TRUE] := TRUE END M.",
-        "TypeMismatch 45-49; ",
-    ),
-    (
-        "MODULE M; BEGIN IF 1 THEN END; WHILE ~(1 < 2) & TRUE DO WriteLn END; \
-         REPEAT UNTIL 3 END M.",
-        "TypeMismatch 19-20; TypeMismatch 82-83; ",
-    ),
-    (
-        "MODULE M; TYPE R = RECORD x, y: INTEGER; a: ARRAY 2 OF BOOLEAN END; VAR r: R; \
-         PROCEDURE P(VAR s: R; b: BOOLEAN); BEGIN s.x := 1; s.a[s.x] := b; s.z := 1 END P; \
-         BEGIN P(r, TRUE); P(r, r.a[0]); Read(r.x); Write(r.y) END M.",
-        "NoField 146-147; ",
-    ),
-    (
-        "MODULE M; CONST c = 2147483647 + 1; d = -(-2147483647 - 1); e = (1 = 2) & (1 DIV 0 = 1); \
-         f = e OR INTEGER; END M.",
-        "ConstFault 20-34; ConstFault 40-58; WrongKind 98-105; ",
-    ),
-    (
-        "MODULE M; VAR x: INTEGER; PROCEDURE P; CONST c = x; END P; BEGIN TRUE := FALSE; \
-         INTEGER := 1; Read(1); Read(TRUE); x(1); P(u) END M.",
-        "NotConstant 49-50; NotVariable 65-69; WrongKind 80-87; NotVariable 99-100; \
-         NotVariable 108-112; WrongKind 115-116; ArgumentCount 121-122; Undeclared 123-124; ",
-    ),
-    (
-        "MODULE M; VAR a: ARRAY 256 OF RECORD f, g: ARRAY 256 OF ARRAY 3 OF Write END; END M.",
-        "WrongKind 67-72; ",
-    ),
-    (
-        "MODULE M; PROCEDURE P(x: INTEGER; VAR y: BOOLEAN); END P; BEGIN P; P(u, TRUE + 1, v); \
-         P(TRUE, 1 < 2); Q(~1) END M.",
-        "ArgumentCount 64-65; ArgumentCount 67-68; Undeclared 69-70; Undeclared 82-83; \
-         TypeMismatch 88-92; NotVariable 94-99; Undeclared 102-103; TypeMismatch 105-106; ",
-    ),
-    (
-        "MODULE M; CONST n = 3; VAR a: ARRAY n * 2 OF INTEGER; b: ARRAY n = 3 OF u; \
-         c: ARRAY a[b] OF BOOLEAN; BEGIN Read(n); Read(a); Read(a[n]); Read((a[n])); Read(-a[n]); \
-         n[TRUE] := v END M.",
-        "TypeMismatch 63-68; Undeclared 72-73; NotConstant 84-85; NotConstant 86-87; \
-         NotVariable 112-113; TypeMismatch 121-122; NotVariable 142-148; NotVariable 156-161; \
-         NotVariable 164-165; TypeMismatch 166-170; Undeclared 175-176; ",
-    ),
-    (
-        "MODULE M; VAR x: INTEGER; r: RECORD a: INTEGER END; t: T; BEGIN x[TRUE] := 1; x.f := 1; \
-         r.b := TRUE; t[1].f := x END M.",
-        "Undeclared 55-56; NotArray 65-66; TypeMismatch 66-70; NotRecord 79-80; NoField 90-91; ",
-    ),
-    (
-        "MODULE M; TYPE T = ARRAY 2 OF RECORD f: BOOLEAN; g: U; f: INTEGER END; VAR t: T; \
-         PROCEDURE P(T: INTEGER; x: T); BEGIN t[T].f := x; t[0].f := T; P(t[1].g, t[2].g) END P; \
-         END M.",
-        "Undeclared 52-53; Duplicate 55-56; WrongKind 108-109; TypeMismatch 141-142; ",
-    ),
+    "MODULE M; VAR a: ARRAY 3 OF INTEGER; b: ARRAY 3 OF INTEGER; BEGIN a := b END M." => "TypeMismatch 71-72; ";
+    "MODULE M; VAR a, b: ARRAY 3 OF INTEGER; BEGIN a := b END M." => "";
+    "MODULE M; TYPE T = ARRAY 3 OF INTEGER; VAR a: T; b: T; BEGIN a := b END M." => "";
+    "MODULE M; VAR a: ARRAY 256 OF ARRAY 256 OF INTEGER; END M." => "";
+    "MODULE M; VAR a: ARRAY 256 OF ARRAY 257 OF INTEGER; END M." => "TypeTooLarge 17-22; ";
+    "MODULE M; VAR a: ARRAY 65536 OF INTEGER; END M." => "";
+    "MODULE M; VAR a: ARRAY 65537 OF INTEGER; END M." => "ArrayLength 23-28; ";
+    "MODULE M; VAR a: ARRAY 0 OF INTEGER; END M." => "ArrayLength 23-24; ";
+    "MODULE M; VAR b: BOOLEAN; BEGIN b := TRUE + FALSE END M." => "TypeMismatch 37-41; ";
+    "MODULE M; VAR b: BOOLEAN; BEGIN b := 1 = TRUE END M." => "TypeMismatch 41-45; ";
+    "MODULE M; VAR b: BOOLEAN; BEGIN b := u + 1 END M." => "Undeclared 37-38; ";
+    "MODULE M; VAR a: ARRAY 2 OF INTEGER; BEGIN a[TRUE] := TRUE END M." => "TypeMismatch 45-49; ";
+    "MODULE M; BEGIN IF 1 THEN END; WHILE ~(1 < 2) & TRUE DO WriteLn END; REPEAT UNTIL 3 END M." =>
+        "TypeMismatch 19-20; TypeMismatch 82-83; ";
+    "MODULE M; TYPE R = RECORD x, y: INTEGER; a: ARRAY 2 OF BOOLEAN END; VAR r: R; PROCEDURE P(VAR s: R; \
+        b: BOOLEAN); BEGIN s.x := 1; s.a[s.x] := b; s.z := 1 END P; BEGIN P(r, TRUE); P(r, r.a[0]); Read(r.x); \
+        Write(r.y) END M." => "NoField 146-147; ";
+    "MODULE M; CONST c = 2147483647 + 1; d = -(-2147483647 - 1); e = (1 = 2) & (1 DIV 0 = 1); \
+        f = e OR INTEGER; END M." => "ConstFault 20-34; ConstFault 40-58; WrongKind 98-105; ";
+    "MODULE M; VAR x: INTEGER; PROCEDURE P; CONST c = x; END P; BEGIN TRUE := FALSE; INTEGER := 1; Read(1); \
+        Read(TRUE); x(1); P(u) END M." =>
+        "NotConstant 49-50; NotVariable 65-69; WrongKind 80-87; NotVariable 99-100; NotVariable 108-112; \
+        WrongKind 115-116; ArgumentCount 121-122; Undeclared 123-124; ";
+    "MODULE M; VAR a: ARRAY 256 OF RECORD f, g: ARRAY 256 OF ARRAY 3 OF Write END; END M." => "WrongKind 67-72; ";
+    "MODULE M; PROCEDURE P(x: INTEGER; VAR y: BOOLEAN); END P; BEGIN P; P(u, TRUE + 1, v); P(TRUE, 1 < 2); \
+        Q(~1) END M." =>
+        "ArgumentCount 64-65; ArgumentCount 67-68; Undeclared 69-70; Undeclared 82-83; TypeMismatch 88-92; \
+        NotVariable 94-99; Undeclared 102-103; TypeMismatch 105-106; ";
+    "MODULE M; CONST n = 3; VAR a: ARRAY n * 2 OF INTEGER; b: ARRAY n = 3 OF u; c: ARRAY a[b] OF BOOLEAN; \
+        BEGIN Read(n); Read(a); Read(a[n]); Read((a[n])); Read(-a[n]); n[TRUE] := v END M." =>
+        "TypeMismatch 63-68; Undeclared 72-73; NotConstant 84-85; NotConstant 86-87; NotVariable 112-113; \
+        TypeMismatch 121-122; NotVariable 142-148; NotVariable 156-161; NotVariable 164-165; \
+        TypeMismatch 166-170; Undeclared 175-176; ";
+    "MODULE M; VAR x: INTEGER; r: RECORD a: INTEGER END; t: T; BEGIN x[TRUE] := 1; x.f := 1; r.b := TRUE; \
+        t[1].f := x END M." =>
+        "Undeclared 55-56; NotArray 65-66; TypeMismatch 66-70; NotRecord 79-80; NoField 90-91; ";
+    "MODULE M; TYPE T = ARRAY 2 OF RECORD f: BOOLEAN; g: U; f: INTEGER END; VAR t: T; PROCEDURE P(T: INTEGER; \
+        x: T); BEGIN t[T].f := x; t[0].f := T; P(t[1].g, t[2].g) END P; END M." =>
+        "Undeclared 52-53; Duplicate 55-56; WrongKind 108-109; TypeMismatch 141-142; ";
 ];
-
-/// A question whose answer is the empty text: so a text that is no module is answered by its faults alone.
-#[derive(Drop)]
-struct Nothing;
-
-impl Question for Nothing {
-    type Answer = String;
-
-    ghost answers = { λ _ _ _. ⊤ };
-
-    fn answer(&self, alloc: Global, _module: &WellTyped<'_>) -> Result<String, AllocError> {
-        Ok(String::new(alloc))
-    }
-}
 
 /// Whether this is what is wrong with a text.
 fn has_faults(alloc: Global, text: &str, wanted: &str) -> bool {
-    is_said(alloc, text, &Nothing, wanted)
+    is_said(alloc, text, &Faults, wanted, false)
 }
 
 #[test]
@@ -194,105 +89,67 @@ fn the_faults_of_worked_texts_are_reported(rt: HostRuntime) {
 }
 
 /// Texts that are changed where no identifier is, and where one is.
-static CHANGES: &[(&str, &str)] = &[
+static CHANGES: &[(&str, &str)] = rows![
     // A number that the types depend on.
-    (
-        "MODULE M; CONST n = 2; VAR a: ARRAY n OF INTEGER; BEGIN a[n - 1] := 1; a[2] := n END M.",
-        "MODULE M; CONST n = 20; VAR a: ARRAY n OF INTEGER; BEGIN a[n - 1] := 1; a[2] := n END M.",
-    ),
+    "MODULE M; CONST n = 2; VAR a: ARRAY n OF INTEGER; BEGIN a[n - 1] := 1; a[2] := n END M." =>
+        "MODULE M; CONST n = 20; VAR a: ARRAY n OF INTEGER; BEGIN a[n - 1] := 1; a[2] := n END M.";
     // A number before a name that nothing declares, and before one that is declared twice.
-    (
-        "MODULE M; CONST n = 2; VAR x, x: INTEGER; BEGIN y := n END M.",
-        "MODULE M; CONST n = 234; VAR x, x: INTEGER; BEGIN y := n END M.",
-    ),
+    "MODULE M; CONST n = 2; VAR x, x: INTEGER; BEGIN y := n END M." =>
+        "MODULE M; CONST n = 234; VAR x, x: INTEGER; BEGIN y := n END M.";
     // White space beside a name.
-    (
-        "MODULE M; VAR x: INTEGER; BEGIN x := TRUE END M.",
-        "MODULE M; VAR x : INTEGER; BEGIN x := TRUE END M.",
-    ),
+    "MODULE M; VAR x: INTEGER; BEGIN x := TRUE END M." => "MODULE M; VAR x : INTEGER; BEGIN x := TRUE END M.";
     // A name, by another and by one that is declared already.
-    (
-        "MODULE M; VAR x, y: INTEGER; BEGIN x := y END M.",
-        "MODULE M; VAR x, z: INTEGER; BEGIN x := y END M.",
-    ),
-    (
-        "MODULE M; VAR x, y: INTEGER; BEGIN x := y END M.",
-        "MODULE M; VAR x, x: INTEGER; BEGIN x := y END M.",
-    ),
+    "MODULE M; VAR x, y: INTEGER; BEGIN x := y END M." => "MODULE M; VAR x, z: INTEGER; BEGIN x := y END M.";
+    "MODULE M; VAR x, y: INTEGER; BEGIN x := y END M." => "MODULE M; VAR x, x: INTEGER; BEGIN x := y END M.";
     // A statement more in a procedure before another one, and half a statement.
-    (
-        "MODULE M; VAR x: INTEGER; PROCEDURE P; BEGIN x := 1 END P; PROCEDURE Q; BEGIN P; y := 1 \
-         END Q; BEGIN Q END M.",
-        "MODULE M; VAR x: INTEGER; PROCEDURE P; BEGIN x := 1; x := TRUE END P; PROCEDURE Q; \
-         BEGIN P; y := 1 END Q; BEGIN Q END M.",
-    ),
-    (
-        "MODULE M; VAR x: INTEGER; PROCEDURE P; BEGIN x := z END P; PROCEDURE Q; BEGIN P; y := 1 \
-         END Q; BEGIN Q END M.",
-        "MODULE M; VAR x: INTEGER; PROCEDURE P; BEGIN x := z END P; PROCEDURE Q; BEGIN P; y := \
-         END Q; BEGIN Q END M.",
-    ),
+    "MODULE M; VAR x: INTEGER; PROCEDURE P; BEGIN x := 1 END P; PROCEDURE Q; BEGIN P; y := 1 END Q; BEGIN Q END M."
+        =>
+        "MODULE M; VAR x: INTEGER; PROCEDURE P; BEGIN x := 1; x := TRUE END P; PROCEDURE Q; BEGIN P; \
+        y := 1 END Q; BEGIN Q END M.";
+    "MODULE M; VAR x: INTEGER; PROCEDURE P; BEGIN x := z END P; PROCEDURE Q; BEGIN P; y := 1 END Q; BEGIN Q END M."
+        =>
+        "MODULE M; VAR x: INTEGER; PROCEDURE P; BEGIN x := z END P; PROCEDURE Q; BEGIN P; y := END Q; BEGIN \
+        Q END M.";
     // A name in the body of a procedure in another one: a local one, a parameter, one of a block around it, one that is
     // declared after it, its own, and one that nothing declares; with names at fault before it, in it and after it.
-    (
-        "MODULE M; VAR x, u: INTEGER; PROCEDURE P(a: INTEGER); VAR y: BOOLEAN; PROCEDURE Q(x: BOOLEAN); BEGIN x := y \
-         END Q; PROCEDURE R; BEGIN q := 1 END R; BEGIN x := a END P; BEGIN P(x); v := u END M.",
-        "MODULE M; VAR x, u: INTEGER; PROCEDURE P(a: INTEGER); VAR y: BOOLEAN; PROCEDURE Q(x: BOOLEAN); BEGIN x := R \
-         END Q; PROCEDURE R; BEGIN q := 1 END R; BEGIN x := a END P; BEGIN P(x); v := u END M.",
-    ),
-    (
-        "MODULE M; VAR x, u: INTEGER; PROCEDURE P(a: INTEGER); VAR y: BOOLEAN; PROCEDURE Q(x: BOOLEAN); BEGIN x := y \
-         END Q; PROCEDURE R; BEGIN R END R; BEGIN x := a END P; BEGIN P(x); v := u END M.",
-        "MODULE M; VAR x, u: INTEGER; PROCEDURE P(a: INTEGER); VAR y: BOOLEAN; PROCEDURE Q(x: BOOLEAN); BEGIN x := y \
-         END Q; PROCEDURE R; BEGIN Q END R; BEGIN x := a END P; BEGIN P(x); v := u END M.",
-    ),
-    (
-        "MODULE M; VAR x, u: INTEGER; PROCEDURE P(a: INTEGER); VAR y: BOOLEAN; PROCEDURE Q; BEGIN u := x; u := y END Q; \
-         BEGIN x := a; w := w END P; PROCEDURE S; BEGIN w := 1 END S; BEGIN P(x); v := u END M.",
-        "MODULE M; VAR x, u: INTEGER; PROCEDURE P(a: INTEGER); VAR y: BOOLEAN; PROCEDURE Q; BEGIN u := x; u := y END Q; \
-         BEGIN x := a; w := u END P; PROCEDURE S; BEGIN w := 1 END S; BEGIN P(x); v := u END M.",
-    ),
-    (
-        "MODULE M; VAR x: INTEGER; PROCEDURE P; VAR x: BOOLEAN; BEGIN x := TRUE END P; BEGIN x := 1; Write(x) END M.",
-        "MODULE M; VAR x: INTEGER; PROCEDURE P; VAR x: BOOLEAN; BEGIN x := TRUE END P; BEGIN x := 1; Write(y) END M.",
-    ),
+    "MODULE M; VAR x, u: INTEGER; PROCEDURE P(a: INTEGER); VAR y: BOOLEAN; PROCEDURE Q(x: BOOLEAN); BEGIN \
+        x := y END Q; PROCEDURE R; BEGIN q := 1 END R; BEGIN x := a END P; BEGIN P(x); v := u END M." =>
+        "MODULE M; VAR x, u: INTEGER; PROCEDURE P(a: INTEGER); VAR y: BOOLEAN; PROCEDURE Q(x: BOOLEAN); BEGIN \
+        x := R END Q; PROCEDURE R; BEGIN q := 1 END R; BEGIN x := a END P; BEGIN P(x); v := u END M.";
+    "MODULE M; VAR x, u: INTEGER; PROCEDURE P(a: INTEGER); VAR y: BOOLEAN; PROCEDURE Q(x: BOOLEAN); BEGIN \
+        x := y END Q; PROCEDURE R; BEGIN R END R; BEGIN x := a END P; BEGIN P(x); v := u END M." =>
+        "MODULE M; VAR x, u: INTEGER; PROCEDURE P(a: INTEGER); VAR y: BOOLEAN; PROCEDURE Q(x: BOOLEAN); BEGIN \
+        x := y END Q; PROCEDURE R; BEGIN Q END R; BEGIN x := a END P; BEGIN P(x); v := u END M.";
+    "MODULE M; VAR x, u: INTEGER; PROCEDURE P(a: INTEGER); VAR y: BOOLEAN; PROCEDURE Q; BEGIN u := x; \
+        u := y END Q; BEGIN x := a; w := w END P; PROCEDURE S; BEGIN w := 1 END S; BEGIN P(x); v := u END M." =>
+        "MODULE M; VAR x, u: INTEGER; PROCEDURE P(a: INTEGER); VAR y: BOOLEAN; PROCEDURE Q; BEGIN u := x; \
+        u := y END Q; BEGIN x := a; w := u END P; PROCEDURE S; BEGIN w := 1 END S; BEGIN P(x); v := u END M.";
+    "MODULE M; VAR x: INTEGER; PROCEDURE P; VAR x: BOOLEAN; BEGIN x := TRUE END P; BEGIN x := 1; Write(x) END M." =>
+        "MODULE M; VAR x: INTEGER; PROCEDURE P; VAR x: BOOLEAN; BEGIN x := TRUE END P; BEGIN x := 1; \
+        Write(y) END M.";
     // The first name of a body, a number before it, the last name, and two changes at once.
-    (
-        "MODULE M; VAR x, y: INTEGER; PROCEDURE P; BEGIN IF 1 < x THEN y := x END END P; BEGIN P; z := x END M.",
-        "MODULE M; VAR x, y: INTEGER; PROCEDURE P; BEGIN IF 2 < q THEN y := x END END P; BEGIN P; z := x END M.",
-    ),
-    (
-        "MODULE M; VAR x, y: INTEGER; PROCEDURE P; BEGIN x := y END P; BEGIN P; z := x END M.",
-        "MODULE M; VAR x, y: INTEGER; PROCEDURE P; BEGIN q := r END P; BEGIN P; z := x END M.",
-    ),
+    "MODULE M; VAR x, y: INTEGER; PROCEDURE P; BEGIN IF 1 < x THEN y := x END END P; BEGIN P; z := x END M." =>
+        "MODULE M; VAR x, y: INTEGER; PROCEDURE P; BEGIN IF 2 < q THEN y := x END END P; BEGIN P; z := x END M.";
+    "MODULE M; VAR x, y: INTEGER; PROCEDURE P; BEGIN x := y END P; BEGIN P; z := x END M." =>
+        "MODULE M; VAR x, y: INTEGER; PROCEDURE P; BEGIN q := r END P; BEGIN P; z := x END M.";
     // A closing name, and that name with the last one of its body.
-    (
-        "MODULE M; VAR x, y: INTEGER; PROCEDURE P; BEGIN x := y END P; BEGIN P; z := x END M.",
-        "MODULE M; VAR x, y: INTEGER; PROCEDURE P; BEGIN x := y END Q; BEGIN P; z := x END M.",
-    ),
-    (
-        "MODULE M; VAR x, y: INTEGER; PROCEDURE P; BEGIN x := y END P; BEGIN P; z := x END M.",
-        "MODULE M; VAR x, y: INTEGER; PROCEDURE P; BEGIN x := q END Q; BEGIN P; z := x END M.",
-    ),
+    "MODULE M; VAR x, y: INTEGER; PROCEDURE P; BEGIN x := y END P; BEGIN P; z := x END M." =>
+        "MODULE M; VAR x, y: INTEGER; PROCEDURE P; BEGIN x := y END Q; BEGIN P; z := x END M.";
+    "MODULE M; VAR x, y: INTEGER; PROCEDURE P; BEGIN x := y END P; BEGIN P; z := x END M." =>
+        "MODULE M; VAR x, y: INTEGER; PROCEDURE P; BEGIN x := q END Q; BEGIN P; z := x END M.";
     // A parameter, a field where it is written and where it is selected, and a type.
-    (
-        "MODULE M; TYPE T = RECORD f, g: INTEGER END; VAR t: T; PROCEDURE P(a, b: T); BEGIN a := b; a.f := t.g END P; \
-         BEGIN P(t, t); z := t END M.",
-        "MODULE M; TYPE T = RECORD f, g: INTEGER END; VAR t: T; PROCEDURE P(a, a: T); BEGIN a := b; a.f := t.g END P; \
-         BEGIN P(t, t); z := t END M.",
-    ),
-    (
-        "MODULE M; TYPE T = RECORD f, g: INTEGER END; VAR t: T; PROCEDURE P(a, b: T); BEGIN a := b; a.f := t.g END P; \
-         BEGIN P(t, t); z := t END M.",
-        "MODULE M; TYPE T = RECORD f, f: INTEGER END; VAR t: T; PROCEDURE P(a, b: T); BEGIN a := b; a.f := t.g END P; \
-         BEGIN P(t, t); z := t END M.",
-    ),
-    (
-        "MODULE M; TYPE T = RECORD f, g: INTEGER END; VAR t: T; PROCEDURE P(a, b: T); BEGIN a := b; a.f := t.g END P; \
-         BEGIN P(t, t); z := t END M.",
-        "MODULE M; TYPE T = RECORD f, g: INTEGER END; VAR t: T; PROCEDURE P(a, b: T); BEGIN a := b; a.f := t.h END P; \
-         BEGIN P(t, t); z := t END M.",
-    ),
+    "MODULE M; TYPE T = RECORD f, g: INTEGER END; VAR t: T; PROCEDURE P(a, b: T); BEGIN a := b; \
+        a.f := t.g END P; BEGIN P(t, t); z := t END M." =>
+        "MODULE M; TYPE T = RECORD f, g: INTEGER END; VAR t: T; PROCEDURE P(a, a: T); BEGIN a := b; \
+        a.f := t.g END P; BEGIN P(t, t); z := t END M.";
+    "MODULE M; TYPE T = RECORD f, g: INTEGER END; VAR t: T; PROCEDURE P(a, b: T); BEGIN a := b; \
+        a.f := t.g END P; BEGIN P(t, t); z := t END M." =>
+        "MODULE M; TYPE T = RECORD f, f: INTEGER END; VAR t: T; PROCEDURE P(a, b: T); BEGIN a := b; \
+        a.f := t.g END P; BEGIN P(t, t); z := t END M.";
+    "MODULE M; TYPE T = RECORD f, g: INTEGER END; VAR t: T; PROCEDURE P(a, b: T); BEGIN a := b; \
+        a.f := t.g END P; BEGIN P(t, t); z := t END M." =>
+        "MODULE M; TYPE T = RECORD f, g: INTEGER END; VAR t: T; PROCEDURE P(a, b: T); BEGIN a := b; \
+        a.f := t.h END P; BEGIN P(t, t); z := t END M.";
 ];
 
 /// What is wrong with a text, by an analysis that is made from that of the text before.

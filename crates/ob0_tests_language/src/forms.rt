@@ -7,6 +7,7 @@ use ob0_scope_table::OrdinalEntry;
 use ob0_tree::{Expression, Fields, Module, Statement};
 use std::alloc::Global;
 use std::mem::size_of;
+use std::process::Abort;
 
 const _: () = prove!(size_of::<Expression>() == 48);
 
@@ -68,14 +69,21 @@ fn all_assign(alloc: Global, text: &str, count: usize, factor: bool) -> bool {
     }
 }
 
-#[test]
-fn one_factor_has_the_small_form(rt: HostRuntime) {
-    assert!(rt; all_assign(rt.alloc(), ONE_FACTOR, 7, true));
-    assert!(rt; !all_assign(rt.alloc(), OPERATIONS, 9, true));
-}
+/// Texts with their count of assignments, a form (whether it is the small one), and whether all values have it.
+static FORMS: &[(&str, usize, bool, bool)] = &[
+    (ONE_FACTOR, 7, true, true),
+    (ONE_FACTOR, 7, false, false),
+    (OPERATIONS, 9, false, true),
+    (OPERATIONS, 9, true, false),
+];
 
 #[test]
-fn operations_are_compound(rt: HostRuntime) {
-    assert!(rt; all_assign(rt.alloc(), OPERATIONS, 9, false));
-    assert!(rt; !all_assign(rt.alloc(), ONE_FACTOR, 7, false));
+fn one_factor_alone_has_the_small_form(rt: HostRuntime) {
+    for row in FORMS {
+        let (text, count, factor, wanted) = *row;
+        assert!(rt;
+            all_assign(rt.alloc(), text, count, factor) == wanted,
+            "{text}"
+        );
+    }
 }

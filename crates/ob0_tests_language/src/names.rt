@@ -1,35 +1,15 @@
 //! What is answered of the names of worked modules, and what is shown of them.
 
-ghost use Rattle.std.specs.Prelude.{⊤};
-
-use crate::asking::{is_said, is_said_or_refused, push_number, push_span};
-use ob0_analysis::Question;
+use crate::asking::Asked::{NameAt, Shown};
+use crate::asking::{Row, first_wrong, push_number, push_span, rows};
 use ob0_refs::{Hover, Of, at, definition, hover, references};
 use ob0_scan::Span;
 use ob0_types::WellTyped;
 use std::alloc::{AllocError, Global};
 use std::process::Abort;
 
-/// What is said of the name at a place, by its byte.
-#[derive(Drop)]
-struct NameAt {
-    offset: usize,
-}
-
-impl Question for NameAt {
-    type Answer = String;
-
-    ghost answers = { λ _ _ _. ⊤ };
-
-    /// What it is a name of, where that is declared, where it is named, and what is shown of it.
-    fn answer(&self, alloc: Global, module: &WellTyped<'_>) -> Result<String, AllocError> {
-        let mut out = String::new(alloc);
-        push_name(alloc, &mut out, module, self.offset)?;
-        Ok(out)
-    }
-}
-
-fn push_name(
+/// Adds what the name at a byte is one of, where that is declared, where it is named, and what is shown of it.
+pub fn push_name(
     alloc: Global,
     out: &mut String,
     module: &WellTyped<'_>,
@@ -106,105 +86,42 @@ fn push_hover(out: &mut String, shown: &Hover, name: Span) -> Result<(), AllocEr
     out.push_str(shown.text.as_str())
 }
 
-const RECURSIVE: &str = "MODULE M;\n\
-    PROCEDURE F(n: INTEGER);\n\
-    BEGIN IF n > 0 THEN Write(n); F(n - 1) END END F;\n\
-    BEGIN F(2) END M.";
+const RECURSIVE: &str =
+    "MODULE M;\nPROCEDURE F(n: INTEGER);\nBEGIN IF n > 0 THEN Write(n); F(n - 1) END END F;\nBEGIN F(2) END M.";
 
-const FIELDS: &str = "MODULE M;\n\
-    TYPE R = RECORD a, b: INTEGER END;\n\
-    VAR r: R; s: RECORD a: INTEGER END; a: INTEGER;\n\
+const FIELDS: &str =
+    "MODULE M;\nTYPE R = RECORD a, b: INTEGER END;\nVAR r: R; s: RECORD a: INTEGER END; a: INTEGER;\n\
     BEGIN r.a := 1; s.a := 2; a := r.a + s.a; Write(a) END M.";
 
-/// A text, a place in it, and what is said of the name there.
-type NameRow = (&'static str, usize, &'static str);
-
-static ROWS: &[NameRow] = &[
-    (
-        RECURSIVE,
-        20,
-        "7 from 20-21, at 65-66 82-83 91-92, shown at 20-21: PROCEDURE F(n: INTEGER)",
-    ),
-    (
-        RECURSIVE,
-        21,
-        "7 from 20-21, at 65-66 82-83 91-92, shown at 20-21: PROCEDURE F(n: INTEGER)",
-    ),
-    (
-        RECURSIVE,
-        82,
-        "7 from 20-21, at 65-66 82-83 91-92, shown at 82-83: PROCEDURE F(n: INTEGER)",
-    ),
-    (
-        RECURSIVE,
-        83,
-        "7 from 20-21, at 65-66 82-83 91-92, shown at 82-83: PROCEDURE F(n: INTEGER)",
-    ),
-    (
-        RECURSIVE,
-        60,
-        "predeclared, at 55-60, shown at 55-60: predeclared Write",
-    ),
-    (RECURSIVE, 0, ""),
-    (RECURSIVE, 7, ""),
-    (RECURSIVE, 34, ""),
-    (RECURSIVE, 104, ""),
-    (
-        FIELDS,
-        26,
-        "0.0 from 26-27, at 101-102 126-127, shown at 26-27: FIELD a: INTEGER",
-    ),
-    (
-        FIELDS,
-        101,
-        "0.0 from 26-27, at 101-102 126-127, shown at 101-102: FIELD a: INTEGER",
-    ),
-    (
-        FIELDS,
-        29,
-        "0.1 from 29-30, at, shown at 29-30: FIELD b: INTEGER",
-    ),
-    (
-        FIELDS,
-        81,
-        "10 from 81-82, at 119-120 141-142, shown at 81-82: VAR a: INTEGER",
-    ),
-    (
-        FIELDS,
-        99,
-        "8 from 49-50, at 99-100 124-125, shown at 99-100: VAR r: RECORD with 2 fields",
-    ),
+static ROWS: &[Row] = rows![
+    RECURSIVE, NameAt(20) => "7 from 20-21, at 65-66 82-83 91-92, shown at 20-21: PROCEDURE F(n: INTEGER)";
+    RECURSIVE, NameAt(21) => "7 from 20-21, at 65-66 82-83 91-92, shown at 20-21: PROCEDURE F(n: INTEGER)";
+    RECURSIVE, NameAt(82) => "7 from 20-21, at 65-66 82-83 91-92, shown at 82-83: PROCEDURE F(n: INTEGER)";
+    RECURSIVE, NameAt(83) => "7 from 20-21, at 65-66 82-83 91-92, shown at 82-83: PROCEDURE F(n: INTEGER)";
+    RECURSIVE, NameAt(60) => "predeclared, at 55-60, shown at 55-60: predeclared Write";
+    RECURSIVE, NameAt(0) => "";
+    RECURSIVE, NameAt(7) => "";
+    RECURSIVE, NameAt(34) => "";
+    RECURSIVE, NameAt(104) => "";
+    FIELDS, NameAt(26) => "0.0 from 26-27, at 101-102 126-127, shown at 26-27: FIELD a: INTEGER";
+    FIELDS, NameAt(101) => "0.0 from 26-27, at 101-102 126-127, shown at 101-102: FIELD a: INTEGER";
+    FIELDS, NameAt(29) => "0.1 from 29-30, at, shown at 29-30: FIELD b: INTEGER";
+    FIELDS, NameAt(81) => "10 from 81-82, at 119-120 141-142, shown at 81-82: VAR a: INTEGER";
+    FIELDS, NameAt(99) => "8 from 49-50, at 99-100 124-125, shown at 99-100: VAR r: RECORD with 2 fields";
 ];
-
-fn is_found(alloc: Global, row: &NameRow) -> bool {
-    let (text, offset, wanted) = *row;
-    is_said(alloc, text, &NameAt { offset }, wanted)
-}
 
 #[test]
 fn names_and_fields_are_found(rt: HostRuntime) {
-    for row in ROWS {
-        assert!(rt; is_found(rt.alloc(), row), "{} at {}", row.2, row.1);
-    }
+    let (text, wanted) = first_wrong(rt.alloc(), ROWS, false);
+    assert!(rt; text.is_empty(), "{wanted} in {text}");
 }
 
-/// What is shown of a module's names, a line for each identifier that something is shown of.
-#[derive(Drop)]
-struct Shown;
-
-impl Question for Shown {
-    type Answer = String;
-
-    ghost answers = { λ _ _ _. ⊤ };
-
-    fn answer(&self, alloc: Global, module: &WellTyped<'_>) -> Result<String, AllocError> {
-        let mut lines = String::new(alloc);
-        push_lines(alloc, &mut lines, module)?;
-        Ok(lines)
-    }
-}
-
-fn push_lines(alloc: Global, lines: &mut String, module: &WellTyped<'_>) -> Result<(), AllocError> {
+/// Adds a line for each identifier that something is shown of.
+pub fn push_lines(
+    alloc: Global,
+    lines: &mut String,
+    module: &WellTyped<'_>,
+) -> Result<(), AllocError> {
     let mut end = 0;
     for token in module.resolved().tokens().tokens() {
         let span = token.span;
@@ -236,9 +153,8 @@ fn push_line(
 
 const KINDS: &str =
     "MODULE M; CONST c = -3; on = TRUE; TYPE R = RECORD x, y: BOOLEAN END; A = ARRAY 2 OF R; \
-    VAR a: ARRAY 3 OF A; r: R; PROCEDURE P(a, b: A; VAR c: BOOLEAN); VAR r: INTEGER; \
-    BEGIN r := 1; c := a[0].x END P; PROCEDURE Q; BEGIN r.x := on; P(a[0], a[c + 3], r.x) END Q; \
-    BEGIN Q END M.";
+    VAR a: ARRAY 3 OF A; r: R; PROCEDURE P(a, b: A; VAR c: BOOLEAN); VAR r: INTEGER; BEGIN r := 1; \
+    c := a[0].x END P; PROCEDURE Q; BEGIN r.x := on; P(a[0], a[c + 3], r.x) END Q; BEGIN Q END M.";
 
 const KINDS_SHOWN: &str = "CONST c = -3
 CONST on = TRUE
@@ -283,8 +199,8 @@ PROCEDURE Q()
 // Records within arrays, records and parameters, and a type that is declared again.
 const PARTS: &str =
     "MODULE M; TYPE A = ARRAY 2 OF RECORD x: BOOLEAN END; PROCEDURE P(VAR p, q: RECORD x: A; \
-    y, z: RECORD x: INTEGER END END); TYPE A = INTEGER; VAR v: RECORD x: A END; \
-    BEGIN p.y.x := v.x END P; END M.";
+    y, z: RECORD x: INTEGER END END); TYPE A = INTEGER; VAR v: RECORD x: A END; BEGIN p.y.x := v.x END P; \
+    END M.";
 
 const PARTS_SHOWN: &str = "TYPE A = ARRAY 2 OF RECORD with 1 fields
 FIELD x: BOOLEAN
@@ -311,27 +227,24 @@ FIELD x: INTEGER
 PROCEDURE P(VAR p: RECORD with 3 fields; VAR q: RECORD with 3 fields)
 ";
 
-static SHOWN: &[(&str, &str)] = &[(KINDS, KINDS_SHOWN), (PARTS, PARTS_SHOWN)];
+static SHOWN: &[Row] = rows![
+    KINDS, Shown => KINDS_SHOWN;
+    PARTS, Shown => PARTS_SHOWN;
+];
 
-fn shown_rows() -> &'static [(&'static str, &'static str)] {
+fn shown_rows() -> &'static [Row] {
     SHOWN
 }
 
 #[test]
 fn each_kind_of_name_is_shown(rt: HostRuntime) {
-    for row in shown_rows() {
-        assert!(rt; is_said(rt.alloc(), row.0, &Shown, row.1), "{}", row.0);
-    }
+    let (text, _) = first_wrong(rt.alloc(), shown_rows(), false);
+    assert!(rt; text.is_empty(), "{text}");
 }
 
 // `make faults` runs this with each allocation refused in turn.
 #[test]
 fn a_refused_allocation_changes_no_answer(rt: HostRuntime) {
-    for row in shown_rows() {
-        assert!(rt;
-            is_said_or_refused(rt.alloc(), row.0, &Shown, row.1),
-            "{}",
-            row.0
-        );
-    }
+    let (text, _) = first_wrong(rt.alloc(), shown_rows(), true);
+    assert!(rt; text.is_empty(), "{text}");
 }

@@ -1,40 +1,26 @@
 //! What worked modules output, and how they end.
 
-ghost use Rattle.std.specs.Prelude.{⊤};
-
-use crate::asking::{is_said, is_said_or_refused};
-use ob0_analysis::Question;
+use crate::asking::Asked::Run;
+use crate::asking::{Row, first_wrong, rows};
 use ob0_run::{End, Item, run};
 use ob0_types::WellTyped;
 use std::alloc::{AllocError, Global};
 use std::process::Abort;
 
-/// What a run outputs, a line as `/`, and how it ends.
-#[derive(Drop)]
-struct RunOf<'a> {
-    input: &'a [i32],
+/// Adds what a run outputs, a line as `/`, and how it ends.
+pub fn push_run(
+    alloc: Global,
+    out: &mut String,
+    module: &WellTyped<'_>,
+    input: &[i32],
     calls: u32,
     turns: u32,
+) -> Result<(), AllocError> {
+    let outcome = run(alloc, module, input, calls, turns)?;
+    push_outcome(out, outcome.output.as_slice(), outcome.end)
 }
 
-impl<'a> Question for RunOf<'a> {
-    type Answer = String;
-
-    ghost answers = { λ _ _ _. ⊤ };
-
-    fn answer(&self, alloc: Global, module: &WellTyped<'_>) -> Result<String, AllocError> {
-        let outcome = run(alloc, module, self.input, self.calls, self.turns)?;
-        text_of_run(alloc, outcome.output.as_slice(), outcome.end)
-    }
-}
-
-fn text_of_run(alloc: Global, output: &[Item], end: End) -> Result<String, AllocError> {
-    let mut out = String::new(alloc);
-    push_run(&mut out, output, end)?;
-    Ok(out)
-}
-
-fn push_run(out: &mut String, output: &[Item], end: End) -> Result<(), AllocError> {
+fn push_outcome(out: &mut String, output: &[Item], end: End) -> Result<(), AllocError> {
     for item in output {
         push_item(out, *item)?;
     }
@@ -61,249 +47,138 @@ fn name_of(end: End) -> &'static str {
     }
 }
 
-const SHADOWED: &str = "MODULE M;\n\
-    VAR Q: INTEGER;\n\
-    PROCEDURE A;\n\
-    PROCEDURE P; BEGIN Q := 7 END P;\n\
-    PROCEDURE R; BEGIN Write(2) END R;\n\
-    BEGIN P; R END A;\n\
-    BEGIN A; Write(Q) END M.";
+const SHADOWED: &str =
+    "MODULE M;\nVAR Q: INTEGER;\nPROCEDURE A;\nPROCEDURE P; BEGIN Q := 7 END P;\n\
+    PROCEDURE R; BEGIN Write(2) END R;\nBEGIN P; R END A;\nBEGIN A; Write(Q) END M.";
 
-const RECURSIVE: &str = "MODULE M;\n\
-    PROCEDURE F(n: INTEGER);\n\
-    BEGIN IF n > 0 THEN Write(n); F(n - 1) END END F;\n\
-    BEGIN F(2) END M.";
+const RECURSIVE: &str =
+    "MODULE M;\nPROCEDURE F(n: INTEGER);\nBEGIN IF n > 0 THEN Write(n); F(n - 1) END END F;\nBEGIN F(2) END M.";
 
-const WHILE: &str = "MODULE M;\n\
-    VAR n: INTEGER;\n\
-    PROCEDURE P; BEGIN Write(n) END P;\n\
+const WHILE: &str = "MODULE M;\nVAR n: INTEGER;\nPROCEDURE P; BEGIN Write(n) END P;\n\
     BEGIN Read(n); WHILE n > 0 DO n := n - 1; WriteLn END; P END M.";
 
 const REPEAT: &str =
     "MODULE M;\nVAR n: INTEGER;\nBEGIN Read(n); REPEAT Write(n); n := n - 1 UNTIL n <= 0 END M.";
 
-const ALIASES: &str = "MODULE M;\n\
-    VAR a: ARRAY 2 OF INTEGER; i: INTEGER;\n\
+const ALIASES: &str = "MODULE M;\nVAR a: ARRAY 2 OF INTEGER; i: INTEGER;\n\
     PROCEDURE S(VAR p: INTEGER; q: INTEGER; VAR r: INTEGER);\n\
     BEGIN i := 1; p := q + 1; r := p * 10; Write(q) END S;\n\
-    BEGIN i := 0; S(a[i], a[i], a[i]); Write(a[0]); Write(a[1]); S(i, i, i); Write(i); \
-    a[i] := 0 END M.";
+    BEGIN i := 0; S(a[i], a[i], a[i]); Write(a[0]); Write(a[1]); S(i, i, i); Write(i); a[i] := 0 END M.";
 
-const ACTIVATIONS: &str = "MODULE M;\n\
-    PROCEDURE P(n: INTEGER);\n\
-    VAR k: INTEGER;\n\
-    PROCEDURE Q; BEGIN k := k + n END Q;\n\
-    BEGIN IF n > 0 THEN P(n - 1) END; Q; Q; Write(k) END P;\n\
-    BEGIN P(2) END M.";
+const ACTIVATIONS: &str =
+    "MODULE M;\nPROCEDURE P(n: INTEGER);\nVAR k: INTEGER;\nPROCEDURE Q; BEGIN k := k + n END Q;\n\
+    BEGIN IF n > 0 THEN P(n - 1) END; Q; Q; Write(k) END P;\nBEGIN P(2) END M.";
 
-const RECORDS: &str = "MODULE M;\n\
-    TYPE P = RECORD x, y: INTEGER; on: BOOLEAN END;\n\
-    VAR p, q: P; ps: ARRAY 2 OF P;\n\
+const RECORDS: &str =
+    "MODULE M;\nTYPE P = RECORD x, y: INTEGER; on: BOOLEAN END;\nVAR p, q: P; ps: ARRAY 2 OF P;\n\
     PROCEDURE Set(VAR r: P; s: P); BEGIN r.x := 5; Write(s.x); s.x := 9 END Set;\n\
-    BEGIN p.x := 1; q := p; q.x := 2; Set(p, p); Write(p.x); Write(q.x); ps[1] := p; \
-    Write(ps[1].x + ps[0].y); IF ~ps[0].on THEN WriteLn END END M.";
+    BEGIN p.x := 1; q := p; q.x := 2; Set(p, p); Write(p.x); Write(q.x); ps[1] := p; Write(ps[1].x + ps[0].y); \
+    IF ~ps[0].on THEN WriteLn END END M.";
 
-const ELEMENTS: &str = "MODULE M;\n\
-    VAR a: ARRAY 2 OF INTEGER; i: INTEGER;\n\
-    BEGIN a[0] := 3; a[1] := -a[0] * a[0]; i := 1; Write(a[i] - 1); i := a[0]; \
-    a[i - 1] := 1 DIV 0 END M.";
+const ELEMENTS: &str = "MODULE M;\nVAR a: ARRAY 2 OF INTEGER; i: INTEGER;\n\
+    BEGIN a[0] := 3; a[1] := -a[0] * a[0]; i := 1; Write(a[i] - 1); i := a[0]; a[i - 1] := 1 DIV 0 END M.";
 
-const TRUTHS: &str = "MODULE M;\n\
-    VAR b: ARRAY 2 OF BOOLEAN; p: BOOLEAN;\n\
+const TRUTHS: &str = "MODULE M;\nVAR b: ARRAY 2 OF BOOLEAN; p: BOOLEAN;\n\
     BEGIN b[1] := TRUE; p := b[1] = ~b[0]; IF p & (b[0] # TRUE) THEN Write(1) END;\n\
-    IF p OR (1 DIV 0 = 1) THEN Write(2) END; IF b[0] & (1 DIV 0 = 1) OR (1 DIV 0 = 1) THEN \
-    Write(3) END END M.";
+    IF p OR (1 DIV 0 = 1) THEN Write(2) END; IF b[0] & (1 DIV 0 = 1) OR (1 DIV 0 = 1) THEN Write(3) END END M.";
 
-const ROWS_OF_ARRAYS: &str = "MODULE M;\n\
-    VAR m: ARRAY 2 OF ARRAY 3 OF INTEGER; i: INTEGER;\n\
+const ROWS_OF_ARRAYS: &str = "MODULE M;\nVAR m: ARRAY 2 OF ARRAY 3 OF INTEGER; i: INTEGER;\n\
     BEGIN i := 2; m[1][i] := 4; m[0] := m[1]; m[1][i] := 5; Write(m[0][i]); Write(m[1][2]); \
     Write(m[1][i + 1]) END M.";
 
-const LARGE_ARGUMENT: &str = "MODULE M;\n\
-    TYPE A = ARRAY 65536 OF INTEGER;\n\
-    VAR a: A;\n\
+const LARGE_ARGUMENT: &str = "MODULE M;\nTYPE A = ARRAY 65536 OF INTEGER;\nVAR a: A;\n\
     PROCEDURE P(b: A); BEGIN b[65535] := 5; Write(b[65535]); Write(b[0]) END P;\n\
     BEGIN a[0] := 3; a[65535] := 4; P(a); Write(a[65535]) END M.";
 
 const THIRTY_FIELDS: &str = "MODULE M;\n\
-    VAR r: RECORD a, b, c, d, e, f, g, h, i, j, k, l, m, n, o, p, q, r, s, t, u, v, w, x, y, z, \
-    aa, bb, cc, dd: INTEGER END;\n\
+    VAR r: RECORD a, b, c, d, e, f, g, h, i, j, k, l, m, n, o, p, q, r, s, t, u, v, w, x, y, z, aa, bb, cc, \
+    dd: INTEGER END;\n\
     BEGIN r.a := 1; r.cc := 29; r.dd := 30; Write(r.a + r.dd); Write(r.cc); Write(r.bb) END M.";
 
-const TWELVE_REFERENCES: &str = "MODULE M;\n\
-    VAR x: ARRAY 12 OF INTEGER;\n\
-    PROCEDURE P(VAR a, b, c, d, e, f, g, h, i, j, k, l: INTEGER);\n\
+const TWELVE_REFERENCES: &str =
+    "MODULE M;\nVAR x: ARRAY 12 OF INTEGER;\nPROCEDURE P(VAR a, b, c, d, e, f, g, h, i, j, k, l: INTEGER);\n\
     BEGIN a := 1; l := a + 11; f := l END P;\n\
     BEGIN P(x[0], x[1], x[2], x[3], x[4], x[5], x[6], x[7], x[8], x[9], x[10], x[11]);\n\
     Write(x[0]); Write(x[11]); Write(x[5]); Write(x[4]) END M.";
 
-const HUNDRED_DEEP: &str = "MODULE M;\n\
-    VAR k: INTEGER;\n\
-    PROCEDURE D(n: INTEGER); BEGIN k := k + 1; IF n > 1 THEN D(n - 1) END END D;\n\
+const HUNDRED_DEEP: &str =
+    "MODULE M;\nVAR k: INTEGER;\nPROCEDURE D(n: INTEGER); BEGIN k := k + 1; IF n > 1 THEN D(n - 1) END END D;\n\
     BEGIN D(100); Write(k) END M.";
 
-const THOUSAND_DEEP: &str = "MODULE M;\n\
-    VAR k: INTEGER;\n\
-    PROCEDURE D(n: INTEGER); BEGIN k := k + 1; IF n > 1 THEN D(n - 1) END END D;\n\
+const THOUSAND_DEEP: &str =
+    "MODULE M;\nVAR k: INTEGER;\nPROCEDURE D(n: INTEGER); BEGIN k := k + 1; IF n > 1 THEN D(n - 1) END END D;\n\
     BEGIN D(1000); Write(k) END M.";
 
-const FIELDS: &str = "MODULE M;\n\
-    TYPE P = RECORD x, y: INTEGER END; R = RECORD n: INTEGER; p: P; ps: ARRAY 3 OF P END;\n\
-    VAR r: R; rs: ARRAY 2 OF R; i, j: INTEGER;\n\
-    PROCEDURE Set(n: INTEGER; VAR r: R);\n\
+const FIELDS: &str =
+    "MODULE M;\nTYPE P = RECORD x, y: INTEGER END; R = RECORD n: INTEGER; p: P; ps: ARRAY 3 OF P END;\n\
+    VAR r: R; rs: ARRAY 2 OF R; i, j: INTEGER;\nPROCEDURE Set(n: INTEGER; VAR r: R);\n\
     PROCEDURE Inner; BEGIN r.p.y := r.n + 1; r.ps[2].y := r.p.y * 2 END Inner;\n\
     BEGIN r.n := n; r.p.x := n; i := 1; r.ps[i].x := n + 4; Inner END Set;\n\
-    BEGIN i := 0; j := 2; Set(5, r); Write(r.n + r.p.x); Write(r.p.y); Write(r.ps[1].x); \
-    Write(r.ps[j].y); Set(7, rs[1]); Write(rs[i].ps[j].y); Write(rs[1].p.y); \
-    Write(rs[i].ps[1].x); rs[0].ps[i] := r.ps[2]; Write(rs[0].ps[1].y + rs[0].ps[1].x); \
-    Write(r.ps[3].x) END M.";
+    BEGIN i := 0; j := 2; Set(5, r); Write(r.n + r.p.x); Write(r.p.y); Write(r.ps[1].x); Write(r.ps[j].y); \
+    Set(7, rs[1]); Write(rs[i].ps[j].y); Write(rs[1].p.y); Write(rs[i].ps[1].x); rs[0].ps[i] := r.ps[2]; \
+    Write(rs[0].ps[1].y + rs[0].ps[1].x); Write(r.ps[3].x) END M.";
 
-/// A text, its input, how many calls may be open and how many turns a loop may make, and what is shown.
-type RunRow = (&'static str, &'static [i32], u32, u32, &'static str);
-
-static ROWS: &[RunRow] = &[
-    (
-        "MODULE M; BEGIN Write(-7 DIV 3); Write((-7) DIV 3); Write((-7) MOD 3); \
-         Write(1 MOD 0) END M.",
-        &[],
-        64,
-        100_000,
-        " -2 -3 2; Divisor",
-    ),
-    (
-        "MODULE M; BEGIN Write(7 MOD (-2)) END M.",
-        &[],
-        0,
-        0,
-        "; Divisor",
-    ),
-    (
-        "MODULE M; BEGIN Write(2147483647); Write(2147483647 + 1) END M.",
-        &[],
-        0,
-        0,
-        " 2147483647; Overflow",
-    ),
-    (
-        "MODULE M; BEGIN Write(-(-2147483647 - 1)) END M.",
-        &[],
-        0,
-        0,
-        "; Overflow",
-    ),
-    (
-        "MODULE M;\n\
-         VAR x: INTEGER;\n\
-         PROCEDURE P;\n\
-         VAR y: INTEGER;\n\
-         BEGIN y := 1; x := y END P;\n\
-         BEGIN P; Write(x) END M.",
-        &[],
-        1,
-        0,
-        " 1; Done",
-    ),
-    (SHADOWED, &[], 64, 0, " 2 7; Done"),
-    (SHADOWED, &[], 1, 0, "; CallBound"),
-    (RECURSIVE, &[], 3, 0, " 2 1; Done"),
-    (RECURSIVE, &[], 2, 0, " 2 1; CallBound"),
-    (
-        "MODULE M; PROCEDURE P; BEGIN Write(1) END P; BEGIN P; P; P END M.",
-        &[],
-        1,
-        0,
-        " 1 1 1; Done",
-    ),
-    (
-        "MODULE M;\nCONST c = -2147483647 - 1;\nVAR x: INTEGER;\nBEGIN x := 0 + c; Write(x) END M.",
-        &[],
-        0,
-        0,
-        " -2147483648; Done",
-    ),
-    (
-        "MODULE M; CONST n = 3; m = n * 2; TYPE T = ARRAY m OF INTEGER; VAR a: T; \
-         BEGIN a[m - 1] := n; Write(a[5]); IF TRUE & (m = 6) THEN Write(m) END END M.",
-        &[],
-        0,
-        0,
-        " 3 6; Done",
-    ),
-    (WHILE, &[], 64, 100_000, "; InputEnd"),
-    (WHILE, &[7], 0, 3, "///; TurnBound"),
-    (WHILE, &[2], 0, 3, "//; CallBound"),
-    (WHILE, &[2], 1, 3, "// 0; Done"),
-    (REPEAT, &[0], 0, 0, " 0; Done"),
-    (REPEAT, &[2], 0, 0, " 2; TurnBound"),
-    (REPEAT, &[2], 0, 1, " 2; TurnBound"),
-    (REPEAT, &[2], 0, 2, " 2 1; Done"),
-    (ALIASES, &[], 1, 0, " 0 10 0 1 20; Index"),
-    (ALIASES, &[], 0, 0, "; CallBound"),
-    (ACTIVATIONS, &[], 4, 0, " 0 2 4; Done"),
-    (ACTIVATIONS, &[], 3, 0, "; CallBound"),
-    (RECORDS, &[], 1, 0, " 1 5 2 5/; Done"),
-    (ELEMENTS, &[], 0, 0, " -10; Index"),
-    (TRUTHS, &[], 0, 0, " 1 2; Divisor"),
-    (ROWS_OF_ARRAYS, &[], 0, 0, " 4 5; Index"),
-    (FIELDS, &[], 64, 0, " 10 6 9 12 16 8 11 12; Index"),
-    (LARGE_ARGUMENT, &[], 64, 0, " 5 3 4; Done"),
-    (THIRTY_FIELDS, &[], 0, 0, " 31 29 0; Done"),
-    (TWELVE_REFERENCES, &[], 1, 0, " 1 12 12 0; Done"),
-    (HUNDRED_DEEP, &[], 100, 0, " 100; Done"),
-    (HUNDRED_DEEP, &[], 99, 0, "; CallBound"),
-    (THOUSAND_DEEP, &[], 1000, 0, " 1000; Done"),
-    (THOUSAND_DEEP, &[], u32::MAX, 0, " 1000; Done"),
-    (
-        "MODULE M; VAR a: ARRAY 1 OF INTEGER; BEGIN a[0] := 1 DIV 0 END M.",
-        &[],
-        0,
-        0,
-        "; Divisor",
-    ),
-    (
-        "MODULE M; VAR a: ARRAY 1 OF INTEGER; BEGIN a[0 - 1] := 1 END M.",
-        &[],
-        0,
-        0,
-        "; Index",
-    ),
+static ROWS: &[Row] = rows![
+    "MODULE M; BEGIN Write(-7 DIV 3); Write((-7) DIV 3); Write((-7) MOD 3); Write(1 MOD 0) END M.",
+        Run(&[], 64, 100_000) =>
+        " -2 -3 2; Divisor";
+    "MODULE M; BEGIN Write(7 MOD (-2)) END M.", Run(&[], 0, 0) => "; Divisor";
+    "MODULE M; BEGIN Write(2147483647); Write(2147483647 + 1) END M.", Run(&[], 0, 0) =>
+        " 2147483647; Overflow";
+    "MODULE M; BEGIN Write(-(-2147483647 - 1)) END M.", Run(&[], 0, 0) => "; Overflow";
+    "MODULE M;\nVAR x: INTEGER;\nPROCEDURE P;\nVAR y: INTEGER;\nBEGIN y := 1; x := y END P;\n\
+        BEGIN P; Write(x) END M.", Run(&[], 1, 0) => " 1; Done";
+    SHADOWED, Run(&[], 64, 0) => " 2 7; Done";
+    SHADOWED, Run(&[], 1, 0) => "; CallBound";
+    RECURSIVE, Run(&[], 3, 0) => " 2 1; Done";
+    RECURSIVE, Run(&[], 2, 0) => " 2 1; CallBound";
+    "MODULE M; PROCEDURE P; BEGIN Write(1) END P; BEGIN P; P; P END M.", Run(&[], 1, 0) => " 1 1 1; Done";
+    "MODULE M;\nCONST c = -2147483647 - 1;\nVAR x: INTEGER;\nBEGIN x := 0 + c; Write(x) END M.",
+        Run(&[], 0, 0) =>
+        " -2147483648; Done";
+    "MODULE M; CONST n = 3; m = n * 2; TYPE T = ARRAY m OF INTEGER; VAR a: T; BEGIN a[m - 1] := n; \
+        Write(a[5]); IF TRUE & (m = 6) THEN Write(m) END END M.", Run(&[], 0, 0) => " 3 6; Done";
+    WHILE, Run(&[], 64, 100_000) => "; InputEnd";
+    WHILE, Run(&[7], 0, 3) => "///; TurnBound";
+    WHILE, Run(&[2], 0, 3) => "//; CallBound";
+    WHILE, Run(&[2], 1, 3) => "// 0; Done";
+    REPEAT, Run(&[0], 0, 0) => " 0; Done";
+    REPEAT, Run(&[2], 0, 0) => " 2; TurnBound";
+    REPEAT, Run(&[2], 0, 1) => " 2; TurnBound";
+    REPEAT, Run(&[2], 0, 2) => " 2 1; Done";
+    ALIASES, Run(&[], 1, 0) => " 0 10 0 1 20; Index";
+    ALIASES, Run(&[], 0, 0) => "; CallBound";
+    ACTIVATIONS, Run(&[], 4, 0) => " 0 2 4; Done";
+    ACTIVATIONS, Run(&[], 3, 0) => "; CallBound";
+    RECORDS, Run(&[], 1, 0) => " 1 5 2 5/; Done";
+    ELEMENTS, Run(&[], 0, 0) => " -10; Index";
+    TRUTHS, Run(&[], 0, 0) => " 1 2; Divisor";
+    ROWS_OF_ARRAYS, Run(&[], 0, 0) => " 4 5; Index";
+    FIELDS, Run(&[], 64, 0) => " 10 6 9 12 16 8 11 12; Index";
+    LARGE_ARGUMENT, Run(&[], 64, 0) => " 5 3 4; Done";
+    THIRTY_FIELDS, Run(&[], 0, 0) => " 31 29 0; Done";
+    TWELVE_REFERENCES, Run(&[], 1, 0) => " 1 12 12 0; Done";
+    HUNDRED_DEEP, Run(&[], 100, 0) => " 100; Done";
+    HUNDRED_DEEP, Run(&[], 99, 0) => "; CallBound";
+    THOUSAND_DEEP, Run(&[], 1000, 0) => " 1000; Done";
+    THOUSAND_DEEP, Run(&[], u32::MAX, 0) => " 1000; Done";
+    "MODULE M; VAR a: ARRAY 1 OF INTEGER; BEGIN a[0] := 1 DIV 0 END M.", Run(&[], 0, 0) => "; Divisor";
+    "MODULE M; VAR a: ARRAY 1 OF INTEGER; BEGIN a[0 - 1] := 1 END M.", Run(&[], 0, 0) => "; Index";
 ];
 
-fn rows() -> &'static [RunRow] {
+fn run_rows() -> &'static [Row] {
     ROWS
-}
-
-fn is_run(alloc: Global, row: &RunRow) -> bool {
-    let (text, input, calls, turns, wanted) = *row;
-    let question = RunOf {
-        input,
-        calls,
-        turns,
-    };
-    is_said(alloc, text, &question, wanted)
 }
 
 #[test]
 fn worked_modules_are_run(rt: HostRuntime) {
-    for row in rows() {
-        assert!(rt; is_run(rt.alloc(), row), "{}", row.0);
-    }
-}
-
-fn is_run_or_refused(alloc: Global, row: &RunRow) -> bool {
-    let (text, input, calls, turns, wanted) = *row;
-    let question = RunOf {
-        input,
-        calls,
-        turns,
-    };
-    is_said_or_refused(alloc, text, &question, wanted)
+    let (text, wanted) = first_wrong(rt.alloc(), run_rows(), false);
+    assert!(rt; text.is_empty(), "{wanted} of {text}");
 }
 
 // `make faults` runs this with each allocation refused in turn.
 #[test]
 fn a_refused_allocation_changes_no_run(rt: HostRuntime) {
-    for row in rows() {
-        assert!(rt; is_run_or_refused(rt.alloc(), row), "{}", row.0);
-    }
+    let (text, wanted) = first_wrong(rt.alloc(), run_rows(), true);
+    assert!(rt; text.is_empty(), "{wanted} of {text}");
 }
