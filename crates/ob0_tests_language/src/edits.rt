@@ -185,11 +185,20 @@ fn is_renamed(alloc: Global, row: &Row) -> bool {
     }
 }
 
+/// The wanted answer of the first row that is renamed otherwise.
+fn first_misnamed(alloc: Global) -> Option<&'static str> {
+    for row in rename_rows() {
+        if !is_renamed(alloc, row) {
+            return Some(row.2);
+        }
+    }
+    None
+}
+
 #[test]
 fn names_and_fields_are_renamed(rt: HostRuntime) {
-    for row in rename_rows() {
-        assert!(rt; is_renamed(rt.alloc(), row), "{} in {}", row.2, row.0);
-    }
+    let wrong = first_misnamed(rt.alloc());
+    assert!(rt; wrong.is_none(), "{wrong:?}");
 }
 
 const LEAST: &str =
@@ -319,9 +328,18 @@ fn is_laid_out_once(alloc: Global, row: &Row) -> bool {
     is_said(alloc, text, &asked, wanted, false) && is_said(alloc, wanted, &asked, wanted, false)
 }
 
+/// The first text that is laid out otherwise.
+fn first_mislaid(alloc: Global) -> Option<&'static str> {
+    for row in LAID_OUT {
+        if !is_laid_out_once(alloc, row) {
+            return Some(row.0);
+        }
+    }
+    None
+}
+
 #[test]
 fn texts_are_laid_out_once(rt: HostRuntime) {
-    for row in LAID_OUT {
-        assert!(rt; is_laid_out_once(rt.alloc(), row), "{}", row.0);
-    }
+    let wrong = first_mislaid(rt.alloc());
+    assert!(rt; wrong.is_none(), "{wrong:?}");
 }

@@ -213,11 +213,20 @@ fn is_little_read(alloc: Global, other: &str, most: usize) -> bool {
 /// What comes in place of the digit, and how many tokens and comments are read again at most.
 static IN_THE_MIDDLE: &[(&str, usize)] = &[("2", 8), ("(* one *) 1", 8), ("1 + 1", 8), ("", 8)];
 
+/// The first text for which too much is read.
+fn first_much_read(alloc: Global) -> Option<&'static str> {
+    for row in IN_THE_MIDDLE {
+        if !is_little_read(alloc, row.0, row.1) {
+            return Some(row.0);
+        }
+    }
+    None
+}
+
 #[test]
 fn little_is_read_again_in_a_long_text(rt: HostRuntime) {
-    for row in IN_THE_MIDDLE {
-        assert!(rt; is_little_read(rt.alloc(), row.0, row.1), "{}", row.0);
-    }
+    let wrong = first_much_read(rt.alloc());
+    assert!(rt; wrong.is_none(), "{wrong:?}");
 }
 
 /// Texts before which `(*` is put, and what comes of it.
@@ -256,11 +265,20 @@ static ALIKE: &[(&str, bool)] = &[
     ("", false),
 ];
 
+/// The first text with which the tokens are alike and shouldn't be, or the other way round.
+fn first_unlike(alloc: Global) -> Option<&'static str> {
+    for row in ALIKE {
+        if !is_alike_with(alloc, row.0, row.1) {
+            return Some(row.0);
+        }
+    }
+    None
+}
+
 #[test]
 fn tokens_are_alike_where_their_kinds_stay(rt: HostRuntime) {
-    for row in ALIKE {
-        assert!(rt; is_alike_with(rt.alloc(), row.0, row.1), "{}", row.0);
-    }
+    let wrong = first_unlike(rt.alloc());
+    assert!(rt; wrong.is_none(), "{wrong:?}");
 }
 
 /// A row of numbers that look random.

@@ -5,7 +5,7 @@ use ob0_rpc::{
     Call, Client, Id, Incoming, OneMember, RpcFault, Written, error, notification, notify, read,
     request, result, result_of,
 };
-use ob0_text::{Indent, Position, Range};
+use ob0_text::{Indent, Range};
 use serde_json::{Value, json};
 use std::alloc::{AllocError, Global};
 use std::process::Abort;
@@ -221,16 +221,20 @@ static REQUESTS: &[(&str, &str, &str)] = rows![
         r#"{"options":{"insertSpaces":true,"tabSize":-1},"textDocument":{"uri":"u"}}"# => "bad params";
 ];
 
+/// The params of the first request that is taken for another.
+fn first_mistaken(alloc: Global) -> Option<&'static str> {
+    for row in REQUESTS {
+        if method_word(alloc, row.0, row.1) != row.2 {
+            return Some(row.1);
+        }
+    }
+    None
+}
+
 #[test]
 fn requests_are_distinguished(rt: HostRuntime) {
-    for row in REQUESTS {
-        assert!(rt;
-            method_word(rt.alloc(), row.0, row.1) == row.2,
-            "{} {}",
-            row.0,
-            row.1
-        );
-    }
+    let wrong = first_mistaken(rt.alloc());
+    assert!(rt; wrong.is_none(), "{wrong:?}");
 }
 
 fn is_written(written: Result<Vec<u8>, AllocError>, wanted: &str) -> bool {
@@ -272,70 +276,76 @@ fn are_written_with_a_value(alloc: Global, answer: &str, note: &str) -> bool {
 
 #[test]
 fn values_are_written(rt: HostRuntime) {
-    let answer =
-        "{\"id\":5,\"jsonrpc\":\"2.0\",\"result\":{\"a\":{\"c\":\"\\\"\\n\"},\"b\":[true,null,-1]}}";
-    let note = "{\"jsonrpc\":\"2.0\",\"method\":\"m\",\
-         \"params\":{\"a\":{\"c\":\"\\\"\\n\"},\"b\":[true,null,-1]}}";
+    let answer = r#"{"id":5,"jsonrpc":"2.0","result":{"a":{"c":"\"\n"},"b":[true,null,-1]}}"#;
+    let note = r#"{"jsonrpc":"2.0","method":"m","params":{"a":{"c":"\"\n"},"b":[true,null,-1]}}"#;
     assert!(rt; are_written_with_a_value(rt.alloc(), answer, note));
+}
+
+fn are_answers_written(alloc: Global) -> bool {
+    let nothing = r#"{"id":-7,"jsonrpc":"2.0","result":null}"#;
+    let no_json = r#"{"error":{"code":-32700,"message":"not JSON"},"id":null,"jsonrpc":"2.0"}"#;
+    let note = r#"{"jsonrpc":"2.0","method":"m","params":null}"#;
+    is_answer(alloc, &Id::Signed(-7), &(), nothing)
+        && is_error(alloc, RpcFault::NotJson, no_json)
+        && is_note(alloc, "m", note)
 }
 
 #[test]
 fn answers_are_written(rt: HostRuntime) {
-    let wanted = r#"{"id":-7,"jsonrpc":"2.0","result":null}"#;
-    assert!(rt; is_answer(rt.alloc(), &Id::Signed(-7), &(), wanted));
-    let wanted = r#"{"error":{"code":-32700,"message":"not JSON"},"id":null,"jsonrpc":"2.0"}"#;
-    assert!(rt; is_error(rt.alloc(), RpcFault::NotJson, wanted));
-    let wanted = r#"{"jsonrpc":"2.0","method":"m","params":null}"#;
-    assert!(rt; is_note(rt.alloc(), "m", wanted));
+    assert!(rt; are_answers_written(rt.alloc()));
 }
 
-fn is_range(alloc: Global, start: Position, end: Position, wanted: &str) -> bool {
-    is_answer(alloc, &Id::Signed(1), &Range { start, end }, wanted)
+const LARGEST: &str =
+    "{\"id\":1,\"jsonrpc\":\"2.0\",\"result\":{\"end\":{\"character\":18446744073709551615,\
+    \"line\":18446744073709551615},\"start\":{\"character\":18446744073709551615,\"line\":18446744073709551615}}}";
+
+fn are_ranges_written(alloc: Global) -> bool {
+    let most = at(u64::MAX, u64::MAX);
+    let largest = Range {
+        start: most,
+        end: most,
+    };
+    let range = Range {
+        start: at(0, 9),
+        end: at(10, 12345),
+    };
+    let wanted =
+        r#"{"id":1,"jsonrpc":"2.0","result":{"end":{"character":12345,"line":10},"start":{"character":9,"line":0}}}"#;
+    is_answer(alloc, &Id::Signed(1), &range, wanted)
+        && is_answer(alloc, &Id::Signed(1), &largest, LARGEST)
 }
 
 #[test]
 fn ranges_are_written_as_text(rt: HostRuntime) {
-    let wanted =
-        "{\"id\":1,\"jsonrpc\":\"2.0\",\"result\":{\"end\":{\"character\":12345,\"line\":10},\
-         \"start\":{\"character\":9,\"line\":0}}}";
-    assert!(rt; is_range(rt.alloc(), at(0, 9), at(10, 12345), wanted));
-    let most = at(u64::MAX, u64::MAX);
-    let wanted =
-        "{\"id\":1,\"jsonrpc\":\"2.0\",\"result\":{\"end\":{\"character\":18446744073709551615,\
-         \"line\":18446744073709551615},\"start\":{\"character\":18446744073709551615,\
-         \"line\":18446744073709551615}}}";
-    assert!(rt; is_range(rt.alloc(), most, most, wanted));
+    assert!(rt; are_ranges_written(rt.alloc()));
 }
 
-fn is_number<W: Written + Copy>(alloc: Global, id: u64, number: W, wanted: &str) -> bool {
-    is_answer(alloc, &Id::Unsigned(id), &number, wanted)
+fn are_numbers_written(alloc: Global) -> bool {
+    let most = r#"{"id":0,"jsonrpc":"2.0","result":18446744073709551615}"#;
+    let least = r#"{"id":18446744073709551615,"jsonrpc":"2.0","result":-9223372036854775808}"#;
+    is_answer(alloc, &Id::Unsigned(0), &u64::MAX, most)
+        && is_answer(alloc, &Id::Unsigned(u64::MAX), &i64::MIN, least)
 }
 
 #[test]
 fn numbers_are_written_as_text(rt: HostRuntime) {
-    let wanted = r#"{"id":0,"jsonrpc":"2.0","result":18446744073709551615}"#;
-    assert!(rt; is_number(rt.alloc(), 0, u64::MAX, wanted));
-    let wanted = r#"{"id":18446744073709551615,"jsonrpc":"2.0","result":-9223372036854775808}"#;
-    assert!(rt; is_number(rt.alloc(), u64::MAX, i64::MIN, wanted));
+    assert!(rt; are_numbers_written(rt.alloc()));
+}
+
+fn are_others_written(alloc: Global) -> bool {
+    let text = r#"{"id":-7,"jsonrpc":"2.0","result":"a\"\n\u0001"}"#;
+    let truths = r#"{"id":0,"jsonrpc":"2.0","result":[true,false]}"#;
+    let entry = r#"{"id":0,"jsonrpc":"2.0","result":{"a b":{"character":2,"line":1}}}"#;
+    let member = OneMember {
+        key: "a b",
+        value: Some(at(1, 2)),
+    };
+    is_answer(alloc, &Id::Signed(-7), &"a\"\n\u{1}", text)
+        && is_answer(alloc, &Id::Signed(0), &[true, false].as_slice(), truths)
+        && is_answer(alloc, &Id::Signed(0), &member, entry)
 }
 
 #[test]
 fn values_are_written_as_text(rt: HostRuntime) {
-    let wanted = "{\"id\":-7,\"jsonrpc\":\"2.0\",\"result\":\"a\\\"\\n\\u0001\"}";
-    assert!(rt; is_answer(rt.alloc(), &Id::Signed(-7), &"a\"\n\u{1}", wanted));
-    let wanted = r#"{"id":0,"jsonrpc":"2.0","result":[true,false]}"#;
-    assert!(rt;
-        is_answer(
-            rt.alloc(),
-            &Id::Signed(0),
-            &[true, false].as_slice(),
-            wanted
-        )
-    );
-    let entry = OneMember {
-        key: "a b",
-        value: Some(at(1, 2)),
-    };
-    let wanted = r#"{"id":0,"jsonrpc":"2.0","result":{"a b":{"character":2,"line":1}}}"#;
-    assert!(rt; is_answer(rt.alloc(), &Id::Signed(0), &entry, wanted));
+    assert!(rt; are_others_written(rt.alloc()));
 }

@@ -22,11 +22,20 @@ static STREAMS: &[(&str, Result<(), FrameFault>)] = &[
     ("Content-Length", Err(FrameFault::Truncated)),
 ];
 
+/// The first stream that ends otherwise.
+fn first_misended(alloc: Global) -> Option<&'static str> {
+    for row in STREAMS {
+        if end_of(alloc, row.0.as_bytes()) != row.1 {
+            return Some(row.0);
+        }
+    }
+    None
+}
+
 #[test]
 fn a_stream_ends_between_messages(rt: HostRuntime) {
-    for row in STREAMS {
-        assert!(rt; end_of(rt.alloc(), row.0.as_bytes()) == row.1, "{}", row.0);
-    }
+    let wrong = first_misended(rt.alloc());
+    assert!(rt; wrong.is_none(), "{wrong:?}");
 }
 
 /// Whether a store is copied as this text.
@@ -90,13 +99,18 @@ static NOTES: &[(&str, &str, &str)] = rows![
     "$/cancelRequest", "null" => "other";
 ];
 
+/// The method of the first notification that is taken for another.
+fn first_mistaken(alloc: Global) -> Option<&'static str> {
+    for row in NOTES {
+        if word_of_text(alloc, row.0, row.1) != row.2 {
+            return Some(row.0);
+        }
+    }
+    None
+}
+
 #[test]
 fn notifications_are_read(rt: HostRuntime) {
-    for row in NOTES {
-        assert!(rt;
-            word_of_text(rt.alloc(), row.0, row.1) == row.2,
-            "{}",
-            row.0
-        );
-    }
+    let wrong = first_mistaken(rt.alloc());
+    assert!(rt; wrong.is_none(), "{wrong:?}");
 }
