@@ -56,8 +56,8 @@ pub struct Edited {
     pub after: &'static str,
 }
 
-/// A publication with a version, for a text.
-pub struct Published {
+/// The diagnostics of a version of a text, empty or not.
+pub struct Publication {
     pub version: i64,
     pub text: &'static str,
     pub empty: bool,
@@ -70,7 +70,7 @@ pub struct Story {
     /// Each event, and what is to be seen of it.
     pub moments: &'static [(Act, Sight)],
     pub applied: &'static [Edited],
-    pub made: &'static [Published],
+    pub made: &'static [Publication],
 }
 
 /// How a story goes.
@@ -87,6 +87,10 @@ fn open_event(alloc: Global, uri: String, text: &str) -> Result<Event, AllocErro
     Ok(Event::OpenDoc { uri, text })
 }
 
+fn at(line: u64, character: u64) -> Position {
+    Position { line, character }
+}
+
 /// Another text in place of what is at these characters of a line.
 fn changes(
     alloc: Global,
@@ -95,22 +99,11 @@ fn changes(
     end: u64,
     text: &str,
 ) -> Result<Vec<Change>, AllocError> {
-    let range = Range {
-        start: Position {
-            line,
-            character: start,
-        },
-        end: Position {
-            line,
-            character: end,
-        },
-    };
+    let (start, end) = (at(line, start), at(line, end));
+    let range = Some(Range { start, end });
     let text = String::from_str(alloc, text)?;
     let mut changes = Vec::new(alloc);
-    changes.push(Change {
-        range: Some(range),
-        text,
-    })?;
+    changes.push(Change { range, text })?;
     Ok(changes)
 }
 
@@ -332,7 +325,7 @@ fn is_edit(found: &Applied, wanted: &Edited) -> bool {
     found.before.as_str() == wanted.before && found.after.as_str() == wanted.after
 }
 
-fn is_publication(found: &Made, wanted: &Published) -> bool {
+fn is_publication(found: &Made, wanted: &Publication) -> bool {
     found.version == wanted.version
         && found.text.as_str() == wanted.text
         && found.empty == wanted.empty
@@ -353,7 +346,7 @@ fn are_first_edits(found: &[Applied], wanted: &[Edited]) -> bool {
 }
 
 /// Whether publications are the first of these.
-fn are_first_publications(found: &[Made], wanted: &[Published]) -> bool {
+fn are_first_publications(found: &[Made], wanted: &[Publication]) -> bool {
     let mut place: usize = 0;
     for made in found {
         match wanted.get(place) {

@@ -34,79 +34,30 @@ struct ServeEnd {
     result: Result<u8, ServeFault>,
 }
 
-static ENDS: &[ServeEnd] = &[
-    ServeEnd {
-        bytes: INPUT,
-        len: 412,
-        given: 8192,
-        reads: u32::MAX,
-        room: 512,
-        flushes: 1,
-        result: Ok(0),
-    },
-    ServeEnd {
-        bytes: INPUT,
-        len: 412,
-        given: 40,
-        reads: u32::MAX,
-        room: 512,
-        flushes: 11,
-        result: Ok(0),
-    },
-    ServeEnd {
-        bytes: INPUT,
-        len: 291,
-        given: 40,
-        reads: u32::MAX,
-        room: 512,
-        flushes: 8,
-        result: Ok(1),
-    },
-    ServeEnd {
-        bytes: INPUT,
-        len: 300,
-        given: 8192,
-        reads: u32::MAX,
-        room: 512,
-        flushes: 1,
-        result: Err(ServeFault::Truncated),
-    },
-    ServeEnd {
-        bytes: INPUT,
-        len: 412,
-        given: 40,
-        reads: 5,
-        room: 512,
-        flushes: 5,
-        result: Err(ServeFault::Read),
-    },
-    ServeEnd {
-        bytes: INPUT,
-        len: 412,
-        given: 8192,
-        reads: u32::MAX,
-        room: 300,
-        flushes: 1,
-        result: Err(ServeFault::Write),
-    },
-    ServeEnd {
-        bytes: BAD_HEAD,
-        len: 118,
-        given: 8192,
-        reads: u32::MAX,
-        room: 512,
-        flushes: 1,
-        result: Err(ServeFault::BadHead),
-    },
-    ServeEnd {
-        bytes: BAD_HEAD,
-        len: 118,
-        given: 40,
-        reads: u32::MAX,
-        room: 512,
-        flushes: 3,
-        result: Err(ServeFault::BadHead),
-    },
+/// `BYTES to LEN, GIVEN a read, READS; ROOM, FLUSHES => RESULT;` for each.
+macro_rules! ends {
+    ($($bytes:ident to $len:expr, $given:expr, $reads:expr; $room:expr, $flushes:expr => $result:expr;)*) => {
+        &[$(ServeEnd {
+            bytes: $bytes,
+            len: $len,
+            given: $given,
+            reads: $reads,
+            room: $room,
+            flushes: $flushes,
+            result: $result,
+        }),*]
+    };
+}
+
+static ENDS: &[ServeEnd] = ends![
+    INPUT to 412, 8192, u32::MAX; 512, 1 => Ok(0);
+    INPUT to 412, 40, u32::MAX; 512, 11 => Ok(0);
+    INPUT to 291, 40, u32::MAX; 512, 8 => Ok(1);
+    INPUT to 300, 8192, u32::MAX; 512, 1 => Err(ServeFault::Truncated);
+    INPUT to 412, 40, 5; 512, 5 => Err(ServeFault::Read);
+    INPUT to 412, 8192, u32::MAX; 300, 1 => Err(ServeFault::Write);
+    BAD_HEAD to 118, 8192, u32::MAX; 512, 1 => Err(ServeFault::BadHead);
+    BAD_HEAD to 118, 40, u32::MAX; 512, 3 => Err(ServeFault::BadHead);
 ];
 
 /// How a conversation ended, which of its devices know that they failed, and whether all was flushed.

@@ -1,16 +1,14 @@
 //! What happens in worlds of an editor and a server: names, constants, layouts, and answers that are dropped.
 
-use crate::acts::{Act, Edited, Published, Sight, Story};
-use ob0_text::Unit;
+use crate::acts::Act::*;
+use crate::acts::Sight::*;
+use crate::acts::{Act, Edited, Publication, Sight, Story};
+use ob0_text::Unit::{Utf8, Utf16};
 
-const COUNTS: &str = "MODULE M;\n\
-    VAR n: INTEGER;\n\
-    PROCEDURE P; BEGIN Write(n) END P;\n\
+const COUNTS: &str = "MODULE M;\nVAR n: INTEGER;\nPROCEDURE P; BEGIN Write(n) END P;\n\
     BEGIN Read(n); WHILE n > 0 DO n := n - 1; WriteLn END; P END M.\n";
 
-const RENAMED: &str = "MODULE M;\n\
-    VAR k: INTEGER;\n\
-    PROCEDURE P; BEGIN Write(k) END P;\n\
+const RENAMED: &str = "MODULE M;\nVAR k: INTEGER;\nPROCEDURE P; BEGIN Write(k) END P;\n\
     BEGIN Read(k); WHILE k > 0 DO k := k - 1; WriteLn END; P END M.\n";
 
 const LAID_OUT: &str = "\
@@ -32,8 +30,8 @@ END M.
 ";
 
 /// Nothing is laid out here, and there are comments.
-const CROWDED: &str = "MODULE M;VAR x:INTEGER;BEGIN x:=-1;IF x<0 THEN Write(x)(* a (* b *) c *)END;\
-    WriteLn END M.(* end *)";
+const CROWDED: &str =
+    "MODULE M;VAR x:INTEGER;BEGIN x:=-1;IF x<0 THEN Write(x)(* a (* b *) c *)END;WriteLn END M.(* end *)";
 
 const CROWDED_LAID_OUT: &str = "\
 MODULE M;
@@ -51,30 +49,20 @@ END M. (* end *)
 /// No module: the full stop is missing.
 const FAULTY_TEXT: &str = "MODULE M; END M";
 
-const NAME: Act = Act::Rename(1, 4, "k");
+const NAME: Act = Rename(1, 4, "k");
 
 const LEAST: &str =
     "MODULE M;\nCONST c = -2147483647 - 1;\nVAR x: INTEGER;\nBEGIN x := 0 + c; Write(x) END M.\n";
 
-const INLINED_HERE: &str = "MODULE M;\n\
-    CONST c = -2147483647 - 1;\n\
-    VAR x: INTEGER;\n\
+const INLINED_HERE: &str = "MODULE M;\nCONST c = -2147483647 - 1;\nVAR x: INTEGER;\n\
     BEGIN x := 0 + (-2147483647 - 1); Write(x) END M.\n";
 
 const INLINED_EVERYWHERE: &str =
     "MODULE M;\nCONST \nVAR x: INTEGER;\nBEGIN x := 0 + (-2147483647 - 1); Write(x) END M.\n";
 
 /// What is written in place of the constant would be bound to a variable.
-const SHADOWED: &str = "MODULE M;\n\
-    CONST on = TRUE;\n\
-    PROCEDURE P; VAR TRUE, b: BOOLEAN; BEGIN b := on END P;\n\
-    BEGIN P END M.\n";
-
-const LEAST_MADE: Published = Published {
-    version: 1,
-    text: LEAST,
-    empty: true,
-};
+const SHADOWED: &str =
+    "MODULE M;\nCONST on = TRUE;\nPROCEDURE P; VAR TRUE, b: BOOLEAN; BEGIN b := on END P;\nBEGIN P END M.\n";
 
 const WIDE: &str = "MODULE M;\nVAR (* 😀 *) n: INTEGER;\nBEGIN (* 😀 *) n := 1 END M.\n";
 
@@ -83,60 +71,36 @@ const WIDE_RENAMED: &str = "MODULE M;\nVAR (* 😀 *) k: INTEGER;\nBEGIN (* 😀
 /// The first name written over: the second is that of nothing.
 const WIDE_WRITTEN: &str = "MODULE M;\nVAR (* 😀 *) k: INTEGER;\nBEGIN (* 😀 *) n := 1 END M.\n";
 
-const NAMED: &[(Act, Sight)] = &[
-    (Act::Open(COUNTS), Sight::Sent),
-    (NAME, Sight::Sent),
-    (Act::Serve, Sight::Served(1)),
-    (Act::Serve, Sight::Served(1)),
-    (Act::Take, Sight::Published(true)),
-    (Act::Take, Sight::Answered(1, true)),
-    (Act::Apply(1), Sight::Applied(1)),
-    (Act::Apply(1), Sight::Nothing),
-    (Act::Serve, Sight::Served(1)),
-    (Act::Take, Sight::Published(true)),
+/// Moments: `ACT => SIGHT` for each.
+macro_rules! moments {
+    ($($act:expr => $sight:expr),*) => { &[$(($act, $sight)),*] };
+}
+
+/// Stories: `NAME, UNIT, MOMENTS, [BEFORE => AFTER of each edit], [VERSION, TEXT => whether its diagnostics are empty];`.
+macro_rules! stories {
+    ($($name:expr, $unit:expr, $moments:expr, [$($before:expr => $after:expr),*],
+        [$($version:expr, $text:expr => $empty:expr);*];)*) => {
+        &[$(Story {
+            name: $name,
+            unit: $unit,
+            moments: $moments,
+            applied: &[$(Edited { before: $before, after: $after }),*],
+            made: &[$(Publication { version: $version, text: $text, empty: $empty }),*],
+        }),*]
+    };
+}
+
+const NAMED: &[(Act, Sight)] = moments![
+    Open(COUNTS) => Sent, NAME => Sent, Serve => Served(1), Serve => Served(1), Take => Published(true),
+    Take => Answered(1, true), Apply(1) => Applied(1), Apply(1) => Nothing, Serve => Served(1),
+    Take => Published(true)
 ];
 
-const NAMED_MADE: &[Published] = &[
-    Published {
-        version: 1,
-        text: COUNTS,
-        empty: true,
-    },
-    Published {
-        version: 2,
-        text: RENAMED,
-        empty: true,
-    },
-];
-
-const REOPENED: &[(Act, Sight)] = &[
-    (Act::Open(COUNTS), Sight::Sent),
-    (NAME, Sight::Sent),
-    (Act::Close, Sight::Sent),
-    (Act::Open(FAULTY_TEXT), Sight::Sent),
-    (Act::Serve, Sight::Served(1)),
-    (Act::Serve, Sight::Served(1)),
-    (Act::Serve, Sight::Served(1)),
-    (Act::Serve, Sight::Served(1)),
-    (Act::Take, Sight::Published(true)),
-    (Act::Take, Sight::Answered(1, true)),
-    (Act::Take, Sight::Published(true)),
-    (Act::Take, Sight::Published(false)),
-    (Act::Apply(1), Sight::Dropped(1)),
-    (Act::Apply(1), Sight::Nothing),
-];
-
-const REOPENED_MADE: &[Published] = &[
-    Published {
-        version: 1,
-        text: COUNTS,
-        empty: true,
-    },
-    Published {
-        version: 1,
-        text: FAULTY_TEXT,
-        empty: false,
-    },
+const REOPENED: &[(Act, Sight)] = moments![
+    Open(COUNTS) => Sent, NAME => Sent, Close => Sent, Open(FAULTY_TEXT) => Sent, Serve => Served(1),
+    Serve => Served(1), Serve => Served(1), Serve => Served(1), Take => Published(true),
+    Take => Answered(1, true), Take => Published(true), Take => Published(false), Apply(1) => Dropped(1),
+    Apply(1) => Nothing
 ];
 
 /// All of them. (An expression that names the table itself is as expensive as the table is long.)
@@ -145,430 +109,85 @@ pub fn stories() -> &'static [Story] {
 }
 
 /// The first one is played by itself too.
-static STORIES: &[Story] = &[
-    Story {
-        name: "another name is applied",
-        unit: Unit::Utf16,
-        moments: NAMED,
-        applied: &[Edited {
-            before: COUNTS,
-            after: RENAMED,
-        }],
-        made: NAMED_MADE,
-    },
-    Story {
-        name: "a layout is applied",
-        unit: Unit::Utf16,
-        moments: &[
-            (Act::Open(COUNTS), Sight::Sent),
-            (Act::Format, Sight::Sent),
-            (Act::Serve, Sight::Served(1)),
-            (Act::Serve, Sight::Served(1)),
-            (Act::Take, Sight::Published(true)),
-            (Act::Take, Sight::Answered(1, true)),
-            (Act::Apply(1), Sight::Applied(1)),
-        ],
-        applied: &[Edited {
-            before: COUNTS,
-            after: LAID_OUT,
-        }],
-        made: &[Published {
-            version: 1,
-            text: COUNTS,
-            empty: true,
-        }],
-    },
-    Story {
-        name: "a layout is applied, and another has nothing to change",
-        unit: Unit::Utf16,
-        moments: &[
-            (Act::Open(CROWDED), Sight::Sent),
-            (Act::Format, Sight::Sent),
-            (Act::Serve, Sight::Served(1)),
-            (Act::Serve, Sight::Served(1)),
-            (Act::Take, Sight::Published(true)),
-            (Act::Take, Sight::Answered(1, true)),
-            (Act::Apply(1), Sight::Applied(1)),
-            (Act::Format, Sight::Sent),
-            (Act::Serve, Sight::Served(1)),
-            (Act::Serve, Sight::Served(1)),
-            (Act::Take, Sight::Published(true)),
-            (Act::Take, Sight::Answered(2, false)),
-        ],
-        applied: &[Edited {
-            before: CROWDED,
-            after: CROWDED_LAID_OUT,
-        }],
-        made: &[
-            Published {
-                version: 1,
-                text: CROWDED,
-                empty: true,
-            },
-            Published {
-                version: 2,
-                text: CROWDED_LAID_OUT,
-                empty: true,
-            },
-        ],
-    },
-    Story {
-        name: "an answer about an earlier opening is dropped",
-        unit: Unit::Utf16,
-        moments: REOPENED,
-        applied: &[],
-        made: REOPENED_MADE,
-    },
-    Story {
-        name: "a change with no changes raises the version, and the answer is dropped",
-        unit: Unit::Utf16,
-        moments: &[
-            (Act::Open(COUNTS), Sight::Sent),
-            (NAME, Sight::Sent),
-            (Act::Touch, Sight::Sent),
-            (Act::Serve, Sight::Served(1)),
-            (Act::Serve, Sight::Served(1)),
-            (Act::Serve, Sight::Served(1)),
-            (Act::Take, Sight::Published(true)),
-            (Act::Take, Sight::Answered(1, true)),
-            (Act::Take, Sight::Published(true)),
-            (Act::Apply(1), Sight::Dropped(1)),
-        ],
-        applied: &[],
-        made: &[
-            Published {
-                version: 1,
-                text: COUNTS,
-                empty: true,
-            },
-            Published {
-                version: 2,
-                text: COUNTS,
-                empty: true,
-            },
-        ],
-    },
-    Story {
-        name: "of two answers the second is dropped",
-        unit: Unit::Utf16,
-        moments: &[
-            (Act::Open(COUNTS), Sight::Sent),
-            (NAME, Sight::Sent),
-            (Act::Format, Sight::Sent),
-            (Act::Serve, Sight::Served(1)),
-            (Act::Serve, Sight::Served(1)),
-            (Act::Serve, Sight::Served(1)),
-            (Act::Take, Sight::Published(true)),
-            (Act::Take, Sight::Answered(1, true)),
-            (Act::Take, Sight::Answered(2, true)),
-            (Act::Apply(1), Sight::Applied(1)),
-            (Act::Apply(2), Sight::Dropped(2)),
-        ],
-        applied: &[Edited {
-            before: COUNTS,
-            after: RENAMED,
-        }],
-        made: &[Published {
-            version: 1,
-            text: COUNTS,
-            empty: true,
-        }],
-    },
-    Story {
-        name: "nothing happens",
-        unit: Unit::Utf16,
-        moments: &[
-            (Act::Apply(7), Sight::Nothing),
-            (Act::Discard(7), Sight::Nothing),
-            (Act::Take, Sight::Nothing),
-            (Act::Serve, Sight::Nothing),
-            (Act::Touch, Sight::Nothing),
-            (Act::Close, Sight::Nothing),
-            (NAME, Sight::Nothing),
-            (Act::Open(COUNTS), Sight::Sent),
-            (Act::Open(FAULTY_TEXT), Sight::Nothing),
-            (Act::Serve, Sight::Served(1)),
-            (Act::Serve, Sight::Nothing),
-        ],
-        applied: &[],
-        made: &[Published {
-            version: 1,
-            text: COUNTS,
-            empty: true,
-        }],
-    },
-    Story {
-        name: "an answer is let go",
-        unit: Unit::Utf16,
-        moments: &[
-            (Act::Open(COUNTS), Sight::Sent),
-            (NAME, Sight::Sent),
-            (Act::Serve, Sight::Served(1)),
-            (Act::Serve, Sight::Served(1)),
-            (Act::Take, Sight::Published(true)),
-            (Act::Take, Sight::Answered(1, true)),
-            (Act::Discard(1), Sight::Dropped(1)),
-            (Act::Discard(1), Sight::Nothing),
-            (Act::Apply(1), Sight::Nothing),
-        ],
-        applied: &[],
-        made: &[Published {
-            version: 1,
-            text: COUNTS,
-            empty: true,
-        }],
-    },
-    Story {
-        name: "an answer about a closed document is dropped",
-        unit: Unit::Utf16,
-        moments: &[
-            (Act::Open(COUNTS), Sight::Sent),
-            (NAME, Sight::Sent),
-            (Act::Serve, Sight::Served(1)),
-            (Act::Serve, Sight::Served(1)),
-            (Act::Take, Sight::Published(true)),
-            (Act::Take, Sight::Answered(1, true)),
-            (Act::Close, Sight::Sent),
-            (Act::Apply(1), Sight::Dropped(1)),
-            (Act::Serve, Sight::Served(1)),
-            (Act::Take, Sight::Published(true)),
-        ],
-        applied: &[],
-        made: &[Published {
-            version: 1,
-            text: COUNTS,
-            empty: true,
-        }],
-    },
-    Story {
-        name: "of two documents each has its own text, version and diagnostics",
-        unit: Unit::Utf16,
-        moments: &[
-            (Act::Open(COUNTS), Sight::Sent),
-            (Act::Other(&Act::Open(FAULTY_TEXT)), Sight::Sent),
-            (NAME, Sight::Sent),
-            (Act::Other(&NAME), Sight::Sent),
-            (Act::Serve, Sight::Served(1)),
-            (Act::Serve, Sight::Served(1)),
-            (Act::Serve, Sight::Served(1)),
-            (Act::Serve, Sight::Served(1)),
-            (Act::Take, Sight::Published(true)),
-            (Act::Take, Sight::PublishedOther(false)),
-            (Act::Take, Sight::Answered(1, true)),
-            (Act::Take, Sight::Answered(2, false)),
-            (Act::Other(&Act::Close), Sight::Sent),
-            (Act::Apply(1), Sight::Applied(1)),
-            (Act::Serve, Sight::Served(1)),
-            (Act::Serve, Sight::Served(1)),
-            (Act::Take, Sight::PublishedOther(true)),
-            (Act::Take, Sight::Published(true)),
-        ],
-        applied: &[Edited {
-            before: COUNTS,
-            after: RENAMED,
-        }],
-        made: &[
-            Published {
-                version: 1,
-                text: COUNTS,
-                empty: true,
-            },
-            Published {
-                version: 1,
-                text: FAULTY_TEXT,
-                empty: false,
-            },
-            Published {
-                version: 2,
-                text: RENAMED,
-                empty: true,
-            },
-        ],
-    },
-    Story {
-        name: "a constant is inlined at one use",
-        unit: Unit::Utf16,
-        moments: &[
-            (Act::Open(LEAST), Sight::Sent),
-            (Act::InlineHere(3, 15), Sight::Sent),
-            (Act::Serve, Sight::Served(1)),
-            (Act::Serve, Sight::Served(1)),
-            (Act::Take, Sight::Published(true)),
-            (Act::Take, Sight::Answered(1, true)),
-            (Act::Apply(1), Sight::Applied(1)),
-            (Act::Serve, Sight::Served(1)),
-            (Act::Take, Sight::Published(true)),
-        ],
-        applied: &[Edited {
-            before: LEAST,
-            after: INLINED_HERE,
-        }],
-        made: &[
-            LEAST_MADE,
-            Published {
-                version: 2,
-                text: INLINED_HERE,
-                empty: true,
-            },
-        ],
-    },
-    Story {
-        name: "a constant is inlined everywhere, asked for at its declaration",
-        unit: Unit::Utf16,
-        moments: &[
-            (Act::Open(LEAST), Sight::Sent),
-            (Act::InlineAll(1, 6), Sight::Sent),
-            (Act::Serve, Sight::Served(1)),
-            (Act::Serve, Sight::Served(1)),
-            (Act::Take, Sight::Published(true)),
-            (Act::Take, Sight::Answered(1, true)),
-            (Act::Apply(1), Sight::Applied(1)),
-            (Act::Serve, Sight::Served(1)),
-            (Act::Take, Sight::Published(true)),
-        ],
-        applied: &[Edited {
-            before: LEAST,
-            after: INLINED_EVERYWHERE,
-        }],
-        made: &[
-            LEAST_MADE,
-            Published {
-                version: 2,
-                text: INLINED_EVERYWHERE,
-                empty: true,
-            },
-        ],
-    },
-    Story {
-        name: "a value whose name is another's is not written",
-        unit: Unit::Utf16,
-        moments: &[
-            (Act::Open(SHADOWED), Sight::Sent),
-            (Act::InlineHere(2, 46), Sight::Sent),
-            (Act::InlineAll(2, 46), Sight::Sent),
-            (Act::Serve, Sight::Served(1)),
-            (Act::Serve, Sight::Served(1)),
-            (Act::Serve, Sight::Served(1)),
-            (Act::Take, Sight::Published(true)),
-            (Act::Take, Sight::Answered(1, false)),
-            (Act::Take, Sight::Answered(2, false)),
-        ],
-        applied: &[],
-        made: &[Published {
-            version: 1,
-            text: SHADOWED,
-            empty: true,
-        }],
-    },
-    Story {
-        name: "another name, in UTF-16 units",
-        unit: Unit::Utf16,
-        moments: &[
-            (Act::Open(WIDE), Sight::Sent),
-            (Act::Rename(1, 13, "k"), Sight::Sent),
-            (Act::Serve, Sight::Served(1)),
-            (Act::Serve, Sight::Served(1)),
-            (Act::Take, Sight::Published(true)),
-            (Act::Take, Sight::Answered(1, true)),
-            (Act::Apply(1), Sight::Applied(1)),
-        ],
-        applied: &[Edited {
-            before: WIDE,
-            after: WIDE_RENAMED,
-        }],
-        made: &[Published {
-            version: 1,
-            text: WIDE,
-            empty: true,
-        }],
-    },
-    Story {
-        name: "a change of a range, in UTF-16 units",
-        unit: Unit::Utf16,
-        moments: &[
-            (Act::Open(WIDE), Sight::Sent),
-            (Act::Write(1, 13, 14, "k"), Sight::Sent),
-            (Act::Serve, Sight::Served(1)),
-            (Act::Serve, Sight::Served(1)),
-            (Act::Take, Sight::Published(true)),
-            (Act::Take, Sight::Published(false)),
-        ],
-        applied: &[],
-        made: &[
-            Published {
-                version: 1,
-                text: WIDE,
-                empty: true,
-            },
-            Published {
-                version: 2,
-                text: WIDE_WRITTEN,
-                empty: false,
-            },
-        ],
-    },
-    Story {
-        name: "another name is applied, where both count bytes",
-        unit: Unit::Utf8,
-        moments: NAMED,
-        applied: &[Edited {
-            before: COUNTS,
-            after: RENAMED,
-        }],
-        made: NAMED_MADE,
-    },
-    Story {
-        name: "an answer about an earlier opening is dropped, where both count bytes",
-        unit: Unit::Utf8,
-        moments: REOPENED,
-        applied: &[],
-        made: REOPENED_MADE,
-    },
-    Story {
-        name: "another name, in bytes",
-        unit: Unit::Utf8,
-        moments: &[
-            (Act::Open(WIDE), Sight::Sent),
-            (Act::Rename(1, 15, "k"), Sight::Sent),
-            (Act::Serve, Sight::Served(1)),
-            (Act::Serve, Sight::Served(1)),
-            (Act::Take, Sight::Published(true)),
-            (Act::Take, Sight::Answered(1, true)),
-            (Act::Apply(1), Sight::Applied(1)),
-        ],
-        applied: &[Edited {
-            before: WIDE,
-            after: WIDE_RENAMED,
-        }],
-        made: &[Published {
-            version: 1,
-            text: WIDE,
-            empty: true,
-        }],
-    },
-    Story {
-        name: "a change of a range, in bytes",
-        unit: Unit::Utf8,
-        moments: &[
-            (Act::Open(WIDE), Sight::Sent),
-            (Act::Write(1, 15, 16, "k"), Sight::Sent),
-            (Act::Serve, Sight::Served(1)),
-            (Act::Serve, Sight::Served(1)),
-            (Act::Take, Sight::Published(true)),
-            (Act::Take, Sight::Published(false)),
-        ],
-        applied: &[],
-        made: &[
-            Published {
-                version: 1,
-                text: WIDE,
-                empty: true,
-            },
-            Published {
-                version: 2,
-                text: WIDE_WRITTEN,
-                empty: false,
-            },
-        ],
-    },
+static STORIES: &[Story] = stories![
+    "another name is applied", Utf16, NAMED,
+        [COUNTS => RENAMED], [1, COUNTS => true; 2, RENAMED => true];
+    "a layout is applied", Utf16,
+        moments![Open(COUNTS) => Sent, Format => Sent, Serve => Served(1), Serve => Served(1),
+            Take => Published(true), Take => Answered(1, true), Apply(1) => Applied(1)],
+        [COUNTS => LAID_OUT], [1, COUNTS => true];
+    "a layout is applied, and another has nothing to change", Utf16,
+        moments![Open(CROWDED) => Sent, Format => Sent, Serve => Served(1), Serve => Served(1),
+            Take => Published(true), Take => Answered(1, true), Apply(1) => Applied(1), Format => Sent,
+            Serve => Served(1), Serve => Served(1), Take => Published(true), Take => Answered(2, false)],
+        [CROWDED => CROWDED_LAID_OUT], [1, CROWDED => true; 2, CROWDED_LAID_OUT => true];
+    "an answer about an earlier opening is dropped", Utf16, REOPENED,
+        [], [1, COUNTS => true; 1, FAULTY_TEXT => false];
+    "a change with no changes raises the version, and the answer is dropped", Utf16,
+        moments![Open(COUNTS) => Sent, NAME => Sent, Touch => Sent, Serve => Served(1), Serve => Served(1),
+            Serve => Served(1), Take => Published(true), Take => Answered(1, true), Take => Published(true),
+            Apply(1) => Dropped(1)],
+        [], [1, COUNTS => true; 2, COUNTS => true];
+    "of two answers the second is dropped", Utf16,
+        moments![Open(COUNTS) => Sent, NAME => Sent, Format => Sent, Serve => Served(1), Serve => Served(1),
+            Serve => Served(1), Take => Published(true), Take => Answered(1, true), Take => Answered(2, true),
+            Apply(1) => Applied(1), Apply(2) => Dropped(2)],
+        [COUNTS => RENAMED], [1, COUNTS => true];
+    "nothing happens", Utf16,
+        moments![Apply(7) => Nothing, Discard(7) => Nothing, Take => Nothing, Serve => Nothing,
+            Touch => Nothing, Close => Nothing, NAME => Nothing, Open(COUNTS) => Sent,
+            Open(FAULTY_TEXT) => Nothing, Serve => Served(1), Serve => Nothing],
+        [], [1, COUNTS => true];
+    "an answer is let go", Utf16,
+        moments![Open(COUNTS) => Sent, NAME => Sent, Serve => Served(1), Serve => Served(1),
+            Take => Published(true), Take => Answered(1, true), Discard(1) => Dropped(1), Discard(1) => Nothing,
+            Apply(1) => Nothing],
+        [], [1, COUNTS => true];
+    "an answer about a closed document is dropped", Utf16,
+        moments![Open(COUNTS) => Sent, NAME => Sent, Serve => Served(1), Serve => Served(1),
+            Take => Published(true), Take => Answered(1, true), Close => Sent, Apply(1) => Dropped(1),
+            Serve => Served(1), Take => Published(true)],
+        [], [1, COUNTS => true];
+    "of two documents each has its own text, version and diagnostics", Utf16,
+        moments![Open(COUNTS) => Sent, Other(&Open(FAULTY_TEXT)) => Sent, NAME => Sent, Other(&NAME) => Sent,
+            Serve => Served(1), Serve => Served(1), Serve => Served(1), Serve => Served(1),
+            Take => Published(true), Take => PublishedOther(false), Take => Answered(1, true),
+            Take => Answered(2, false), Other(&Close) => Sent, Apply(1) => Applied(1), Serve => Served(1),
+            Serve => Served(1), Take => PublishedOther(true), Take => Published(true)],
+        [COUNTS => RENAMED], [1, COUNTS => true; 1, FAULTY_TEXT => false; 2, RENAMED => true];
+    "a constant is inlined at one use", Utf16,
+        moments![Open(LEAST) => Sent, InlineHere(3, 15) => Sent, Serve => Served(1), Serve => Served(1),
+            Take => Published(true), Take => Answered(1, true), Apply(1) => Applied(1), Serve => Served(1),
+            Take => Published(true)],
+        [LEAST => INLINED_HERE], [1, LEAST => true; 2, INLINED_HERE => true];
+    "a constant is inlined everywhere, asked for at its declaration", Utf16,
+        moments![Open(LEAST) => Sent, InlineAll(1, 6) => Sent, Serve => Served(1), Serve => Served(1),
+            Take => Published(true), Take => Answered(1, true), Apply(1) => Applied(1), Serve => Served(1),
+            Take => Published(true)],
+        [LEAST => INLINED_EVERYWHERE], [1, LEAST => true; 2, INLINED_EVERYWHERE => true];
+    "a value whose name is another's is not written", Utf16,
+        moments![Open(SHADOWED) => Sent, InlineHere(2, 46) => Sent, InlineAll(2, 46) => Sent,
+            Serve => Served(1), Serve => Served(1), Serve => Served(1), Take => Published(true),
+            Take => Answered(1, false), Take => Answered(2, false)],
+        [], [1, SHADOWED => true];
+    "another name, in UTF-16 units", Utf16,
+        moments![Open(WIDE) => Sent, Rename(1, 13, "k") => Sent, Serve => Served(1), Serve => Served(1),
+            Take => Published(true), Take => Answered(1, true), Apply(1) => Applied(1)],
+        [WIDE => WIDE_RENAMED], [1, WIDE => true];
+    "a change of a range, in UTF-16 units", Utf16,
+        moments![Open(WIDE) => Sent, Write(1, 13, 14, "k") => Sent, Serve => Served(1), Serve => Served(1),
+            Take => Published(true), Take => Published(false)],
+        [], [1, WIDE => true; 2, WIDE_WRITTEN => false];
+    "another name is applied, where both count bytes", Utf8, NAMED,
+        [COUNTS => RENAMED], [1, COUNTS => true; 2, RENAMED => true];
+    "an answer about an earlier opening is dropped, where both count bytes", Utf8, REOPENED,
+        [], [1, COUNTS => true; 1, FAULTY_TEXT => false];
+    "another name, in bytes", Utf8,
+        moments![Open(WIDE) => Sent, Rename(1, 15, "k") => Sent, Serve => Served(1), Serve => Served(1),
+            Take => Published(true), Take => Answered(1, true), Apply(1) => Applied(1)],
+        [WIDE => WIDE_RENAMED], [1, WIDE => true];
+    "a change of a range, in bytes", Utf8,
+        moments![Open(WIDE) => Sent, Write(1, 15, 16, "k") => Sent, Serve => Served(1), Serve => Served(1),
+            Take => Published(true), Take => Published(false)],
+        [], [1, WIDE => true; 2, WIDE_WRITTEN => false];
 ];
