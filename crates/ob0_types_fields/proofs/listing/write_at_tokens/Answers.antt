@@ -1,0 +1,16 @@
+use Rattle.std.proofs.Common.{ap, sym, ◌∙◌}
+use Rattle.std.specs.Prelude.{option_copied}
+use Rattle.ob0_types_fields.proofs.WrittenOver.{over_others, rise, start_found, without_others}
+use Rattle.ob0_types_fields.proofs.listing.write_at_tokens.Goals as goal
+
+pub returns-in-Some : goal.returns-in-Some
+returns-in-Some c =
+    λ before after h.
+    let all = c.args.all.now.items in
+    let found = c.args.found.now in
+    let here = sym c.first.ensures.value ∙ ap option_copied c.in-Some.is in
+    c.write_over.ensures ∙ over_others all before found after h c.count_before-start.result
+    (start_found all before found after h c.in-Some.first.now here c.count_before-start.result (c.count_before-start.ensures (rise all before found after h)))
+
+pub returns-in-None : goal.returns-in-None
+returns-in-None c = λ before after h. without_others c.args.all.now.items before c.args.found.now after h (sym c.first.ensures.value ∙ ap option_copied c.in-None.is)
