@@ -1,6 +1,6 @@
 -- The fields of a module by those that it had before the tokens of one body changed: those of that body are found again, and
 -- they are at the same tokens, since the fields of a well-typed module are all identifiers that are written as fields.
-use Rattle.std.proofs.Common.{◌≡◌, ℕ, List, [], ◌++◌, Option, option_and_then, length, refl, sym, ap, ◌∙◌, subst}
+use Rattle.std.proofs.Common.{◌≡◌, ℕ, List, [], ◌∷◌, ◌++◌, Option, option_and_then, length, refl, sym, ap, ◌∙◌, subst}
 use Rattle.ob0_language_types.specs.Bindings.{declared_object}
 use Rattle.ob0_language_types.specs.Expressions.{Meanings}
 use Rattle.ob0_language_types.specs.WellTyped.{Signature, WellTyped}

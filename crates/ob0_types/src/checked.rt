@@ -9,15 +9,12 @@
 //! module's fields where it has no fault, so that the value of a `Checked` doesn't have them.
 
 ghost use Rattle.ob0_scope_table.specs.Resolution.{is_of_declarations};
-ghost use Rattle.ob0_types.specs.CheckedModules.{AreTypesOf, IsChecked, IsKnownWhereTyped, checked_by};
-ghost use Rattle.ob0_tree.specs.Parsed.{named_tree_of};
-ghost use Rattle.ob0_language_types.specs.WellTyped.{WellTyped};
+ghost use Rattle.ob0_types.specs.CheckedModules.{AreFieldsWhereTyped, AreTypesOf, IsChecked, IsKnownWhereTyped, checked_by};
 ghost use Rattle.ob0_types.specs.FaultOrder.{AreFirstOf};
 ghost use Rattle.ob0_types.specs.OneBody.{WereTypes};
 ghost use Rattle.ob0_types_check.specs.SomeBodies.{IsReportOf};
 ghost use Rattle.std.specs.List.{filter};
 ghost use Rattle.std.specs.Prelude.{◌≡◌, ◌≤◌, ◌↔◌, ◌++◌, [], length, IfOk, OnOk, MatchOption};
-ghost use Rattle.ob0_types_fields.specs.Listed.{AreFields};
 ghost use Rattle.ob0_scan.specs.Scanned.{max_faults};
 
 use crate::one_body::body_from;
@@ -159,8 +156,7 @@ fn types_reported<'t>(
     fields: FieldList,
 ) -> Result<ModuleTypes, AllocError>
     requires report { IsReportOf resolved.now report }
-    requires fields { WellTyped (named_tree_of resolved.now.module_read)
-        → AreFields resolved.now fields }
+    requires fields { AreFieldsWhereTyped resolved.now fields }
     ensures { IfOk result (AreTypesOf resolved.now) }
 {
     modules_fit();
@@ -188,8 +184,7 @@ fn known_fields<'t>(
     known: &Option<Known>,
 ) -> Result<FieldList, AllocError>
     requires { IsKnownWhereTyped resolved.now known.now }
-    ensures { IfOk result (λ fields. WellTyped (named_tree_of resolved.now.module_read)
-        → AreFields resolved.now fields) }
+    ensures { IfOk result (AreFieldsWhereTyped resolved.now) }
 {
     // For the proof: what the contract of this call says.
     let _module = resolved.module();
@@ -212,8 +207,7 @@ fn fields_again<'t>(
 ) -> Result<FieldList, AllocError>
     requires before { WereTypes resolved.now before low }
     requires known { IsKnownWhereTyped resolved.now known.now }
-    ensures { IfOk result (λ fields. WellTyped (named_tree_of resolved.now.module_read)
-        → AreFields resolved.now fields) }
+    ensures { IfOk result (AreFieldsWhereTyped resolved.now) }
 {
     no_fault_in_modules();
     let body = body_from(resolved.module(), low);

@@ -9,7 +9,7 @@ use Rattle.ob0_types.proofs.checked.types_again.Goals as goal
 pub report_bodies-requires : goal.report_bodies-requires
 report_bodies-requires c =
     let r = c.args.resolved.now in
-    let last = ap (λ (b : OneBody). b.closing) (c.body_from.ensures ∙ ap (λ m. body_in_module c.args.low (tree_of m)) c.module.ensures.value) in
+    let last = ap (λ (b : OneBody). b.closing) (c.body_from-body.ensures ∙ ap (λ m. body_in_module c.args.low (tree_of m)) c.module.ensures.value) in
     let bodies = c.as_slice.ensures.value ∙ (c.in_ok-push.ensures.items ∙ (λ i. c.in_ok-bodies.ensures i ++ last i ∷ [])) in
     subst (λ found. WereFaulty (is_among found) r) (sym bodies) (were_faulty r c.args.before c.args.low c.requires c.module.ensures.resolved)
 
