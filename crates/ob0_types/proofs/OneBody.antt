@@ -76,7 +76,7 @@ module _ (r : Resolution) (types : ModuleTypes) (low : ℕ) (w : WereTypes r typ
         alike = module_but (IsAlikeAt before r) low wanted (tree_of r.module_read) (alike_outside (IsAlikeAt before r) (λ k h. h) is) is_wanted;
       }
 
-  pub were_faulty : IsResolution r → WereFaulty (is_among (types.faulty.items ++ last_body ∷ [])) r
+  abbrev pub were_faulty : IsResolution r → WereFaulty (is_among (types.faulty.items ++ last_body ∷ [])) r
   were_faulty is =
       let bodies = types.faulty.items ++ last_body ∷ [] in
       record {

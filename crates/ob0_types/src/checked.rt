@@ -217,17 +217,14 @@ fn fields_again<'t>(
         faults,
         faulty: _,
     } = before;
+    let Some(table) = known else {
+        return Ok(fields);
+    };
     if faults.is_empty() {
-        match known {
-            None => Ok(fields),
-            Some(known) => {
-                let fields = fields.with_body(alloc, known, resolved, body.statements)?;
-                Ok(fields)
-            }
-        }
-    } else {
-        known_fields(alloc, resolved, known)
+        let fields = fields.with_body(alloc, table, resolved, body.statements)?;
+        return Ok(fields);
     }
+    known_fields(alloc, resolved, known)
 }
 
 /// The faults of scopes and types, sorted by start, end and number, the first 100. Names that nothing binds are

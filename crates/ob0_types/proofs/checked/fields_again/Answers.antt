@@ -11,13 +11,13 @@ use Rattle.ob0_types.proofs.checked.fields_again.Goals as goal
 pub returns-in-None : goal.returns-in-None
 returns-in-None c = λ typed. none_typed c.args.resolved.now c.args.known.now c.module.ensures.resolved c.requires.known c.in-None.is typed
 
-pub returns-in_ok-fields-in-Some : goal.returns-in_ok-fields-in-Some
-returns-in_ok-fields-in-Some c =
+pub returns-in_ok-fields : goal.returns-in_ok-fields
+returns-in_ok-fields c =
     λ typed.
     let r = c.args.resolved.now in
     let before = c.args.before in
     let ok = before.faults.ok.0 in
     let none = is_nothing before.faults.items (vec_len before.faults) c.is_empty.result (omega (arith, ok)) c.is_empty.ensures c.if-is_empty.true in
     let here = ap (λ (b : OneBody). b.statements) (c.body_from-body.ensures ∙ ap (λ m. body_in_module c.args.low (tree_of m)) c.module.ensures.value) in
-    fields_over r before c.args.low c.requires.before c.no_fault_in_modules.ensures c.module.ensures.resolved typed none c.in_ok-fields-in-Some.fields c.in-Some.known.now
-    (table_holds r c.args.known.now c.module.ensures.resolved c.requires.known c.in-Some.known.now c.in-Some.is) (body_of c.body_from-body.result.statements.now) here c.in_ok-fields-in-Some.ensures.declared c.in_ok-fields-in-Some.ensures.all
+    fields_over r before c.args.low c.requires.before c.no_fault_in_modules.ensures c.module.ensures.resolved typed none c.in_ok-fields.fields c.in-Some.table
+    (table_holds r c.args.known.now c.module.ensures.resolved c.requires.known c.in-Some.table c.in-Some.is) (body_of c.body_from-body.result.statements.now) here c.in_ok-fields.ensures.declared c.in_ok-fields.ensures.all
