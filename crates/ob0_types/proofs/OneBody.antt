@@ -67,7 +67,7 @@ module _ (r : Resolution) (types : ModuleTypes) (low : ℕ) (w : WereTypes r typ
   alike_outside P holds is =
       module_found low w.high P (λ k e. holds k (alike_out k e)) 0 (length r.module_read.source.tokens) (tree_of r.module_read) (places_ascend r.module_read is.parsed) w.change.in_body
 
-  were_alike : (wanted : ℕ → Bool) → IsResolution r → wanted last_body ≡ true → AreAlikeBut wanted before r
+  pub were_alike : (wanted : ℕ → Bool) → IsResolution r → wanted last_body ≡ true → AreAlikeBut wanted before r
   were_alike wanted is is_wanted =
       let new = r.module_read.source in
       record {

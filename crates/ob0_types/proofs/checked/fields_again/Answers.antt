@@ -8,11 +8,11 @@ use Rattle.ob0_types.proofs.FieldsAgain.{fields_over}
 use Rattle.ob0_types.proofs.FieldsKept.{none_typed, table_holds}
 use Rattle.ob0_types.proofs.checked.fields_again.Goals as goal
 
-pub returns-in-None : goal.returns-in-None
-returns-in-None c = λ typed. none_typed c.args.resolved.now c.args.known.now c.module.ensures.resolved c.requires.known c.in-None.is typed
+pub returns-in_default : goal.returns-in_default
+returns-in_default c = λ typed. none_typed c.args.resolved.now c.args.known.now c.module.ensures.resolved c.requires.known c.in_default.is typed
 
-pub returns-in_ok-fields : goal.returns-in_ok-fields
-returns-in_ok-fields c =
+pub returns-then-is_empty : goal.returns-then-is_empty
+returns-then-is_empty c =
     λ typed.
     let r = c.args.resolved.now in
     let before = c.args.before in
