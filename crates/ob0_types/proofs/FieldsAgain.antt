@@ -1,11 +1,11 @@
 -- The fields of a module by those that it had before the tokens of one body changed: those of that body are found again, and
 -- they are at the same tokens, since the fields of a well-typed module are all identifiers that are written as fields.
-use Rattle.std.proofs.Common.{◌≡◌, ℕ, List, [], ◌∷◌, ◌++◌, Option, option_and_then, length, refl, sym, ap, ◌∙◌, subst}
+use Rattle.std.proofs.Common.{◌≡◌, ℕ, List, [], ◌∷◌, ◌++◌, option_and_then, length, sym, ap, ◌∙◌, subst}
 use Rattle.ob0_language_types.specs.Bindings.{declared_object}
 use Rattle.ob0_language_types.specs.Expressions.{Meanings}
 use Rattle.ob0_language_types.specs.WellTyped.{Signature, WellTyped}
 use Rattle.ob0_language_values.specs.Values.{Shape}
-use Rattle.ob0_scope_table.specs.Resolution.{IsResolution, Resolution, ordinal_in}
+use Rattle.ob0_scope_table.specs.Resolution.{IsResolution, Resolution}
 use Rattle.ob0_tree.specs.Order.{Ascending}
 use Rattle.ob0_tree.specs.Parsed.{named_tree_of, tree_of}
 use Rattle.ob0_tree.specs.Tree.{Tree, body, maybe}
@@ -81,5 +81,5 @@ module _ (r : Resolution) (types : ModuleTypes) (low : ℕ) (w : WereTypes r typ
       let found : marked_tree meant_now (body_in_module low (tree_of r.module_read)).statements ≡ marked_tree (token_objects (declared_in t) r) statements = λ i. marked_tree (token_objects (λ k. sym (holds k) i) r) (sym here i) in (
         declared ∙ (w.types_are.fields none).0,
         over around.before around.after (subst (λ l. HasOthersWithin types.fields.all around.before l around.after) found has_others)
-        ∙ (ap (λ l. around.before ++ (l ++ around.after)) (sym found) ∙ sym fields_now),
+            ∙ (ap (λ l. around.before ++ (l ++ around.after)) (sym found) ∙ sym fields_now),
       )

@@ -1,5 +1,5 @@
 -- The fields that are kept with a module that has no fault are its fields.
-use Rattle.std.proofs.Common.{◌≡◌, true, false, IfSome, is_some, Option, Some, None, sym, subst, ap, ◌∙◌, true≢false}
+use Rattle.std.proofs.Common.{◌≡◌, IfSome, is_some, Option, Some, None, sym, subst, ap, ◌∙◌, true≢false}
 use Rattle.ob0_language_types.specs.WellTyped.{WellTyped}
 use Rattle.ob0_scope_table.specs.Resolution.{IsResolution, Resolution}
 use Rattle.ob0_tree.specs.Parsed.{named_tree_of}

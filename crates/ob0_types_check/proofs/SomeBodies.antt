@@ -1,5 +1,5 @@
 -- Nothing is reported of a body of which nothing was reported before the tokens of the module changed in others.
-use Rattle.std.proofs.Common.{◌≡◌, ℕ, Bool, true, false, List, [], ◌∷◌, ◌++◌, map, Option, Some, None, length, refl, sym, ap, ◌∙◌, subst, arith, true≢false}
+use Rattle.std.proofs.Common.{◌≡◌, ℕ, Bool, true, false, List, [], ◌∷◌, ◌++◌, map, Option, None, length, refl, sym, ap, ◌∙◌, subst, arith, true≢false}
 use Rattle.std.proofs.lemmas.List.{length-map, nil_from_length}
 use Rattle.ob0_scan.specs.Scanned.{Scanned}
 use Rattle.ob0_scan.specs.declared.fault.Fault.{Fault}

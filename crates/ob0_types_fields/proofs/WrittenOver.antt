@@ -1,9 +1,9 @@
 -- Fields that are written over others at their tokens.
-use Rattle.std.proofs.Common.{◌≡◌, ℕ, zero, suc, ◌+◌, ◌<◌, ◌≤◌, true, false, nat_lt, List, [], ◌∷◌, ◌++◌, length, map, set, get_or, slice_get, Option, Some, None, unwrap_or, ⊎_elim, refl, sym, ap, ◌∙◌, subst, arith, append_assoc, length-append}
+use Rattle.std.proofs.Common.{◌≡◌, ℕ, zero, suc, ◌+◌, ◌<◌, ◌≤◌, true, false, nat_lt, List, [], ◌∷◌, ◌++◌, length, get_or, slice_get, Option, Some, None, unwrap_or, ⊎_elim, refl, sym, ap, ◌∙◌, subst, arith, append_assoc, length-append}
 use Rattle.std.proofs.Math.ListN.{get_or-map}
 use Rattle.std.proofs.Math.Seq.{set-append_seam}
 use Rattle.std.proofs.lemmas.Bool.{cases_lt, ltb-false, ltb-true}
-use Rattle.std.proofs.lemmas.List.{append_cancel_left, get_or_default, length-map, map-append, nil_from_length, set_past}
+use Rattle.std.proofs.lemmas.List.{append_cancel_left, length-map, map-append, nil_from_length, set_past}
 use Rattle.std.specs.List.Sorted.{IsNonDecreasingBy, IsPartitionPoint}
 use Rattle.ob0_tree.specs.Order.{Ascending}
 use Rattle.ob0_types_fields.specs.Identifiers.{firsts}
@@ -108,12 +108,12 @@ module _ (all before others after : List (ℕ × ℕ)) (h : HasOthersWithin all 
         let there = below_seam (firsts before) y.0 (firsts ys ++ firsts after) 0 h.top k y.0 in_order (omega (arith, less, length-map before (λ (x : ℕ × ℕ). x.0))) in
         absurd (omega (arith, here, there, token_there k y)))
         (λ le. ⊎_elim
-            (λ more.
-            -- then the first of them is before itself
-            let here = ltb-true (get_or all (length before) y).0 y.0 (point.0 (length before) y (omega arith) more) in
-            let there = ap (λ n. get_or (firsts before ++ y.0 ∷ (firsts ys ++ firsts after)) n y.0) (sym (length-map before (λ (x : ℕ × ℕ). x.0))) ∙ at_seam (firsts before) y.0 (firsts ys ++ firsts after) y.0 in
-            absurd (omega (arith, here, there, token_there (length before) y)))
-            (λ same. omega (arith, le, same)) (cases_lt (length before) k))
+        (λ more.
+        -- then the first of them is before itself
+        let here = ltb-true (get_or all (length before) y).0 y.0 (point.0 (length before) y (omega arith) more) in
+        let there = ap (λ n. get_or (firsts before ++ y.0 ∷ (firsts ys ++ firsts after)) n y.0) (sym (length-map before (λ (x : ℕ × ℕ). x.0))) ∙ at_seam (firsts before) y.0 (firsts ys ++ firsts after) y.0 in
+        absurd (omega (arith, here, there, token_there (length before) y)))
+        (λ same. omega (arith, le, same)) (cases_lt (length before) k))
         (cases_lt k (length before))
 
 pub without_others : (all before others after : List (ℕ × ℕ)) → HasOthersWithin all before others after → slice_get others 0 ≡ None → all ≡ before ++ (others ++ after)

@@ -1,4 +1,4 @@
-use Rattle.std.proofs.Common.{◌≡◌, [], ap, ◌∙◌, arith}
+use Rattle.std.proofs.Common.{ap, ◌∙◌, arith}
 use Rattle.std.specs.Vec.{vec_len}
 use Rattle.ob0_tree.specs.Parsed.{tree_of}
 use Rattle.ob0_tree.specs.View.{body_of}
