@@ -17,7 +17,7 @@
 #   make try               the tables of check, run and rename, with the program compiled without its proofs, in two to four minutes
 #   make end-to-end        the end-to-end tests alone, on bin/ob0
 #   make faults            what takes longer: each allocation fails in turn, two long conversations, many random changes, texts and runs; WORDS=".." names some
-#   make wrong-bodies      tries each crate's mutants, all at once where that can be; CRATE="NAME.." names some
+#   make wrong-bodies      tries each crate's mutants over what `make check` keeps, many in one check; CRATE="NAME.." names some
 #   make surface           the public functions and their mutants: docs/SURFACE.md, and how many mutants: README.md
 #   make statement         all definitions that the headline is made of, in reading order: docs/STATEMENT.md
 #   make bench             times the program; nothing fails by time

@@ -14,7 +14,6 @@ import random
 import re
 import shutil
 import sys
-import tempfile
 from collections.abc import Iterator
 from typing import Any, Callable, Dict, List, Tuple, Type, TypeVar
 
@@ -23,7 +22,7 @@ import holding
 import keyed
 from harness import Failed, Message, TOP, edited, ends, extent, holds, on_file, same, test, text_of, want
 from holding import edits_of, patched
-from homes import at_home, put_between, run_in_terminal, run_plainly, write
+from homes import at_home, put_between, run_in_terminal, run_plainly, temporary, write
 from modules import CALLS, FAULTY, LEAST, NESTED, RECORDS, WRITES_A_GLOBAL
 from snippets import snippets
 
@@ -50,7 +49,7 @@ def play(
     """What an editor found in these steps on a file with this text, with what else is given to it: pairs of a step and
     what was found."""
     harness.need_program()
-    with tempfile.TemporaryDirectory() as room:
+    with temporary() as room:
         own = at_home(room, editor)
         set_up(room)
         file, report = os.path.join(room, "work", "m.mod"), os.path.join(room, "report")
@@ -304,7 +303,7 @@ def neovim_looking() -> None:
 @test("Neovim: a program that isn't there is said in one line")
 def neovim_without() -> None:
     want("Neovim")
-    with tempfile.TemporaryDirectory() as room:
+    with temporary() as room:
         own, file = at_home(room, "neovim"), os.path.join(room, "m.ob0")
         write(file, GOOD)
         words = ["nvim", "--headless", "-n", "-i", "NONE", "--cmd", "let g:ob0_program = 'no-such-program'", file, "+qall!"]
@@ -502,7 +501,7 @@ def real_client() -> str | None:
 
 def in_vscode(*kind: str) -> tuple[str, Any, list[Message], list[Message]]:
     """What VS Code's extension did under Node, and the record of what its client and the server said."""
-    with tempfile.TemporaryDirectory() as room:
+    with temporary() as room:
         own = at_home(room, "vscode")
         put_between(room)
         own["NODE_PATH"] = os.pathsep.join(it for it in (real_client(), own.get("NODE_PATH"), "/usr/share/nodejs") if it)
@@ -691,11 +690,11 @@ def by_keys(does: Callable[[Any], T], which: Which, text: str, *names: str) -> T
     want(*names)
     harness.need_program()
     try:
-        with tempfile.TemporaryDirectory() as folder, which(folder, text) as editor:
+        with temporary() as folder, which(folder, text) as editor:
             return does(editor)
     except (keyed.Lost, OSError) as why:
         print(f"{names[-1]} is tried again: {why}".splitlines()[0], flush=True)
-    with tempfile.TemporaryDirectory() as folder, which(folder, text) as editor:
+    with temporary() as folder, which(folder, text) as editor:
         return does(editor)
 
 

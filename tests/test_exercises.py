@@ -84,12 +84,16 @@ WANTED = {
 }
 
 
+# (by the time that the script gives a run, a slow machine would decide)
+LONGEST = ["--seconds", "300"]
+
+
 def mark(*words: str) -> tuple[int, str]:
     """Marks modules by the script, with the program that is tested: its status and what it says."""
     need_program()
     program = os.path.abspath(harness.BINARY)
     script = os.path.join(TOP, FOLDER, "mark.py")
-    return run_plainly(["python3", "-B", script, "--program", program, *words], dict(os.environ), TOP)
+    return run_plainly(["python3", "-B", script, "--program", program, *LONGEST, *words], dict(os.environ), TOP)
 
 
 def marked(exercise: str, text: str, *words: str) -> tuple[int, str]:
@@ -174,9 +178,9 @@ LONG = "MODULE Clock; VAR i: INTEGER; BEGIN WHILE i < 100000 DO Write(2147483647
 
 @test("exercises: a module that doesn't end, prints without end, isn't there or isn't one of them is marked so")
 def bounded() -> None:
-    same(marked("Clock", LOOPS.format(""), "--seconds", "0.5"), (1, "Clock.mod   wrong: for the input 3661: it had not ended after 0.5 seconds: does each loop end?"))
+    same(marked("Clock", LOOPS.format(""), "--seconds", "5"), (1, "Clock.mod   wrong: for the input 3661: it had not ended after 5 seconds: does each loop end?"))
     same(marked("Clock", LONG), (1, "Clock.mod   wrong: for the input 3661: it prints too much: does each loop end?"))
-    status, said = marked("Clock", LOOPS.format("Write(i); "), "--seconds", "3")
+    status, said = marked("Clock", LOOPS.format("Write(i); "), "--seconds", "5")
     # (by the machine it is stopped by its time, or has taken all memory for what it is to print)
     holds(status == 1 and "does each loop" in said, said)
     status, said = marked("Gcd", text_of("examples", "Gcd.mod"))
@@ -201,7 +205,7 @@ def handed_in(files: dict[str, str], *words: str) -> tuple[int, list[str]]:
     with tempfile.TemporaryDirectory() as room:
         for name, text in files.items():
             write(os.path.join(room, name), text)
-        status, said = run_plainly(["python3", "-B", script, "--program", os.path.abspath(harness.BINARY), *words], dict(os.environ), room)
+        status, said = run_plainly(["python3", "-B", script, "--program", os.path.abspath(harness.BINARY), *LONGEST, *words], dict(os.environ), room)
         return status, said.splitlines()
 
 

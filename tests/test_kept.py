@@ -112,6 +112,8 @@ def bodies_alone() -> None:
         first.take("low", build.Modules(5, 1))
         same((first.ready([]), first.is_done), ([], True), "after it was proved again")
         same([*plan().done], ["low", "high", "other", "top"], "a second time")
+        exact = build.Plan(True, ["high"], True)
+        same((exact.ready([]), [*exact.done], exact.all), (["high"], ["low"], ["low", "high"]), "where mutants are tried over its library")
         write("crates/top/src/lib.rt", "// another body\n")
         second = plan()
         same((second.ready([]), second.is_done), (["high"], False), "the library below one that changed is built first")

@@ -56,7 +56,7 @@ TALKS: Dict[str, Tuple[List[Content], List[str], int]] = {
         [FIRST, error(7, -32601, "unknown method")],
         1,
     ),
-    "unknown requests": (
+    "unknown requests: UnknownMethod": (
         [initialize(), request(-3, "$/x"), request("é", "textDocument/completion", {})],
         [FIRST, error(-3, -32601, "unknown method"), error("é", -32601, "unknown method")],
         1,
@@ -71,7 +71,7 @@ TALKS: Dict[str, Tuple[List[Content], List[str], int]] = {
         [FIRST],
         1,
     ),
-    "params of initialize that are no object leave the session as it was": (
+    "params of initialize that are no object leave the session as it was: BadParams": (
         [request(1, "initialize", []), request(1, "initialize"), initialize()],
         [error(1, -32602, "bad params"), error(1, -32602, "bad params"), FIRST],
         1,
@@ -96,7 +96,7 @@ TALKS: Dict[str, Tuple[List[Content], List[str], int]] = {
         ],
         1,
     ),
-    "no messages": (
+    "no messages: NotAMessage": (
         [
             "[]",
             "7",

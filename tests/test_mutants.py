@@ -11,13 +11,14 @@ from typing import Iterable, List, Optional, Tuple
 from unittest import mock
 
 import build
+import checks
 import common
 import edits
 import mutants
 import reading
 import wrong_bodies
+from checks import Said
 from harness import TOP, holds, same, test
-from wrong_bodies import Said
 
 MUTANT = "units_are_characters"
 GOAL = "note: src/passes.rt:120:1: it is not proved that what the function ensures holds when it returns (`returns-in-Utf16`)\n"
@@ -33,6 +34,7 @@ class Turned(reading.Function):
     def __init__(self, crate: str, path: str) -> None:  # pylint: disable=super-init-not-called
         *module, self.name = path.split("::")
         self.crate, self.module, self.owner, self.trait, self.proof = crate, tuple(module), "", "", path
+        self.home = self.module
 
 
 class Text(edits.Edit):
@@ -98,6 +100,9 @@ def proof_of_cycle() -> None:
     said = Said("\n".join(errors), 1)
     same(said.proof_errors("ob0_text::low::Visit::block", "low::+blocks"), errors[:1], "of methods")
     same(said.proof_errors("ob0_text::low::block", "low::+blocks"), errors[1:2], "of functions")
+    errors = [f"./proofs/calls/{at}/Answers.antt:9:3: error: `returns`: a type" for at in ("+call+fn-call-enter", "call", "+called+fn-called-enter")]
+    said = Said("\n".join(errors), 1)
+    same(said.proof_errors("ob0_run_machine::calls::call", "calls::call"), errors[:2], "of a function and its closure")
 
 
 @test("mutants: one that is made right again fails")
@@ -181,6 +186,15 @@ def asked_of_trait() -> None:
     same(asked[f"{edits.OF_GATE}/diagnostics_always_empty.edit"], ["diagnostics::PublishRequestDocumentRequest::answer"], "of a type with a lifetime")
 
 
+@test("mutants: a method is asked for, and named, in the module of its type")
+def asked_of_type() -> None:
+    found = [it for it in reading.Source("ob0_run_lowering").functions if it.name in ("locate_argument", "number_of")]
+    same([it.file for it in found], ["src/expressions.rt"] * 2, "where they are")
+    same(sorted(it.checked_as for it in found), ["expressions::number_of", "scene::Scene::locate_argument"], "their names")
+    named = {it.name: it.is_named("ob0_run_lowering::scene::Scene::locate_argument") for it in found}
+    same(named, {"locate_argument": True, "number_of": False}, "which of them is meant")
+
+
 @test("mutants: what was refused is tried again where the mutant or its crate changed, and what wasn't refused always")
 def judged_before() -> None:
     source, room = reading.Source("ob0_frame"), tempfile.mkdtemp()
@@ -190,7 +204,7 @@ def judged_before() -> None:
     edit.file, kept = copy, wrong_bodies.Judged(path)
     holds(not kept.has(edit), "one that wasn't tried")
     refused_by = "framer::Framer::feed returns-clause-bad at src/framer.rt:60"
-    kept.keep(edit, wrong_bodies.Verdict(wrong_bodies.REFUSED, "a goal", (refused_by,)))
+    kept.keep(edit, kept.sum_of(edit), wrong_bodies.Verdict(wrong_bodies.REFUSED, "a goal", (refused_by,)))
     kept.write()
     again = wrong_bodies.Judged(path)
     holds(again.has(edit), "one that was refused")
@@ -207,7 +221,7 @@ def judged_before() -> None:
     with open(copy, "a", encoding="utf-8") as file:
         file.write("\n")
     holds(not wrong_bodies.Judged(path).has(edit), "one that changed")
-    kept.keep(edit, wrong_bodies.Verdict(wrong_bodies.PROVED, "proved"))
+    kept.keep(edit, kept.sum_of(edit), wrong_bodies.Verdict(wrong_bodies.PROVED, "proved"))
     holds(not kept.has(edit), "one that was proved later")
     shutil.rmtree(room)
 
@@ -231,6 +245,58 @@ def many_judged() -> None:
     same(word("returns-clause-broken"), wrong_bodies.REFUSED, "any clause, where the first line names none")
     for goal in ("cut_messages-requires-clause-bad", "overflow_add-len"):
         same(word(goal), wrong_bodies.ELSEWHERE, f"{goal}, where it names none")
+
+
+@test("mutants: of many in one check one that stands on a function that isn't proved is tried again, unless its clause refuses it")
+def many_waiting() -> None:
+    source = reading.Source("ob0_frame")
+    crate = wrong_bodies.Crate("ob0_frame", edits.edits_of("ob0_frame", source), source)
+    edit, other = (next(it for it in crate.chosen if word in it.name) for word in ("goes_on_after_bad_head", "takes_a_longer_head"))
+    waits = "fn ob0_frame::framer::Framer::feed: not proved; it calls `ob0_frame::head::stage_of`, which is not proved"
+    refused_stage = "fn ob0_frame::head::stage_of: no proof: `search` did not prove it"
+
+    def taken(goal: str, how: int = wrong_bodies.AMONG, chosen: Tuple[edits.Edit, ...] = (edit, other)) -> Tuple[Optional[str], List[int]]:
+        crate.running = 1
+        note = f"note: src/framer.rt:60:9: it is not proved that what the function ensures holds (`{goal}`)"
+        said = Said("\n".join([refused_stage, note, waits, "only=2 proved=0", ""]), 1)
+        settled, groups = crate.take(wrong_bodies.Group(list(chosen), how), said)
+        return settled[edit].word if edit in settled else None, [it.how for it in groups if edit in it.edits]
+
+    same(taken("returns-clause-bad"), (wrong_bodies.REFUSED, []), "its clause")
+    same(taken("returns-clause-broken"), (None, [wrong_bodies.APART]), "another clause, among others")
+    same(taken("returns-clause-broken", wrong_bodies.APART), (None, [wrong_bodies.ALONE]), "another clause, apart from them")
+    same(taken("returns-clause-broken", wrong_bodies.ALONE, (edit,)), (wrong_bodies.ELSEWHERE, []), "another clause, alone")
+
+
+@test("mutants: no two of one check have one proof, and of those that are tried apart none stands on another")
+def groups() -> None:
+    source = reading.Source("ob0_frame")
+    crate = wrong_bodies.Crate("ob0_frame", edits.edits_of("ob0_frame", source), source)
+    holds("head::stage_of" in crate.below["framer::Framer::feed"], "what a function stands on")
+    for is_apart in (False, True):
+        found = crate.groups(crate.chosen, is_apart)
+        same(sorted(it.path for group in found for it in group), sorted(it.path for it in crate.chosen), "each once")
+        pairs = [(one, other) for group in found for at, one in enumerate(group) for other in group[:at]]
+        same([(a.name, b.name) for a, b in pairs if wrong_bodies.proofs(a) & wrong_bodies.proofs(b)], [], "of one proof")
+        holds(not is_apart or not any(crate.are_joined(*it) for it in pairs), "that stand on each other")
+    same([len(it) > wrong_bodies.MOST for it in found], [False] * len(found), "more than go into one check")
+
+
+@test("mutants: where the checker can't find a function by its name, all of its crate are checked")
+def asked_for_all() -> None:
+    source = reading.Source("ob0_frame")
+    edit = next(it for it in edits.edits_of("ob0_frame", source) if "takes_a_longer_head" in it.name)
+    asked: List[List[str]] = []
+
+    class Named(checks.Libraries):
+        def words(self, crate: str, only: Iterable[str]) -> Optional[List[str]]:
+            asked.append(list(only))
+            print_line = "print('rattle: error: `ob0_frame` has no function')" if asked[-1] else "print('logic=not-proved')"
+            return [sys.executable, "-c", print_line]
+
+    os.makedirs(build.ROOMS, exist_ok=True)
+    said = wrong_bodies.check("ob0_frame", [edit], Named(os.path.join(build.ROOMS, "libraries-of-a-test")))
+    same((asked, said.text), ([["head::stage_of"], []], "logic=not-proved\n"), "what is asked for")
 
 
 @test("mutants: the libraries are those of which `rt ci` says that they are proved")
@@ -308,12 +374,33 @@ def whole_run() -> None:
     right = mutant(folder, "right", line, f"{line} ")
     bad = mutant(folder, "bad", line, f"{line} | lf()")
     lost = mutant(folder, "lost", "        [b'y']", line)
-    words = [it.try_over(libraries).word for it in (right, bad, lost)]
+    words = [it.try_over(libraries, mutants.CALLED).word for it in (right, bad, lost)]
     same(words, [mutants.PROVED, mutants.BAD, mutants.BAD], "what each comes to")
+    words = [it.try_over(libraries, mutants.CONTRACTS).word for it in (refused, right, bad)]
+    same(words, [mutants.REFUSED, mutants.NOT_TRIED, mutants.NOT_TRIED], "what each comes to over contracts alone")
     same(counts_with(wanted=1), (1, 0), "one that is refused")
     same(counts_with(right, bad, lost, wanted=4), (1, 3), "one that is made right again, one that doesn't compile, one without its text")
     same(counts_with(wanted=2), (1, 1), "one whose file isn't there")
     unnamed = Unnamed(libraries.folder)
     unnamed.proved.add("ob0_frame")
     same(counts_with(right, wanted=2, libraries=unnamed), (1, 1), "where a check of the function alone has no verdict, one of the crate")
+    shutil.rmtree(folder)
+
+
+@test("mutants: over contracts alone each other function has no body, and a hole for a proof")
+def contracts() -> None:
+    folder = tempfile.mkdtemp()
+    chosen = mutant(folder, "chosen", "        [b'\\n'] | [b'\\r', b'\\n']", "        [b'x'] | [b'\\r', b'\\n']")
+    room = os.path.join(folder, "room")
+    checks.furnish(room, chosen.edit.crate, [chosen.edit])
+    chosen.leave_contracts(room)
+    source = chosen.source
+    for it in source.functions:
+        with open(os.path.join(room, it.file), encoding="utf-8") as file:
+            lines = file.read().split("\n")[it.opens - 1 : it.last]
+        is_own = it.name == "ends_in_empty_line"
+        holds(it.opens == it.last or (mutants.NO_BODY in lines[-1]) != is_own, f"{it.path}: {lines}")
+        proof = os.path.join(room, "proofs", *it.checked_as.split("::"))
+        holds(is_own or os.path.isfile(os.path.join(proof, "Proof.antt")), f"{it.path} has no hole")
+        holds(is_own or not os.path.exists(os.path.join(proof, "Answers.antt")), f"{it.path} has its answers")
     shutil.rmtree(folder)

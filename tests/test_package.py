@@ -8,15 +8,13 @@ import re
 import shutil
 import subprocess
 import tarfile
-import tempfile
-import time
 from collections.abc import Callable
 
 import common
 import package
 from common import match_of
 from harness import TOP, examples, holds, leave_out, same, test, text_of, want, want_proved
-from homes import run_plainly, write
+from homes import run_in_terminal, run_plainly, temporary, write
 from screen import Screen
 
 MODULE = "MODULE N;\nBEGIN x := 1 END N.\n"
@@ -68,7 +66,7 @@ def packed() -> None:
     sums = [common.file_sum(it) for it in (archive, deb)]
     made("package")
     same([common.file_sum(it) for it in packages()], sums, "the sums of a second run")
-    with tempfile.TemporaryDirectory() as room:
+    with temporary() as room:
         usr = placed(room)
         with tarfile.open(archive) as tar:
             same([it.name for it in tar if it.isdir()], [], "entries of folders, which would change their modes")
@@ -93,7 +91,7 @@ def as_readme_says() -> None:
     made("package")
     page = text_of("README.md").partition("**From a package.**")[2]
     by_apt, by_tar = [it[4:].partition("  #")[0].strip() for it in page.splitlines() if it.startswith("    sudo ")][:2]
-    with tempfile.TemporaryDirectory() as room:
+    with temporary() as room:
         # (without sudo, by apt as a plan alone, and into a folder of the test's own)
         same((by_apt.count("sudo apt install "), by_tar.count("sudo tar "), by_tar.count("/usr/local")), (1, 1, 1), f"{by_apt}; {by_tar}")
         line = by_tar.replace("sudo ", "").replace("/usr/local", room)
@@ -114,7 +112,7 @@ def as_readme_says_without() -> None:
     sums, unpack = (match_of(rf"^    ({it} .*?)(?:  +#.*)?$", page, re.M)[1] for it in ("sha256sum", "mkdir"))
     archive, deb = packages()
     for file in (archive, deb):
-        with tempfile.TemporaryDirectory() as room:
+        with temporary() as room:
             for it in (file, os.path.join(TOP, "bin", "SHA256SUMS")):
                 shutil.copy(it, room)
             home = {**os.environ, "HOME": os.path.join(room, "home")}
@@ -136,7 +134,7 @@ def taken_away() -> None:
     lines = [it[4:].replace("sudo ", "") for it in text_of("README.md").splitlines() if it.startswith(("    sudo tar ", "    cd /usr/local"))]
     unpack, take_away = (it.partition("  #")[0] for it in lines)
     for remove in ("line", "make"):
-        with tempfile.TemporaryDirectory() as room:
+        with temporary() as room:
             for it, mode in (("bin", 0o2775), ("share", 0o2770), ("share/man", 0o750), ("share/doc", 0o755), ("share/doc/other", 0o700), ("share/zsh", 0o711)):
                 os.makedirs(os.path.join(room, it), exist_ok=True)
                 os.chmod(os.path.join(room, it), mode)
@@ -162,7 +160,7 @@ def modes_in(room: str) -> dict[str, int]:
 @test("package: a prefix that is empty or the folder of the sources is refused")
 def refused_prefixes() -> None:
     want_proved()
-    with tempfile.TemporaryDirectory() as room:
+    with temporary() as room:
         link = os.path.join(room, "link")
         os.symlink(TOP, link)
         for prefix, word in (("", "is empty"), (".", "folder of the sources"), (TOP, "folder of the sources"), (link + "/", "folder of the sources")):
@@ -175,7 +173,7 @@ def refused_prefixes() -> None:
 def in_copy(*commits: tuple[int, str, str]) -> list[str]:
     """The version of the packages in a repository of its own, which has the scripts and these commits: a time and a tag for each."""
     versions = []
-    with tempfile.TemporaryDirectory() as room:
+    with temporary() as room:
         shutil.copytree(os.path.join(TOP, "tools"), os.path.join(room, "tools"))
         git = ["git", "-c", "user.name=x", "-c", "user.email=x@example.org"]
         own = {key: value for key, value in os.environ.items() if key != "SOURCE_DATE_EPOCH"}
@@ -217,7 +215,7 @@ def by_dpkg() -> None:
     if os.geteuid() or not shutil.which("dpkg"):
         leave_out("it wants dpkg, and to be root")
     made("package")
-    with tempfile.TemporaryDirectory() as room:
+    with temporary() as room:
         admin = os.path.join(room, "var", "lib", "dpkg")
         for it in ("available", "info/format", "updates/x", "triggers/Unincorp"):
             write(os.path.join(admin, it), "1\n" if it == "info/format" else "")
@@ -236,7 +234,7 @@ def by_dpkg() -> None:
 
 @test("package: it says what was proved, the packed program is the proved one, and the links of its pages hold")
 def provenance() -> None:
-    with tempfile.TemporaryDirectory() as room:
+    with temporary() as room:
         usr = placed(room)
         said = text_of(usr, "share/doc/ob0/PROVED")
         for it in ("rattle-kit", "logic", common.file_sum(common.BINARY), "commit:", "gate:"):
@@ -250,7 +248,7 @@ def provenance() -> None:
 @test("package: `make install` copies the tree without a toolchain, and `make uninstall` leaves nothing")
 def installed() -> None:
     want_proved()
-    with tempfile.TemporaryDirectory() as room:
+    with temporary() as room:
         usr = placed(room)
         # (a PATH without the toolchain, and a folder that was there before)
         for command in ("python3", "make", "sh", "date", "git"):
@@ -285,7 +283,7 @@ def installed() -> None:
 @test("package: a stamp beside another program doesn't make it the proved one")
 def stamped() -> None:
     want_proved()
-    with tempfile.TemporaryDirectory() as room:
+    with temporary() as room:
         program, stamp = os.path.join(room, "ob0"), os.path.join(room, "ob0.stamp")
         shutil.copy(common.BINARY, program)
         shutil.copy(common.STAMP, stamp)
@@ -299,7 +297,8 @@ def stamped() -> None:
 
 @test("package: the program, its manual page and Tab in bash, zsh and fish, in an empty home")
 def in_shells() -> None:
-    with tempfile.TemporaryDirectory() as room:
+    want("bash")
+    with temporary() as room:
         usr = placed(room)
         environment, work = own(room, usr), os.path.join(room, "work")
         write(os.path.join(work, "New.mod"), MODULE)
@@ -311,7 +310,10 @@ def in_shells() -> None:
             status, said = run_plainly(["man", "-M", os.path.join(usr, "share", "man"), "ob0"], environment, work)
             holds(status == 0 and "CallBound" in said, f"man ob0: {said[:300]}")
         shells = {
-            "bash": (["bash", "--norc", "-i"], f". {usr}/share/bash-completion/completions/ob0; bind 'set show-all-if-ambiguous on'"),
+            "bash": (
+                ["bash", "--norc", "-i"],
+                f". {usr}/share/bash-completion/completions/ob0; bind 'set show-all-if-ambiguous on'; bind 'set enable-bracketed-paste on'",
+            ),
             "zsh": (["zsh", "-f", "-i"], f"fpath=({usr}/share/zsh/vendor-completions $fpath); autoload -U compinit; compinit -u -D"),
             "fish": (["fish"], "true"),
         }
@@ -320,16 +322,17 @@ def in_shells() -> None:
                 print(f"package: {shell} isn't here, so Tab is not tried in it", flush=True)
                 continue
             with Screen(words, environment, work) as screen:
-                screen.read(1)
+                # (it switches bracketed paste on when it reads keys)
+                reads_keys = rb"(?s:.*)\[\?2004h"
+                screen.shows(b".", f"{shell} starts")
                 screen.keys(f"{setup}; echo rea''dy\n".encode())
-                screen.shows(b"ready", f"{shell} starts")
-                screen.read(0.5)
+                screen.shows(b"ready" + reads_keys, f"{shell} is set up")
                 screen.keys(b"ob0 ch\t")
                 screen.shows(b"eck", f"Tab after `ob0 ch` in {shell}")
                 screen.keys(b"N\t")
                 screen.shows(rb"ew\.mod", f"Tab after `ob0 check N` in {shell}")
                 screen.keys(b"\n")
-                screen.shows(b"1:6: Undeclared", f"the line that was completed in {shell}")
+                screen.shows(b"1:6: Undeclared" + reads_keys, f"the line that was completed in {shell}")
                 screen.keys(b"ob0 run < N\t")
                 screen.shows(rb"ew\.mod", f"Tab after `ob0 run < N` in {shell}")
 
@@ -345,11 +348,8 @@ def seen_by_vim(words: list[str], environment: dict[str, str], work: str, name: 
     ]  # fmt: skip
     script = os.path.join(work, "steps.vim")
     write(script, "\n".join(steps) + "\n")
-    with Screen([*words, "-S", script], environment, work) as screen:
-        end = time.monotonic() + 60
-        while not (os.path.exists(report) and os.path.getsize(report)) and time.monotonic() < end:
-            screen.read(0.1)
-        holds(os.path.exists(report), f"{name} said nothing: {screen.drawn[-500:]!r}")
+    status, drawn = run_in_terminal([*words, "-S", script], environment, work)
+    holds(os.path.exists(report), f"{name} said nothing, and ended with {status}: {drawn[-500:]!r}")
     types = json.loads(text_of(report))
     same(types, ["ob0"] * (1 + len(opened)) + [2, 2], f"what {name} takes the files as, whether it has :Ob0Run, and the width of a level")
 
@@ -357,7 +357,7 @@ def seen_by_vim(words: list[str], environment: dict[str, str], work: str, name: 
 @test("package: Neovim and its server, on a new file and each example, in an empty home")
 def in_neovim() -> None:
     want("Neovim")
-    with tempfile.TemporaryDirectory() as room:
+    with temporary() as room:
         usr = placed(room)
         environment, work = own(room, usr), os.path.join(room, "work")
         os.makedirs(work)
@@ -369,7 +369,7 @@ def in_neovim() -> None:
 @test("package: Vim, on a new file and each example, in an empty home")
 def in_vim() -> None:
     want("Vim")
-    with tempfile.TemporaryDirectory() as room:
+    with temporary() as room:
         usr = placed(room)
         environment, work = own(room, usr), os.path.join(room, "work")
         os.makedirs(work)
@@ -381,7 +381,7 @@ def in_vim() -> None:
 @test("package: Emacs, on a new file and each example, in an empty home")
 def in_emacs() -> None:
     want("Emacs")
-    with tempfile.TemporaryDirectory() as room:
+    with temporary() as room:
         usr = placed(room)
         environment, work = own(room, usr), os.path.join(room, "work")
         os.makedirs(work)
@@ -389,21 +389,19 @@ def in_emacs() -> None:
         steps = f"""(let (r)
           (find-file "new.mod") (insert "MODULE N;\\nBEGIN x := 1 END N.\\n") (save-buffer) (push major-mode r)
           (dolist (it '({' '.join(json.dumps(os.path.join(TOP, it)) for it in examples())})) (find-file it) (push major-mode r))
-          (write-region (prin1-to-string (nreverse r)) nil "{report}"))"""
+          (write-region (prin1-to-string (nreverse r)) nil "{report}")
+          (kill-emacs))"""
         # (Emacs looks for packages below each site-lisp of its load path: the tree's is put there)
         environment["EMACSLOADPATH"] = os.path.join(usr, "share", "emacs", "site-lisp") + ":"
-        with Screen(["emacs", "-nw", "--eval", steps], environment, work) as screen:
-            end = time.monotonic() + 60
-            while not (os.path.exists(report) and os.path.getsize(report)) and time.monotonic() < end:
-                screen.read(0.1)
-            holds(os.path.exists(report), f"Emacs said nothing: {screen.drawn[-500:]!r}")
+        status, drawn = run_in_terminal(["emacs", "-nw", "--eval", steps], environment, work)
+        holds(os.path.exists(report), f"Emacs said nothing, and ended with {status}: {drawn[-500:]!r}")
         same(text_of(report), f"({' '.join(['ob0-mode'] * (1 + len(examples())))})")
 
 
 @test("package: Kakoune, on a new file and each example, in an empty home")
 def in_kakoune() -> None:
     want("Kakoune")
-    with tempfile.TemporaryDirectory() as room:
+    with temporary() as room:
         usr = placed(room)
         environment, work = own(room, usr), os.path.join(room, "work")
         os.makedirs(work)
@@ -416,13 +414,13 @@ def in_kakoune() -> None:
         opened = [f"edit '{os.path.join(TOP, it)}'; echo -to-file '{work}/type of {os.path.basename(it)}' %opt{{filetype}}" for it in examples()]
         script = f"""edit new.mod; execute-keys 'iMODULE N; END N.<esc>'; write; echo -to-file '{work}/type of new.mod' %opt{{filetype}}
           {'; '.join(opened)}; kill!"""
-        status, said = run_plainly(["timeout", "60", "kak", "-ui", "dummy", "-e", script], environment, work)
+        status, said = run_plainly(["timeout", "-k", "10", "300", "kak", "-ui", "dummy", "-e", script], environment, work)
         same({text_of(work, f"type of {it}") for it in ("new.mod", *names)}, {"ob0"}, said)
 
 
 @test("package: nano, GtkSourceView and a desktop take their files")
 def others() -> None:
-    with tempfile.TemporaryDirectory() as room:
+    with temporary() as room:
         usr = placed(room)
         environment, work = own(room, usr), os.path.join(room, "work")
         write(os.path.join(work, "New.mod"), MODULE)

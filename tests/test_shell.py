@@ -5,13 +5,12 @@ import functools
 import os
 import re
 import shlex
-import tempfile
 from collections.abc import Callable
 from typing import TypeVar
 
 from common import match_of
 from harness import TOP, holds, run, same, test, text_of, want, want_proved
-from homes import at_home, run_plainly, write
+from homes import at_home, run_plainly, temporary, write
 from screen import Screen
 from snippets import fenced
 
@@ -37,7 +36,7 @@ OFFERED = [
 
 
 def in_folder(function: Callable[[str], T]) -> T:
-    with tempfile.TemporaryDirectory() as room:
+    with temporary() as room:
         for it in FILES:
             write(os.path.join(room, it), "")
         return function(room)
@@ -139,7 +138,7 @@ PAGES = ["README.md", "examples/README.md"]
 def transcripts() -> None:
     blocks = [text for it in PAGES for name, text in fenced(it) if name == "console"]
     holds(blocks, "there is none")
-    with tempfile.TemporaryDirectory() as room:
+    with temporary() as room:
         own = at_home(room, "kate")
         for block in blocks:
             said = ""
@@ -154,7 +153,7 @@ def first_module() -> None:
     lines = [it[4:] for it in page.partition("\n\n")[0].splitlines()]
     same(len(lines), 3, "the lines")
     printed = match_of(r"The last line prints `([^`]*)`", page)[1]
-    with tempfile.TemporaryDirectory() as room:
+    with temporary() as room:
         own, work = at_home(room, "kate"), os.path.join(room, "work")
         os.mkdir(work)
         same(run_plainly(["sh", "-e", "-c", "\n".join(lines)], own, work), (0, printed + "\n"), "what they print")

@@ -4,11 +4,10 @@ from __future__ import annotations
 import json
 import os
 import re
-import tempfile
 from typing import Tuple
 
 from harness import TOP, Server, did_open, holds, same, test, text_of, want
-from homes import at_home, run_plainly
+from homes import at_home, run_plainly, temporary
 
 Snippet = Tuple[str, str, str]  # a key, a description and a body
 NAMES = ["module", "procedure", "if", "ifelse", "while", "repeat", "count", "array", "record"]
@@ -85,7 +84,7 @@ def correct() -> None:
 @test("snippets: Emacs expands each by yasnippet")
 def in_emacs() -> None:
     want("Emacs", "yasnippet")
-    with tempfile.TemporaryDirectory() as room:
+    with temporary() as room:
         own = at_home(room, "emacs")
         steps = """(progn (package-initialize) (require 'yasnippet) (require 'ob0-mode)
           (dolist (it '(%s))

@@ -6,13 +6,15 @@ from __future__ import annotations
 import glob
 import os
 import re
+import shlex
+import shutil
 
 import common
 import edits
 import reading
 import rooms
 from common import match_of
-from harness import TOP, holds, same, test, text_of, want
+from harness import TOP, Skipped, holds, same, test, text_of, want
 from homes import run_plainly
 
 
@@ -122,3 +124,41 @@ def cited_names() -> None:
         text = re.sub(r"^```.*?^```$", "", text_of(page), flags=re.M | re.S)
         cited = {it for it in re.findall(r"`([A-Za-z]\w*(?:::\w+)?)`", text)}
         same(sorted(it for it in cited if not all(word in words for word in it.split("::"))), [], f"what {page} cites and isn't there")
+
+
+@test("sources: each search that a recipe begins with finds something beside the recipe")
+def searches_find() -> None:
+    if not os.path.exists(os.path.join(TOP, ".git")) or not shutil.which("git"):
+        raise Skipped("no git, or no repository of it")
+    searches = [it.replace("\n", " ") for it in re.findall(r"`(git grep [^`]*)`", text_of("CONTRIBUTING.md"))]
+    searches = [it for it in searches if any(not word.startswith("-") for word in shlex.split(it)[2:])]
+    holds(len(searches) > 20, "too few searches were found")
+    nothing = []
+    for search in searches:
+        words = shlex.split(search)
+        words += [":!CONTRIBUTING.md"] if "--" in words else ["--", ":!CONTRIBUTING.md"]
+        if run_plainly(words, dict(os.environ), TOP)[0] != 0:
+            nothing.append(search)
+    same(nothing, [], "searches that find nothing")
+
+
+# names that types of the code, and types or facts of the definitions, have in two files
+DOUBLED = {
+    "src": {"Seen"},
+    "specs": {"AreInOrder", "Begins", "IsDecided", "IsNew", "Place", "Publishes", "Renames", "Shows", "Target", "Visit"},
+}
+
+
+@test("sources: each type of the code has a name of its own, and each type or fact of the definitions, but for some that are known")
+def names_apart() -> None:
+    in_code = r"^\s*(?:pub(?:\(\w+\))? )?(?:struct|enum|trait) (\w+)"
+    in_definitions = r"^ *(?:(?:abbrev|pub|record|data) )+([A-Z]\w*)(?: |$)"
+    for folder, pattern in (("src", in_code), ("specs", in_definitions)):
+        names: dict[str, set[str]] = {}
+        for crate in common.listed():
+            of_tests = crate.startswith("ob0_tests")
+            for path in [] if of_tests else glob.glob(os.path.join(TOP, "crates", crate, folder, "**", "*.*t*"), recursive=True):
+                for name in re.findall(pattern, text_of(path), re.M):
+                    names.setdefault(name, set()).add(path)
+        holds(len(names) > 300, f"few names were found in {folder}")
+        same({name for name, paths in names.items() if len(paths) > 1}, DOUBLED[folder], f"names in two files of {folder}")

@@ -115,40 +115,123 @@ def names_once() -> None:
     holds(at < 80, f"the headline stands at line {at}")
 
 
-@test("statement: parts 0 to 3 have at most 150 definitions and 640 lines, with part 4 395 and 2,250, and the tie is in part 3")
+def rows() -> dict[str, list[int]]:
+    """The rows of the page's table of parts: definitions, lines, words, minutes, minutes of a faster reader."""
+    found = re.findall(r"^\| (?:\[(Part \d)[^|]*|([^|\[]*)) ((?:\| [\d,]+ ){5})\|$", text_of(PAGE), re.M)
+    return {part or name: [int(it.replace(",", "")) for it in numbers.split("|")[1:]] for part, name, numbers in found}
+
+
+SUMS = {"**The first reading**": 4, "**Without the language, with the tie**": 7, "**With the language**": 8}
+
+
+@test("statement: without the language the page has at most 150 definitions and 640 lines, with it 395 and 2,250")
 def short_enough() -> None:
-    rows = re.findall(r"^\| \[Part \d: [^|]*\| (\d+) \| ([\d,]+) \|", text_of(PAGE), re.M)
-    counted = [(int(many), int(lines.replace(",", ""))) for many, lines in rows]
-    for parts, most in ((4, (150, 640)), (5, (395, 2250))):
-        many, lines = (sum(row[i] for row in counted[:parts]) for i in range(2))
-        holds(0 < many <= most[0] and lines <= most[1], f"parts 0 to {parts - 1} have {many} definitions and {lines} lines")
-    tie = {part for part, text in fenced("agda") if "record Served" in text or "Serves :" in text or "ConversationIsServed :" in text}
-    same(sorted(str(part)[:6] for part in tie), ["Part 3"], "the parts that have the tie to the program")
+    table = rows()
+    for name, most in (("**Without the language, with the tie**", (150, 640)), ("**With the language**", (395, 2250))):
+        many, lines = table[name][:2]
+        holds(0 < many <= most[0] and 0 < lines <= most[1], f"{name}: {many} definitions and {lines} lines")
 
 
-def read_in(part: str) -> float:
-    """The minutes that a part takes at 200 words and 7 lines a minute, counted on the page as it stands, without lists of links."""
+@test("statement: the counts of each part and of several are those of the page")
+def counts_hold() -> None:
+    table = rows()
+    same([*table][-1], "Part 9", "the last row")
+    for name, last in SUMS.items():
+        for i in range(2):
+            same(table[name][i], sum(table[f"Part {part}"][i] for part in range(last)), f"{name}, column {i}")
+    for part in range(10):
+        agda, rust = (
+            "\n\n".join(text for at, text in fenced(language) if str(at).startswith(f"Part {part}"))
+            for language in ("agda", "rust")
+        )
+        found = len(re.split(r"\n\n+(?=\S)", agda)) + len(re.findall(r"^pub (?:struct|enum) ", rust, re.M))
+        same(found, table[f"Part {part}"][0], f"the definitions of part {part}")
+
+
+@test("statement: the contract of what the program calls, both sides of that of `play_in`, and what joins them are in part 3")
+def tie_is_there() -> None:
+    shown = "\n".join(text for part, text in [*fenced("agda"), *fenced("rust")] if str(part).startswith("Part 3"))
+    wanted = ["pub fn serve<", "record Plays ", "PlaysBefore :", "record BothStep ", "record IsTied "]
+    for it in [*wanted, "ConversationIsServed :"]:
+        holds(it in shown, f"part 3 hasn't {it!r}")
+    wire = "\n".join(text for part, text in fenced("agda") if str(part).startswith("Part 6"))
+    for it in ("record Served ", "Serves :", "MayServe :"):
+        holds(it in wire, f"part 6 hasn't {it!r}")
+
+
+def first_reading() -> str:
+    """Parts 0 to 3."""
+    page = text_of(PAGE)
+    return page[: page.index("\n## The other parts, and how long each takes\n")]
+
+
+def read_in(part: str, pace: int) -> float:
+    """The minutes that a part takes at 200 words and so many lines a minute, on the page, without lists of links."""
     text = re.sub(r"^(?:Elsewhere: .*(?:\n.+)*|#.*|[|]-.*)$", "", part, flags=re.M)
     code = "\n".join(re.findall(r"^```\w+\n(.*?)^```$", text, re.M | re.S))
     lines = re.findall(r"^ *(?!--|//)[^\s].*$", code, re.M)
     words = [word for word in re.sub(r"[|]", " ", text).split() if re.search(r"\w", word)]
     in_lines = [word for word in re.sub(r"[|]", " ", "\n".join(lines)).split() if re.search(r"\w", word)]
-    return (len(words) - len(in_lines)) / 200 + len(lines) / 7
+    return (len(words) - len(in_lines)) / 200 + len(lines) / pace
 
 
-@test("statement: the time that the page names for a part or a plan isn't less than its words and lines take")
+@test("statement: the times of the page aren't less than its words and lines take, and parts 0 to 3 take 50 minutes")
 def times_hold() -> None:
-    page = text_of(PAGE)
+    page, table = text_of(PAGE), rows()
     parts = re.split(r"^(?=## )", page, flags=re.M)
-    rows = re.findall(r"^\| (.+) \| .+ \| ([\d,]+) \| ([\d,]+) \| ([\d.]+) (minutes|hours) \|$", page, re.M)
-    holds(len(rows) == 10, f"the rows are {rows}")
-    for name, first, second, time, unit in rows:
-        said = float(time) * (60 if unit == "hours" else 1)
-        if name.startswith("[Part"):
-            needed = next(read_in(part) for part in parts if part.startswith(f"## {name[1:8]}"))
-        else:
-            needed = int(first.replace(",", "")) / 200 + int(second.replace(",", "")) / 7
-        holds(needed <= said + 0.5, f"{name} takes {needed:.1f} minutes, and not {said}")
+    for column, pace in ((3, 6), (4, 10)):
+        for part in range(1, 10):
+            needed = next(read_in(it, pace) for it in parts if it.startswith(f"## Part {part}"))
+            said = table[f"Part {part}"][column]
+            holds(needed <= said, f"part {part} takes {needed:.1f} minutes, and not {said}")
+        first = read_in(first_reading(), pace)
+        said = table["**The first reading**"][column]
+        holds(first <= said <= 50, f"parts 0 to 3 take {first:.1f} minutes, and not {said}")
+
+
+@test("statement: what parts 0 to 3 name is in them, in words at least")
+def nothing_unsaid() -> None:
+    counted = Counted()
+    read = first_reading()
+    groups = re.findall(r"^### `(\w+)` of `(\w+)`\n(?:(?!^#).*\n)*?```agda\n((?:(?!```).*\n)*)", read, re.M)
+    first = read[: read.index("\n## The notation")]
+    groups += [(file, "ob0_world_rules", first) for file in ("Headline", "Laws", "Answers")]
+    shown = [
+        (crate, file, name)
+        for file, crate, text in groups
+        for name in definitions(text)
+        if name in counted.files[crate, file][0]
+    ]
+    holds(len(shown) > 30, f"hardly any definition is in parts 0 to 3: {shown}")
+    sections = re.findall(r"^### (?:Believed in part \d|Named and not unfolded)\n\n((?:\|.*\n)+)", read, re.M)
+    tables = "\n".join(re.findall(r"^\| \[?(`.*?) \|", "\n".join(sections), re.M))
+    said = {name.rpartition(".")[2] for name in re.findall(r"`([^`|]+)`", tables)} | {name for _, _, name in shown}
+    missing = set()
+    for crate, file, name in shown:
+        own, others = counted.files[crate, file]
+        text = re.sub(r"^ +pub \w+(?= :)", "", own[name], flags=re.M)
+        for word in re.findall(r"[^\s(){}\[\];,.\"]+", text):
+            home = (crate, file, word) if word in own else counted.home(*others[word]) if word in others else None
+            if home is None:
+                continue
+            # (a case is said by its type)
+            of_type = next(iter(definitions(counted.files[home[0], home[1]][0][home[2]])))
+            if home[2] not in said and of_type not in said:
+                missing.add(f"{word}, by {name} of {file}")
+    same(sorted(missing), [], "what parts 0 to 3 name and don't say")
+
+
+@test("statement: the laws and tests that speak for what is believed are there")
+def spoken_for() -> None:
+    paths = glob.glob(os.path.join(TOP, "crates", "*", "src", "*.rt"))
+    sources = "\n".join(text_of(os.path.relpath(path, TOP)) for path in paths)
+    said = re.findall(r"For that speak (.*?)\n\n", text_of(PAGE), re.S)
+    same(len(said), 6, "how many parts say what speaks for them")
+    named = [name for text in said for name in re.findall(r"`([a-z]\w*_\w+)`", text) if not name.startswith("ob0_")]
+    holds(len(named) > 12, f"hardly any law or test is named: {named}")
+    same([name for name in named if f"fn {name}(" not in sources], [], "laws and tests that aren't there")
+    files = [path for text in said for path in re.findall(r"\b(?:tests|crates)/[\w/]*\w(?:\.py)?", text)]
+    same([path for path in files if not os.path.exists(os.path.join(TOP, path))], [], "files and folders that aren't there")
 
 
 @test("statement: no definition that the headline needs is left out of the page, counted in another way")
@@ -160,6 +243,10 @@ def closed_page() -> None:
     roots += [("ob0_session", "Serving", "Serves"), ("ob0_world_determined", "Determined", "ConversationIsServed")]
     needed = counted.needed(roots, closed)
     holds(len(needed) > 600, f"hardly any definition is needed: {len(needed)}")
+    last = {name for part, text in fenced("agda") if str(part).startswith("Part 9") for name in definitions(text)}
+    uncounted = [name for crate, _, name in needed if name in last and crate != "ob0_scan"]
+    said = int(re.findall(r"No\s+sum\s+has\s+the\s+(\d+)\s+definitions", text_of(PAGE))[0])
+    holds(0 < len(uncounted) <= said, f"{len(uncounted)} definitions are in no sum: {uncounted}")
     shown = {name for _, text in fenced("agda") for name in definitions(text)}
     bare = {name.rpartition(".")[2].replace("'◌", "◌") for name in shown}
     same(sorted(f"{name} of {file} of {crate}" for crate, file, name in needed if name not in bare), [], "what the page leaves out")

@@ -7,14 +7,13 @@ import functools
 import json
 import os
 import re
-import tempfile
 import xml.etree.ElementTree
 from collections.abc import Callable
 
 import snippets
 from common import match_of
 from harness import TOP, examples, holds, need_program, same, test, text_of, want
-from homes import at_home, run_in_terminal, run_plainly, write
+from homes import at_home, run_in_terminal, run_plainly, temporary, write
 from screen import Screen
 
 PREDECLARED = {"INTEGER", "BOOLEAN", "TRUE", "FALSE", "Read", "Write", "WriteLn"}
@@ -100,7 +99,7 @@ VAR Begin: INTEGER; BEGIN Begin := 12 DIV 3; Write(4x) END M.
 @test("syntax files: Kate's, by KDE's highlighter")
 def kate() -> None:
     want("kate-syntax-highlighter")
-    with tempfile.TemporaryDirectory() as room:
+    with temporary() as room:
         own = at_home(room, "kate")
         for ending in "ob0", "mod", "Mod":
             file = os.path.join(room, f"sample.{ending}")
@@ -138,7 +137,7 @@ END M.
 @test("syntax files: what Kate folds, by KDE's highlighter")
 def kate_folds() -> None:
     want("kate-syntax-highlighter")
-    with tempfile.TemporaryDirectory() as room:
+    with temporary() as room:
         own, file = at_home(room, "kate"), os.path.join(room, "folded.mod")
         write(file, FOLDED)
         status, said = run_plainly(["kate-syntax-highlighter", "--output-format", "ansi", "--syntax-trace", "region", file], own, room)
@@ -161,7 +160,7 @@ def kate_folds() -> None:
 
 @test("syntax files: the lines of Qt Creator's page copy Kate's")
 def qtcreator() -> None:
-    with tempfile.TemporaryDirectory() as room:
+    with temporary() as room:
         at_home(room, "qtcreator")
         same(text_of(room, ".local/share/org.kde.syntax-highlighting/syntax/oberon0.xml"), text_of("editors", "kate", "oberon0.xml"), "the file")
 
@@ -169,7 +168,7 @@ def qtcreator() -> None:
 @test("syntax files: GtkSourceView's, by the library")
 def gtksourceview() -> None:
     want("GtkSourceView", "PyGObject", "MIME types")
-    with tempfile.TemporaryDirectory() as room:
+    with temporary() as room:
         own = at_home(room, "gtksourceview")
         file = os.path.join(room, "sample.Mod")
         write(file, SAMPLE)
@@ -189,7 +188,7 @@ def gtksourceview() -> None:
 @test("syntax files: nano's colours")
 def nano() -> None:
     want("nano")
-    with tempfile.TemporaryDirectory() as room:
+    with temporary() as room:
         own = at_home(room, "nano")
         write(os.path.join(room, "sample.mod"), SAMPLE)
         own["LC_ALL"] = "C.UTF-8"
@@ -206,7 +205,7 @@ def nano() -> None:
 @test("syntax files: TextMate's, by the regular expressions of its kind")
 def textmate() -> None:
     want("Ruby")
-    with tempfile.TemporaryDirectory() as room:
+    with temporary() as room:
         file = os.path.join(room, "sample.mod")
         write(file, SAMPLE)
         words = ["ruby", os.path.join(TOP, "tests", "editors", "tokens.rb"), os.path.join(TOP, "editors", "vscode", "syntaxes", "oberon0.tmLanguage.json"), file]
@@ -286,7 +285,7 @@ END R.
 def by_vim(editor: str, words: list[str], name: str) -> None:
     """Vim's files, in Vim or Neovim: file types, colours, :make, indentation."""
     need_program()
-    with tempfile.TemporaryDirectory() as room:
+    with temporary() as room:
         own = at_home(room, editor)
         rc = os.path.join(room, "rc.vim")
         write(rc, "set nocompatible\nsyntax on\nfiletype plugin indent on\n")
@@ -334,7 +333,7 @@ def in_neovim() -> None:
 def in_emacs() -> None:
     want("Emacs")
     need_program()
-    with tempfile.TemporaryDirectory() as room:
+    with temporary() as room:
         own = at_home(room, "emacs")
         own.update(OB0_TOP=TOP, OB0_EXAMPLES=json.dumps([os.path.join(TOP, it) for it in examples()]))
         own["OB0_FILES"] = json.dumps([[it[0], it[1], it[2]] for it in FILES])
@@ -351,7 +350,7 @@ def in_emacs() -> None:
 def in_kakoune() -> None:
     want("Kakoune")
     need_program()
-    with tempfile.TemporaryDirectory() as room:
+    with temporary() as room:
         own = at_home(room, "kakoune")
         write(os.path.join(room, ".config", "kak", "kakrc"), "\n".join(snippets.snippets("kakoune", "kak")))
         work = os.path.join(room, "work")
@@ -376,7 +375,7 @@ def in_kakoune() -> None:
 @test("syntax files: Kakoune's indentation, typed line by line, is the server's layout")
 def kakoune_indents() -> None:
     want("Kakoune")
-    with tempfile.TemporaryDirectory() as room:
+    with temporary() as room:
         own = at_home(room, "kakoune")
         for name in [*examples(), "record"]:
             text = RECORD if name == "record" else text_of(name)
@@ -384,7 +383,7 @@ def kakoune_indents() -> None:
             lines = ["".join(keys.get(sign, sign) for sign in line.strip()) for line in text.rstrip("\n").split("\n")]
             file = os.path.join(room, f"{os.path.basename(name)}.ob0")
             script = f"edit '{file}'; execute-keys -with-hooks 'i{'<ret>'.join(lines)}<esc>'; write; kill!"
-            status, said = run_plainly(["timeout", "60", "kak", "-ui", "dummy", "-e", script], own, room)
+            status, said = run_plainly(["timeout", "-k", "10", "300", "kak", "-ui", "dummy", "-e", script], own, room)
             holds(os.path.exists(file), f"{name}: Kakoune ended with {status}: {said[-500:]}")
             same(text_of(file), text, f"{name} as it was typed")
 
@@ -408,7 +407,7 @@ def settings() -> None:
         import tomllib
     except ImportError:
         return
-    with tempfile.TemporaryDirectory() as room:
+    with temporary() as room:
         at_home(room, "helix")
         helix = tomllib.loads(text_of(room, ".config", "helix", "languages.toml"))
     same(helix["language-server"]["ob0"], {"command": "ob0", "args": ["serve"]}, "Helix's server")

@@ -7,13 +7,12 @@ import os
 import re
 import shutil
 import subprocess
-import tempfile
 from typing import Any
 
 import random_texts
 from common import match_of
 from harness import TOP, Server, did_open, examples, holds, leave_out, need_program, same, test, text_of, want
-from homes import at_home, run_plainly, write
+from homes import at_home, run_plainly, temporary, write
 from snippets import fenced
 
 FOLDER = os.path.join(TOP, "editors", "tree-sitter")
@@ -58,7 +57,7 @@ def compiled(room: str) -> str:
 @functools.lru_cache(None)
 def read_by_neovim(texts: tuple[str, ...]) -> Any:
     """Which of the texts (a tuple) have an error, and what the queries find in the sample."""
-    with tempfile.TemporaryDirectory() as room:
+    with temporary() as room:
         write(os.path.join(room, "given"), json.dumps({"texts": texts, "text": SAMPLE}))
         own = {**os.environ, "HOME": room, "OB0_PARSER": compiled(room), "OB0_QUERIES": os.path.join(FOLDER, "queries")}
         own.update(OB0_GIVEN=os.path.join(room, "given"), OB0_REPORT=os.path.join(room, "report"))
@@ -131,7 +130,7 @@ def installed() -> None:
         ("tree-sitter", ".local/share/nvim/site/parser/oberon0.so", ".local/share/nvim/site/queries/oberon0"),
         ("helix", ".config/helix/runtime/grammars/oberon0.so", ".config/helix/runtime/queries/oberon0"),
     ):
-        with tempfile.TemporaryDirectory() as room:
+        with temporary() as room:
             at_home(room, page)
             holds(os.path.getsize(os.path.join(room, library)), library)
             same(sorted(os.listdir(os.path.join(room, queries_at))), sorted(os.listdir(os.path.join(FOLDER, "queries"))), page)
@@ -144,7 +143,7 @@ def generated() -> None:
     version = subprocess.run(["tree-sitter", "--version"], stdout=subprocess.PIPE, check=True).stdout.decode().split()[1]
     if not version.startswith("0.22."):
         leave_out(f"parser.c was made by tree-sitter 0.22, and here is {version}")
-    with tempfile.TemporaryDirectory() as room:
+    with temporary() as room:
         shutil.copy(os.path.join(FOLDER, "grammar.js"), room)
         status, said = run_plainly(["tree-sitter", "generate", "--no-bindings"], {**os.environ, "HOME": room}, room)
         same(status, 0, said)

@@ -290,9 +290,19 @@ def main(words: list[str]) -> int:
         print("bin/ob0 is up to date", flush=True)
         return 0
     common.need("rt")
+    return carry_out(Plan(is_check))
+
+
+def prove_libraries(names: Iterable[str]) -> int:
+    """Proves some crates and those below them as --check does, and builds each library that isn't made of the present sources."""
+    return carry_out(Plan(True, names, True))
+
+
+def carry_out(plan: Plan) -> int:
+    """Proves what a plan names; returns the exit status."""
     running: dict[str, Work] = {}
     try:
-        return prove_all(running, is_check)
+        return prove_all(running, plan)
     except KeyboardInterrupt:
         # (a second interrupt would leave in the rooms what was proved)
         signal.signal(signal.SIGINT, signal.SIG_IGN)
@@ -303,11 +313,12 @@ def main(words: list[str]) -> int:
 
 
 class Plan:
-    """What is done and what is left: crates to prove, and libraries to build again since a crate above is to be proved."""
+    """What is done and what is left: crates to prove, and libraries to build again since a crate above is to be proved (where the
+    plan is exact, all that aren't made of the present sources)."""
 
-    def __init__(self, is_check: bool) -> None:
-        self.named, self.is_check, self.timer = common.libraries(), is_check, common.Timer()
-        tops = self.named if is_check else ["ob0"]
+    def __init__(self, is_check: bool, tops: Iterable[str] = (), is_exact: bool = False) -> None:
+        self.named, self.is_check, self.is_exact, self.timer = common.libraries(), is_check, is_exact, common.Timer()
+        tops = tops or (self.named if is_check else ["ob0"])
         self.all = list(dict.fromkeys(it for top in tops for it in common.below(top, self.named)))
         self.sums = Sums(self.named)
         self.kept = {it: Proved(it, self.command(it), self.sums.of_sources(it), common.below(it, self.named)) for it in self.all}
@@ -330,7 +341,7 @@ class Plan:
             if kept.is_current():
                 self.built.add(name)
                 return True
-            if self.is_check and kept.has_read(self.sums.of_shown(name)):
+            if self.is_check and not self.is_exact and kept.has_read(self.sums.of_shown(name)):
                 self.alike.add(name)
                 return True
         self.open.add(name)
@@ -371,8 +382,7 @@ class Plan:
         return f"{len(self.all) - len(self.done)} of {len(self.all)} crates are left"
 
 
-def prove_all(running: dict[str, Work], is_check: bool) -> int:
-    plan = Plan(is_check)
+def prove_all(running: dict[str, Work], plan: Plan) -> int:
     ready, most, shown_at = plan.ready(running), lanes(), time.monotonic()
     plan.say(f"{len(plan.done)} of {len(plan.all)} crates are up to date")
     while not plan.is_done:
@@ -380,7 +390,7 @@ def prove_all(running: dict[str, Work], is_check: bool) -> int:
         jobs = max(1, processors() // max(1, min(most, len(ready) + len(running))))
         for name in ready:
             if len(running) < most:
-                running[name] = Work(name, plan.named, jobs, is_check)
+                running[name] = Work(name, plan.named, jobs, plan.is_check)
                 plan.say(f"{name}: {'building its library again' if name in plan.done else 'proving it'}; {plan.left()}")
         time.sleep(0.2)
         for name, work in list(running.items()):
@@ -394,7 +404,7 @@ def prove_all(running: dict[str, Work], is_check: bool) -> int:
                 plan.say(f"{name}: NOT PROVED; the end of crates/{name}/out/build.log is above")
                 return 1
             plan.take(name, work.modules())
-            plan.say(f"{name}: proved{f', {plan.done[name]}' if is_check else ''}; {plan.left()}")
+            plan.say(f"{name}: proved{f', {plan.done[name]}' if plan.is_check else ''}; {plan.left()}")
         ready = plan.ready(running)
         if time.monotonic() - shown_at > STEP and running:
             shown_at = time.monotonic()

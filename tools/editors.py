@@ -25,15 +25,19 @@ def here(command: str) -> Callable[[], bool]:
     return lambda: shutil.which(command) is not None
 
 
+def ends_well(words: list[str]) -> bool:
+    how: dict[str, Any] = {"stdin": subprocess.DEVNULL, "stdout": subprocess.DEVNULL, "stderr": subprocess.DEVNULL}
+    return not subprocess.run(words, check=False, timeout=900, **how).returncode
+
+
 def in_emacs(library: str) -> Callable[[], bool]:
     words = ["emacs", "--batch", "--eval", f"(progn (require 'package) (package-initialize) (require '{library}))"]
-    how: dict[str, Any] = {"stdin": subprocess.DEVNULL, "stdout": subprocess.DEVNULL, "stderr": subprocess.DEVNULL}
-    return lambda: bool(shutil.which("emacs")) and not subprocess.run(words, check=False, **how).returncode
+    return lambda: bool(shutil.which("emacs")) and ends_well(words)
 
 
 def with_gobject() -> bool:
     words = ["/usr/bin/python3", "-c", "import gi"]
-    return os.path.exists(words[0]) and not subprocess.run(words, stderr=subprocess.DEVNULL, check=False).returncode
+    return os.path.exists(words[0]) and ends_well(words)
 
 
 def with_gtksourceview() -> bool:
@@ -94,7 +98,8 @@ def install(packages: list[str]) -> str | None:
     environment = {**os.environ, "DEBIAN_FRONTEND": "noninteractive"}
     how: dict[str, Any] = {"stdin": subprocess.DEVNULL, "stdout": subprocess.PIPE, "stderr": subprocess.STDOUT, "env": environment}
     try:
-        words += ["apt-get", *packages]
+        # (another one that installs is waited for)
+        words += ["apt-get", "-o", "DPkg::Lock::Timeout=600", *packages]
         ran = subprocess.run(words, timeout=1800, check=False, **how)
     except (OSError, subprocess.TimeoutExpired) as why:
         return str(why)

@@ -31,6 +31,11 @@ class Claim(NamedTuple):
         return "-requires" not in goal and any(is_goal_of(it, goal) for it in self.clauses)
 
 
+def name_of(goal: str) -> str:
+    """A goal's name, without its place."""
+    return re.split(r"[ ,]", goal)[0]
+
+
 def is_goal_of(clause: str, goal: str) -> bool:
     """Whether a goal of a function is that of one of its clauses."""
     if clause == "the loop":

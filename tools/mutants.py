@@ -2,28 +2,28 @@
 first line names.
 
 `make test` calls this after `rt ci`, over the libraries that `rt ci` has proved. A mutant is tried by a check of the function that
-it turns and of what that calls (`rattle check --only`), those of one crate one after the other, each over what the ones before it
-kept in this run; as many crates side by side as processors and memory allow. Where such a check ends without a verdict it is made
-once more, alone; where that has none either, the whole crate is checked with the mutant; and where a library lacks, all crates are
-proved as `make check` does, and the mutant is tried over what that keeps."""
+it turns (`rattle check --only`), those of one crate one after the other, each over what the ones before it kept in this run; as many
+crates side by side as processors and memory allow. Of each other function of the crate the check has the contract alone, which is
+all that a proof rests on, and which `rt ci` has proved: it has no body, and a hole for a proof. A mutant that isn't refused so by a
+clause that it names is tried with what its function calls. Where such a check ends without a verdict it is made once more, alone;
+where that has none either, the whole crate is checked with the mutant; and where a library lacks, all crates are proved as
+`make check` does, and the mutant is tried over what that keeps."""
 from __future__ import annotations
 
 import os
 import re
-import shutil
-import subprocess
 import tempfile
 from concurrent.futures import ThreadPoolExecutor
-from collections.abc import Callable
-from typing import Any, Iterable, NamedTuple, Optional, Tuple
+from typing import Iterable, NamedTuple, Optional, Tuple
 
 import build
+import checks
 import common
 import edits
 import reading
 import wrong_bodies
 from common import TOP
-from wrong_bodies import Said
+from checks import Said
 
 # What a try comes to. Only after the last another try can say more.
 REFUSED, ELSEWHERE, PROVED = "refused", "refused elsewhere", "NOT REFUSED"
@@ -38,6 +38,15 @@ COUNT = re.compile(r"every proof, (\d+) wrong versions")
 HAS_PROVED = re.compile(r"rt: (\w+) (?:proved$|is kept: )")
 # (the exit status of a check in which the prover stopped at a limit of its own, and refused nothing)
 COULD_NOT_TELL = 3
+# What a check reads beside the mutant's functions: the contracts of the others, what they call, or the whole crate.
+CONTRACTS, CALLED, WHOLE = "contracts", "called", "whole"
+# What stands in place of a body that is not proved, and of its proof.
+NO_BODY = "unreachable!()"
+HOLE = """use Rattle.{crate}.proofs.{module}.Statement.{{statement}}
+
+pub {name}_spec : {{M : Type 1}} → statement M
+{name}_spec = ?
+"""
 
 
 class Outcome(NamedTuple):
@@ -51,10 +60,10 @@ class Outcome(NamedTuple):
 def judge(edit: edits.Edit, claim: edits.Claim, said: Said, functions: Iterable[reading.Function]) -> Outcome:
     """What a check says of a mutant. It is refused where the function that its first line names is not proved; elsewhere, where no
     goal of a clause that the line names is among what refuses it."""
-    error = wrong_bodies.unreadable(said, edit)
+    error = checks.unreadable(said, edit)
     if error:
         return Outcome(edit, BAD, f"it can't be read, so no contract was tried: {error}")
-    symbols = {it: f.proof for it in said.verdicts for f in functions if f.is_named(it)}
+    symbols = checks.symbols_of(said, functions)
     refused = [it for it in symbols if said.own(it)]
     if said.status == COULD_NOT_TELL:
         return Outcome(edit, LIMIT, "the prover stopped at a limit of its own and refused nothing")
@@ -63,7 +72,7 @@ def judge(edit: edits.Edit, claim: edits.Claim, said: Said, functions: Iterable[
     if not refused or not said.ended:
         return Outcome(edit, NOT_TRIED, f"the check doesn't judge `{claim.function}`: {said.text[-300:].strip()}")
     goals = [goal for it in refused for goal in said.refusing(it, symbols[it])]
-    named = [it for it in goals if claim.is_goal(wrong_bodies.name_of(it))]
+    named = [it for it in goals if claim.is_goal(edits.name_of(it))]
     if named:
         return Outcome(edit, REFUSED, f"`{claim.function}`, {named[0]}")
     errors = [it for name in refused for it in said.proof_errors(name, symbols[name])]
@@ -71,47 +80,15 @@ def judge(edit: edits.Edit, claim: edits.Claim, said: Said, functions: Iterable[
     return Outcome(edit, ELSEWHERE, f"`{claim.function}` is refused, but not by {' or '.join(claim.clauses)}: {others[:300]}")
 
 
-class Libraries:
-    """The libraries that `rt ci` proves: hard links to them, made as it says that each is proved. (At its end it puts back what
-    was in the crates' folders before.)"""
-
-    def __init__(self, folder: str) -> None:
-        self.folder = folder
-        self.proved: set[str] = set()
-        shutil.rmtree(folder, ignore_errors=True)
+class Libraries(checks.Libraries):
+    """The libraries that `rt ci` proves, taken as it says that each is proved. (At its end it puts back what was in the crates'
+    folders before.)"""
 
     def take(self, line: str) -> None:
         """Takes a crate's library where a line of `rt ci` says that the crate is proved."""
         found = HAS_PROVED.match(line.rstrip())
-        if not found:
-            return
-        self.proved.add(found[1])
-        made = os.path.join(TOP, "crates", found[1], "out", "rlib", f"{found[1]}.rlib")
-        try:
-            shutil.copytree(made, self.place(found[1]), copy_function=build.link)
-        except (OSError, shutil.Error):
-            # (a program has none; what lacks another crate's is tried without these)
-            shutil.rmtree(self.place(found[1]), ignore_errors=True)
-
-    def place(self, crate: str) -> str:
-        return os.path.join(self.folder, f"{crate}.rlib")
-
-    def words(self, crate: str, only: Iterable[str]) -> Optional[list[str]]:
-        """The command that checks some functions of a crate over these libraries (all where none is given), or None where one
-        lacks."""
-        lines = common.listed()
-        below = [it for it in common.below(crate) if it != crate]
-        if not all(os.path.isdir(self.place(it)) for it in below):
-            return None
-        kit = os.path.dirname(os.path.dirname(reading.rattle()))
-        of_kit: Callable[[str], str] = lambda it: os.path.join(kit, "rlibs", f"{it}.rlib")
-        used = {it: self.place(it) if it in lines else of_kit(it) for it in ["std", *lines[crate]]}
-        words = [reading.rattle(), "check", "--crate-name", crate, "src/lib.rt", "--links", f"{crate}=", "--jobs", "1"]
-        words += [word for name, place in used.items() for word in ("--extern", f"{name}={place}")]
-        words += ["-L", f"dependency={os.path.join(kit, 'rlibs')}", "-L", f"dependency={self.folder}"]
-        words += ["--antt-project", os.path.join(kit, "rattle", "logic", "antt-project.json")]
-        words += ["--logic-built", os.path.join(kit, "logic_built")]
-        return words + [word for it in only for word in ("--only", it)]
+        if found:
+            self.add(found[1])
 
 
 class Mutant:
@@ -139,38 +116,67 @@ class Mutant:
         """The paths under which its functions are asked for."""
         return sorted({it.checked_as for it in self.named})
 
-    def try_over(self, libraries: Libraries, is_whole: bool = False) -> Outcome:
-        """Tries it by a check of its functions alone, or of the whole crate, over what those before it kept."""
+    def try_over(self, libraries: Libraries, reads: str) -> Outcome:
+        """Tries it by a check of its functions, which reads so much beside them, over what those before it kept."""
         if self.fault or not self.claim:
             return Outcome(self.edit, BAD, self.fault or "")
-        only = [] if is_whole else self.asked
-        words = libraries.words(self.edit.crate, only) if self.edit.crate in libraries.proved else None
+        words = libraries.words(self.edit.crate, [] if reads == WHOLE else self.asked) if self.edit.crate in libraries.proved else None
         if not words:
             return Outcome(self.edit, NOT_TRIED, "`rt ci` left no library of it, or of a crate below")
         words += ["--incremental", os.path.join(KEPT, self.edit.crate)]
         with tempfile.TemporaryDirectory(dir=build.ROOMS) as room:
-            self.furnish(room)
-            how: dict[str, Any] = {"stdin": subprocess.DEVNULL, "stdout": subprocess.PIPE, "stderr": subprocess.STDOUT}
-            ran = subprocess.run(words, cwd=room, check=False, **how)
-        return judge(self.edit, self.claim, Said(ran.stdout.decode(errors="replace"), ran.returncode), self.functions)
+            checks.furnish(room, self.edit.crate, [self.edit])
+            if reads == CONTRACTS:
+                self.leave_contracts(room)
+                words.append("--allow-holes")
+            found = judge(self.edit, self.claim, checks.check(words, room), self.functions)
+        # (over holes nothing is proved, and what another clause refuses may be for what a stub lacks)
+        return found._replace(word=NOT_TRIED) if reads == CONTRACTS and found.word != REFUSED else found
 
-    def furnish(self, room: str) -> None:
-        """Puts the crate's sources with this mutant into a folder."""
-        for part in ("src", "specs", "proofs"):
-            folder = os.path.join(TOP, "crates", self.edit.crate, part)
-            if os.path.isdir(folder):
-                shutil.copytree(folder, os.path.join(room, part))
-        for path in {it for it, _ in self.edit.lines}:
+    def leave_contracts(self, room: str) -> None:
+        """Leaves of each function but those with this mutant the contract alone."""
+        own = {it.proof for it in self.functions}
+        others = [it for it in self.source.functions if it.has_body and not it.is_test and it.proof not in own]
+        for path in {it.file for it in others}:
             with open(os.path.join(room, path), encoding="utf-8") as file:
-                text = file.read()
+                lines = file.read().split("\n")
+            for it in others:
+                if it.file == path:
+                    take_body(lines, it)
             with open(os.path.join(room, path), "w", encoding="utf-8") as file:
-                file.write(wrong_bodies.with_bodies(text, path, [self.edit]))
+                file.write("\n".join(lines))
+        for it in others:
+            *above, name = it.checked_as.split("::")
+            # (the proof of a cycle is beside its functions; one without a body is in no cycle)
+            for last in (name, it.proof.rpartition("::")[2]):
+                remove_proof(os.path.join(room, "proofs", *above, last))
+            folder = os.path.join(room, "proofs", *above, name)
+            os.makedirs(folder, exist_ok=True)
+            with open(os.path.join(folder, "Proof.antt"), "w", encoding="utf-8") as file:
+                file.write(HOLE.format(crate=it.crate, module=".".join([*above, name]), name=name))
 
-    def try_over_kept(self, room: wrong_bodies.Room) -> Outcome:
-        """Tries it by a check of the whole crate, over what a check of it has kept."""
+    def try_over_kept(self, libraries: checks.Libraries) -> Outcome:
+        """Tries it over what a check of the crate has kept."""
         if not self.claim:
             return Outcome(self.edit, BAD, self.fault or "")
-        return judge(self.edit, self.claim, room.check([self.edit]), self.functions)
+        return judge(self.edit, self.claim, wrong_bodies.check(self.edit.crate, [self.edit], libraries), self.functions)
+
+
+def take_body(lines: list[str], function: reading.Function) -> None:
+    """Takes the body of a function from the lines of its file, and what says that it is in a cycle of calls."""
+    for at in range(function.first - 1, function.opens):
+        if lines[at].strip().startswith("#[cycle("):
+            lines[at] = ""
+    if function.opens < function.last:
+        lines[function.opens : function.last - 1] = [""] * (function.last - 1 - function.opens)
+        lines[function.last - 1] = f"{NO_BODY} {lines[function.last - 1]}"
+
+
+def remove_proof(folder: str) -> None:
+    """Removes the files of a function's proof. (Its folder may have others below.)"""
+    for name in build.OF_PROOFS:
+        if os.path.isfile(os.path.join(folder, name)):
+            os.remove(os.path.join(folder, name))
 
 
 def mutants_of_gate() -> list[Mutant]:
@@ -188,13 +194,13 @@ def say(outcome: Outcome) -> Outcome:
     return outcome
 
 
-def try_side_by_side(chosen: list[Mutant], libraries: Libraries, lanes: int, is_whole: bool) -> list[Tuple[Mutant, Outcome]]:
+def try_side_by_side(chosen: list[Mutant], libraries: Libraries, lanes: int, reads: str) -> list[Tuple[Mutant, Outcome]]:
     """Tries mutants, those of some crates side by side, and says what each came to, but for those that can be tried in another
     way."""
     os.makedirs(KEPT, exist_ok=True)
 
     def one(mutant: Mutant) -> Tuple[Mutant, Outcome]:
-        found = mutant.try_over(libraries, is_whole)
+        found = mutant.try_over(libraries, reads)
         return mutant, found if found.word == NOT_TRIED else say(found)
 
     def of_crate(crate: str) -> list[Tuple[Mutant, Outcome]]:
@@ -206,20 +212,10 @@ def try_side_by_side(chosen: list[Mutant], libraries: Libraries, lanes: int, is_
 
 def try_over_all(left: list[Mutant]) -> list[Outcome]:
     """Tries mutants of which nothing is known, one by one, over what a check of all crates keeps."""
-    if build.main(["--check"]):
+    if build.prove_libraries(common.listed()):
         return [say(Outcome(it.edit, NOT_TRIED, "not all crates are proved")) for it in left]
-    found, named = [], common.libraries()
-    for crate in dict.fromkeys(it.edit.crate for it in left):
-        chosen = [it for it in left if it.edit.crate == crate]
-        if not wrong_bodies.prove(crate, build.processors()):
-            found += [say(Outcome(it.edit, NOT_TRIED, "the crate itself isn't proved")) for it in chosen]
-            continue
-        room = wrong_bodies.Room(crate, named, build.processors())
-        try:
-            found += [say(it.try_over_kept(room)) for it in chosen]
-        finally:
-            room.leave()
-    return found
+    libraries = wrong_bodies.libraries_of(it.edit.crate for it in left)
+    return [say(it.try_over_kept(libraries)) for it in left]
 
 
 def count_of_readme() -> int:
@@ -246,8 +242,8 @@ def try_all(libraries: Libraries, lanes: int, is_gate_passed: bool) -> tuple[int
     """Tries all mutants of the gate, and returns how many were refused, and how many were not. Those of crates that the gate didn't
     prove are not tried."""
     left, settled = mutants_of_gate(), []
-    for count, is_whole in ((lanes, False), (1, False), (lanes, True)):
-        found = try_side_by_side(left, libraries, count, is_whole)
+    for count, reads in ((lanes, CONTRACTS), (lanes, CALLED), (1, CALLED), (lanes, WHOLE)):
+        found = try_side_by_side(left, libraries, count, reads)
         left = [it for it, outcome in found if outcome.word == NOT_TRIED]
         settled += [outcome for _, outcome in found if outcome.word != NOT_TRIED]
     unknown = [outcome for _, outcome in found if outcome.word == NOT_TRIED]

@@ -297,20 +297,23 @@ def need_program() -> None:
 
 
 def write_packages(found: Tree, folder: str) -> None:
-    """Writes both packages of a tree to a folder, with their sums, and takes away those of earlier builds."""
+    """Writes both packages of a tree to a folder, with their sums, and takes away those of earlier builds. Beside another run on the
+    same sources each file is there and whole at any time."""
     number = build_version()
     made = {
         f"ob0_{number}_amd64.deb": debian_package(found),
         f"ob0-{number}-x86_64-linux.tar.gz": squeezed(archive(with_list(found), f"ob0-{number}", False)),
     }
     sums = "".join(f"{hashlib.sha256(content).hexdigest()}  {name}\n" for name, content in made.items())
-    for path in (it for pattern in ("ob0_*_amd64.deb", "ob0-*-x86_64-linux.tar.gz") for it in glob.glob(os.path.join(folder, pattern))):
-        remove(path)
     for name, content in {**made, "SHA256SUMS": sums.encode()}.items():
         path = os.path.join(folder, name)
-        with open(path + ".new", "wb") as file:
+        new = f"{path}.{os.getpid()}"
+        with open(new, "wb") as file:
             file.write(content)
-        os.replace(path + ".new", path)
+        os.replace(new, path)
+    for path in (it for pattern in ("ob0_*_amd64.deb", "ob0-*-x86_64-linux.tar.gz") for it in glob.glob(os.path.join(folder, pattern))):
+        if os.path.basename(path) not in made:
+            remove(path)
     print(sums, end="")
 
 

@@ -25,8 +25,11 @@ class Function:
         self.name, self.is_pub, self.words = name, is_pub, [it.text for it in words]
         self.file, self.first, self.last = scope.file, words[0].line, words[-1].line
         self.head, self.has_body = heading(self.words), self.words[-1] == "}"
+        # (the line on which its body begins)
+        self.opens = words[min(len(self.head), len(words) - 1)].line
         cycle = re.search(r"# \[ cycle \( (\w+)", " ".join(self.head))
         self.proof = "::".join([*self.module, f"+{cycle[1]}"]) if cycle else self.path
+        self.home = self.module  # where the checker names it: a method, in the module of its type
 
     @property
     def path(self) -> str:
@@ -37,7 +40,8 @@ class Function:
     def checked_as(self) -> str:
         """As the checker names it below its crate: a method of a trait belongs to its type and the trait, in one word."""
         of_trait = "".join(it for it in self.impl_words if it != self.owner)
-        return "::".join([*self.module, self.owner + of_trait, self.name]) if self.trait else self.path
+        inside = [self.owner + of_trait] if self.owner else []
+        return "::".join([*(self.module if self.trait else self.home), *inside, self.name])
 
     @property
     def gives(self) -> bool:
@@ -46,17 +50,23 @@ class Function:
         result = re.search(r"- > (?!\( \)$)", text)
         return bool(result or re.search(r"& (?:'\w+ )?mut ", text))
 
+    @property
+    def places(self) -> list[str]:
+        """How the checker's names of it, and of closures in it, may begin."""
+        modules = [self.module] if self.trait else [self.home, self.module]
+        return ["::".join([self.crate, *it, ""]) for it in modules]
+
     def is_named(self, symbol: str) -> bool:
         """Whether the checker means this function, or a closure in it, by the name of a line of its output."""
-        at = "::".join([self.crate, *self.module, ""])
-        if not symbol.startswith(at):
+        at = next((it for it in self.places if symbol.startswith(it)), None)
+        if at is None:
             return False
         rest = symbol[len(at) :]
         if rest.startswith("fn::"):
             inside = "::".join(([self.owner] if self.owner else []) + [self.name])
             return f"{rest[4:]}::".startswith((f"{inside}::", f"{self.name}::"))
         if not self.trait:
-            return rest == self.path[len("::".join([*self.module, ""])) :]
+            return at == self.places[0] and rest == "::".join([*([self.owner] if self.owner else []), self.name])
         held, _, last = rest.rpartition("::")
         plain = held.replace("_", "").lower()
         return last == self.name and all(it.replace("_", "").lower() in plain for it in self.impl_words)
@@ -176,6 +186,7 @@ class Source:
         self.functions: list[Function] = []
         self.constants: dict[str, tuple[str, int, int]] = {}  # the file, the first line and the last
         self.types: dict[str, tuple[Module, bool]] = {}  # the module, and whether it is public
+        self.declared: set[tuple[Module, str]] = set()
         self.public_modules: set[Module] = {()}
         self.brought_out: list[tuple[Module, list[str]]] = []
         self.imports: list[tuple[list[str], bool]] = []
@@ -183,6 +194,10 @@ class Source:
         self.folder = os.path.join(common.TOP, "crates", crate)
         for top in ("lib.rt", "main.rt"):
             self.read(os.path.join(self.folder, "src", top), Scope(crate, f"src/{top}", ()))
+        for it in self.functions:
+            at, _ = self.types.get(it.owner, (it.module, False))
+            # (a type of this name in its own module is the one)
+            it.home = it.module if (it.module, it.owner) in self.declared else at
 
     def read(self, path: str, scope: Scope) -> None:
         words = self.words.get(path)
@@ -224,6 +239,7 @@ class Source:
                 self.types[name] = (scope.module, is_pub)
         elif word in ("struct", "enum", "type"):
             self.types[name] = (scope.module, is_pub)
+            self.declared.add((scope.module, name))
         elif word in ("const", "static"):
             self.constants[name] = (scope.file, words[0].line, words[-1].line)
         elif word == "use":
@@ -268,6 +284,23 @@ class Source:
                 at, is_pub = self.types.get(function.owner, (function.module, False))
                 is_seen = is_own and is_pub and self.is_public(at, function.owner)
             found += [function] * is_seen
+        return found
+
+    def below(self) -> dict[str, set[str]]:
+        """Of each proof those that it may stand on: of what its functions name, and of what these name in turn."""
+        named: dict[str, set[str]] = {}
+        for it in self.functions:
+            named.setdefault(it.name, set()).add(it.proof)
+        found: dict[str, set[str]] = {it.proof: set() for it in self.functions}
+        for it in self.functions:
+            found[it.proof].update(proof for word in it.words for proof in named.get(word, ()))
+        for proof, reached in found.items():
+            waiting = list(reached)
+            while waiting:
+                more = found[waiting.pop()] - reached
+                reached |= more
+                waiting += more
+            reached.discard(proof)
         return found
 
     def proved_with(self, functions: Iterable[Function]) -> list[Function]:

@@ -6,7 +6,8 @@
 (require 'flymake)
 (require 'json)
 
-(setq eglot-sync-connect 300
+;; (a number in place of t is how long eglot waits for the first bytes that the server writes, be they a part of its answer)
+(setq eglot-sync-connect t
       eglot-connect-timeout 300
       jsonrpc-default-request-timeout 300
       eglot-autoshutdown nil

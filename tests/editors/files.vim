@@ -7,7 +7,7 @@ function! s:Open(name) abort
 endfunction
 " Waits until the terminal of this buffer shows a text, and says whether it came.
 function! s:Shows(buffer, text) abort
-  for s:step in range(600)
+  for s:step in range(6000)
     if join(getbufline(a:buffer, 1, '$'), ' ') =~# a:text | return 1 | endif
     sleep 50m
   endfor

@@ -1,31 +1,38 @@
 # Kakoune without a screen: the file type of each file that is named, into OB0_REPORT, what `lint` finds in a faulty file
 # before and after it is mended, the type of a new file before and after it is saved, and what :comment-line does.
-timeout 60 kak -ui dummy -s ob0test "$OB0_WORK/faulty.Mod" >/dev/null 2>"$OB0_REPORT/said" &
-until kak -l | grep -q ob0test; do sleep 0.1; done
-say() { printf '%s\n' "$1" | kak -p ob0test; }
-for name in "$@"; do
-    say "evaluate-commands -client client0 %{ edit '$OB0_WORK/$name'; echo -to-file '$OB0_REPORT/$name' %opt{filetype} }"
-done
-# (lint runs beside the editor: its result is read until it is there; what is said in two calls can change places)
-linted() {
-    say "evaluate-commands -client client0 %{ edit '$OB0_WORK/faulty.Mod'; $2; lint-buffer }"
-    count=0
-    while [ $count -lt 100 ]; do
-        count=$((count + 1))
-        sleep 0.2
-        say "evaluate-commands -buffer '$OB0_WORK/faulty.Mod' %{ echo -to-file '$OB0_REPORT/$1' %opt{lint_messages} }"
+#
+# What is said in two calls can change places, so each has an answer, which is awaited before the next one is said. It is a
+# file, which has its name once it is whole.
+timeout -k 10 300 kak -ui dummy -s ob0test "$OB0_WORK/faulty.Mod" >/dev/null 2>"$OB0_REPORT/said" &
+editor=$!
+# await COMMAND..: waits until a command ends with 0, as long as the editor is there.
+await() {
+    until "$@"; do
+        kill -0 $editor 2>/dev/null || { echo "waited in vain for: $*"; cat "$OB0_REPORT/said"; exit 1; }
         sleep 0.1
-        [ -e "$OB0_REPORT/$1" ] || continue
-        if grep -q Undeclared "$OB0_REPORT/$1"; then [ "$1" = faulty ] && break; else [ "$1" = mended ] && break; fi
     done
 }
-linted faulty nop
-linted mended "execute-keys '%s:= 1<ret>d%sx <ret>cWriteLn<esc>'"
-new="$OB0_WORK/new.mod"
-say "evaluate-commands -client client0 %{ edit '$new'; execute-keys 'iMODULE N; END N.<esc>'; echo -to-file '$OB0_REPORT/unsaved' %opt{filetype} }"
-say "evaluate-commands -client client0 %{ write }"
-say "evaluate-commands -client client0 %{ echo -to-file '$OB0_REPORT/saved' %opt{filetype}; try comment-line }"
-say "evaluate-commands -client client0 %{ write '$OB0_REPORT/commented' }"
-say "kill!"
-wait
-for name in "$@" faulty mended unsaved saved commented; do [ -e "$OB0_REPORT/$name" ] || { echo "no finding about $name"; cat "$OB0_REPORT/said"; exit 1; }; done
+# answer NAME COMMANDS VALUE: has the editor do something, and then write a value to a file of that name.
+answer() {
+    file="$OB0_REPORT/$1"
+    rm -f "$file"
+    printf '%s\n' "evaluate-commands -client client0 %{ $2; echo -to-file '$file.new' $3; nop %sh{ mv '$file.new' '$file' } }" | kak -p ob0test
+    await [ -e "$file" ]
+}
+# (lint runs beside the editor: what it has found is asked for until it is there)
+finds() { answer "$1" nop '%opt{lint_messages}' && grep -q Undeclared "$file"; }
+finds_none() { ! finds "$1"; }
+is_there() { kak -l | grep -qx ob0test; }
+await is_there
+for name in "$@"; do
+    answer "$name" "edit '$OB0_WORK/$name'" '%opt{filetype}'
+done
+answer begun "edit '$OB0_WORK/faulty.Mod'; lint-buffer" ''
+await finds faulty
+answer begun "execute-keys '%s:= 1<ret>d%sx <ret>cWriteLn<esc>'; lint-buffer" ''
+await finds_none mended
+answer unsaved "edit '$OB0_WORK/new.mod'; execute-keys 'iMODULE N; END N.<esc>'" '%opt{filetype}'
+answer saved write '%opt{filetype}'
+answer commented "try comment-line; execute-keys '%'" '%val{selection}'
+printf 'kill!\n' | kak -p ob0test
+wait $editor

@@ -22,6 +22,8 @@ from holding import Wire  # noqa: E402
 
 FILE, REPORT, WIRE = os.environ["OB0_FILE"], os.environ["OB0_REPORT"], Wire(os.environ["OB0_WIRE"])
 GIVEN = json.loads(os.environ["OB0_GIVEN"])
+# how the names of its windows begin, of the one with the text and of the one that asks for a name (the rest can be outside ASCII)
+TEXT, DIALOG = f"^{os.path.basename(FILE)}", "^Rename"
 
 
 def say(step: str, found: object) -> None:
@@ -42,7 +44,7 @@ def saved() -> str:
         return file.read()
 
 
-def waited(what: str, value: Callable[[], Any], seconds: float = 30) -> Any:
+def waited(what: str, value: Callable[[], Any], seconds: float = 120) -> Any:
     """Waits until something has a value that counts as true, and gives that."""
     end = time.monotonic() + seconds
     while time.monotonic() < end:
@@ -55,28 +57,73 @@ def waited(what: str, value: Callable[[], Any], seconds: float = 30) -> Any:
 
 def keys(*names: str) -> None:
     subprocess.run(["xdotool", "key", "--delay", "60", *names], check=True)
-    time.sleep(0.3)
 
 
 def typed(text: str) -> None:
     subprocess.run(["xdotool", "type", "--delay", "60", text], check=True)
-    time.sleep(0.3)
+
+
+def told(*words: str) -> list[str]:
+    """The words that xdotool prints."""
+    how: dict[str, Any] = {"stdout": subprocess.PIPE, "stderr": subprocess.DEVNULL}
+    return str(subprocess.run(["xdotool", *words], check=False, **how).stdout.decode()).split()
+
+
+def is_shown(name: str) -> bool:
+    """Whether a window of this name is there."""
+    return bool(told("search", "--onlyvisible", "--name", name))
+
+
+def windows() -> set[str]:
+    """The windows that are there. (Lists of commands and menus have no name.)"""
+    return {*told("search", "--onlyvisible", "--class", "kate")}
+
+
+def new_window(before: set[str]) -> set[str]:
+    """What is there beside these windows."""
+    return windows() - before
+
+
+def takes_keys(name: str) -> bool:
+    """Whether the window that takes the keys has this name."""
+    return bool({*told("getactivewindow")} & {*told("search", "--onlyvisible", "--name", name)})
 
 
 def command(name: str, comes: Callable[[], Any]) -> Any:
     """Chooses a command by its name, as often as it takes to be taken."""
     # (Kate 25 lists a switch whose name begins alike above one of them; chosen twice that is as it was)
     for below in 0, 0, 1, 1:
-        keys("ctrl+alt+i")
-        time.sleep(1)
-        typed(name)
-        time.sleep(1)
-        keys(*["Down"] * below, "Return")
         try:
-            return waited(name, comes, 6)
+            before = windows()
+            keys("ctrl+alt+i")
+            waited("the list of commands", functools.partial(new_window, before), 60)
+            typed(name)
+            keys(*["Down"] * below, "Return")
+            return waited(name, comes, 60)
         except RuntimeError:
             keys("Escape", "Escape")
     raise RuntimeError(f"{name} was never taken")
+
+
+def name_asked(name: str) -> None:
+    """Asks for a rename, up to the key that ends the new name."""
+    keys("F2")
+    waited("the question for a name", lambda: takes_keys(DIALOG))
+    keys("ctrl+a")
+    typed(name)
+
+
+def is_answered() -> bool:
+    """Whether the last text that was sent has its diagnostics."""
+    sent = WIRE.sent("textDocument/didOpen", "textDocument/didChange")
+    return bool(WIRE.published()[-1]["version"] == sent[-1]["params"]["textDocument"]["version"])
+
+
+def is_quiet() -> bool:
+    """Whether that is so, and for a second nothing more was sent: the edits of one answer can be several changes."""
+    before = len(WIRE.events())
+    time.sleep(1)
+    return is_answered() and len(WIRE.events()) == before
 
 
 def codes() -> list[str]:
@@ -88,16 +135,17 @@ def after(what: str, change: Callable[[], object]) -> list[str]:
     before = len(published())
     change()
     waited(f"diagnostics, {what}", lambda: len(published()) > before)
-    time.sleep(0.5)
+    waited(f"the last diagnostics, {what}", is_quiet)
     return codes()
 
 
 def saving() -> str:
     """Saves, and gives the text."""
     before = os.stat(FILE).st_mtime_ns
+    waited("the window with the text", lambda: takes_keys(TEXT) and not is_shown(DIALOG))
     keys("ctrl+s")
     waited("the saved file", lambda: os.stat(FILE).st_mtime_ns != before)
-    time.sleep(0.3)
+    waited("the saved text", lambda: saved() == WIRE.text())
     return saved()
 
 
@@ -109,10 +157,7 @@ def names() -> None:
     say("listed", [[it["range"]["start"]["line"], it["range"]["start"]["character"]] for it in listed])
     found = command("Go to Definition", lambda: answers("textDocument/definition"))[0]
     say("jumped", [found["range"]["start"]["line"], found["range"]["start"]["character"]])
-    keys("F2")
-    time.sleep(1.5)
-    keys("ctrl+a")
-    typed("G")
+    name_asked("G")
     say("renamed", after("renamed", lambda: keys("Return")))
     say("text", saving())
     say("laid out", after("laid out", lambda: command("Format", lambda: answers("textDocument/formatting"))))
@@ -121,10 +166,11 @@ def names() -> None:
 
 def inlining() -> None:
     # (with the name selected: Kate requests them for a whole line else)
+    before = windows()
     keys("shift+Right", "alt+Return")
     found = waited("code actions", lambda: answers("textDocument/codeAction"))[-1]
     say("offered", [it["title"] for it in found])
-    time.sleep(1)
+    waited("the menu", functools.partial(new_window, before))
     say("acted", after("acted", lambda: keys("Down", "Return")))
     say("text", saving())
 
@@ -134,13 +180,10 @@ RENAME, LAYOUT = "textDocument/rename", "textDocument/formatting"
 
 
 def rename(name: str) -> None:
-    keys("F2")
-    time.sleep(1.5)
-    keys("ctrl+a")
-    typed(name)
+    name_asked(name)
     keys("Return")
     waited("the request of a rename", WIRE.is_held)
-    time.sleep(1)  # (until the text has the keys again)
+    waited("the window with the text", lambda: takes_keys(TEXT) and not is_shown(DIALOG))
 
 
 def line_above() -> None:
@@ -171,23 +214,23 @@ def late() -> None:
         waited("the line above", functools.partial(has_text, changed))
         WIRE.release()
         waited(what, functools.partial(has_other_text, changed))
-        time.sleep(1)
+        waited(f"the last diagnostics, {what}", is_quiet)
         say(what, saving())
 
 
 def main() -> None:
     line, column = GIVEN["place"]
     manager = subprocess.Popen(["openbox"], stdout=subprocess.DEVNULL, stderr=subprocess.DEVNULL)
-    time.sleep(1)
+    waited("the manager of windows", lambda: told("get_desktop"))
     words = ["kate", "--new", "--line", str(line + 1), "--column", str(column + 1), FILE]
     kate = subprocess.Popen(words, stdout=subprocess.DEVNULL, stderr=subprocess.DEVNULL)
     try:
-        waited("the first diagnostics", published, 60)
-        time.sleep(2)
+        waited("the first diagnostics", published)
+        waited("the window with the text", lambda: takes_keys(TEXT))
         say("opened", codes())
         {"names": names, "inlining": inlining, "late": late}[os.environ["OB0_STEPS"]]()
         keys("ctrl+q")
-        kate.wait(20)
+        kate.wait(120)
     finally:
         for it in (kate, manager):
             if it.poll() is None:

@@ -21,7 +21,7 @@
 
 (defvar ob0-given (json-parse-string (or (getenv "OB0_GIVEN") "{}") :object-type 'alist :array-type 'list)
   "What the steps need besides the text.")
-(defvar ob0-published 0 "How many publications came.")
+(defvar ob0-published nil "The version of the text that the last publication is of.")
 
 (defun ob0-report (step found)
   "Writes what was FOUND in a STEP."
@@ -34,7 +34,7 @@
     (while (not (funcall holds))
       (accept-process-output nil 0.01))))
 
-(advice-add 'lsp--on-diagnostics :after (lambda (&rest _) (setq ob0-published (1+ ob0-published))))
+(advice-add 'lsp--on-diagnostics :after (lambda (_ params) (setq ob0-published (gethash "version" params))))
 
 (defun ob0-shown ()
   "The diagnostics that lsp-mode holds for this buffer."
@@ -47,12 +47,11 @@
            (lsp--get-buffer-diagnostics))))
 
 (defun ob0-after (change)
-  "Makes a CHANGE and gives what is shown once the server has sent something new and all that came was read."
-  (let ((before ob0-published))
+  "Makes a CHANGE and gives what is shown once the server has sent what it has to say of the text after it."
+  (let ((before lsp--cur-version))
     (funcall change)
-    (ob0-await "diagnostics" (lambda () (> ob0-published before)))
     ;; (lsp-mode sends a notification for each edit of a list, and the server answers each)
-    (while (accept-process-output nil 0.3))
+    (ob0-await "diagnostics" (lambda () (and (> lsp--cur-version before) (eql ob0-published lsp--cur-version))))
     (ob0-shown)))
 
 (defun ob0-goto (line character)
@@ -106,7 +105,7 @@
   "Opens the file, which starts the server on it, takes the steps and ends."
   (find-file (getenv "OB0_FILE"))
   (unless (eq major-mode 'ob0-mode) (error "The file was taken as %s" major-mode))
-  (ob0-await "the first diagnostics" (lambda () (> ob0-published 0)))
+  (ob0-await "the first diagnostics" (lambda () ob0-published))
   (ob0-report "opened" (ob0-shown))
   (funcall (intern (concat "ob0-" (getenv "OB0_STEPS"))))
   (lsp-disconnect))

@@ -107,8 +107,9 @@
   (let ((file (make-temp-file "c" nil ".mod" "MODULE M;\nBEGIN x := 1 END M.\n")))
     (with-current-buffer (find-file-noselect file)
       (let ((buffer (save-window-excursion (ob0-check) (get-buffer "*ob0-check*"))))
-        (while (process-live-p (get-buffer-process buffer)) (accept-process-output nil 0.1))
-        (accept-process-output nil 0.2)
+        ;; (the last thing that is done at its end is to part it from the buffer)
+        (with-timeout (300 (error "The check did not end"))
+          (while (get-buffer-process buffer) (accept-process-output nil 0.1)))
         (with-current-buffer buffer
           (goto-char (point-min))
           (compilation-next-error 1)

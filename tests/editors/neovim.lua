@@ -132,7 +132,7 @@ local function answer_of(client, method, line, column, more)
     textDocument = { uri = vim.uri_from_bufnr(0) },
     position = { line = line, character = column },
   }
-  local answer = client.request_sync(method, vim.tbl_extend("force", params, more or {}), 20000, 0)
+  local answer = client.request_sync(method, vim.tbl_extend("force", params, more or {}), 300000, 0)
   return answer and (answer.result or answer.err) or "no answer"
 end
 

@@ -99,7 +99,7 @@ Module._load = (name, ...more) =>
   name === "vscode" ? vscode : name === "vscode-languageclient/node" && kind !== "real" ? { LanguageClient } : load(name, ...more);
 
 async function until(holds, what) {
-  for (let count = 0; count < 6000; count++) {
+  for (let count = 0; count < 30000; count++) {
     if (holds()) return;
     await new Promise((settle) => setTimeout(settle, 10));
   }

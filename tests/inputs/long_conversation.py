@@ -9,7 +9,6 @@ import re
 import corpus
 import failing
 import harness
-from common import match_of
 from harness import Message, Server, did_change, did_close, did_open, holds, lines_of, place, request, same
 
 
@@ -86,9 +85,11 @@ def checked(pair: tuple[str, list[Message]]) -> bool:
 
 
 def resident(server: Server) -> int:
-    """The memory of the server that is in use, in KiB."""
-    with open(f"/proc/{server.process.pid}/status", encoding="ascii", errors="replace") as file:
-        return int(match_of(r"VmRSS:\s+(\d+)", file.read())[1])
+    """The memory that the server has taken, in KiB. (Pages of its file come and go with the memory that is free, and the sums in
+    `status` lack what the processors haven't added yet.)"""
+    with open(f"/proc/{server.process.pid}/smaps_rollup", encoding="ascii", errors="replace") as file:
+        found = dict(re.findall(r"^(\w+): +(\d+) kB", file.read(), re.M))
+    return int(found["Anonymous"]) + int(found["Swap"])
 
 
 def converse(count: int, seed: int = 0) -> str:

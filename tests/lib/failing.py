@@ -20,6 +20,7 @@ import harness
 from harness import Failed, holds, same, want
 
 HERE = os.path.dirname(os.path.abspath(__file__))
+LONGEST = 3600  # seconds that a walk may take
 PROCESSORS = len(os.sched_getaffinity(0))
 DEVICES = [f"fault: {it}\n".encode() for it in ("Read", "Write", "File", "Input")]
 ROOM: list[tempfile.TemporaryDirectory[str]] = []  # the folder of the library, kept until the end
@@ -40,7 +41,7 @@ def compiled() -> str:
     ROOM.append(tempfile.TemporaryDirectory())
     made = os.path.join(ROOM[0].name, "failing.so")
     words = ["cc", "-O1", "-shared", "-fPIC", "-o", made, os.path.join(HERE, "failing.c"), "-ldl"]
-    ran = subprocess.run(words, capture_output=True, check=False)
+    ran = subprocess.run(words, capture_output=True, check=False, timeout=harness.SECONDS)
     if ran.returncode:
         raise Failed(f"failing.c wasn't compiled:\n{ran.stderr.decode(errors='replace')}")
     return made
@@ -72,7 +73,7 @@ def walked(
         own = {f"OB0_{name.upper()}": str(value) for name, value in named.items() if value is not None}
         own.update(LD_PRELOAD=library(), PATH=os.environ.get("PATH", ""))
         how: dict[str, Any] = {"stdin": stdin, "stdout": subprocess.DEVNULL, "stderr": subprocess.PIPE, "cwd": cwd, "env": own}
-        ran = subprocess.run(words, pass_fds=[reports.fileno()], check=False, **how)
+        ran = subprocess.run(words, pass_fds=[reports.fileno()], check=False, timeout=LONGEST, **how)
         if ran.returncode:
             raise Failed(f"{words} could not be walked, {span}: status {ran.returncode}, {ran.stderr.decode(errors='replace')}")
         reports.seek(0)

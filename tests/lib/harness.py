@@ -26,7 +26,7 @@ from framing import Content as Content, Message as Message, compact as compact, 
 from framing import Incoming  # noqa: E402
 
 BINARY = os.environ.get("OB0") or os.path.join(TOP, "bin", "ob0")
-SECONDS = 60  # the longest that one conversation may take
+SECONDS = 300  # the longest that one conversation may take (also where the machine has much else to do)
 
 Test = Callable[[], object]  # (what it returns isn't looked at)
 Ident = Union[int, str, None]  # the id of a request
@@ -339,10 +339,13 @@ class Server:
 
 
 MISSING: Dict[str, List[str]] = {}  # what tests wanted and isn't here, with its package
+DRIVEN: List[str] = []  # what the test that runs has wanted: the other programs that it drives
 
 
 def want(*names: str) -> None:
-    """Leaves this test out where one of these tools (of tools/editors.py) isn't here."""
+    """Leaves this test out where one of these tools (of tools/editors.py) isn't here. A test that drives one is run once more, where
+    it fails (tests/run.py)."""
+    DRIVEN.extend(names)
     missing = [it for it in names if not editors.is_here(it)]
     MISSING.update({it: [editors.TOOLS[it][1]] for it in missing})
     if missing:

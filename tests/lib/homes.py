@@ -1,10 +1,15 @@
 """Editors and shells: a home of its own for each, and how it is run in a terminal or without one."""
 from __future__ import annotations
 
+import contextlib
 import os
 import shlex
+import shutil
+import signal
 import subprocess
 import sys
+import tempfile
+from collections.abc import Iterator
 from typing import Any
 
 import harness
@@ -16,6 +21,17 @@ from snippets import snippets
 SECONDS = 900  # the longest that an editor may take (also where the machine has much else to do)
 
 
+@contextlib.contextmanager
+def temporary() -> Iterator[str]:
+    """A folder that is taken away at the end, but for what a program that was started there still writes into it (tests/run.py takes
+    that away too)."""
+    room = tempfile.mkdtemp()
+    try:
+        yield room
+    finally:
+        shutil.rmtree(room, ignore_errors=True)
+
+
 def at_home(room: str, editor: str) -> dict[str, str]:
     """Sets an editor up in a home of its own, by the commands of its page: the environment that it is started in."""
     own = {key: value for key, value in os.environ.items() if not key.startswith("XDG_")}
@@ -23,9 +39,9 @@ def at_home(room: str, editor: str) -> dict[str, str]:
     os.symlink(os.path.abspath(harness.BINARY), os.path.join(room, "bin", "ob0"))
     own.update(HOME=room, XDG_RUNTIME_DIR=room, PATH=os.path.join(room, "bin") + os.pathsep + os.environ["PATH"], TERM="xterm")
     for line in snippets(editor, "sh"):
-        ran = subprocess.run(["sh", "-e", "-c", line], cwd=TOP, env=own, stdin=subprocess.DEVNULL, capture_output=True, check=False)
-        if ran.returncode:
-            raise Failed(f"a command of editors/{editor}/README.md ended with {ran.returncode}: {ran.stderr.decode()}\n{line}")
+        status, said = run_plainly(["sh", "-e", "-c", line], own, TOP)
+        if status:
+            raise Failed(f"a command of editors/{editor}/README.md ended with {status}: {said}\n{line}")
     return own
 
 
@@ -46,12 +62,17 @@ def write(path: str, text: str) -> None:
 
 
 def run_plainly(words: list[str], own: dict[str, str], cwd: str) -> tuple[int, str]:
+    """Runs a program without a terminal: its status, and what it said. What it has started ends with it."""
     how: dict[str, Any] = {"stdin": subprocess.DEVNULL, "stdout": subprocess.PIPE, "stderr": subprocess.STDOUT, "cwd": cwd, "env": own}
-    try:
-        ran = subprocess.run(words, timeout=SECONDS, check=False, **how)
-    except subprocess.TimeoutExpired:
-        raise Failed(f"{words[0]} had not ended after {SECONDS} seconds") from None
-    return ran.returncode, ran.stdout.decode(errors="replace")
+    with subprocess.Popen(words, start_new_session=True, **how) as process:
+        try:
+            said, _ = process.communicate(timeout=SECONDS)
+        except subprocess.TimeoutExpired:
+            raise Failed(f"{words[0]} had not ended after {SECONDS} seconds") from None
+        finally:
+            with contextlib.suppress(ProcessLookupError):
+                os.killpg(process.pid, signal.SIGKILL)
+    return process.returncode, said.decode(errors="replace")
 
 
 def run_in_terminal(words: list[str], own: dict[str, str], cwd: str) -> tuple[int, str]:

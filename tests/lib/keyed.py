@@ -263,7 +263,7 @@ EMACS_SETTINGS = """
       lsp-warn-no-matched-clients nil lsp-modeline-code-actions-enable nil
       eval-expression-debug-on-error nil native-comp-deferred-compilation nil native-comp-enable-subr-trampolines nil
       native-comp-async-report-warnings-errors nil
-      eglot-connect-timeout 300 eglot-sync-connect 300 lsp-response-timeout 300
+      eglot-connect-timeout 300 eglot-sync-connect t lsp-response-timeout 300
       eglot-send-changes-idle-time 0.05 lsp-debounce-full-sync-notifications-interval 0.05)
 (electric-indent-mode -1)
 (defun written (path)

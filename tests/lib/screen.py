@@ -1,6 +1,7 @@
 """A program in a terminal, for the tests of editors and shells."""
 from __future__ import annotations
 
+import contextlib
 import fcntl
 import os
 import pty
@@ -34,9 +35,8 @@ class Screen:
 
     def __exit__(self, *why: object) -> None:
         if self.status is None:
-            # (with what it has started)
-            os.killpg(self.process, signal.SIGKILL)
-            os.waitpid(self.process, 0)
+            os.kill(self.process, signal.SIGKILL)
+            self.take_status()
         os.close(self.terminal)
 
     def read(self, seconds: float) -> bool:
@@ -52,14 +52,30 @@ class Screen:
     def ends(self, what: str, seconds: float) -> int:
         """Waits until the program ends, and returns its status."""
         end = time.monotonic() + seconds
-        while self.read(0.5):
+        # (its terminal can be closed before, and stays open where something that it has started goes on)
+        while not self.has_ended():
             if time.monotonic() > end:
                 raise Failed(f"{what} had not ended after {seconds} seconds: {self.drawn[-500:]!r}")
-        ended = os.waitpid(self.process, 0)[1]
-        self.status = os.WEXITSTATUS(ended) if os.WIFEXITED(ended) else -os.WTERMSIG(ended)
+            self.read(0.1)
+        while select.select([self.terminal], [], [], 0)[0] and self.read(0):
+            pass
+        assert self.status is not None
         return self.status
 
-    def shows(self, pattern: bytes, what: str, seconds: float = 180) -> None:
+    def has_ended(self) -> bool:
+        """Whether the program has ended: then its status is known."""
+        if self.status is None and os.waitid(os.P_PID, self.process, os.WEXITED | os.WNOHANG | os.WNOWAIT):
+            self.take_status()
+        return self.status is not None
+
+    def take_status(self) -> None:
+        """Takes the status of the program, which has ended or is about to, and ends what it has started."""
+        with contextlib.suppress(ProcessLookupError):
+            os.killpg(self.process, signal.SIGKILL)
+        ended = os.waitpid(self.process, 0)[1]
+        self.status = os.WEXITSTATUS(ended) if os.WIFEXITED(ended) else -os.WTERMSIG(ended)
+
+    def shows(self, pattern: bytes, what: str, seconds: float = 300) -> None:
         """Waits until what was drawn since the last keys has this."""
         end = time.monotonic() + seconds
         while not re.search(pattern, self.drawn):

@@ -31,8 +31,7 @@ OptionIs Is _ _ = ⊥
 option-then : {A B C D : Type 0} (Is : A → B → Type 0) (Then : C → D → Type 0) (o : Option A) (q : Option B) (f : A → Option C) (g : B → Option D) → OptionIs Is o q → ((a : A) (b : B) → Is a b → OptionIs Then (f a) (g b)) → OptionIs Then (option_and_then f o) (option_and_then g q)
 option-then Is Then None None f g h each = tt
 option-then Is Then (Some a) (Some b) f g h each = each a b h
-option-then Is Then None (Some b) f g h each = absurd h
-option-then Is Then (Some a) None f g h each = absurd h
+option-then Is Then _ _ f g h each = absurd h
 
 same_option-then : {A C D : Type 0} (Then : C → D → Type 0) (o q : Option A) (f : A → Option C) (g : A → Option D) → o ≡ q → ((a : A) → OptionIs Then (f a) (g a)) → OptionIs Then (option_and_then f o) (option_and_then g q)
 same_option-then {A} Then o q f g e each = subst (λ q. OptionIs Then (option_and_then f o) (option_and_then g q)) e (go o)
@@ -62,8 +61,7 @@ object-grows at others _ _ h = absurd h
 environment-grows : {N : Type 0} (at others : List ℕ) (env other : Activation N) → EnvironmentIs at env other → EnvironmentIs (at ++ others) env other
 environment-grows at others [] [] h = tt
 environment-grows at others (b ∷ env) (d ∷ other) h = (h.0, object-grows at others b.1 d.1 h.1, environment-grows at others env other h.2)
-environment-grows at others [] (d ∷ other) h = absurd h
-environment-grows at others (b ∷ env) [] h = absurd h
+environment-grows at others _ _ h = absurd h
 
 arguments-grow : (at others : List ℕ) (args bs : List Argument) → ArgumentsAre at args bs → ArgumentsAre (at ++ others) args bs
 arguments-grow at others [] [] h = tt
@@ -71,23 +69,20 @@ arguments-grow at others (place_argument p ∷ args) (place_argument q ∷ bs) h
 arguments-grow at others (value_argument v ∷ args) (value_argument w ∷ bs) h = (h.0, arguments-grow at others args bs h.1)
 arguments-grow at others (place_argument p ∷ args) (value_argument w ∷ bs) h = absurd (h.0)
 arguments-grow at others (value_argument v ∷ args) (place_argument q ∷ bs) h = absurd (h.0)
-arguments-grow at others [] (b ∷ bs) h = absurd h
-arguments-grow at others (a ∷ args) [] h = absurd h
+arguments-grow at others _ _ h = absurd h
 
 from_binding-is : {N : Type 0} (naming : Naming N) (at : List ℕ) (env other : Activation N) (x : N) → EnvironmentIs at env other → EnvironmentIs at (from_binding naming env x) (from_binding naming other x)
 from_binding-is naming at [] [] x h = tt
-from_binding-is naming at [] (d ∷ other) x h = absurd h
-from_binding-is naming at (b ∷ env) [] x h = absurd h
 from_binding-is {N} naming at (b ∷ env) (d ∷ other) x h =
     subst (λ y. EnvironmentIs {N = N} at (elim (naming.same x b.0) [ true ↦ b ∷ env | false ↦ from_binding naming env x ]) (elim (naming.same x y) [ true ↦ d ∷ other | false ↦ from_binding naming other x ])) h.0
     (elim (naming.same x b.0) as (λ v. EnvironmentIs {N = N} at (elim v [ true ↦ b ∷ env | false ↦ from_binding naming env x ]) (elim v [ true ↦ d ∷ other | false ↦ from_binding naming other x ]))
     [ true ↦ h | false ↦ from_binding-is naming at env other x h.2 ])
+from_binding-is naming at _ _ x h = absurd h
 
 newest-is : {N : Type 0} (at : List ℕ) (env other : Activation N) → EnvironmentIs at env other → MeaningIs at (newest env) (newest other)
 newest-is at [] [] h = tt
 newest-is at (b ∷ env) (d ∷ other) h = h.1
-newest-is at [] (d ∷ other) h = absurd h
-newest-is at (b ∷ env) [] h = absurd h
+newest-is at _ _ h = absurd h
 
 passing-is : {N : Type 0} (at : List ℕ) (o q : Option (Object Place (ProcedureText N))) → MeaningIs at o q → MeaningIs at (passing o) (passing q)
 passing-is at None None h = tt
@@ -135,8 +130,7 @@ frame-on at others f g h = (others ++ h.0, subst (λ all. FrameIs all f g) (appe
 frames-on : {N : Type 0} (at others : List ℕ) (o q : Option (Frame N)) → OptionIs (FrameGrown (at ++ others)) o q → OptionIs (FrameGrown at) o q
 frames-on at others None None h = tt
 frames-on at others (Some f) (Some g) h = frame-on at others f g h
-frames-on at others None (Some g) h = absurd h
-frames-on at others (Some f) None h = absurd h
+frames-on at others _ _ h = absurd h
 
 module _ {N : Type 0} (naming : Naming N) where
   value-same : (at : List ℕ) (env other : Activation N) → EnvironmentIs at env other → (e : Tree N expression) → constant_value (meanings naming env) e ≡ constant_value (meanings naming other) e
@@ -200,8 +194,7 @@ module _ {N : Type 0} (naming : Naming N) where
   with_procedures-are : (at : List ℕ) (k : ℕ) (ps : Tree N (items procedure)) (o q : Option (Frame N)) → OptionIs (FrameGrown at) o q → OptionIs (FrameGrown at) (option_map (with_procedures k ps) o) (option_map (with_procedures k ps) q)
   with_procedures-are at k ps None None h = tt
   with_procedures-are at k ps (Some f) (Some g) h = (h.0, record { same_variables = h.1.same_variables; same_bindings = procedures-are (at ++ h.0) k ps f.env g.env h.1.same_bindings })
-  with_procedures-are at k ps None (Some g) h = absurd h
-  with_procedures-are at k ps (Some f) None h = absurd h
+  with_procedures-are at k ps _ _ h = absurd h
 
   block-is : (at : List ℕ) (k : ℕ) (b : Tree N block) (f g : Frame N) → FrameIs at f g → OptionIs (FrameGrown at) (declare_block naming k b f) (declare_block naming k b g)
   unfolding declare_block
@@ -220,8 +213,7 @@ module _ {N : Type 0} (naming : Naming N) where
       go by_value (value_argument v) (value_argument w) is = subst (λ w. FrameGrown at (allocate (p.name ∷ []) v f) (allocate (p.name ∷ []) w g)) is (allocate-is at (p.name ∷ []) v f g h)
       go by_place (value_argument v) (value_argument w) is = tt
       go by_value (place_argument v) (place_argument w) is = tt
-      go m (place_argument v) (value_argument w) is = absurd is
-      go m (value_argument v) (place_argument w) is = absurd is
+      go m _ _ is = absurd is
 
   parameters-are : (at : List ℕ) (ps : List (Parameter N)) (args others : List Argument) (f g : Frame N) → ArgumentsAre at args others → FrameIs at f g → OptionIs (FrameGrown at) (bind_parameters ps args f) (bind_parameters ps others g)
   parameters-are at [] [] [] f g are h = frame-here at f g h
@@ -230,8 +222,7 @@ module _ {N : Type 0} (naming : Naming N) where
   parameters-are at (p ∷ ps) (a ∷ args) (b ∷ others) f g are h =
       option-then (FrameGrown at) (FrameGrown at) (bind_parameter p.mode p.name a f) (bind_parameter p.mode p.name b g) (bind_parameters ps args) (bind_parameters ps others) (parameter-is at p a b f g are.0 h)
       (λ f₁ g₁ grown. frames-on at grown.0 (bind_parameters ps args f₁) (bind_parameters ps others g₁) (parameters-are (at ++ grown.0) ps args others f₁ g₁ (arguments-grow at grown.0 args others are.1) grown.1))
-  parameters-are at ps [] (b ∷ others) f g are h = absurd are
-  parameters-are at ps (a ∷ args) [] f g are h = absurd are
+  parameters-are at ps _ _ f g are h = absurd are
 
   -- calls
 
@@ -259,15 +250,12 @@ module _ {N : Type 0} (naming : Naming N) where
     is.0,
     body-alike enter enter' known t (at ++ is.0) f.env g.env statements is.1.same_bindings record s { store = f.store } record u { store = g.store } record { same_variables = is.1.same_variables; same_input = h.same_input; same_output = h.same_output },
   )
-  in_frame-alike enter enter' known t at s u None (Some g) statements h is = absurd is
-  in_frame-alike enter enter' known t at s u (Some f) None statements h is = absurd is
+  in_frame-alike enter enter' known t at s u _ _ statements h is = absurd is
 
   activate-alike : (enter enter' : Activation N → Calls N) → CallsAlike enter enter' → (t : ℕ) (at : List ℕ) (env other : Activation N) (args others : List Argument) (s u : State) → EnvironmentIs at env other → ArgumentsAre at args others → StateIs at s u
       → ProgressGrown at (activate naming enter t env args s) (activate naming enter' t other others u)
   unfolding activate
   activate-alike enter enter' known t at [] [] args others s u env are h = ([], (refl, h.same_output))
-  activate-alike enter enter' known t at [] (d ∷ other) args others s u env are h = absurd env
-  activate-alike enter enter' known t at (b ∷ rest) [] args others s u env are h = absurd env
   activate-alike enter enter' known t at ((x, o) ∷ rest) ((y, q) ∷ other) args others s u env are h = go o q env.1
     where
       of_code : (code : ProcedureText N) → ProgressGrown at (activate naming enter t ((x, a_procedure code) ∷ rest) args s) (activate naming enter' t ((y, a_procedure code) ∷ other) others u)
@@ -288,13 +276,13 @@ module _ {N : Type 0} (naming : Naming N) where
       go (a_variable v) (a_variable w) is = ([], (refl, h.same_output))
       go (a_standard v) (a_standard w) is = ([], (refl, h.same_output))
       go _ _ is = absurd is
+  activate-alike enter enter' known t at _ _ args others s u env are h = absurd env
 
   drop_variables-is : (at others : List ℕ) (s u : State) (p q : Progress) → StateIs at s u → ProgressIs (at ++ others) p q → ProgressIs at (drop_variables (length s.store) p) q
   drop_variables-is at others s u (running s₁) (running u₁) h is =
       record { same_variables = variables-cut at others s.store s₁.store u.store u₁.store h.same_variables is.same_variables; same_input = is.same_input; same_output = is.same_output }
   drop_variables-is at others s u (stopped e out) (stopped x written) h is = is
-  drop_variables-is at others s u (running s₁) (stopped x written) h is = absurd is
-  drop_variables-is at others s u (stopped e out) (running u₁) h is = absurd is
+  drop_variables-is at others s u _ _ h is = absurd is
 
   -- by induction on how many calls may be open
   calls-alike : (c t : ℕ) → CallsAlike (call_freeing naming c t) (call naming c t)
@@ -307,8 +295,7 @@ module _ {N : Type 0} (naming : Naming N) where
   finished-same : (at : List ℕ) (p q : Progress) → ProgressIs at p q → finished p ≡ finished q
   finished-same at (running s) (running u) h = ap (λ out. record { output = out; ending = (finished (running s)).ending }) h.same_output
   finished-same at (stopped e out) (stopped x written) h = λ i. record { output = h.1 i; ending = h.0 i }
-  finished-same at (running s) (stopped x written) h = absurd h
-  finished-same at (stopped e out) (running u) h = absurd h
+  finished-same at _ _ h = absurd h
 
   pub freeing-keeps : (m : Tree N module_text) (input : List ℤ) (c t : ℕ) → run_freeing naming m input c t ≡ run_over naming m input c t
   unfolding run_over run_freeing

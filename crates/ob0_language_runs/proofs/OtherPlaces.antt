@@ -56,10 +56,9 @@ variable-found (r ∷ at) (v ∷ small) large (suc n) k h e = variable-found at 
 
 written-elsewhere : (at : List ℕ) (small large : Store) (k : ℕ) (new : Value) → NotAmong k at → StoreIs at small large → StoreIs at small (slice_set large k new)
 written-elsewhere [] [] large k new apart h = tt
-written-elsewhere [] (v ∷ small) large k new apart h = absurd h
-written-elsewhere (r ∷ at) [] large k new apart h = absurd h
 written-elsewhere (r ∷ at) (v ∷ small) large k new apart h =
     (get-set_other large k r new (λ e. apart.0 (sym e)) ∙ h.0, h.1, written-elsewhere at small large k new apart.1 h.2)
+written-elsewhere _ _ large k new apart h = absurd h
 
 variable-written : (at : List ℕ) (small large : Store) (n k : ℕ) (old new : Value) → StoreIs at small large → slice_get at n ≡ Some k → slice_get large k ≡ Some old → StoreIs at (slice_set small n new) (slice_set large k new)
 variable-written [] small large n k old new h e g = absurd (cc)
@@ -84,25 +83,22 @@ not-among-cut r (j ∷ at) others h = (h.0, not-among-cut r at others h.1)
 -- a new variable at the end of both stores
 pub variable-added : (at : List ℕ) (small large : Store) (v : Value) → StoreIs at small large → StoreIs (at ++ length large ∷ []) (small ++ v ∷ []) (large ++ v ∷ [])
 variable-added [] [] large v h = (get-last large v, tt, tt)
-variable-added [] (w ∷ small) large v h = absurd h
-variable-added (r ∷ at) [] large v h = absurd h
 variable-added (r ∷ at) (w ∷ small) large v h =
     let below : r ≢ length large = λ e. let e₁ : None ≡ Some w = sym (get-past large) ∙ (ap (slice_get large) (sym e) ∙ h.0) in cc in
     (slice_get-grows large (v ∷ []) r w h.0, not-among-grows r (length large) at below h.1, variable-added at small large v h.2)
+variable-added _ _ large v h = absurd h
 
 pub variable-last : (at : List ℕ) (small large : Store) (k : ℕ) → StoreIs at small large → slice_get (at ++ k ∷ []) (length small) ≡ Some k
 variable-last [] [] large k h = refl
-variable-last [] (w ∷ small) large k h = absurd h
-variable-last (r ∷ at) [] large k h = absurd h
 variable-last (r ∷ at) (w ∷ small) large k h = variable-last at small large k h.2
+variable-last _ _ large k h = absurd h
 
 -- the smaller store drops its last variables, the larger one keeps all
 pub variables-cut : (at others : List ℕ) (old new before after : Store) → StoreIs at old before → StoreIs (at ++ others) new after → StoreIs at (take (length old) new) after
 variables-cut [] others [] new before after h g = tt
-variables-cut [] others (v ∷ old) new before after h g = absurd h
-variables-cut (r ∷ at) others [] new before after h g = absurd h
 variables-cut (r ∷ at) others (v ∷ old) [] before after h g = absurd g
 variables-cut (r ∷ at) others (v ∷ old) (w ∷ new) before after h g = (g.0, not-among-cut r at others g.1, variables-cut at others old new before after h.2 g.2)
+variables-cut _ others _ new before after h g = absurd h
 
 -- places and what names mean
 
@@ -131,8 +127,7 @@ OutcomeIs Is _ _ = ⊥
 pub outcome-then : {A B C D : Type 0} (Is : A → B → Type 0) (Then : C → D → Type 0) (o : Outcome A) (q : Outcome B) (f : A → Outcome C) (g : B → Outcome D) → OutcomeIs Is o q → ((a : A) (b : B) → Is a b → OutcomeIs Then (f a) (g b)) → OutcomeIs Then (o >>= f) (q >>= g)
 outcome-then Is Then (gives a) (gives b) f g h each = each a b h
 outcome-then Is Then (ends e) (ends x) f g h each = h
-outcome-then Is Then (gives a) (ends x) f g h each = absurd h
-outcome-then Is Then (ends e) (gives b) f g h each = absurd h
+outcome-then Is Then _ _ f g h each = absurd h
 
 pub same-then : {A C D : Type 0} (Then : C → D → Type 0) (o q : Outcome A) (f : A → Outcome C) (g : A → Outcome D) → o ≡ q → ((a : A) → OutcomeIs Then (f a) (g a)) → OutcomeIs Then (o >>= f) (q >>= g)
 same-then {A} Then o q f g e each = subst (λ q. OutcomeIs Then (o >>= f) (q >>= g)) e (go o)
@@ -280,8 +275,7 @@ Alike at f g = (s u : State) → StateIs at s u → ProgressIs at (f s) (g u)
 use_in-is : {A B : Type 0} (at : List ℕ) (Is : A → B → Type 0) (s u : State) (o : Outcome A) (q : Outcome B) (f : A → Progress) (g : B → Progress) → s.output ≡ u.output → OutcomeIs Is o q → ((a : A) (b : B) → Is a b → ProgressIs at (f a) (g b)) → ProgressIs at (use_in s o f) (use_in u q g)
 use_in-is at Is s u (gives a) (gives b) f g out h each = each a b h
 use_in-is at Is s u (ends e) (ends x) f g out h each = (h, out)
-use_in-is at Is s u (gives a) (ends x) f g out h each = absurd h
-use_in-is at Is s u (ends e) (gives b) f g out h each = absurd h
+use_in-is at Is s u _ _ f g out h each = absurd h
 
 use_same : {A : Type 0} (at : List ℕ) (s u : State) (o q : Outcome A) (f g : A → Progress) → s.output ≡ u.output → o ≡ q → ((a : A) → ProgressIs at (f a) (g a)) → ProgressIs at (use_in s o f) (use_in u q g)
 use_same {A} at s u o q f g out e each = subst (λ q. ProgressIs at (use_in s o f) (use_in u q g)) e (go o)
@@ -300,8 +294,7 @@ choose-is at s u (members k ms) f g f' g' h is is' = (refl, h.same_output)
 pub go_on-is : (at : List ℕ) (p q : Progress) (f g : State → Progress) → ProgressIs at p q → Alike at f g → ProgressIs at (continue_with p f) (continue_with q g)
 go_on-is at (running s) (running u) f g h alike = alike s u h
 go_on-is at (stopped e out) (stopped x written) f g h alike = h
-go_on-is at (running s) (stopped x written) f g h alike = absurd h
-go_on-is at (stopped e out) (running u) f g h alike = absurd h
+go_on-is at _ _ f g h alike = absurd h
 
 store_at-is : (at : List ℕ) (s u : State) (p q : Place) (new : Value) → StateIs at s u → PlaceIs at p q → ProgressIs at (store_at s p new) (store_at u q new)
 store_at-is at s u p q new h is =
@@ -356,8 +349,7 @@ reads-alike at enter enter' (place_argument p ∷ []) (place_argument q ∷ b �
 reads-alike at enter enter' (place_argument p ∷ a ∷ args) (place_argument q ∷ []) s u are h = absurd (are.1)
 reads-alike at enter enter' (place_argument p ∷ args) (value_argument w ∷ others) s u are h = absurd (are.0)
 reads-alike at enter enter' (value_argument v ∷ args) (place_argument q ∷ others) s u are h = absurd (are.0)
-reads-alike at enter enter' [] (b ∷ others) s u are h = absurd are
-reads-alike at enter enter' (a ∷ args) [] s u are h = absurd are
+reads-alike at enter enter' _ _ s u are h = absurd are
 
 written-alike : (at : List ℕ) (enter enter' : List Argument → State → Progress) (v : Value) (s u : State) → StateIs at s u → ProgressIs at (perform (Some (a_standard writes)) enter (value_argument v ∷ []) s) (perform (Some (a_standard writes)) enter' (value_argument v ∷ []) u)
 written-alike at enter enter' (number n) s u h = put_out-is at s u (number_out n) h
@@ -396,16 +388,14 @@ writes-alike at enter enter' (value_argument v ∷ []) (value_argument w ∷ b �
 writes-alike at enter enter' (value_argument v ∷ a ∷ args) (value_argument w ∷ []) s u are h = absurd (are.1)
 writes-alike at enter enter' (place_argument p ∷ args) (value_argument w ∷ others) s u are h = absurd (are.0)
 writes-alike at enter enter' (value_argument v ∷ args) (place_argument q ∷ others) s u are h = absurd (are.0)
-writes-alike at enter enter' [] (b ∷ others) s u are h = absurd are
-writes-alike at enter enter' (a ∷ args) [] s u are h = absurd are
+writes-alike at enter enter' _ _ s u are h = absurd are
 
 standard-alike : (at : List ℕ) (a : Standard) (enter enter' : List Argument → State → Progress) → EntersAlike at (perform (Some (a_standard a)) enter) (perform (Some (a_standard a)) enter')
 standard-alike at reads enter enter' args others s u are h = reads-alike at enter enter' args others s u are h
 standard-alike at writes enter enter' args others s u are h = writes-alike at enter enter' args others s u are h
 standard-alike at writes_line enter enter' [] [] s u are h = put_out-is at s u line_out h
 standard-alike at writes_line enter enter' (a ∷ args) (b ∷ others) s u are h = (refl, h.same_output)
-standard-alike at writes_line enter enter' [] (b ∷ others) s u are h = absurd are
-standard-alike at writes_line enter enter' (a ∷ args) [] s u are h = absurd are
+standard-alike at writes_line enter enter' _ _ s u are h = absurd are
 
 perform-alike : (at : List ℕ) (o q : Option (Object Place (List Mode))) (enter enter' : List Argument → State → Progress) → MeaningIs at o q → EntersAlike at enter enter' → EntersAlike at (perform o enter) (perform q enter')
 perform-alike at (Some (a_procedure a)) (Some (a_procedure b)) enter enter' is alike args others s u are h = alike args others s u are h

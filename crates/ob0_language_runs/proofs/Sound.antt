@@ -31,15 +31,11 @@ in_range-fits n = elim (fits n) as (λ b. OutcomeFits (λ v. HasShape v integer_
 
 pub is_number : (v : Value) → HasShape v integer_shape → (n : ℤ) × (v ≡ number n)
 is_number (number n) h = (n, refl)
-is_number (truth b) h = absurd h
-is_number (elements vs) h = absurd h
-is_number (members k ms) h = absurd h
+is_number _ h = absurd h
 
 pub is_truth : (v : Value) → HasShape v boolean_shape → (b : Bool) × (v ≡ truth b)
-is_truth (number n) h = absurd h
 is_truth (truth b) h = (b, refl)
-is_truth (elements vs) h = absurd h
-is_truth (members k ms) h = absurd h
+is_truth _ h = absurd h
 
 pub on_numbers : (op : Value → Value → Outcome Value) (s : Shape) → ((m n : ℤ) → OutcomeFits (λ v. HasShape v s) (op (number m) (number n))) → (v w : Value) → HasShape v integer_shape → HasShape w integer_shape → OutcomeFits (λ v. HasShape v s) (op v w)
 on_numbers op s each v w hv hw =
@@ -116,12 +112,11 @@ nth-fits (next_value v rest) s (suc i) below h = nth-fits rest s i (omega (arith
 
 pub member-fits : (ms : Members) (fs : FieldShapes) (x : Name) (s : Shape) → shape_of_field fs x ≡ Some s → HaveShapes ms fs → (w : Value) × (named_member ms x ≡ Some w) × HasShape w s
 member-fits no_member no_field_shape x s e h = absurd (cc)
-member-fits no_member (next_field_shape y t others) x s e h = absurd h
-member-fits (next_member y v rest) no_field_shape x s e h = absurd h
 member-fits (next_member y v rest) (next_field_shape z t others) x s e h =
     subst (λ z. shape_of_field (next_field_shape z t others) x ≡ Some s → (w : Value) × (named_member (next_member y v rest) x ≡ Some w) × HasShape w s) h.0
     (elim (same_name x y) as (λ b. (if b then Some t else shape_of_field others x) ≡ Some s → (w : Value) × ((if b then Some v else named_member rest x) ≡ Some w) × HasShape w s)
     [ true ↦ λ e. (v, refl, of_some (λ s. HasShape v s) e h.1) | false ↦ λ e. member-fits rest others x s e h.2 ]) e
+member-fits _ _ x s e h = absurd h
 
 pub part-fits : (v : Value) (s : Shape) (step : Step) (t : Shape) → HasShape v s → part_shape s step ≡ Some t → (w : Value) × (part v step ≡ Some w) × HasShape w t
 part-fits (elements vs) (array_shape k n s) (at_index i) t h e =
@@ -146,10 +141,9 @@ path-fits (step ∷ path) v s t h e =
 
 pub variable-fits : (typing : StoreTyping) (store : Store) (n : ℕ) (s : Shape) → StoreFits typing store → slice_get typing n ≡ Some s → (v : Value) × (slice_get store n ≡ Some v) × HasShape v s
 variable-fits [] [] n s h e = absurd (cc)
-variable-fits [] (v ∷ store) n s h e = absurd h
-variable-fits (t ∷ typing) [] n s h e = absurd h
 variable-fits (t ∷ typing) (v ∷ store) zero s h e = (v, refl, of_some (λ s. HasShape v s) e h.0)
 variable-fits (t ∷ typing) (v ∷ store) (suc n) s h e = variable-fits typing store n s h.1 e
+variable-fits _ _ n s h e = absurd h
 
 pub place-fits : (typing : StoreTyping) (store : Store) (p : Place) (s : Shape) → StoreFits typing store → PlaceFits typing p s → (v : Value) × (read_place store p ≡ Some v) × HasShape v s
 place-fits typing store p s h e =
@@ -167,8 +161,7 @@ object-fits typing store (Some (a_constant v)) (Some (a_constant w)) s h o e =
     go : (v : Value) → value_type v ≡ Some s → HasShape v s
     go (number n) e = of_some (λ s. HasShape (number n) s) e tt
     go (truth b) e = of_some (λ s. HasShape (truth b) s) e tt
-    go (elements vs) e = absurd (cc)
-    go (members k ms) e = absurd (cc)
+    go _ e = absurd (cc)
 object-fits typing store (Some (a_variable t)) (Some (a_variable p)) s h o e =
     let (v, ev, hv) = place-fits typing store p t h o in
     of_some (λ s. OutcomeFits (λ v. HasShape v s) (or_stuck (read_place store p))) e (subst (λ r. OutcomeFits (λ v. HasShape v t) (or_stuck r)) (sym ev) hv)
@@ -183,9 +176,7 @@ or_stuck-fits P o a e h = subst (λ o. OutcomeFits P (or_stuck o)) (sym e) h
 
 pub is_elements : (v : Value) (k n : ℕ) (s : Shape) → HasShape v (array_shape k n s) → (vs : Values) × (v ≡ elements vs)
 is_elements (elements vs) k n s h = (vs, refl)
-is_elements (number m) k n s h = absurd h
-is_elements (truth b) k n s h = absurd h
-is_elements (members j ms) k n s h = absurd h
+is_elements _ k n s h = absurd h
 
 -- an index in range gives a step to an element
 pub index-fits : (vs : Values) (k n : ℕ) (s t : Shape) (i : ℤ) → count_values vs ≡ n → Some s ≡ Some t → OutcomeFits (λ step. part_shape (array_shape k n s) step ≡ Some t) (element_step (elements vs) (number i))

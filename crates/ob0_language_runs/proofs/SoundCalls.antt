@@ -51,8 +51,6 @@ binding-object naming typing checked x (a_procedure signature) _ h = h
 
 pub names-fit : {N : Type 0} (naming : Naming N) (typing : StoreTyping) (checked : TypeEnvironment N) (active : Activation N) → EnvironmentsFit naming typing checked active → (z : N) → ObjectFits typing (newest (from_binding naming checked z)) (passing (newest (from_binding naming active z)))
 names-fit naming typing [] [] h z = tt
-names-fit naming typing [] (d ∷ active) h z = absurd h
-names-fit naming typing (b ∷ checked) [] h z = absurd h
 names-fit {N} naming typing (b ∷ checked) (d ∷ active) h z =
     subst (λ y. ObjectFits typing (newest (elim (naming.same z b.0) [ true ↦ b ∷ checked | false ↦ from_binding naming checked z ])) (passing (newest (elim (naming.same z y) [ true ↦ d ∷ active | false ↦ from_binding naming active z ])))) h.0
     (go (names-fit naming typing checked active h.2 z) (naming.same z b.0))
@@ -60,15 +58,15 @@ names-fit {N} naming typing (b ∷ checked) (d ∷ active) h z =
     go : ObjectFits typing (newest (from_binding naming checked z)) (passing (newest (from_binding naming active z))) → (v : Bool) → ObjectFits typing (newest {N = N} {V = Shape} {P = Signature} (elim v [ true ↦ b ∷ checked | false ↦ from_binding naming checked z ])) (passing (newest {N = N} {V = Place} {P = ProcedureText N} (elim v [ true ↦ d ∷ active | false ↦ from_binding naming active z ])))
     go older true = binding-object naming typing checked b.0 b.1 d.1 h.1
     go older false = older
+names-fit naming typing _ _ h z = absurd h
 
 pub from-fit : {N : Type 0} (naming : Naming N) (typing : StoreTyping) (checked : TypeEnvironment N) (active : Activation N) (z : N) → EnvironmentsFit naming typing checked active → EnvironmentsFit naming typing (from_binding naming checked z) (from_binding naming active z)
 from-fit naming typing [] [] z h = tt
-from-fit naming typing [] (d ∷ active) z h = absurd h
-from-fit naming typing (b ∷ checked) [] z h = absurd h
 from-fit naming typing (b ∷ checked) (d ∷ active) z h =
     subst (λ y. EnvironmentsFit naming typing (elim (naming.same z b.0) [ true ↦ b ∷ checked | false ↦ from_binding naming checked z ]) (elim (naming.same z y) [ true ↦ d ∷ active | false ↦ from_binding naming active z ])) h.0
     (elim (naming.same z b.0) as (λ v. EnvironmentsFit naming typing (elim v [ true ↦ b ∷ checked | false ↦ from_binding naming checked z ]) (elim v [ true ↦ d ∷ active | false ↦ from_binding naming active z ]))
     [ true ↦ h | false ↦ from-fit naming typing checked active z h.2 ])
+from-fit naming typing _ _ z h = absurd h
 
 pub binding-grows : {N : Type 0} (naming : Naming N) (typing others : StoreTyping) (checked : TypeEnvironment N) (x : N) (o : Object Shape Signature) (r : Object Place (ProcedureText N)) → BindingFits naming typing checked x o r → BindingFits naming (typing ++ others) checked x o r
 binding-grows naming typing others checked x (a_procedure signature) (a_procedure code) h = h
@@ -108,15 +106,13 @@ mutual
 
 pub store-appends : (typing : StoreTyping) (store : Store) (s : Shape) (v : Value) → StoreFits typing store → HasShape v s → StoreFits (typing ++ s ∷ []) (store ++ v ∷ [])
 store-appends [] [] s v h hv = (hv, tt)
-store-appends [] (w ∷ store) s v h hv = absurd h
-store-appends (t ∷ typing) [] s v h hv = absurd h
 store-appends (t ∷ typing) (w ∷ store) s v h hv = (h.0, store-appends typing store s v h.1 hv)
+store-appends _ _ s v h hv = absurd h
 
 pub last-shape : (typing : StoreTyping) (store : Store) (s : Shape) → StoreFits typing store → slice_get (typing ++ s ∷ []) (length store) ≡ Some s
 last-shape [] [] s h = refl
-last-shape [] (w ∷ store) s h = absurd h
-last-shape (t ∷ typing) [] s h = absurd h
 last-shape (t ∷ typing) (w ∷ store) s h = last-shape typing store s h.1
+last-shape _ _ s h = absurd h
 
 -- declarations
 
@@ -276,8 +272,6 @@ ArgumentsFit-grows typing others (f ∷ fs) (value_argument v ∷ args) h = (h.0
 pub parameters-run : {N : Type 0} (naming : Naming N) (typing : StoreTyping) (checked : TypeEnvironment N) (ps : List (TypedParameter N)) (args : List Argument) (f : Frame N) → StoreFits typing f.store → EnvironmentsFit naming typing checked f.env
     → ArgumentsFit typing (map (λ p. p.formal) ps) args → (g : Frame N) × (bind_parameters (map as_parameter ps) args f ≡ Some g) × FrameFits naming typing (bind_typed ps checked) g
 parameters-run naming typing checked [] [] f store env h = (f, refl, frame-here naming typing checked f store env)
-parameters-run naming typing checked [] (a ∷ args) f store env h = absurd h
-parameters-run naming typing checked (p ∷ ps) [] f store env h = absurd h
 parameters-run {N} naming typing checked (p ∷ ps) (place_argument place ∷ args) f store env h =
     let f₁ : Frame N = record { env = (p.name, a_variable place) ∷ f.env; store = f.store } in
     let (g, eg, fit) = parameters-run naming typing ((p.name, a_variable p.formal.shape) ∷ checked) ps args f₁ store (refl, h.1, env) h.2 in
@@ -287,6 +281,7 @@ parameters-run {N} naming typing checked (p ∷ ps) (value_argument v ∷ args) 
     let (g, eg, fit) = parameters-run naming (typing ++ p.formal.shape ∷ []) ((p.name, a_variable p.formal.shape) ∷ checked) ps args f₁ (store-appends typing f.store p.formal.shape v store h.1)
     (refl, ap (option_and_then (shape_at_path [])) (last-shape typing f.store p.formal.shape store), environments-grow naming typing (p.formal.shape ∷ []) checked f.env env) (ArgumentsFit-grows typing (p.formal.shape ∷ []) (map (λ p. p.formal) ps) args h.2) in
     (g, ap (λ m. option_and_then (bind_parameters (map as_parameter ps) args) (bind_parameter m p.name (value_argument v) f)) h.0 ∙ eg, frame-grown naming typing (p.formal.shape ∷ []) (bind_typed ps ((p.name, a_variable p.formal.shape) ∷ checked)) g fit)
+parameters-run naming typing checked _ _ f store env h = absurd h
 
 -- bodies and calls
 
@@ -324,11 +319,8 @@ activate-run {N} naming enter known t typing ((x, o) ∷ checked) ((y, r) ∷ ac
 
     of_objects : (o : Object Shape Signature) (r : Object Place (ProcedureText N)) → BindingFits naming typing checked x o r → o ≡ a_procedure signature → ProgressFits typing (activate naming enter t ((y, r) ∷ active) args s)
     of_objects (a_procedure sig) (a_procedure code) h e = of_text code.first_constructor code.text h.0 h.1 (sym (ap (λ o. unwrap_or (signature_of (Some o)) []) e) ∙ h.2) h.3
-    of_objects (a_type q) r h e = absurd (cc)
-    of_objects (a_constant q) r h e = absurd (cc)
-    of_objects (a_variable q) r h e = absurd (cc)
-    of_objects (a_standard q) r h e = absurd (cc)
     of_objects (a_procedure q) _ h e = absurd h
+    of_objects _ r h e = absurd (cc)
 
 -- calls keep the typing, by induction on how many may be open
 pub calls-run : {N : Type 0} (naming : Naming N) (c t : ℕ) → CallsRun naming (call naming c t)

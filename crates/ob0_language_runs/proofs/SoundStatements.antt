@@ -54,12 +54,11 @@ with_nth-fits (next_value v rest) s (suc i) new h hn =
 
 pub with_member-fits : (ms : Members) (fs : FieldShapes) (x : Name) (new : Value) (t : Shape) → HaveShapes ms fs → shape_of_field fs x ≡ Some t → HasShape new t → HaveShapes (with_named_member ms x new) fs
 with_member-fits no_member no_field_shape x new t h e hn = absurd (cc)
-with_member-fits no_member (next_field_shape y s others) x new t h e hn = absurd h
-with_member-fits (next_member y v rest) no_field_shape x new t h e hn = absurd h
 with_member-fits (next_member y v rest) (next_field_shape z s others) x new t h e hn =
     subst (λ z. shape_of_field (next_field_shape z s others) x ≡ Some t → HaveShapes (with_named_member (next_member y v rest) x new) (next_field_shape z s others)) h.0
     (elim (same_name x y) as (λ b. (if b then Some s else shape_of_field others x) ≡ Some t → HaveShapes (if b then next_member y new rest else next_member y v (with_named_member rest x new)) (next_field_shape y s others))
     [ true ↦ λ e. (refl, of_some (λ s. HasShape new s) (sym e) hn, h.2) | false ↦ λ e. (refl, h.1, with_member-fits rest others x new t h.2 e hn) ]) e
+with_member-fits _ _ x new t h e hn = absurd h
 
 pub with_part-fits : (v : Value) (s : Shape) (step : Step) (t : Shape) (new : Value) → HasShape v s → part_shape s step ≡ Some t → HasShape new t → HasShape (with_part v step new) s
 with_part-fits (elements vs) (array_shape k n s) (at_index i) t new h e hn =
@@ -85,10 +84,9 @@ with_path-fits (step ∷ path) v s t new h e hn =
 
 pub set-fits : (typing : StoreTyping) (store : Store) (n : ℕ) (s : Shape) (new : Value) → StoreFits typing store → slice_get typing n ≡ Some s → HasShape new s → StoreFits typing (slice_set store n new)
 set-fits [] [] n s new h e hn = absurd (cc)
-set-fits [] (v ∷ store) n s new h e hn = absurd h
-set-fits (t ∷ typing) [] n s new h e hn = absurd h
 set-fits (t ∷ typing) (v ∷ store) zero s new h e hn = (of_some (λ s. HasShape new s) (sym e) hn, h.1)
 set-fits (t ∷ typing) (v ∷ store) (suc n) s new h e hn = (h.0, set-fits typing store n s new h.1 e hn)
+set-fits _ _ n s new h e hn = absurd h
 
 pub store_at-fits : (typing : StoreTyping) (s : State) (p : Place) (shape : Shape) (new : Value) → StoreFits typing s.store → PlaceFits typing p shape → HasShape new shape → ProgressFits typing (store_at s p new)
 store_at-fits typing s p shape new h place hn =
@@ -116,11 +114,7 @@ object_place-fits typing checked active s h e = go active (subst (λ o. ObjectFi
   where
     go : (active : Option (Object Place (List Mode))) → ObjectFits typing (Some (a_variable s)) active → OutcomeFits (λ p. PlaceFits typing p s) (object_place active)
     go (Some (a_variable p)) h = h
-    go None h = absurd h
-    go (Some (a_type t)) h = absurd h
-    go (Some (a_constant t)) h = absurd h
-    go (Some (a_procedure t)) h = absurd h
-    go (Some (a_standard t)) h = absurd h
+    go _ h = absurd h
 
 pub designate-sound : {N : Type 0} (typing : StoreTyping) (checked : Typed N) (active : Meanings N Place (List Mode)) (store : Store) → Fitting typing checked active store → (x : N) (path : Tree N (items selector)) (s : Shape)
     → variable_type checked (Some (x, path)) ≡ Some s → OutcomeFits (λ p. PlaceFits typing p s) (designate active store x path)
@@ -166,13 +160,12 @@ pub arguments-sound : {N : Type 0} (typing : StoreTyping) (checked : Typed N) (a
     → arguments_fit checked fs es ≡ true → OutcomeFits (λ args. ArgumentsFit typing fs args) (evaluate_arguments active store (modes_in fs) es)
 unfolding evaluate_arguments arguments_fit
 arguments-sound typing checked active store fit [] [] h = tt
-arguments-sound typing checked active store fit [] (e ∷ es) h = absurd (cc)
-arguments-sound typing checked active store fit (f ∷ fs) [] h = absurd (cc)
 arguments-sound typing checked active store fit (f ∷ fs) (e ∷ es) h =
     let h' = both_true (argument_fits checked f e) (arguments_fit checked fs es) h in
     fits-then (λ a. ArgumentsFit typing (f ∷ []) (a ∷ [])) (λ args. ArgumentsFit typing (f ∷ fs) args) (evaluate_argument active store f.mode e) (λ a. evaluate_arguments active store (modes_in fs) es >>= (λ rest. gives (a ∷ rest))) (argument-sound typing checked active store fit f e h'.0)
     (λ a ha. fits-then (λ args. ArgumentsFit typing fs args) (λ args. ArgumentsFit typing (f ∷ fs) args) (evaluate_arguments active store (modes_in fs) es) (λ rest. gives (a ∷ rest)) (arguments-sound typing checked active store fit fs es h'.1)
     (λ rest hr. first-argument typing f fs a rest ha hr))
+arguments-sound typing checked active store fit _ _ h = absurd (cc)
 
 -- calls
 
@@ -261,9 +254,7 @@ go_on-fits typing (stopped e out) next h keeps = h
 pub choose-fits : (typing : StoreTyping) (s : State) (v : Value) (yes' no' : State → Progress) → HasShape v boolean_shape → ProgressFits typing (yes' s) → ProgressFits typing (no' s) → ProgressFits typing (choose s v yes' no')
 choose-fits typing s (truth true) yes' no' h hy hn = hy
 choose-fits typing s (truth false) yes' no' h hy hn = hn
-choose-fits typing s (number n) yes' no' h hy hn = absurd h
-choose-fits typing s (elements vs) yes' no' h hy hn = absurd h
-choose-fits typing s (members k ms) yes' no' h hy hn = absurd h
+choose-fits typing s _ yes' no' h hy hn = absurd h
 
 -- a condition that evaluates to a truth value in every store that grew
 abbrev pub IsCondition : StoreTyping → (State → Outcome Value) → Type 0

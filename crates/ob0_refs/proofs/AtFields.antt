@@ -10,15 +10,15 @@ use Rattle.ob0_scope_table.specs.Resolution.{Resolution, span_at}
 use Rattle.ob0_scope_table.specs.Spans.{is_on}
 use Rattle.ob0_scope.specs.NamesAtPlaces.{name_on}
 use Rattle.ob0_scope.specs.declared.naming.Named as named
-use Rattle.ob0_types.specs.RowsOfFields.{field_row_at, field_row_of}
+use Rattle.ob0_types.specs.MeantAtPlaces.{meant_by}
+use Rattle.ob0_types.specs.declared.meant.Identified.{Identified}
 use Rattle.ob0_language_types.proofs.Literals.{some_inverse}
 use Rattle.ob0_types_fields.specs.FieldTypes.{TypedField, typed_field}
 use Rattle.ob0_types_fields.specs.Identifiers.{declaring_field, field_at, field_identifiers, field_on, field_tokens, is_field, tokens_among}
 use Rattle.ob0_types_fields.proofs.FieldsDeclared.{fields_declared-holds}
 use Rattle.ob0_types_fields.proofs.TypedFields.{fields_typed-holds}
 use Rattle.ob0_refs.specs.Laws.{FieldsAreDefined, FieldsAreRenamedThere, FieldsHaveHovers, IsOnField}
-use Rattle.ob0_refs.specs.Questions.{at_field, declared, field_hover, name_or_field, named_at, or_else, references_at, row_hover}
-use Rattle.ob0_refs.specs.Shown.{name_hover_at}
+use Rattle.ob0_refs.specs.Questions.{at_field, at_meant, declared_meant, meant_hover, named_by, references_at, typed_hover}
 use Rattle.ob0_refs.specs.declared.answers.At as answer
 use Rattle.ob0_refs.specs.declared.answers.Of as of
 use Rattle.ob0_refs.specs.declared.answers.Of.TheVariants as answer_of
@@ -47,7 +47,7 @@ record OnField (r : Resolution) (offset : ℕ) (span : Span) (k : ℕ) : Type 0 
 on_field : (r : Resolution) (offset k index : ℕ) (span : Span) → IsOnField r offset span k index → OnField r offset span k
 on_field r offset k index span h = go (name_on r.module_read offset) refl (field_at r offset) refl h
   where
-    go : (n : Option named.Named) → name_on r.module_read offset ≡ n → (f : Option (ℕ × ℕ)) → field_at r offset ≡ f → name_or_field r.module_read n f ≡ Some (record { span = span; of = answer_of.Field k index }) → OnField r offset span k
+    go : (n : Option named.Named) → name_on r.module_read offset ≡ n → (f : Option (ℕ × ℕ)) → field_at r offset ≡ f → option_map (λ (x : Identified). at_meant r.module_read x.token x.means) (meant_by n f) ≡ Some (record { span = span; of = answer_of.Field k index }) → OnField r offset span k
     go (Some n) e f g same = absurd (true≢false (sym (ap (λ (a : answer.At). answers_field a.of) (some_inverse same)) ∙ no_field (nat_lt n.ordinal 7) n.ordinal))
     go None e None g same = absurd (cc)
     go None e (Some (token, owner)) g same =
@@ -101,7 +101,7 @@ fields_are_defined-holds r offset k index span well h =
     let m : Parsed = r.module_read in
     let at = on_field r offset k index span h in
     let name : List ℕ = text_at m.source at.token in
-    (λ i. is_some (declared m (at.no_name i) (at.field i)))
+    (λ i. is_some (option_and_then (λ (x : Identified). declared_meant m x.token x.means) (meant_by (at.no_name i) (at.field i))))
     ∙ (some_mapped (span_at m.source) (declaring_field m k name)
     ∙ found_holds m.source offset (at.token, k) (λ x. is_some (declaring_field m x.1 (text_at m.source x.0)) ≡ true) (field_identifiers r) (fields_declared-holds r well.resolved well.well_typed) at.field)
 
@@ -111,7 +111,7 @@ pub fields_are_renamed_there-holds : FieldsAreRenamedThere
 fields_are_renamed_there-holds r offset k index span h =
     let m : Parsed = r.module_read in
     let at = on_field r offset k index span h in
-    let uses : references_at r offset true ≡ map (span_at m.source) (field_tokens r k (text_at m.source at.token)) = λ i. named_at r true (at.no_name i) (at.field i) in
+    let uses : references_at r offset true ≡ map (span_at m.source) (field_tokens r k (text_at m.source at.token)) = λ i. named_by r true (meant_by (at.no_name i) (at.field i)) in
     record {
       token = at.token;
       no_name = at.no_name;
@@ -121,11 +121,7 @@ fields_are_renamed_there-holds r offset k index span h =
       itself = subst (λ spans. Contains spans span) (sym uses) (subst (Contains (map (span_at m.source) (field_tokens r k (text_at m.source at.token)))) at.place (found_named m.source offset (at.token, k) (field_identifiers r) at.field));
     }
 
--- ---- what is shown
-
-shown_else : {A : Type 0} (o other : Option A) → is_some other ≡ true → is_some (or_else o other) ≡ true
-shown_else None other h = h
-shown_else (Some a) other h = refl
+-- ---- hover
 
 pub fields_have_hovers-holds : FieldsHaveHovers
 fields_have_hovers-holds r offset k index span well h =
@@ -133,7 +129,5 @@ fields_have_hovers-holds r offset k index span well h =
     let at = on_field r offset k index span h in
     let x : ℕ × ℕ = (at.token, k) in
     let typed : is_some (typed_field r x) ≡ true = found_holds m.source offset x (λ y. is_some (typed_field r y) ≡ true) (field_identifiers r) (fields_typed-holds r well.resolved well.well_typed) at.field in
-    shown_else (name_hover_at m offset) (field_hover r offset)
-    (some_mapped (row_hover r) (field_row_at r offset)
-    ∙ (ap (λ (f : Option (ℕ × ℕ)). is_some (option_and_then (field_row_of r) f)) at.field
-    ∙ (some_mapped (λ (f : TypedField). record { token = at.token; of = f }) (typed_field r x) ∙ typed)))
+    (λ i. is_some (option_and_then (λ (y : Identified). meant_hover r y.token y.means) (meant_by (at.no_name i) (at.field i))))
+    ∙ (some_mapped (λ (f : TypedField). typed_hover r at.token f.shape) (typed_field r x) ∙ typed)

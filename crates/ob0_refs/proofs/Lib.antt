@@ -2,4 +2,3 @@ pub mod AtFields
 pub mod Counted
 pub mod Parameters
 pub mod ParametersFollow
-mod ByMeaning

@@ -1,56 +1,81 @@
--- Questions about a place: about the name that is there, or else about the field.
+-- Questions about a place: about the name that the identifier there means, or the field.
 -- Rule: docs/PROTOCOL.md, Requests on documents 3 to 5.
-use Rattle.std.specs.Prelude.{◌≡◌, ◌==◌, ℕ, Bool, true, false, not, List, [], map, Option, Some, None, option_map, option_and_then, unwrap_or}
+use Rattle.std.specs.Prelude.{◌≡◌, ◌==◌, ℕ, Bool, true, false, not, nat_lt, List, [], map, if◌then◌else◌, Option, Some, None, option_map, option_and_then, unwrap_or}
 use Rattle.std.specs.List.{filter}
 use Rattle.ob0_scan.specs.declared.lexeme.Span.{Span}
 use Rattle.ob0_tree.specs.Parsed.{Parsed}
 use Rattle.ob0_tree.specs.Places.{text_at}
+use Rattle.ob0_language_values.specs.Values.{Shape}
 use Rattle.ob0_scope_table.specs.Resolution.{Resolution, span_at}
-use Rattle.ob0_scope.specs.NamesAtPlaces.{name_on}
-use Rattle.ob0_scope.specs.declared.naming.Named as named
-use Rattle.ob0_types_fields.specs.Identifiers.{declaring_field, field_at, field_place, field_tokens}
+use Rattle.ob0_types_fields.specs.FieldTypes.{typed_field}
+use Rattle.ob0_types_fields.specs.Identifiers.{declaring_field, field_place, field_tokens}
+use Rattle.ob0_types.specs.MeantAtPlaces.{meant_at}
+use Rattle.ob0_types.specs.declared.meant.Identified.{Identified}
+use Rattle.ob0_types.specs.declared.meant.Meant.{Meant}
+use Rattle.ob0_types.specs.declared.meant.Meant.TheVariants.{Name, Field}
 use Rattle.ob0_refs.specs.Answered.{at_name}
 use Rattle.ob0_refs.specs.Places.{declaring_span, references_to}
-use Rattle.ob0_types.specs.RowsOfFields.{FieldRow, field_row_at}
 use Rattle.ob0_refs.specs.Hovers.{field_text, type_text}
-use Rattle.ob0_refs.specs.Shown.{HoverText, name_hover_at}
+use Rattle.ob0_refs.specs.Shown.{HoverText, hover_of}
 use Rattle.ob0_refs.specs.declared.answers.At as answer
 use Rattle.ob0_refs.specs.declared.answers.Of.TheVariants as answer_of
 
--- the identifier of a field: its token, and the ordinal of the field's record
-abbrev pub Identified : Type 0
-Identified = ℕ × ℕ
+-- an identifier of a field: its token, and the ordinal of the field's record
+abbrev pub FieldName : Type 0
+FieldName = ℕ × ℕ
+
+-- ---- what is at a place
 
 -- the field's place in its record, which is found by its name
-abbrev pub index_of : Parsed → Identified → ℕ
+abbrev pub index_of : Parsed → FieldName → ℕ
 index_of m x = unwrap_or (field_place m x.1 (text_at m.source x.0)) 0
 
 -- a field at a place: where it is, its record and its place in that record
-abbrev pub at_field : Parsed → Identified → answer.At
+abbrev pub at_field : Parsed → FieldName → answer.At
 at_field m x = record { span = span_at m.source x.0; of = answer_of.Field x.1 (index_of m x) }
 
--- the name at a place, or else the field
-abbrev pub name_or_field : Parsed → Option named.Named → Option Identified → Option answer.At
-name_or_field m (Some n) f = Some (at_name m n)
-name_or_field m None f = option_map (at_field m) f
+-- where an identifier is, and what it is a name of
+abbrev pub at_meant : Parsed → ℕ → Meant → answer.At
+at_meant m token (Name ordinal) = at_name m (record { token = token; ordinal = ordinal })
+at_meant m token (Field k) = at_field m (token, k)
 
 -- what is at a place
 abbrev pub identified_at : Resolution → ℕ → Option answer.At
 identified_at r offset =
-    name_or_field r.module_read (name_on r.module_read offset) (field_at r offset)
+    option_map (λ (x : Identified). at_meant r.module_read x.token x.means) (meant_at r offset)
+
+-- ---- what can be renamed
+
+-- predeclared names keep their names
+abbrev pub renamable_meant : Parsed → ℕ → Meant → Option Span
+renamable_meant m token (Name ordinal) =
+    if nat_lt ordinal 7 then None else Some (span_at m.source token)
+renamable_meant m token (Field k) = Some (span_at m.source token)
+
+-- the name or field itself that is at a place, where it can be renamed
+abbrev pub renamable_at : Resolution → ℕ → Option Span
+renamable_at r offset =
+    option_and_then (λ (x : Identified). renamable_meant r.module_read x.token x.means)
+    (meant_at r offset)
+
+-- ---- where it is declared
 
 -- where the identifier is that declares a field
-abbrev pub field_declared : Parsed → Identified → Option Span
+abbrev pub field_declared : Parsed → FieldName → Option Span
 field_declared m x = option_map (span_at m.source) (declaring_field m x.1 (text_at m.source x.0))
 
--- where the name is declared, or else the field
-abbrev pub declared : Parsed → Option named.Named → Option Identified → Option Span
-declared m (Some n) f = declaring_span m n.ordinal
-declared m None f = option_and_then (field_declared m) f
+-- where it is declared what an identifier means
+abbrev pub declared_meant : Parsed → ℕ → Meant → Option Span
+declared_meant m token (Name ordinal) = declaring_span m ordinal
+declared_meant m token (Field k) = field_declared m (token, k)
 
 -- where it is declared what is at a place
 abbrev pub definition_at : Resolution → ℕ → Option Span
-definition_at r offset = declared r.module_read (name_on r.module_read offset) (field_at r offset)
+definition_at r offset =
+    option_and_then (λ (x : Identified). declared_meant r.module_read x.token x.means)
+    (meant_at r offset)
+
+-- ---- where it is named
 
 -- the tokens other than one
 abbrev pub other_tokens : Option ℕ → List ℕ → List ℕ
@@ -58,49 +83,55 @@ other_tokens None tokens = tokens
 other_tokens (Some token) tokens = filter (λ other. not (other == token)) tokens
 
 -- the tokens of a field in text order: with the one that declares it or without
-abbrev pub field_references : Resolution → Identified → Bool → List ℕ
+abbrev pub field_references : Resolution → FieldName → Bool → List ℕ
 field_references r x true = field_tokens r x.1 (text_at r.module_read.source x.0)
 field_references r x false =
     other_tokens (declaring_field r.module_read x.1 (text_at r.module_read.source x.0))
     (field_tokens r x.1 (text_at r.module_read.source x.0))
 
--- the identifiers of the field at a place, in text order
-abbrev pub field_named_at : Resolution → Bool → Option Identified → List Span
-field_named_at r include None = []
-field_named_at r include (Some x) =
-    map (span_at r.module_read.source) (field_references r x include)
+-- the identifiers of a field, in text order
+abbrev pub field_named : Resolution → Bool → FieldName → List Span
+field_named r include x = map (span_at r.module_read.source) (field_references r x include)
 
--- the identifiers of the name at a place, or else of the field
-abbrev pub named_at : Resolution → Bool → Option named.Named → Option Identified → List Span
-named_at r include (Some n) f = references_to r.module_read n.ordinal include
-named_at r include None f = field_named_at r include f
+-- where it is named what an identifier means
+abbrev pub named_meant : Resolution → Bool → ℕ → Meant → List Span
+named_meant r include token (Name ordinal) = references_to r.module_read ordinal include
+named_meant r include token (Field k) = field_named r include (token, k)
+
+-- the same of an identifier that is there, or of none
+abbrev pub named_by : Resolution → Bool → Option Identified → List Span
+named_by r include None = []
+named_by r include (Some x) = named_meant r include x.token x.means
 
 -- where it is named what is at a place
 abbrev pub references_at : Resolution → ℕ → Bool → List Span
-references_at r offset include =
-    named_at r include (name_on r.module_read offset) (field_at r offset)
+references_at r offset include = named_by r include (meant_at r offset)
 
 -- these spans are the references at a place
 abbrev pub AreReferencesAt : Resolution → ℕ → Bool → List Span → Type 0
 AreReferencesAt r offset include spans = spans ≡ references_at r offset include
 
--- the first, or else the second
-abbrev pub or_else : {A : Type 0} → Option A → Option A → Option A
-or_else (Some a) other = Some a
-or_else None other = other
+-- ---- hover texts
 
--- the hover of an identifier of a field: the field's type
-abbrev pub row_hover : Resolution → FieldRow → HoverText
-row_hover r row =
+-- the hover of an identifier of a field of a type
+abbrev pub typed_hover : Resolution → ℕ → Shape → HoverText
+typed_hover r token s =
     record {
-      span = span_at r.module_read.source row.token;
-      text = field_text (text_at r.module_read.source row.token) (type_text row.of.shape);
+      span = span_at r.module_read.source token;
+      text = field_text (text_at r.module_read.source token) (type_text s);
     }
 
--- the hover text of the field at a place, where it is declared and where it is selected
-abbrev pub field_hover : Resolution → ℕ → Option HoverText
-field_hover r offset = option_map (row_hover r) (field_row_at r offset)
+-- the hover of a field: its type, where it is declared and where it is selected
+abbrev pub field_hover : Resolution → FieldName → Option HoverText
+field_hover r x = option_map (λ f. typed_hover r x.0 f.shape) (typed_field r x)
 
--- the hover text at a place: that of a name, or else that of a field
+-- the hover of what an identifier means
+abbrev pub meant_hover : Resolution → ℕ → Meant → Option HoverText
+meant_hover r token (Name ordinal) =
+    hover_of r.module_read (record { token = token; ordinal = ordinal })
+meant_hover r token (Field k) = field_hover r (token, k)
+
+-- the hover text at a place
 abbrev pub hover_at_place : Resolution → ℕ → Option HoverText
-hover_at_place r offset = or_else (name_hover_at r.module_read offset) (field_hover r offset)
+hover_at_place r offset =
+    option_and_then (λ (x : Identified). meant_hover r x.token x.means) (meant_at r offset)

@@ -1,10 +1,9 @@
--- The hover text of the name at a place: what its declaration binds it to.
+-- The hover text of a name: what its declaration binds it to.
 -- Rule: docs/PROTOCOL.md, Requests on documents 4, JSON shapes 3.
-use Rattle.std.specs.Prelude.{ℕ, List, Option, option_map, option_and_then}
+use Rattle.std.specs.Prelude.{ℕ, List, Option, option_map}
 use Rattle.ob0_scan.specs.declared.lexeme.Span.{Span}
 use Rattle.ob0_tree.specs.Parsed.{Parsed, named_tree_of}
 use Rattle.ob0_scope_table.specs.Resolution.{span_at}
-use Rattle.ob0_scope.specs.NamesAtPlaces.{name_on}
 use Rattle.ob0_scope.specs.declared.naming.Named as named
 use Rattle.ob0_language_types.specs.Bindings.{declared_object}
 use Rattle.ob0_refs.specs.Declarations.{name_hover}
@@ -19,7 +18,3 @@ abbrev pub hover_of : Parsed → named.Named → Option HoverText
 hover_of m n =
     option_map (λ text. record { span = span_at m.source n.token; text = text })
     (name_hover m n (declared_object (named_tree_of m) n.ordinal))
-
--- the hover text at a place: none where no name is, at a field and at the module's name
-abbrev pub name_hover_at : Parsed → ℕ → Option HoverText
-name_hover_at m offset = option_and_then (hover_of m) (name_on m offset)

@@ -1,20 +1,19 @@
 //! Questions about a place: about the name that is there, or else about the field.
 //!
-//! Each is a match on what the identifier there means (`meant_at` of `ob0_types`). Renaming asks the same, so what can
-//! be renamed at a place is what is answered there, and the references to a field are the identifiers that its renaming
-//! writes. References take one pass over the table of ordinals, from the declaring token on, or over the module's
-//! fields.
+//! Each is a match on what the identifier there means (`meant_at` of `ob0_types`), and so is the hover text
+//! (`place_hovers`). Renaming asks the same, so what can be renamed at a place is what is answered there, and the
+//! references to a field are the identifiers that its renaming writes. References take one pass over the table of
+//! ordinals, from the declaring token on, or over the module's fields.
 
 ghost use Rattle.std.specs.Prelude.{◌≡◌, IfOk, Some};
-ghost use Rattle.ob0_refs.specs.ByMeaning.{at_meant, declared_meant, named_meant};
-ghost use Rattle.ob0_refs.specs.Questions.{AreReferencesAt, at_field, definition_at, field_declared, field_named_at, field_references, index_of, identified_at, other_tokens};
+ghost use Rattle.ob0_refs.specs.Questions.{AreReferencesAt, at_field, at_meant, declared_meant, definition_at, field_declared, field_named, field_references, index_of, identified_at, named_meant, other_tokens, renamable_at, renamable_meant};
 
 use crate::answers::{At, Of};
 use crate::declaration_spans::{declared_at, references_to, spans_of};
 use crate::names::at_name;
 use ob0_scan::Span;
 use ob0_scope::Named;
-use ob0_scope_table::token_span;
+use ob0_scope_table::{PREDECLARED, token_span};
 use ob0_tree::text_at;
 use ob0_types::{
     Identified, Meant, WellTyped, declaring_field, field_place, field_tokens, meant_at,
@@ -64,6 +63,33 @@ fn index_of(well_typed: &WellTyped<'_>, field: (usize, usize)) -> usize
     match field_place(well_typed, field.1, name) {
         Some(index) => index,
         None => 0,
+    }
+}
+
+/// Where the identifier is that a place is on, if it can be renamed: a field, or a name that isn't predeclared. None
+/// elsewhere.
+pub fn renamable(well_typed: &WellTyped<'_>, offset: usize) -> Option<Span>
+    ensures { result ≡ renamable_at well_typed.now offset }
+{
+    match meant_at(well_typed, offset) {
+        None => None,
+        Some(found) => renamable_meant(well_typed, found),
+    }
+}
+
+fn renamable_meant(well_typed: &WellTyped<'_>, found: Identified) -> Option<Span>
+    ensures { result ≡ renamable_meant well_typed.now.module_read found.token found.means }
+{
+    let span = token_span(well_typed.resolved().tokens(), found.token);
+    match found.means {
+        Meant::Name(ordinal) => {
+            if ordinal < PREDECLARED {
+                None
+            } else {
+                Some(span)
+            }
+        }
+        Meant::Field(_) => Some(span),
     }
 }
 
@@ -136,7 +162,7 @@ fn field_named(
     include: bool,
 ) -> Result<Vec<Span>, AllocError>
     ensures { IfOk result
-        (λ spans. spans.items ≡ field_named_at well_typed.now include (Some field)) }
+        (λ spans. spans.items ≡ field_named well_typed.now include field) }
 {
     let tokens = field_references(alloc, well_typed, field, include)?;
     let spans = spans_of(alloc, well_typed.resolved().tokens(), &tokens)?;

@@ -6,7 +6,7 @@ use Rattle.ob0_tree.specs.Tree.{Tree, begins, body, declares_procedure, item, ma
 use Rattle.ob0_language_names.specs.Parts.{block_statements, formal_sections, procedure_formals}
 use Rattle.ob0_language_types.specs.Declarations.{formals_constructors}
 use Rattle.ob0_language_types.specs.Environments.{from_binding, meanings, newest}
-use Rattle.ob0_language_types.specs.Expressions.{Object, a_constant, a_procedure, a_standard, a_type, a_variable}
+use Rattle.ob0_language_types.specs.Expressions.{Object, a_procedure}
 use Rattle.ob0_language_types.specs.WellTyped.{Signature, TypeEnvironment, TypedParameter, bind_typed, block_fits, heading, procedure_fits, signature_of, typed_parameters}
 use Rattle.ob0_language_values.specs.Values.{Place, Shape, Store}
 use Rattle.ob0_language_runs.specs.Fitting.{ArgumentsFit, BindingFits, EnvironmentsFit, StoreFits, StoreTyping}
@@ -24,7 +24,7 @@ use Rattle.ob0_run_cells.proofs.PlacedDeclarations.{FramePlaced, block-placed, p
 use Rattle.ob0_run_cells.proofs.PlacedEnvironments.{from-placed, inward-fits, slots-fit}
 use Rattle.ob0_run_cells.proofs.Places.{store-size}
 use Rattle.ob0_run_cells.proofs.Represented.{numbers-append, numbers-take}
-use Rattle.ob0_run_cells.proofs.Variables.{variables_are_dropped-holds}
+use Rattle.ob0_run_cells.proofs.Variables.{variables_are_dropped}
 
 pub numbers-zero : (n : ℕ) → HaveNumbers (replicate n (pos 0))
 numbers-zero zero i = refl
@@ -34,7 +34,7 @@ numbers-zero (suc n) (suc i) = numbers-zero n i
 -- what a call has of its own is dropped in both
 pub drop_variables-represents : (typing now others : StoreTyping) (old : Store) (base : ℕ) (p : execution.MachineProgress) (q : Progress) → now ≡ typing ++ others → StoreFits typing old → base ≡ length (all_cells old) → ProgressRepresents now p q → ProgressRepresents typing (execution.drop_variables base p) (drop_variables (length old) q)
 drop_variables-represents typing now others old base (execution.running low) (running s) e fits is h =
-    let (kept, cells) = variables_are_dropped-holds typing others old s.store fits (subst (λ all. StoreFits all s.store) e h.store_fits) in
+    let (kept, cells) = variables_are_dropped typing others old s.store fits (subst (λ all. StoreFits all s.store) e h.store_fits) in
     record {
       store_fits = kept;
       same_cells = (λ i. take (is i) (h.same_cells i)) ∙ sym cells;
@@ -44,8 +44,7 @@ drop_variables-represents typing now others old base (execution.running low) (ru
       input_has_numbers = h.input_has_numbers;
     }
 drop_variables-represents typing now others old base (execution.stopped x out) (stopped y written) e fits is h = h
-drop_variables-represents typing now others old base (execution.running low) (stopped y written) e fits is h = absurd h
-drop_variables-represents typing now others old base (execution.stopped x out) (running s) e fits is h = absurd h
+drop_variables-represents typing now others old base _ _ e fits is h = absurd h
 
 module _ {N : Type 0} (table : RoutineTable N) where
   abbrev pub body_of : ℕ → ℕ → StoreTyping → Levels → Activation N → Body N
@@ -76,9 +75,7 @@ module _ {N : Type 0} (table : RoutineTable N) where
       → ProgressRepresents typing (execution.call table.routines (suc c) t (first_target placing).procedure (execution.entered ls (length low.cells) (first_target placing).up p) record low { cells = p.cells }) (drop_variables (length s.store) (activate table.naming (call_freeing table.naming c t) t active args s))
   unfolding execution.call activate block_fits
   activate-represents c t known typing ls [] placing active signature args low s p env placed few e h fit cells there numbers = absurd (cc)
-  activate-represents c t known typing ls (b ∷ checked) [] [] signature args low s p env placed few e h fit cells there numbers = absurd env
   activate-represents c t known typing ls (b ∷ checked) [] (d ∷ active) signature args low s p env placed few e h fit cells there numbers = absurd placed
-  activate-represents c t known typing ls (b ∷ checked) (w ∷ placing) [] signature args low s p env placed few e h fit cells there numbers = absurd env
   activate-represents c t known typing ls ((x, o) ∷ checked) ((z, w) ∷ placing) ((y, r) ∷ active) signature args low s p env placed few e h fit cells there numbers = of_objects o w r env.1 placed.here (some-inverse {a = o} {b = a_procedure signature} e)
     where
       of_text : (tg : Target) (outer : Placing N) (entry : lowered.Routine) (j : ℕ) (text : Tree N (item procedure)) (ps : List (TypedParameter N)) → PlacingFits table typing (drop tg.up ls) checked outer active → typed_parameters table.naming checked j (procedure_formals text) ≡ Some ps
@@ -128,11 +125,9 @@ module _ {N : Type 0} (table : RoutineTable N) where
           let same : ps ≡ qs = some-inverse (sym eps ∙ found.are_typed) in
           let signed : signature ≡ map (λ p. p.formal) qs = sym (ap (λ o. unwrap_or (signature_of (Some o)) []) e) ∙ (sig ∙ ap (map (λ p. p.formal)) same) in
           of_text tg outer found.routine code.first_constructor code.text qs inside found.are_typed found.in_table signed (subst (λ ps. procedure_fits table.naming (bind_typed ps (heading x ps checked)) code.first_constructor code.text ≡ true) same fits) found.means
-      of_objects (a_type q) w r bound at e = absurd (cc)
-      of_objects (a_constant q) w r bound at e = absurd (cc)
-      of_objects (a_variable q) w r bound at e = absurd (cc)
-      of_objects (a_standard q) w r bound at e = absurd (cc)
       of_objects (a_procedure q) _ _ bound at e = absurd at
+      of_objects _ w r bound at e = absurd (cc)
+  activate-represents c t known typing ls (b ∷ checked) _ [] signature args low s p env placed few e h fit cells there numbers = absurd env
 
   pub calls-known : (c t : ℕ) → CallsKnown c t
   unfolding call_freeing execution.call

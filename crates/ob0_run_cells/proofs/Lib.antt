@@ -6,12 +6,10 @@ pub mod LoweredOutcomes
 pub mod LoweredNumbers
 pub mod LoweredTruths
 pub mod LoweredPlaces
-pub mod Lowered
 pub mod Represented
 pub mod LoweredControl
 pub mod LoweredAssignments
 pub mod PassedArguments
-pub mod StatementsLowered
 pub mod PlacedEnvironments
 pub mod PlacedDeclarations
 pub mod CallsLowered

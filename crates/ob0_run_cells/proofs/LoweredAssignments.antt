@@ -1,9 +1,9 @@
 -- Assignments and the standard procedures in lowered code.
-use Rattle.std.proofs.Common.{◌≡◌, ℕ, ◌+◌, ◌≤◌, true, ◌&&◌, List, [], ◌∷◌, ◌++◌, length, take, drop, ℤ, if◌then◌else◌, nat_le, Some, None, Option, sym, refl, ap, ◌∙◌, subst}
+use Rattle.std.proofs.Common.{◌≡◌, ℕ, ◌+◌, ◌≤◌, true, ◌&&◌, List, [], ◌∷◌, ◌++◌, length, take, drop, ℤ, if◌then◌else◌, nat_le, Some, Option, sym, refl, ap, ◌∙◌, subst}
 use Rattle.std.proofs.lemmas.Bool.{le-leb}
 use Rattle.ob0_tree.specs.Tree.{Tree, arguments, assigns, calls, expression, items, maybe, selector}
 use Rattle.ob0_language_types.specs.Arguments.{arguments_listed}
-use Rattle.ob0_language_types.specs.Expressions.{Object, Standard, a_constant, a_procedure, a_standard, a_type, a_variable, designate, evaluate, reads, writes, writes_line}
+use Rattle.ob0_language_types.specs.Expressions.{Object, Standard, a_standard, designate, evaluate, reads, writes, writes_line}
 use Rattle.ob0_language_types.specs.WellTyped.{Mode, Typed, by_place, by_value}
 use Rattle.ob0_language_values.specs.Values.{Outcome, Place, Shape, Value, boolean_shape, ends, gives, integer_shape, number, or_stuck, read_place, truth, ◌>>=◌}
 use Rattle.ob0_language_runs.specs.Fitting.{ObjectFits, PlaceFits, StoreTyping}
@@ -11,21 +11,16 @@ use Rattle.ob0_language_runs.specs.Runs.{Argument, Progress, State, evaluate_arg
 use Rattle.ob0_run_machine.specs.Evaluation as machine
 use Rattle.ob0_run_machine.specs.Execution as execution
 use Rattle.ob0_run_machine.specs.Lowered as lowered
-use Rattle.ob0_run_cells.specs.CellLaws.{HoldsSlice, WritesPlace}
 use Rattle.ob0_run_cells.specs.Cells.{address, all_cells, cells_of, cells_with, size, sizes}
 use Rattle.ob0_run_cells.specs.LoweredStatements.{HaveNumbers, IsAt, ProgressRepresents, Represents, StatementMeans, Target}
 use Rattle.ob0_run_cells.specs.Lowering.{Has32Bits, NumberMeans, PlaceMeans, Slot, TruthMeans, ValueAt, place_of_designator, value_of_expression}
 use Rattle.ob0_run_cells.proofs.Parts.{cells-size}
-use Rattle.ob0_run_cells.proofs.Places.{places_are_slices-holds, store-size, writing_places_writes_slices-holds}
+use Rattle.ob0_run_cells.proofs.Places.{HoldsSlice, WritesPlace, places_are_slices, store-size, writing_places_writes_slices}
 use Rattle.ob0_run_cells.proofs.Represented.{alone-cells, moment, moment-shown, number-in, number-read, number-stored, numbers-append, numbers-drop, numbers-take, place-in, put-represents, truth-in, truth-stored, use-place, use-represents}
 
 pub standard-is : (typing : StoreTyping) (q : Standard) (a : Option (Object Place (List Mode))) → ObjectFits typing (Some (a_standard q)) a → a ≡ Some (a_standard q)
 standard-is typing q (Some (a_standard p)) h = ap (λ q. Some (a_standard q)) (sym h)
-standard-is typing q None h = absurd h
-standard-is typing q (Some (a_type s)) h = absurd h
-standard-is typing q (Some (a_constant v)) h = absurd h
-standard-is typing q (Some (a_variable p)) h = absurd h
-standard-is typing q (Some (a_procedure p)) h = absurd h
+standard-is typing q _ h = absurd h
 
 -- cells copied
 
@@ -39,10 +34,10 @@ copied-within cells to from n h k =
 pub cells-copied : (typing : StoreTyping) (low : execution.MachineState) (s : State) (p q : Place) (shape : Shape) → Represents typing low s → PlaceFits typing p shape → PlaceFits typing q shape
     → ProgressRepresents typing (execution.running record low { cells = execution.copied low.cells (address typing p) (address typing q) (size shape) }) (use_in s (or_stuck (read_place s.store q)) (store_at s p))
 cells-copied typing low s p q shape h fit_p fit_q =
-    let at_q : HoldsSlice typing s.store q shape = places_are_slices-holds typing s.store q shape h.store_fits fit_q in
+    let at_q : HoldsSlice typing s.store q shape = places_are_slices typing s.store q shape h.store_fits fit_q in
     let v : Value = at_q.value in
-    let inside_p = (places_are_slices-holds typing s.store p shape h.store_fits fit_p).within in
-    let done : WritesPlace typing s.store p v (cells_with (address typing p) (cells_of v) (all_cells s.store)) = writing_places_writes_slices-holds typing s.store p shape v h.store_fits fit_p at_q.has_shape in
+    let inside_p = (places_are_slices typing s.store p shape h.store_fits fit_p).within in
+    let done : WritesPlace typing s.store p v (cells_with (address typing p) (cells_of v) (all_cells s.store)) = writing_places_writes_slices typing s.store p shape v h.store_fits fit_p at_q.has_shape in
     let n : length (cells_of v) ≡ size shape = cells-size v shape at_q.has_shape in
     let m : sizes typing ≡ length (all_cells s.store) = sym (store-size typing s.store h.store_fits) in
     let copy : execution.copied (all_cells s.store) (address typing p) (address typing q) (size shape) ≡ take (address typing p) (all_cells s.store) ++ (take (size shape) (drop (address typing q) (all_cells s.store)) ++ drop (address typing p + size shape) (all_cells s.store)) =

@@ -3,7 +3,7 @@ use Rattle.std.proofs.Common.{◌≡◌, ℕ, Bool, true, false, pos, neg_ℤ, S
 use Rattle.ob0_tree.specs.declared.tree.Sign.TheVariants as sign
 use Rattle.ob0_tree.specs.declared.tree.AddOperator.{AddOperator}
 use Rattle.ob0_tree.specs.declared.tree.MultiplyOperator.{MultiplyOperator}
-use Rattle.ob0_tree.specs.Tree.{Tree, addend, adds, compares, expression, factor, integer, items, more, multiplier, multiplies, none, parenthesised, product, simple, sum, term}
+use Rattle.ob0_tree.specs.Tree.{Tree, addend, adds, compares, factor, integer, items, more, multiplier, multiplies, none, product, simple, sum, term}
 use Rattle.ob0_language_types.specs.Expressions.{evaluate}
 use Rattle.ob0_language_types.specs.WellTyped.{Typed}
 use Rattle.ob0_language_values.specs.Values.{Outcome, Value, add, add_is_settled, ends, gives, multiply, multiply_is_settled, number, apply_sign, ◌>>=◌}
@@ -91,10 +91,6 @@ module _ {N : Type 0} (checked : Typed N) (slots : N → Slot) where
   pub integer-means : (n : ℕ) → machine.fits (pos n) ≡ true → NumberMeans checked slots (lowered.literal (pos n)) (value_of_factor (integer n))
   unfolding evaluate
   integer-means n e z shown = (refl, e)
-
-  pub parenthesised-means : (e : Tree N expression) (n : lowered.Number) → NumberMeans checked slots n (value_of_expression e) → NumberMeans checked slots n (value_of_factor (parenthesised e))
-  unfolding evaluate
-  parenthesised-means e n hn z shown = hn z shown
 
   pub alone-means : (e : Tree N simple) (n : lowered.Number) → NumberMeans checked slots n (value_of_simple e) → NumberMeans checked slots n (value_of_expression (compares e none))
   unfolding evaluate

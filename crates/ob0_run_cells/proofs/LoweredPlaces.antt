@@ -2,8 +2,8 @@
 use Rattle.std.proofs.Common.{◌≡◌, ℕ, zero, suc, ◌+◌, ◌*◌, ◌<◌, ◌%◌, ◌^◌, Bool, true, false, List, [], ◌∷◌, ◌++◌, ℤ, pos, negsuc, if◌then◌else◌, nat_lt, slice_get, Some, None, Option, option_map, option_and_then, unwrap_or, sym, refl, ap, ◌∙◌, subst, subst₂, arith, append_assoc, append-nil}
 use Rattle.std.proofs.Math.Nat.{add_assoc, add_comm, add-zero, add-mod-mod, mod-add-mod}
 use Rattle.std.proofs.lemmas.Option.{get_or_from_slice_get}
-use Rattle.ob0_tree.specs.Tree.{Tree, compares, designator, end, expression, factor, field, index, items, more, none, parenthesised, product, selector, sum}
-use Rattle.ob0_language_types.specs.Expressions.{Meanings, Object, a_constant, a_procedure, a_standard, a_type, a_variable, designate, element_step, evaluate, follow, object_place, object_value}
+use Rattle.ob0_tree.specs.Tree.{Tree, designator, end, expression, field, index, items, more, selector}
+use Rattle.ob0_language_types.specs.Expressions.{Meanings, Object, a_constant, a_variable, designate, element_step, evaluate, follow, object_place, object_value}
 use Rattle.ob0_language_types.specs.Typing.{shape_of_field}
 use Rattle.ob0_language_types.specs.WellTyped.{Mode, Typed}
 use Rattle.ob0_language_values.specs.Values.{FieldShapes, Index, Outcome, Place, Shape, Step, Store, Value, Values, array_shape, at_field, at_index, at_path, boolean_shape, count_values, elements, ends, gives, integer_shape, number, or_stuck, part, read_place, record_shape, truth, ◌>>=◌}
@@ -16,25 +16,17 @@ use Rattle.ob0_run_cells.specs.Cells.{address, all_cells, field_offset, offset, 
 use Rattle.ob0_run_cells.specs.Lowering.{Evaluated, GivesPlace, Has32Bits, Moment, NumberMeans, PlaceLeads, PlaceMeans, Shows, Slot, TruthMeans, ValueAt, cells_in, further, held, by_reference, of_module, outcome_of, part_at, place_of_designator, selectors_left, slot_address, slot_place, value_of_expression, value_of_factor}
 use Rattle.ob0_run_cells.proofs.LoweredNumbers.{each-then}
 use Rattle.ob0_run_cells.proofs.LoweredOutcomes.{Led, addresses, forward-same, given-same, gives-then, grouped-then, led-then, same, stuck-then, followed_by}
-use Rattle.ob0_run_cells.proofs.Places.{numbers_are_cells-holds, parts_have_addresses-holds, place-lies, places_are_slices-holds, truths_are_cells-holds}
+use Rattle.ob0_run_cells.proofs.Places.{numbers_are_cells, parts_have_addresses, place-lies, places_are_slices, truths_are_cells}
 
 -- what names mean in the run, by what they mean in the checked module
 
 pub constant-is : (typing : StoreTyping) (v : Value) (a : Option (Object Place (List Mode))) → ObjectFits typing (Some (a_constant v)) a → a ≡ Some (a_constant v)
 constant-is typing v (Some (a_constant w)) h = ap (λ v. Some (a_constant v)) (sym h)
-constant-is typing v None h = absurd h
-constant-is typing v (Some (a_type s)) h = absurd h
-constant-is typing v (Some (a_variable p)) h = absurd h
-constant-is typing v (Some (a_procedure p)) h = absurd h
-constant-is typing v (Some (a_standard p)) h = absurd h
+constant-is typing v _ h = absurd h
 
 pub variable-is : (typing : StoreTyping) (s : Shape) (a : Option (Object Place (List Mode))) → ObjectFits typing (Some (a_variable s)) a → (p : Place) × (a ≡ Some (a_variable p)) × PlaceFits typing p s
 variable-is typing s (Some (a_variable p)) h = (p, refl, h)
-variable-is typing s None h = absurd h
-variable-is typing s (Some (a_type t)) h = absurd h
-variable-is typing s (Some (a_constant v)) h = absurd h
-variable-is typing s (Some (a_procedure p)) h = absurd h
-variable-is typing s (Some (a_standard p)) h = absurd h
+variable-is typing s _ h = absurd h
 
 -- what lies further on
 
@@ -137,8 +129,8 @@ step-alone s t step e =
 pub step-led : (typing : StoreTyping) (store : Store) → StoreFits typing store → sizes typing < 2 ^ 64 → (p : Place) (s t : Shape) (step : Step) → PlaceFits typing p s → part_shape s step ≡ Some t
     → Led typing t (machine.gives (machine.forward (address typing p) (step_offset s step))) (gives (further p (step ∷ [])))
 step-led typing store fits few p s t step fit e =
-    let (is, there) = parts_have_addresses-holds typing p (step ∷ []) s t fit (ap (option_and_then (shape_at_path [])) e) in
-    let within = (places_are_slices-holds typing store (further p (step ∷ [])) t fits is).within in
+    let (is, there) = parts_have_addresses typing p (step ∷ []) s t fit (ap (option_and_then (shape_at_path [])) e) in
+    let within = (places_are_slices typing store (further p (step ∷ [])) t fits is).within in
     let alone : offset (step ∷ []) s ≡ step_offset s step = step-alone s t step e in
     let same_address : address typing (further p (step ∷ [])) ≡ address typing p + step_offset s step = there ∙ ap (λ n. address typing p + n) alone in
     let bound : address typing p + step_offset s step < 2 ^ 64 = omega (arith, within, few, same_address) in
@@ -189,7 +181,7 @@ get-before (y ∷ xs) ys (suc i) x e = get-before xs ys i x e
 pub number-there : (typing : StoreTyping) (store : Store) (passed : List ℤ) → StoreFits typing store → (o : machine.StepResult ℕ) (w : Outcome Place) → Led typing integer_shape o w
     → outcome_of number (followed_by o (λ a. machine.gives (machine.cell_at (all_cells store ++ passed) a))) ≡ (w >>= (λ p. or_stuck (read_place store p)))
 number-there typing store passed fits (machine.gives a) (gives p) h =
-    let (found, writes) = numbers_are_cells-holds typing store p fits h.is_place in
+    let (found, writes) = numbers_are_cells typing store p fits h.is_place in
     let (n, read, cell) = found in
     let e : a ≡ address typing p = given-same a (address typing p) h.is_same in
     ap (λ n. gives (number n)) (get_or_from_slice_get (all_cells store ++ passed) a n (pos 0) (ap (slice_get (all_cells store ++ passed)) e ∙ get-before (all_cells store) passed (address typing p) n cell)) ∙ sym (ap or_stuck read)
@@ -204,7 +196,7 @@ is_true-cell false = refl
 pub truth-there : (typing : StoreTyping) (store : Store) (passed : List ℤ) → StoreFits typing store → (o : machine.StepResult ℕ) (w : Outcome Place) → Led typing boolean_shape o w
     → outcome_of truth (followed_by o (λ a. machine.gives (machine.is_true (machine.cell_at (all_cells store ++ passed) a)))) ≡ (w >>= (λ p. or_stuck (read_place store p)))
 truth-there typing store passed fits (machine.gives a) (gives p) h =
-    let (found, writes) = truths_are_cells-holds typing store p fits h.is_place in
+    let (found, writes) = truths_are_cells typing store p fits h.is_place in
     let (b, read, cell) = found in
     let e : a ≡ address typing p = given-same a (address typing p) h.is_same in
     ap (λ n. gives (truth (machine.is_true n))) (get_or_from_slice_get (all_cells store ++ passed) a (truth_cell b) (pos 0) (ap (slice_get (all_cells store ++ passed)) e ∙ get-before (all_cells store) passed (address typing p) (truth_cell b) cell)) ∙ (ap (λ b. gives (truth b)) (is_true-cell b) ∙ sym (ap or_stuck read))
@@ -241,7 +233,7 @@ module _ {N : Type 0} (checked : Typed N) (slots : N → Slot) where
     (λ z. object_place (z.active.object_for x)),
     (λ z shown. let (p, ep, fit) = variable-is z.typing s (z.active.object_for x) (subst (λ o. ObjectFits z.typing o (z.active.object_for x)) e (shown.names_fit.0 x)) in
         let there : slot_address z.levels (slots x) ≡ address z.typing p = shown.variables_in_slots x p ep in
-        let within = (places_are_slices-holds z.typing z.store p s shown.store_fits fit).within in
+        let within = (places_are_slices z.typing z.store p s shown.store_fits fit).within in
         let few : sizes z.typing < 2 ^ 64 = shown.has_addresses in
         let bound : slot_address z.levels (slots x) < 2 ^ 64 = omega (arith, within, there, few) in (
           ap (outcome_of same) (slot-found z.levels (cells_in z) (slots x) bound) ∙ (ap gives there ∙ sym (ap (λ o. addresses z.typing (object_place {P = List Mode} o)) ep)),
@@ -322,11 +314,3 @@ module _ {N : Type 0} (checked : Typed N) (slots : N → Slot) where
   unfolding evaluate designate
   block-designator q s x v path e hq =
       (place_of_designator x path, hq, λ z shown. let (p, ep, fit) = variable-is z.typing v (z.active.object_for x) (subst (λ o. ObjectFits z.typing o (z.active.object_for x)) e (shown.names_fit.0 x)) in value-there z.active z.store x path p ep)
-
-  pub block-parenthesised : (q : lowered.Place) (s : Shape) (e : Tree N expression) → ValueAt checked slots q s (value_of_expression e) → ValueAt checked slots q s (value_of_factor (parenthesised e))
-  unfolding evaluate
-  block-parenthesised q s e h = (h.0, h.1, λ z shown. h.2 z shown)
-
-  pub block-alone : (q : lowered.Place) (s : Shape) (f : Tree N factor) → ValueAt checked slots q s (value_of_factor f) → ValueAt checked slots q s (value_of_expression (compares (sum None (product f end) end) none))
-  unfolding evaluate
-  block-alone q s f h = (h.0, h.1, λ z shown. gives-then (value_of_factor f z >>= gives) ∙ (gives-then (value_of_factor f z) ∙ h.2 z shown))

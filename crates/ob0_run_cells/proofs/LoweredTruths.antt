@@ -4,7 +4,7 @@ use Rattle.ob0_tree.specs.declared.tree.Relation.{Relation}
 use Rattle.ob0_tree.specs.declared.tree.Relation.TheVariants as relation
 use Rattle.ob0_tree.specs.declared.tree.AddOperator.TheVariants as add_operator
 use Rattle.ob0_tree.specs.declared.tree.MultiplyOperator.TheVariants as multiply_operator
-use Rattle.ob0_tree.specs.Tree.{Tree, addend, adds, compares, expression, factor, items, more, multiplier, multiplies, negation, none, one, parenthesised, product, relates, simple, sum, term}
+use Rattle.ob0_tree.specs.Tree.{Tree, addend, adds, compares, factor, items, more, multiplier, multiplies, negation, one, product, relates, simple, sum, term}
 use Rattle.ob0_language_types.specs.Expressions.{evaluate}
 use Rattle.ob0_language_types.specs.WellTyped.{Typed}
 use Rattle.ob0_language_values.specs.Values.{Outcome, Value, add, add_is_settled, gives, multiply, multiply_is_settled, negate, number, relate, truth, ◌>>=◌}
@@ -68,14 +68,6 @@ module _ {N : Type 0} (checked : Typed N) (slots : N → Slot) where
   pub sum-begins : (e : Tree N term) (rest : Tree N (items addend)) (t : lowered.Truth) → TruthMeans checked slots t (value_of_term e) → TruthLeads checked slots t (addends_left rest) (value_of_simple (sum None e rest))
   unfolding evaluate
   sum-begins e rest t ht = (value_of_term e, ht, λ z shown. refl)
-
-  pub parenthesised-means : (e : Tree N expression) (t : lowered.Truth) → TruthMeans checked slots t (value_of_expression e) → TruthMeans checked slots t (value_of_factor (parenthesised e))
-  unfolding evaluate
-  parenthesised-means e t ht z shown = ht z shown
-
-  pub alone-means : (e : Tree N simple) (t : lowered.Truth) → TruthMeans checked slots t (value_of_simple e) → TruthMeans checked slots t (value_of_expression (compares e none))
-  unfolding evaluate
-  alone-means e t ht z shown = ht z shown
 
   pub negation-means : (f : Tree N factor) (t : lowered.Truth) → TruthMeans checked slots t (value_of_factor f) → TruthMeans checked slots (lowered.negation t) (value_of_factor (negation f))
   unfolding evaluate

@@ -57,8 +57,6 @@ element-lies (next_value v rest) s (suc i) below h =
 pub member-lies : (ms : Members) (fs : FieldShapes) (x : Name) (t : Shape) → shape_of_field fs x ≡ Some t → HaveShapes ms fs
     → (w : Value) × (named_member ms x ≡ Some w) × HasShape w t × Lies member_cells ms w (with_named_member ms x) (field_offset fs x)
 member-lies no_member no_field_shape x t e h = absurd (cc)
-member-lies no_member (next_field_shape y s others) x t e h = absurd h
-member-lies (next_member y v rest) no_field_shape x t e h = absurd h
 member-lies (next_member y v rest) (next_field_shape z s others) x t e h =
     subst (λ z. shape_of_field (next_field_shape z s others) x ≡ Some t → (w : Value) × (named_member (next_member y v rest) x ≡ Some w) × HasShape w t × Lies member_cells (next_member y v rest) w (with_named_member (next_member y v rest) x) (field_offset (next_field_shape z s others) x)) h.0
     (elim (same_name x y) as (λ b. (if b then Some s else shape_of_field others x) ≡ Some t
@@ -67,6 +65,7 @@ member-lies (next_member y v rest) (next_field_shape z s others) x t e h =
       | false ↦ λ e. (let (w, ew, hw, k) = member-lies rest others x t e h.2 in
           (w, ew, hw, lies-following member_cells member_cells (next_member y v rest) rest w (λ new. next_member y v (with_named_member rest x new)) (with_named_member rest x) (cells_of v) (size s) (field_offset others x) refl (λ new. refl) (cells-size v s h.1) k))
     ]) e
+member-lies _ _ x t e h = absurd h
 
 -- cells of an array or a record are those of its parts
 pub lies-as : {X : Type 0} (cells : X → List ℤ) (make : X → Value) (whole : X) (old : Value) (write : Value → X) (a : ℕ)

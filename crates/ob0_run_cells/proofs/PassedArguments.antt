@@ -1,11 +1,11 @@
 -- Arguments passed by lowered code, and calls.
 -- `Both R`: both outcomes give what R relates, or end alike. `use-both`, `both-then` compose it.
-use Rattle.std.proofs.Common.{◌≡◌, ℕ, zero, suc, ◌+◌, ◌-◌, ◌≤◌, Bool, true, List, [], ◌∷◌, ◌++◌, length, take, drop, ℤ, if◌then◌else◌, Some, None, Option, sym, refl, ap, ◌∙◌, subst, arith, append-nil, append_assoc, length-append, length-drop}
+use Rattle.std.proofs.Common.{◌≡◌, ℕ, zero, suc, ◌+◌, ◌-◌, ◌≤◌, Bool, true, List, [], ◌∷◌, ◌++◌, length, take, drop, ℤ, if◌then◌else◌, Some, Option, sym, refl, ap, ◌∙◌, subst, arith, append-nil, append_assoc, length-append, length-drop}
 use Rattle.std.proofs.lemmas.Bool.{le-leb}
 use Rattle.std.proofs.lemmas.List.{drop-append-le, take-append-le}
 use Rattle.ob0_tree.specs.Tree.{Tree, arguments, calls, expression, items, maybe, selector}
 use Rattle.ob0_language_types.specs.Arguments.{arguments_listed}
-use Rattle.ob0_language_types.specs.Expressions.{Object, a_constant, a_procedure, a_standard, a_type, a_variable, designate, evaluate}
+use Rattle.ob0_language_types.specs.Expressions.{Object, a_procedure, designate, evaluate}
 use Rattle.ob0_language_types.specs.WellTyped.{Formal, Mode, Signature, Typed}
 use Rattle.ob0_language_values.specs.Values.{Outcome, Place, Shape, Store, Value, ends, gives, number, or_stuck, read_place, truth, ◌>>=◌}
 use Rattle.ob0_language_runs.specs.Fitting.{ArgumentsFit, HasShape, ObjectFits, PlaceFits, StoreFits, StoreTyping, modes_in}
@@ -14,12 +14,11 @@ use Rattle.ob0_language_runs.proofs.SoundStatements.{first-argument}
 use Rattle.ob0_run_machine.specs.Evaluation as machine
 use Rattle.ob0_run_machine.specs.Execution as execution
 use Rattle.ob0_run_machine.specs.Lowered as lowered
-use Rattle.ob0_run_cells.specs.CellLaws.{HoldsSlice}
 use Rattle.ob0_run_cells.specs.Cells.{address, all_cells, cells_of, size, sizes}
 use Rattle.ob0_run_cells.specs.LoweredStatements.{ArgumentMeans, ArgumentsMean, Body, HaveNumbers, ProgressRepresents, Represents, ShowsBody, StatementMeans, Target, argument_addresses, argument_cells}
 use Rattle.ob0_run_cells.specs.Lowering.{Has32Bits, Slot, end_of, outcome_of, place_of_designator, value_of_expression}
 use Rattle.ob0_run_cells.proofs.LoweredOutcomes.{Led, ended-same, given-same, grouped-then}
-use Rattle.ob0_run_cells.proofs.Places.{places_are_slices-holds, store-size}
+use Rattle.ob0_run_cells.proofs.Places.{HoldsSlice, places_are_slices, store-size}
 use Rattle.ob0_run_cells.proofs.Represented.{alone-cells, as_cell-same, moment, moment-shown, number-at, numbers-append, numbers-drop, numbers-take, place-at, truth-at, truth-number}
 
 -- both give what is related, or both end alike
@@ -31,14 +30,12 @@ Both R _ _ = ⊥
 pub both-then : {A B C D : Type 0} (R : A → B → Type 0) (Q : C → D → Type 0) (o : machine.StepResult A) (w : Outcome B) (k : A → machine.StepResult C) (j : B → Outcome D) → Both R o w → ((a : A) (b : B) → R a b → Both Q (k a) (j b)) → Both Q (machine.◌>>=◌ o k) (w >>= j)
 both-then R Q (machine.gives a) (gives b) k j h each = each a b h
 both-then R Q (machine.ends x) (ends y) k j h each = h
-both-then R Q (machine.gives a) (ends y) k j h each = absurd h
-both-then R Q (machine.ends x) (gives b) k j h each = absurd h
+both-then R Q _ _ k j h each = absurd h
 
 pub both-made : {A B D : Type 0} (R : A → B → Type 0) (Q : A → D → Type 0) (o : machine.StepResult A) (w : Outcome B) (g : B → D) → Both R o w → ((a : A) (b : B) → R a b → Q a (g b)) → Both Q o (w >>= (λ b. gives (g b)))
 both-made R Q (machine.gives a) (gives b) g h each = each a b h
 both-made R Q (machine.ends x) (ends y) g h each = h
-both-made R Q (machine.gives a) (ends y) g h each = absurd h
-both-made R Q (machine.ends x) (gives b) g h each = absurd h
+both-made R Q _ _ g h each = absurd h
 
 pub both-led : (typing : StoreTyping) (shape : Shape) (o : machine.StepResult ℕ) (w : Outcome Place) → Led typing shape o w → Both (λ a p. (a ≡ address typing p) × PlaceFits typing p shape) o w
 both-led typing shape (machine.gives a) (gives p) h = (given-same a (address typing p) h.is_same, h.is_place)
@@ -151,7 +148,7 @@ module _ {N : Type 0} (checked : Typed N) (slots : N → Slot) (targets : N → 
       (subst (λ w. Both (λ p a. Passes b.typing (f ∷ []) done p (a ∷ [])) (execution.pass b.levels (lowered.by_block q n) done) w) (sym (grouped-then (place here) (λ p. or_stuck (read_place store p)) (λ v. gives (value_argument v))))
       (both-then (λ a p. (a ≡ address b.typing p) × PlaceFits b.typing p f.shape) (λ p a. Passes b.typing (f ∷ []) done p (a ∷ [])) (machine.address b.levels done.cells q) (place here) (λ a. machine.gives (execution.pass_cells done (execution.block_at done.cells a n))) (λ p. or_stuck (read_place store p) >>= (λ v. gives (value_argument v)))
       (both-led b.typing f.shape (machine.address b.levels done.cells q) (place here) (place-at checked slots targets b shown q f.shape place hq store passed done.cells fits same numbers))
-      (λ a p r. let at_p : HoldsSlice b.typing store p f.shape = places_are_slices-holds b.typing store p f.shape fits r.1 in
+      (λ a p r. let at_p : HoldsSlice b.typing store p f.shape = places_are_slices b.typing store p f.shape fits r.1 in
       let w : Value = at_p.value in
       let m : sizes b.typing ≡ length (all_cells store) = sym (store-size b.typing store fits) in
       let block : execution.block_at done.cells a n ≡ cells_of w =
@@ -174,18 +171,11 @@ module _ {N : Type 0} (checked : Typed N) (slots : N → Slot) (targets : N → 
       (λ p a one. both-made (λ q args. Passes b.typing fs p q args) (λ q args. Passes b.typing (f ∷ fs) done q args) (execution.pass_all b.levels cs p) (evaluate_arguments b.active store (modes_in fs) es) (λ rest. a ∷ rest)
       (arguments-passed fs cs es h.1 p (passed ++ argument_cells (a ∷ [])) (one.cells_passed ∙ (ap (λ l. l ++ argument_cells (a ∷ [])) same ∙ append_assoc (all_cells store) passed (argument_cells (a ∷ [])))) one.have_numbers)
       (λ q args more_passed. passes-on b.typing f fs done p q a args one more_passed))
-  arguments-passed [] [] (e ∷ es) h done passed same numbers = absurd h
-  arguments-passed [] (c ∷ cs) es h done passed same numbers = absurd h
-  arguments-passed (f ∷ fs) [] es h done passed same numbers = absurd h
-  arguments-passed (f ∷ fs) (c ∷ cs) [] h done passed same numbers = absurd h
+  arguments-passed _ _ _ h done passed same numbers = absurd h
 
 pub procedure-is : (typing : StoreTyping) (signature : Signature) (a : Option (Object Place (List Mode))) → ObjectFits typing (Some (a_procedure signature)) a → a ≡ Some (a_procedure (modes_in signature))
 procedure-is typing signature (Some (a_procedure modes)) h = ap (λ m. Some (a_procedure m)) h
-procedure-is typing signature None h = absurd h
-procedure-is typing signature (Some (a_type s)) h = absurd h
-procedure-is typing signature (Some (a_constant v)) h = absurd h
-procedure-is typing signature (Some (a_variable p)) h = absurd h
-procedure-is typing signature (Some (a_standard p)) h = absurd h
+procedure-is typing signature _ h = absurd h
 
 pub call-means : {N : Type 0} (checked : Typed N) (slots : N → Slot) (targets : N → Target) (x : N) (es : Tree N (maybe arguments)) (signature : Signature) (cs : List lowered.LoweredArgument) → checked.object_for x ≡ Some (a_procedure signature) → ArgumentsMean checked slots signature cs (arguments_listed es)
     → StatementMeans checked slots targets (lowered.calls (targets x).procedure (targets x).up cs) (calls x es)

@@ -23,8 +23,8 @@ use Rattle.ob0_run_cells.specs.Cells.{address, all_cells, cells_of, size, sizes}
 use Rattle.ob0_run_cells.specs.LoweredStatements.{argument_addresses, argument_cells}
 use Rattle.ob0_run_cells.specs.Lowering.{Slot, held, by_reference, slot_address}
 use Rattle.ob0_run_cells.proofs.PlacedEnvironments.{placing-grows}
-use Rattle.ob0_run_cells.proofs.Places.{addresses_stay-holds}
-use Rattle.ob0_run_cells.proofs.Variables.{initial_cells_are_zero-holds, variables_are_added-holds}
+use Rattle.ob0_run_cells.proofs.Places.{addresses_stay}
+use Rattle.ob0_run_cells.proofs.Variables.{initial_cells_are_zero, variables_are_added}
 
 pub sizes-append : (typing : StoreTyping) (s : Shape) → sizes (typing ++ s ∷ []) ≡ sizes typing + size s
 sizes-append [] s = omega arith
@@ -89,7 +89,7 @@ module _ {N : Type 0} (table : RoutineTable N) where
       → FramePlaced table (typing ++ s ∷ []) ls base ((x, a_variable s) ∷ checked) (record p { placing = (x, in_slot slot) ∷ p.placing; cells = p.cells + size s }) (record { env = (x, a_variable record { variable = length f.store; path = [] }) ∷ f.env; store = f.store ++ v ∷ [] })
       × (all_cells (f.store ++ v ∷ []) ≡ all_cells f.store ++ cells_of v)
   variable-placed typing ls base checked p f x slot s v at hv h =
-      let added = variables_are_added-holds typing f.store s v h.store_fits hv in
+      let added = variables_are_added typing f.store s v h.store_fits hv in
       let counted : base + p.cells ≡ sizes typing = h.cells_counted in
       let total : sizes (typing ++ s ∷ []) ≡ sizes typing + size s = sizes-append typing s in (
         record {
@@ -105,7 +105,7 @@ module _ {N : Type 0} (table : RoutineTable N) where
       → (n : ℕ) × ((place_names at xs (size s) p).cells ≡ p.cells + n) × Extends table typing ls base (bind_names xs (a_variable s) checked) (place_names at xs (size s) p) f.store (replicate n (pos 0)) (allocate xs (initial s) f)
   names-placed typing ls base at is [] s checked p f h = (0, omega arith, extends-here typing ls base checked p f h)
   names-placed typing ls base at is (x ∷ xs) s checked p f h =
-      let (fits, zero_cells) = initial_cells_are_zero-holds s in
+      let (fits, zero_cells) = initial_cells_are_zero s in
       let (one, cells) = variable-placed typing ls base checked p f x (at p.cells) s (initial s) (is p.cells) fits h in
       let (n, count, more_of) = names-placed (typing ++ s ∷ []) ls base at is xs s ((x, a_variable s) ∷ checked) (record p { placing = (x, in_slot (at p.cells)) ∷ p.placing; cells = p.cells + size s }) (record { env = (x, a_variable record { variable = length f.store; path = [] }) ∷ f.env; store = f.store ++ initial s ∷ [] }) one in (
         size s + n,
@@ -194,26 +194,23 @@ module _ {N : Type 0} (table : RoutineTable N) where
 -- parameters
 
 pub index-of_drop : (xs : List ℕ) (j y : ℕ) (ys : List ℕ) → drop j xs ≡ y ∷ ys → (slice_index_or xs j 0 ≡ y) × (drop (suc j) xs ≡ ys)
-index-of_drop [] zero y ys e = absurd (cc)
-index-of_drop [] (suc j) y ys e = absurd (cc)
 index-of_drop (x ∷ xs) zero y ys e = (ap (λ l. slice_index_or l 0 0) e, ap (drop 1) e)
 index-of_drop (x ∷ xs) (suc j) y ys e = index-of_drop xs j y ys e
+index-of_drop [] zero y ys e = absurd (cc)
+index-of_drop [] (suc j) y ys e = absurd (cc)
 
 pub arguments-stay : (typing others : StoreTyping) (fs : Signature) (args : List Argument) → ArgumentsFit typing fs args → argument_addresses (typing ++ others) args ≡ argument_addresses typing args
 arguments-stay typing others [] [] h = refl
-arguments-stay typing others [] (a ∷ args) h = absurd h
-arguments-stay typing others (f ∷ fs) [] h = absurd h
 arguments-stay typing others (f ∷ fs) (place_argument p ∷ args) h =
-    let (fit, stays) = addresses_stay-holds typing others p f.shape h.1 in λ i. stays i ∷ arguments-stay typing others fs args h.2 i
+    let (fit, stays) = addresses_stay typing others p f.shape h.1 in λ i. stays i ∷ arguments-stay typing others fs args h.2 i
 arguments-stay typing others (f ∷ fs) (value_argument v ∷ args) h = arguments-stay typing others fs args h.2
+arguments-stay typing others _ _ h = absurd h
 
 module _ {N : Type 0} (table : RoutineTable N) where
   pub parameters-placed : (typing : StoreTyping) (l : Level) (ls : Levels) (ps : List (TypedParameter N)) (args : List Argument) (checked : TypeEnvironment N) (p : Placed N) (f : Frame N) → FramePlaced table typing (l ∷ ls) l.base checked p f
       → ArgumentsFit typing (map (λ p. p.formal) ps) args → drop p.reference_places l.addresses ≡ argument_addresses typing args
       → (g : Frame N) × (bind_parameters (map as_parameter ps) args f ≡ Some g) × Extends table typing (l ∷ ls) l.base (bind_typed ps checked) (place_parameters ps p) f.store (argument_cells args) g
   parameters-placed typing l ls [] [] checked p f h fit there = (f, refl, extends-here table typing (l ∷ ls) l.base checked p f h)
-  parameters-placed typing l ls [] (a ∷ args) checked p f h fit there = absurd fit
-  parameters-placed typing l ls (q ∷ ps) [] checked p f h fit there = absurd fit
   parameters-placed typing l ls (q ∷ ps) (place_argument place ∷ args) checked p f h fit there =
       let (first, rest) = index-of_drop l.addresses p.reference_places (address typing place) (argument_addresses typing args) there in
       let p₁ : Placed N = record p { placing = (q.name, in_slot (by_reference 0 p.reference_places)) ∷ p.placing; reference_places = suc p.reference_places } in
@@ -234,3 +231,4 @@ module _ {N : Type 0} (table : RoutineTable N) where
         subst (λ m. Extends table typing (l ∷ ls) l.base (bind_typed ps ((q.name, a_variable s) ∷ checked)) (place_parameters ps (place_parameter m q.name (size s) p)) f.store (cells_of v ++ argument_cells args) g) (sym fit.0)
             (extends-then table typing (typing ++ s ∷ []) (s ∷ []) (l ∷ ls) l.base (bind_typed ps ((q.name, a_variable s) ∷ checked)) (place_parameters ps p₁) f.store (f.store ++ v ∷ []) (cells_of v) (argument_cells args) g refl cells part),
       )
+  parameters-placed typing l ls _ _ checked p f h fit there = absurd fit

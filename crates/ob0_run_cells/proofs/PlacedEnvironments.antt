@@ -10,7 +10,7 @@ use Rattle.ob0_run_machine.specs.Evaluation.{Level, Levels}
 use Rattle.ob0_run_cells.specs.Activations.{IsPlaced, RoutineTable, Placing, PlacingFits, Whereabouts, at_target, first_slot, from_name, in_slot, inward, inward_slot, inward_whereabouts, nowhere}
 use Rattle.ob0_run_cells.specs.Cells.{address}
 use Rattle.ob0_run_cells.specs.Lowering.{Slot, held, by_reference, of_module, slot_address}
-use Rattle.ob0_run_cells.proofs.Places.{addresses_stay-holds}
+use Rattle.ob0_run_cells.proofs.Places.{addresses_stay}
 
 module _ {N : Type 0} (table : RoutineTable N) where
   -- the bindings from a name's first on are placed too
@@ -22,10 +22,7 @@ module _ {N : Type 0} (table : RoutineTable N) where
       (subst (λ y. PlacingFits table typing ls (elim (table.naming.same x b.0) [ true ↦ b ∷ checked | false ↦ from_binding table.naming checked x ]) (elim (table.naming.same x b.0) [ true ↦ w ∷ placing | false ↦ from_name table.naming placing x ]) (elim (table.naming.same x y) [ true ↦ d ∷ active | false ↦ from_binding table.naming active x ])) h.same_active
       (elim (table.naming.same x b.0) as (λ v. PlacingFits table typing ls (elim v [ true ↦ b ∷ checked | false ↦ from_binding table.naming checked x ]) (elim v [ true ↦ w ∷ placing | false ↦ from_name table.naming placing x ]) (elim v [ true ↦ d ∷ active | false ↦ from_binding table.naming active x ]))
       [ true ↦ h | false ↦ from-placed typing ls checked placing active x h.further ]))
-  from-placed typing ls [] [] (d ∷ active) x h = absurd h
-  from-placed typing ls [] (w ∷ placing) active x h = absurd h
-  from-placed typing ls (b ∷ checked) [] active x h = absurd h
-  from-placed typing ls (b ∷ checked) (w ∷ placing) [] x h = absurd h
+  from-placed typing ls _ _ _ x h = absurd h
 
   slot-here : (typing : StoreTyping) (ls : Levels) (checked : TypeEnvironment N) (Fits : Levels → Placing N → Type 0) (x : N) (o : Object Shape Signature) (w : Whereabouts) (r : Object Place (ProcedureText N)) (p : Place)
       → IsPlaced table typing ls checked Fits x o w r → passing (Some r) ≡ Some (a_variable p) → (rest : Placing N) → slot_address ls (first_slot ((x, w) ∷ rest)) ≡ address typing p
@@ -39,17 +36,14 @@ module _ {N : Type 0} (table : RoutineTable N) where
   pub slots-fit : (typing : StoreTyping) (ls : Levels) (checked : TypeEnvironment N) (placing : Placing N) (active : Activation N) → PlacingFits table typing ls checked placing active → (p : Place) → passing (newest active) ≡ Some (a_variable p) → slot_address ls (first_slot placing) ≡ address typing p
   slots-fit typing ls [] [] [] h p e = absurd (cc)
   slots-fit typing ls (b ∷ checked) (w ∷ placing) (d ∷ active) h p e = slot-here typing ls checked (λ ls placing. PlacingFits table typing ls checked placing active) b.0 b.1 w.1 d.1 p h.here e placing
-  slots-fit typing ls [] [] (d ∷ active) h p e = absurd h
-  slots-fit typing ls [] (w ∷ placing) active h p e = absurd h
-  slots-fit typing ls (b ∷ checked) [] active h p e = absurd h
-  slots-fit typing ls (b ∷ checked) (w ∷ placing) [] h p e = absurd h
+  slots-fit typing ls _ _ _ h p e = absurd h
 
   -- stores grow
 
   grows-here : (typing others : StoreTyping) (ls : Levels) (checked : TypeEnvironment N) (Fits Grown : Levels → Placing N → Type 0) → ((ls : Levels) (placing : Placing N) → Fits ls placing → Grown ls placing) → (x : N) (o : Object Shape Signature) (w : Whereabouts) (r : Object Place (ProcedureText N))
       → IsPlaced table typing ls checked Fits x o w r → IsPlaced table (typing ++ others) ls checked Grown x o w r
   grows-here typing others ls checked Fits Grown grow x (a_variable s) (in_slot slot) (a_variable p) h =
-      let (fit, stays) = addresses_stay-holds typing others p s h.0 in (fit, h.1 ∙ sym stays)
+      let (fit, stays) = addresses_stay typing others p s h.0 in (fit, h.1 ∙ sym stays)
   grows-here typing others ls checked Fits Grown grow x (a_procedure s) (at_target t) (a_procedure c) h = (h.0, grow (drop t.up ls) h.0 h.1, h.2)
   grows-here typing others ls checked Fits Grown grow x (a_type s) nowhere (a_type u) h = tt
   grows-here typing others ls checked Fits Grown grow x (a_constant v) nowhere (a_constant w) h = tt
@@ -97,7 +91,4 @@ module _ {N : Type 0} (table : RoutineTable N) where
         here = inward-here typing l ls checked (λ ls placing. PlacingFits table typing ls checked placing active) b.0 b.1 w.1 d.1 h.here;
         further = inward-fits typing l ls checked placing active h.further;
       }
-  inward-fits typing l ls [] [] (d ∷ active) h = absurd h
-  inward-fits typing l ls [] (w ∷ placing) active h = absurd h
-  inward-fits typing l ls (b ∷ checked) [] active h = absurd h
-  inward-fits typing l ls (b ∷ checked) (w ∷ placing) [] h = absurd h
+  inward-fits typing l ls _ _ _ h = absurd h

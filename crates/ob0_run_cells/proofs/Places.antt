@@ -1,33 +1,30 @@
 -- What places hold lies in the cells of the store.
-use Rattle.std.proofs.Common.{◌≡◌, ℕ, zero, suc, ◌+◌, List, [], ◌∷◌, ◌++◌, length, take, ℤ, slice_get, slice_set, Some, option_map, option_and_then, unwrap_or, sym, refl, ap, ◌∙◌, subst, arith, length-append}
+use Rattle.std.proofs.Common.{◌≡◌, ℕ, zero, suc, ◌+◌, ◌≤◌, Bool, List, [], ◌∷◌, ◌++◌, length, take, ℤ, slice_get, slice_set, Some, option_map, option_and_then, unwrap_or, sym, refl, ap, ◌∙◌, subst, arith, length-append}
 use Rattle.ob0_language_values.specs.Values.{Place, Shape, Step, Store, Value, at_path, boolean_shape, integer_shape, number, read_place, truth, with_at_path, write_place}
 use Rattle.ob0_language_runs.specs.Fitting.{HasShape, PlaceFits, StoreFits, StoreTyping, part_shape, shape_at_path}
 use Rattle.ob0_language_types.proofs.Conditions.{of_some}
 use Rattle.ob0_language_runs.proofs.Sound.{is_number, is_truth, some-gives}
 use Rattle.ob0_language_runs.proofs.SoundStatements.{PlaceFits-grows, set-fits, slice_get-grows, with_path-fits}
-use Rattle.ob0_run_cells.specs.CellLaws.{AddressesStay, NumbersAreCells, PartsHaveAddresses, PlacesAreSlices, TruthsAreCells, WritingPlacesWritesSlices}
 use Rattle.ob0_run_cells.specs.Cells.{address, all_cells, cells_at, cells_of, cells_with, offset, size, sizes, truth_cell}
 use Rattle.ob0_run_cells.proofs.Parts.{cells-size, lies-inside, path-lies}
 use Rattle.ob0_run_cells.proofs.Splits.{Lies, lies-following, lies-first, lies-within, split-at, split-get, split-set, split-with}
 
 pub store-size : (typing : StoreTyping) (store : Store) → StoreFits typing store → length (all_cells store) ≡ sizes typing
 store-size [] [] h = refl
-store-size [] (v ∷ store) h = absurd h
-store-size (s ∷ typing) [] h = absurd h
 store-size (s ∷ typing) (v ∷ store) h =
     length-append (cells_of v) (all_cells store) ∙ (ap (λ n. n + length (all_cells store)) (cells-size v s h.0) ∙ ap (λ n. size s + n) (store-size typing store h.1))
+store-size _ _ h = absurd h
 
 -- a variable lies after the older ones
 pub variable-lies : (typing : StoreTyping) (store : Store) (n : ℕ) (s : Shape) → StoreFits typing store → slice_get typing n ≡ Some s
     → (v : Value) × (slice_get store n ≡ Some v) × HasShape v s × Lies all_cells store v (slice_set store n) (sizes (take n typing))
 variable-lies [] [] n s h e = absurd (cc)
-variable-lies [] (v ∷ store) n s h e = absurd h
-variable-lies (t ∷ typing) [] n s h e = absurd h
 variable-lies (t ∷ typing) (v ∷ store) zero s h e =
     (v, refl, of_some (λ s. HasShape v s) e h.0, lies-first all_cells (v ∷ store) v (slice_set (v ∷ store) zero) (all_cells store) refl (λ new. refl))
 variable-lies (t ∷ typing) (v ∷ store) (suc n) s h e =
     let (w, ew, hw, l) = variable-lies typing store n s h.1 e in
     (w, ew, hw, lies-following all_cells all_cells (v ∷ store) store w (slice_set (v ∷ store) (suc n)) (slice_set store n) (cells_of v) (size t) (sizes (take n typing)) refl (λ new. refl) (cells-size v t h.0) l)
+variable-lies _ _ n s h e = absurd h
 
 -- what lies at a place, and what writing it makes of the store
 abbrev pub PlaceLies : StoreTyping → Store → Place → Shape → Type 0
@@ -52,8 +49,16 @@ place-lies typing store p s h e =
           (lies-within all_cells store v w (slice_set store p.variable) write (sizes (take p.variable typing)) (offset p.path t) l k),
     )
 
-pub places_are_slices-holds : PlacesAreSlices
-places_are_slices-holds typing store p s h e =
+-- a place holds a value of a type, whose cells are those of the store from the place's address on
+pub record HoldsSlice (typing : StoreTyping) (store : Store) (p : Place) (s : Shape) : Type 0 where
+  pub within : address typing p + size s ≤ sizes typing
+  pub value : Value
+  pub is_read : read_place store p ≡ Some value
+  pub has_shape : HasShape value s
+  pub same_cells : cells_of value ≡ cells_at (address typing p) (size s) (all_cells store)
+
+pub places_are_slices : (typing : StoreTyping) (store : Store) (p : Place) (s : Shape) → StoreFits typing store → PlaceFits typing p s → HoldsSlice typing store p s
+places_are_slices typing store p s h e =
     let (v, ev, hv, write, made, fits, l) = place-lies typing store p s h e in record {
       within = lies-inside all_cells store v write (address typing p) (size s) (sizes typing) l (cells-size v s hv) (store-size typing store h);
       value = v;
@@ -62,8 +67,15 @@ places_are_slices-holds typing store p s h e =
       same_cells = split-at l.before (cells_of v) l.after (address typing p) (size s) l.begins (cells-size v s hv) ∙ ap (cells_at (address typing p) (size s)) (sym l.is_split);
     }
 
-pub writing_places_writes_slices-holds : WritingPlacesWritesSlices
-writing_places_writes_slices-holds typing store p s new h e hn =
+-- a place is written, and the store keeps its types; `cells` are those of the store then
+pub record WritesPlace (typing : StoreTyping) (store : Store) (p : Place) (new : Value) (cells : List ℤ) : Type 0 where
+  pub after : Store
+  pub is_written : write_place store p new ≡ Some after
+  pub store_fits : StoreFits typing after
+  pub same_cells : all_cells after ≡ cells
+
+pub writing_places_writes_slices : (typing : StoreTyping) (store : Store) (p : Place) (s : Shape) (new : Value) → StoreFits typing store → PlaceFits typing p s → HasShape new s → WritesPlace typing store p new (cells_with (address typing p) (cells_of new) (all_cells store))
+writing_places_writes_slices typing store p s new h e hn =
     let (v, ev, hv, write, made, fits, l) = place-lies typing store p s h e in record {
       after = write new;
       is_written = made new;
@@ -80,16 +92,18 @@ pub one-written : (store : Store) (v new : Value) (write : Value → Store) (a :
 one-written store v new write a m n l e en =
     l.is_written new ∙ (ap (λ mine. l.before ++ (mine ++ l.after)) en ∙ (split-set l.before m n l.after a l.begins ∙ ap (λ cells. slice_set cells a n) (sym (l.is_split ∙ ap (λ mine. l.before ++ (mine ++ l.after)) e))))
 
-pub numbers_are_cells-holds : NumbersAreCells
-numbers_are_cells-holds typing store p h e =
+pub numbers_are_cells : (typing : StoreTyping) (store : Store) (p : Place) → StoreFits typing store → PlaceFits typing p integer_shape
+    → ((n : ℤ) × (read_place store p ≡ Some (number n)) × (slice_get (all_cells store) (address typing p) ≡ Some n)) × ((n : ℤ) → WritesPlace typing store p (number n) (slice_set (all_cells store) (address typing p) n))
+numbers_are_cells typing store p h e =
     let (v, ev, hv, write, made, fits, l) = place-lies typing store p integer_shape h e in
     let (m, em) = is_number v hv in (
       (m, ev ∙ ap Some em, one-read store v write (address typing p) m l (ap cells_of em)),
       λ n. record { after = write (number n); is_written = made (number n); store_fits = fits (number n) tt; same_cells = one-written store v (number n) write (address typing p) m n l (ap cells_of em) refl },
     )
 
-pub truths_are_cells-holds : TruthsAreCells
-truths_are_cells-holds typing store p h e =
+pub truths_are_cells : (typing : StoreTyping) (store : Store) (p : Place) → StoreFits typing store → PlaceFits typing p boolean_shape
+    → ((b : Bool) × (read_place store p ≡ Some (truth b)) × (slice_get (all_cells store) (address typing p) ≡ Some (truth_cell b))) × ((b : Bool) → WritesPlace typing store p (truth b) (slice_set (all_cells store) (address typing p) (truth_cell b)))
+truths_are_cells typing store p h e =
     let (v, ev, hv, write, made, fits, l) = place-lies typing store p boolean_shape h e in
     let (b, eb) = is_truth v hv in (
       (b, ev ∙ ap Some eb, one-read store v write (address typing p) (truth_cell b) l (ap cells_of eb)),
@@ -110,8 +124,10 @@ shape-append (step ∷ path) more s t u e e' =
     let there : unwrap_or (option_map (offset (path ++ more)) (part_shape s step)) 0 ≡ offset (path ++ more) r = ap (λ o. unwrap_or (option_map (offset (path ++ more)) o) 0) er in
     (ap (option_and_then (shape_at_path (path ++ more))) er ∙ is, omega (arith, adds, here, there))
 
-pub parts_have_addresses-holds : PartsHaveAddresses
-parts_have_addresses-holds typing p path s t fit e =
+-- a part of what a place holds has its offset after the place's address
+pub parts_have_addresses : (typing : StoreTyping) (p : Place) (path : List Step) (s t : Shape) → PlaceFits typing p s → shape_at_path path s ≡ Some t
+    → PlaceFits typing record { variable = p.variable; path = p.path ++ path } t × (address typing record { variable = p.variable; path = p.path ++ path } ≡ address typing p + offset path s)
+parts_have_addresses typing p path s t fit e =
     let (v, ev, e₁) = some-gives (slice_get typing p.variable) (shape_at_path p.path) s fit in
     let (is, adds) = shape-append p.path path v s t e₁ e in
     let here : unwrap_or (option_map (offset p.path) (slice_get typing p.variable)) 0 ≡ offset p.path v = ap (λ o. unwrap_or (option_map (offset p.path) o) 0) ev in
@@ -123,8 +139,9 @@ taken-stays [] others n s e = absurd (cc)
 taken-stays (t ∷ typing) others zero s e = refl
 taken-stays (t ∷ typing) others (suc n) s e = ap (λ l. t ∷ l) (taken-stays typing others n s e)
 
-pub addresses_stay-holds : AddressesStay
-addresses_stay-holds typing others p s fit =
+-- an address stays where later variables are added
+pub addresses_stay : (typing others : StoreTyping) (p : Place) (s : Shape) → PlaceFits typing p s → PlaceFits (typing ++ others) p s × (address (typing ++ others) p ≡ address typing p)
+addresses_stay typing others p s fit =
     let (t, et, e₁) = some-gives (slice_get typing p.variable) (shape_at_path p.path) s fit in (
       PlaceFits-grows typing others p s fit,
       ap (λ l. sizes l + unwrap_or (option_map (offset p.path) (slice_get (typing ++ others) p.variable)) 0) (taken-stays typing others p.variable t et)

@@ -12,7 +12,7 @@ use Rattle.ob0_run_cells.specs.Cells.{address, all_cells, truth_cell}
 use Rattle.ob0_run_cells.specs.LoweredStatements.{Body, HaveNumbers, ProgressRepresents, Represents, ShowsBody, Target, written_of}
 use Rattle.ob0_run_cells.specs.Lowering.{Evaluated, Has32Bits, Moment, NumberMeans, PlaceMeans, Shows, Slot, TruthMeans, end_of, outcome_of}
 use Rattle.ob0_run_cells.proofs.LoweredOutcomes.{Led, ended-same, given-same}
-use Rattle.ob0_run_cells.proofs.Places.{numbers_are_cells-holds, truths_are_cells-holds}
+use Rattle.ob0_run_cells.proofs.Places.{numbers_are_cells, truths_are_cells}
 
 -- an evaluation, and what comes of what it gives
 
@@ -43,8 +43,7 @@ Follows typing k j = (low : execution.MachineState) (s : State) → Represents t
 pub going-on : (typing : StoreTyping) (p : execution.MachineProgress) (q : Progress) (k : execution.MachineState → execution.MachineProgress) (j : State → Progress) → ProgressRepresents typing p q → Follows typing k j → ProgressRepresents typing (execution.continue_with p k) (continue_with q j)
 going-on typing (execution.running low) (running s) k j h follows = follows low s h
 going-on typing (execution.stopped e out) (stopped f written) k j h follows = h
-going-on typing (execution.running low) (stopped f written) k j h follows = absurd h
-going-on typing (execution.stopped e out) (running s) k j h follows = absurd h
+going-on typing _ _ k j h follows = absurd h
 
 -- a condition that evaluates to the same in every state
 abbrev pub SameConditions : StoreTyping → (execution.MachineState → machine.StepResult Bool) → (State → Outcome Value) → Type 0
@@ -105,7 +104,7 @@ as_cell-same false = refl
 pub number-stored : (typing : StoreTyping) (low : execution.MachineState) (s : State) (p : Place) (n : ℤ) → Represents typing low s → PlaceFits typing p integer_shape → machine.fits n ≡ true
     → ProgressRepresents typing (execution.running (execution.store_at low (address typing p) n)) (store_at s p (number n))
 number-stored typing low s p n h fit e =
-    let (found, writes) = numbers_are_cells-holds typing s.store p h.store_fits fit in
+    let (found, writes) = numbers_are_cells typing s.store p h.store_fits fit in
     let done = writes n in
     subst (λ o. ProgressRepresents typing (execution.running (execution.store_at low (address typing p) n)) (use_in s (or_stuck o) (λ store. running record s { store = store }))) (sym done.is_written) record {
       store_fits = done.store_fits;
@@ -119,7 +118,7 @@ number-stored typing low s p n h fit e =
 pub truth-stored : (typing : StoreTyping) (low : execution.MachineState) (s : State) (p : Place) (b : Bool) → Represents typing low s → PlaceFits typing p boolean_shape
     → ProgressRepresents typing (execution.running (execution.store_at low (address typing p) (machine.as_cell b))) (store_at s p (truth b))
 truth-stored typing low s p b h fit =
-    let (found, writes) = truths_are_cells-holds typing s.store p h.store_fits fit in
+    let (found, writes) = truths_are_cells typing s.store p h.store_fits fit in
     let done = writes b in
     subst (λ o. ProgressRepresents typing (execution.running (execution.store_at low (address typing p) (machine.as_cell b))) (use_in s (or_stuck o) (λ store. running record s { store = store }))) (sym done.is_written) record {
       store_fits = done.store_fits;

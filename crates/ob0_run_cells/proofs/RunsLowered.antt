@@ -29,8 +29,7 @@ predeclared h = record { same_active = refl; same_placed = refl; here = tt; furt
 pub finished-same : (typing : StoreTyping) (p : execution.MachineProgress) (q : Progress) → ProgressRepresents typing p q → run_of (execution.finished p) ≡ finished q
 finished-same typing (execution.running low) (running s) h = ap (λ out. record { output = out; ending = (finished (running s)).ending }) h.same_output
 finished-same typing (execution.stopped x out) (stopped y written) h = λ i. record { output = h.1 i; ending = h.0 i }
-finished-same typing (execution.running low) (stopped y written) h = absurd h
-finished-same typing (execution.stopped x out) (running s) h = absurd h
+finished-same typing _ _ h = absurd h
 
 run-freed : {N : Type 0} (naming : Naming N) (m : Tree N module_text) (program : lowered.LoweredCode) (most c t : ℕ) (input : List ℤ) → fits_over naming m ≡ true → ProgramMeans most naming m program → suc c * most < 2 ^ 64 → HaveNumbers input
     → run_of (execution.run program input c t) ≡ run_freeing naming m input c t

@@ -2,10 +2,9 @@
 use Rattle.std.proofs.Common.{◌≡◌, ℕ, zero, suc, ◌+◌, ◌*◌, List, [], ◌∷◌, ◌++◌, length, replicate, take, ℤ, pos, slice_get, Some, option_and_then, option_map, unwrap_or, sym, refl, ap, ◌∙◌, arith, append_assoc, append-nil}
 use Rattle.std.proofs.lemmas.List.{replicate-append-replicate, take_at}
 use Rattle.ob0_language_values.specs.Values.{FieldShapes, Shape, Store, Value, array_shape, boolean_shape, copies, initial, initial_members, integer_shape, next_field_shape, no_field_shape, record_shape}
-use Rattle.ob0_language_runs.specs.Fitting.{StoreFits, StoreTyping, shape_at_path}
+use Rattle.ob0_language_runs.specs.Fitting.{HasShape, PlaceFits, StoreFits, StoreTyping, shape_at_path}
 use Rattle.ob0_language_runs.proofs.SoundCalls.{initial-fits, last-shape, store-appends}
-use Rattle.ob0_run_cells.specs.CellLaws.{InitialCellsAreZero, VariablesAreAdded, VariablesAreDropped}
-use Rattle.ob0_run_cells.specs.Cells.{all_cells, cells_of, element_cells, field_sizes, member_cells, offset, size, sizes}
+use Rattle.ob0_run_cells.specs.Cells.{address, all_cells, cells_of, element_cells, field_sizes, member_cells, offset, size, sizes}
 use Rattle.ob0_run_cells.proofs.Places.{store-size}
 
 pub zeros-join : (m n : ℕ) (a b : List ℤ) → a ≡ replicate m (pos 0) → b ≡ replicate n (pos 0) → a ++ b ≡ replicate (m + n) (pos 0)
@@ -28,8 +27,8 @@ mutual
   initial_members-zero no_field_shape = refl
   initial_members-zero (next_field_shape x s rest) = zeros-join (size s) (field_sizes rest) (cells_of (initial s)) (member_cells (initial_members rest)) (initial-zero s) (initial_members-zero rest)
 
-pub initial_cells_are_zero-holds : InitialCellsAreZero
-initial_cells_are_zero-holds s = (initial-fits s, initial-zero s)
+pub initial_cells_are_zero : (s : Shape) → HasShape (initial s) s × (cells_of (initial s) ≡ replicate (size s) (pos 0))
+initial_cells_are_zero s = (initial-fits s, initial-zero s)
 
 pub cells-append : (a b : Store) → all_cells (a ++ b) ≡ all_cells a ++ all_cells b
 cells-append [] b = refl
@@ -38,12 +37,18 @@ cells-append (v ∷ a) b = ap (λ l. cells_of v ++ l) (cells-append a b) ∙ sym
 -- a type added is the one at the place of a variable added
 pub taken-all : (typing : StoreTyping) (store : Store) (s : Shape) → StoreFits typing store → sizes (take (length store) (typing ++ s ∷ [])) ≡ sizes typing
 taken-all [] [] s h = refl
-taken-all [] (v ∷ store) s h = absurd h
-taken-all (t ∷ typing) [] s h = absurd h
 taken-all (t ∷ typing) (v ∷ store) s h = ap (λ n. size t + n) (taken-all typing store s h.1)
+taken-all _ _ s h = absurd h
 
-pub variables_are_added-holds : VariablesAreAdded
-variables_are_added-holds typing store s v h hv =
+-- a store with a variable more, whose cells come after those of all others, from the size of their types on
+pub record AddsVariable (typing : StoreTyping) (store : Store) (s : Shape) (v : Value) : Type 0 where
+  pub store_fits : StoreFits (typing ++ s ∷ []) (store ++ v ∷ [])
+  pub cells_added : all_cells (store ++ v ∷ []) ≡ all_cells store ++ cells_of v
+  pub place_fits : PlaceFits (typing ++ s ∷ []) record { variable = length store; path = [] } s
+  pub address_is : address (typing ++ s ∷ []) record { variable = length store; path = [] } ≡ sizes typing
+
+pub variables_are_added : (typing : StoreTyping) (store : Store) (s : Shape) (v : Value) → StoreFits typing store → HasShape v s → AddsVariable typing store s v
+variables_are_added typing store s v h hv =
     let e : slice_get (typing ++ s ∷ []) (length store) ≡ Some s = last-shape typing store s h in
     let b : sizes (take (length store) (typing ++ s ∷ [])) ≡ sizes typing = taken-all typing store s h in
     let o : unwrap_or (option_map (offset []) (slice_get (typing ++ s ∷ []) (length store))) 0 ≡ 0 = ap (λ o. unwrap_or (option_map (offset []) o) 0) e in record {
@@ -55,21 +60,21 @@ variables_are_added-holds typing store s v h hv =
 
 pub cut-fits : (typing others : StoreTyping) (old new : Store) → StoreFits typing old → StoreFits (typing ++ others) new → StoreFits typing (take (length old) new)
 cut-fits [] others [] new h k = tt
-cut-fits [] others (v ∷ old) new h k = absurd h
-cut-fits (t ∷ typing) others [] new h k = absurd h
 cut-fits (t ∷ typing) others (v ∷ old) [] h k = absurd k
 cut-fits (t ∷ typing) others (v ∷ old) (w ∷ new) h k = (k.0, cut-fits typing others old new h.1 k.1)
+cut-fits _ others _ new h k = absurd h
 
 pub cut-split : (typing others : StoreTyping) (old new : Store) → StoreFits typing old → StoreFits (typing ++ others) new → (rest : Store) × (new ≡ take (length old) new ++ rest)
 cut-split [] others [] new h k = (new, refl)
-cut-split [] others (v ∷ old) new h k = absurd h
-cut-split (t ∷ typing) others [] new h k = absurd h
 cut-split (t ∷ typing) others (v ∷ old) [] h k = absurd k
 cut-split (t ∷ typing) others (v ∷ old) (w ∷ new) h k =
     let (rest, e) = cut-split typing others old new h.1 k.1 in (rest, ap (λ l. w ∷ l) e)
+cut-split _ others _ new h k = absurd h
 
-pub variables_are_dropped-holds : VariablesAreDropped
-variables_are_dropped-holds typing others old new h k =
+-- a store cut back to the variables of an older one has as many cells as that
+pub variables_are_dropped : (typing others : StoreTyping) (old new : Store) → StoreFits typing old → StoreFits (typing ++ others) new
+    → StoreFits typing (take (length old) new) × (all_cells (take (length old) new) ≡ take (length (all_cells old)) (all_cells new))
+variables_are_dropped typing others old new h k =
     let fit : StoreFits typing (take (length old) new) = cut-fits typing others old new h k in
     let (rest, e) = cut-split typing others old new h k in
     let n : length (all_cells (take (length old) new)) ≡ length (all_cells old) = store-size typing (take (length old) new) fit ∙ sym (store-size typing old h) in

@@ -1,11 +1,11 @@
 -- A worked program: a module with a procedure, a VAR parameter among its two, and the program that means it.
--- It shows that the definitions can be met, and how the laws are put together.
+-- It shows that the definitions can be met, and how the lemmas are put together.
 use Rattle.std.proofs.Common.{◌≡◌, ℕ, List, [], ◌∷◌, Some, None, pos, refl, arith}
-use Rattle.ob0_tree.specs.Tree.{Tree, assigns, begins, calls, compares, declares, declares_procedure, declares_variable, declares_variables, designator, end, expression, has_body, integer, is_module, item, listed, module_text, more, named_type, none, one, procedure, product, runs, some_arguments, some_formals, sum, then_argument, then_section, then_statement, value_section, variable_section}
+use Rattle.ob0_tree.specs.Tree.{Tree, assigns, begins, calls, compares, declares, declares_procedure, declares_variable, declares_variables, designator, end, expression, factor, has_body, integer, is_module, item, listed, module_text, more, named_type, none, one, procedure, product, runs, some_arguments, some_formals, sum, then_argument, then_section, then_statement, value_section, variable_section}
 use Rattle.ob0_language_names.specs.Names.{Label, as_labels, as_written, declared}
 use Rattle.ob0_language_types.specs.Declarations.{declare_first}
 use Rattle.ob0_language_types.specs.Environments.{meanings, outermost}
-use Rattle.ob0_language_types.specs.Expressions.{a_variable}
+use Rattle.ob0_language_types.specs.Expressions.{a_variable, evaluate}
 use Rattle.ob0_language_types.specs.WellTyped.{TypeEnvironment, Typed, TypedParameter, bind_typed, by_place, by_value, declare_typed, fits_over, heading, typed_parameters}
 use Rattle.ob0_language_values.specs.Values.{Shape, integer_shape}
 use Rattle.ob0_language_runs.specs.Runs.{run_over}
@@ -14,10 +14,13 @@ use Rattle.ob0_run_machine.specs.Lowered as lowered
 use Rattle.ob0_run_cells.specs.ActivationLaws.{run_of}
 use Rattle.ob0_run_cells.specs.Activations.{BodyMeans, Placed, Placing, ProgramMeans, entered_placing, in_slot, outermost_placing, own_target, place_variables, slots_in, targets_in}
 use Rattle.ob0_run_cells.specs.LoweredStatements.{Target}
-use Rattle.ob0_run_cells.specs.Lowering.{NumberMeans, PlaceMeans, Slot, of_module, place_of_designator, slot_place, value_of_expression}
-use Rattle.ob0_run_cells.proofs.Lowered.{cells_lower-holds, expressions_lower-holds, integers_lower-holds, operators_end-holds, selectors_end-holds, sums_lower-holds, terms_lower-holds, variables_lower-holds}
+use Rattle.ob0_run_cells.specs.Lowering.{NumberMeans, PlaceMeans, Slot, addends_left, multipliers_left, of_module, place_of_designator, slot_place, value_of_expression, value_of_factor, value_of_simple, value_of_term}
+use Rattle.ob0_run_cells.proofs.LoweredAssignments.{number-assigned, writes-mean}
+use Rattle.ob0_run_cells.proofs.LoweredControl.{first-means, further-means, sequence-ends}
+use Rattle.ob0_run_cells.proofs.LoweredNumbers.{alone-means, integer-means, number-whole, product-begins, sum-begins}
+use Rattle.ob0_run_cells.proofs.LoweredPlaces.{cell-means, selectors-end, variable-leads}
+use Rattle.ob0_run_cells.proofs.PassedArguments.{call-means}
 use Rattle.ob0_run_cells.proofs.RunsLowered.{run-lowered}
-use Rattle.ob0_run_cells.proofs.StatementsLowered.{assignments_lower-holds, calls_lower-holds, sequences_end-holds, sequences_lower-holds, standard_calls_lower-holds}
 
 abbrev pub written_name : Label → Tree Label expression
 written_name x = compares (sum None (product (designator x end) end) end) none
@@ -52,20 +55,19 @@ worked_program = record {
 -- a variable alone, and a number alone
 
 place-alone : (checked : Typed Label) (slots : Label → Slot) (x : Label) (s : Shape) → checked.object_for x ≡ Some (a_variable s) → PlaceMeans checked slots (slot_place (slots x)) s (place_of_designator x end)
-place-alone checked slots x s e = selectors_end-holds checked slots (slot_place (slots x)) s (place_of_designator x end) (variables_lower-holds checked slots x s end e)
+place-alone checked slots x s e = selectors-end checked slots (slot_place (slots x)) s (place_of_designator x end) (variable-leads checked slots x s end e)
+
+factor-alone : (checked : Typed Label) (slots : Label → Slot) (f : Tree Label factor) (n : lowered.Number) → NumberMeans checked slots n (value_of_factor f) → NumberMeans checked slots n (value_of_expression (compares (sum None (product f end) end) none))
+unfolding evaluate
+factor-alone checked slots f n h =
+    let term = number-whole checked slots n (multipliers_left end) (value_of_term (product f end)) (λ z v. refl) (product-begins checked slots f end n h) in
+    alone-means checked slots (sum None (product f end) end) n (number-whole checked slots n (addends_left end) (value_of_simple (sum None (product f end) end)) (λ z v. refl) (sum-begins checked slots (product f end) end n term))
 
 number-alone : (checked : Typed Label) (slots : Label → Slot) (x : Label) → checked.object_for x ≡ Some (a_variable integer_shape) → NumberMeans checked slots (lowered.cell (slot_place (slots x))) (value_of_expression (written_name x))
-number-alone checked slots x e =
-    let n = lowered.cell (slot_place (slots x)) in
-    let factor = (cells_lower-holds checked slots x integer_shape end (slot_place (slots x)) e).0 (place-alone checked slots x integer_shape e) in
-    let term = (operators_end-holds checked slots _).number_term n ((terms_lower-holds checked slots (designator x end) end).0 n factor) in
-    (expressions_lower-holds checked slots (sum None (product (designator x end) end) end)).0 n ((operators_end-holds checked slots _).number_sum n ((sums_lower-holds checked slots (product (designator x end) end) end).0 n term).0)
+number-alone checked slots x e = factor-alone checked slots (designator x end) (lowered.cell (slot_place (slots x))) (cell-means checked slots x integer_shape end (slot_place (slots x)) e (place-alone checked slots x integer_shape e))
 
 seven-alone : (checked : Typed Label) (slots : Label → Slot) → NumberMeans checked slots (lowered.literal (pos 7)) (value_of_expression (written_number 7))
-seven-alone checked slots =
-    let n = lowered.literal (pos 7) in
-    let term = (operators_end-holds checked slots _).number_term n ((terms_lower-holds checked slots (integer 7) end).0 n (integers_lower-holds checked slots 7 refl)) in
-    (expressions_lower-holds checked slots (sum None (product (integer 7) end) end)).0 n ((operators_end-holds checked slots _).number_sum n ((sums_lower-holds checked slots (product (integer 7) end) end).0 n term).0)
+seven-alone checked slots = factor-alone checked slots (integer 7) (lowered.literal (pos 7)) (integer-means checked slots 7 refl)
 
 abbrev worked_parameters : List (TypedParameter Label)
 worked_parameters = record { name = declared 9; formal = record { mode = by_value; shape = integer_shape } } ∷ record { name = declared 10; formal = record { mode = by_place; shape = integer_shape } } ∷ []
@@ -87,8 +89,8 @@ procedure-body =
     let checked : Typed Label = meanings as_labels inside_checked in
     let slots : Label → Slot = slots_in as_labels inside_placed.placing in
     let targets : Label → Target = targets_in as_labels inside_placed.placing in
-    ((sequences_lower-holds checked slots targets end lowered.no_statement (sequences_end-holds checked slots targets)).0 (assigns (declared 10) end (written_name (declared 9))) (lowered.stores_number (lowered.passed 0 0 0) (lowered.cell (lowered.here 0)))
-    ((assignments_lower-holds checked slots targets (declared 10) end (written_name (declared 9)) (lowered.passed 0 0 0)).0 (lowered.cell (lowered.here 0)) (place-alone checked slots (declared 10) integer_shape refl) (number-alone checked slots (declared 9) refl))).0
+    first-means checked slots targets (assigns (declared 10) end (written_name (declared 9))) (lowered.stores_number (lowered.passed 0 0 0) (lowered.cell (lowered.here 0))) end lowered.no_statement
+    (number-assigned checked slots targets (declared 10) end (written_name (declared 9)) (lowered.passed 0 0 0) (lowered.cell (lowered.here 0)) (place-alone checked slots (declared 10) integer_shape refl) (number-alone checked slots (declared 9) refl)) (sequence-ends checked slots targets)
 
 abbrev module_checked : TypeEnvironment Label
 module_checked = heading (declared 8) worked_parameters worked_checked
@@ -101,13 +103,13 @@ module-body =
     let checked : Typed Label = meanings as_labels module_checked in
     let slots : Label → Slot = slots_in as_labels module_placing in
     let targets : Label → Target = targets_in as_labels module_placing in
-    let shown = (standard_calls_lower-holds checked slots targets (declared 5) (one (some_arguments (written_name (declared 7)) end)) (written_name (declared 7))).1 (lowered.cell (lowered.in_module 0)) refl refl (number-alone checked slots (declared 7) refl) in
-    let called = calls_lower-holds checked slots targets (declared 8) (one (some_arguments (written_number 7) (more (then_argument (written_name (declared 7))) end))) (record { mode = by_value; shape = integer_shape } ∷ record { mode = by_place; shape = integer_shape } ∷ [])
+    let shown = writes-mean checked slots targets (declared 5) (one (some_arguments (written_name (declared 7)) end)) (written_name (declared 7)) (lowered.cell (lowered.in_module 0)) refl refl (number-alone checked slots (declared 7) refl) in
+    let called = call-means checked slots targets (declared 8) (one (some_arguments (written_number 7) (more (then_argument (written_name (declared 7))) end))) (record { mode = by_value; shape = integer_shape } ∷ record { mode = by_place; shape = integer_shape } ∷ [])
     (lowered.by_number (lowered.literal (pos 7)) ∷ lowered.by_place (lowered.in_module 0) ∷ []) refl
     ((refl, refl, seven-alone checked slots), ((refl, record { name = declared 7; path = end; shape = integer_shape; is_designator = refl; is_variable = refl; place_means = place-alone checked slots (declared 7) integer_shape refl }), tt)) in
-    let last = (sequences_lower-holds checked slots targets end lowered.no_statement (sequences_end-holds checked slots targets)).0 (calls (declared 5) (one (some_arguments (written_name (declared 7)) end))) (lowered.writes (lowered.cell (lowered.in_module 0))) shown in
-    ((sequences_lower-holds checked slots targets (more (then_statement (calls (declared 5) (one (some_arguments (written_name (declared 7)) end)))) end) (lowered.before (lowered.writes (lowered.cell (lowered.in_module 0))) lowered.no_statement) last.1).0
-    (calls (declared 8) (one (some_arguments (written_number 7) (more (then_argument (written_name (declared 7))) end)))) (lowered.calls 0 0 (lowered.by_number (lowered.literal (pos 7)) ∷ lowered.by_place (lowered.in_module 0) ∷ [])) called).0
+    let last = further-means checked slots targets (calls (declared 5) (one (some_arguments (written_name (declared 7)) end))) (lowered.writes (lowered.cell (lowered.in_module 0))) end lowered.no_statement shown (sequence-ends checked slots targets) in
+    first-means checked slots targets (calls (declared 8) (one (some_arguments (written_number 7) (more (then_argument (written_name (declared 7))) end)))) (lowered.calls 0 0 (lowered.by_number (lowered.literal (pos 7)) ∷ lowered.by_place (lowered.in_module 0) ∷ []))
+    (more (then_statement (calls (declared 5) (one (some_arguments (written_name (declared 7)) end)))) end) (lowered.before (lowered.writes (lowered.cell (lowered.in_module 0))) lowered.no_statement) called last
 
 pub program-means : ProgramMeans 1 as_labels worked_module worked_program
 unfolding declare_first declare_typed place_variables typed_parameters

@@ -17,7 +17,7 @@ use Rattle.ob0_run_machine.specs.View.{number_of, place_of, truth_of}
 use Rattle.ob0_run_cells.specs.Cells.{size}
 use Rattle.ob0_run_cells.specs.LoweredStatements.{StatementMeans, Target}
 use Rattle.ob0_run_cells.specs.Lowering.{PlaceMeans, Slot, ValueAt, place_of_designator, value_of_expression}
-use Rattle.ob0_run_cells.proofs.StatementsLowered.{assignments_lower-holds}
+use Rattle.ob0_run_cells.proofs.LoweredAssignments.{block-assigned, number-assigned, truth-assigned}
 use Rattle.ob0_run_lowering.specs.Means.{Locates, Lowers, Means}
 use Rattle.ob0_run_lowering.specs.declared.lowered.TypedPlace.{TypedPlace}
 use Rattle.ob0_run_lowering.specs.declared.lowered.Lowered.TheVariants as code
@@ -26,27 +26,22 @@ use Rattle.ob0_run_lowering.specs.LoweredBodies.{StatementLowers}
 
 module _ (checked : Typed Label) (slots : Label → Slot) (targets : Label → Target) (x : Label) (path : Tree Label (items selector)) (e : Tree Label expression) (q : lowered.Place) where
   stores_number : (n : Number) (s : Shape) → PlaceMeans checked slots q s (place_of_designator x path) → Means checked slots (code.Number n) s (value_of_expression e) → StatementMeans checked slots targets (lowered.stores_number q (number_of n)) (assigns x path e)
-  stores_number n integer_shape hq hn = (assignments_lower-holds checked slots targets x path e q).0 (number_of n) hq hn
-  stores_number n boolean_shape hq hn = absurd hn
-  stores_number n (array_shape k m s) hq hn = absurd hn
-  stores_number n (record_shape k fs) hq hn = absurd hn
+  stores_number n integer_shape hq hn = number-assigned checked slots targets x path e q (number_of n) hq hn
+  stores_number n _ hq hn = absurd hn
 
   stores_truth : (t : Truth) (s : Shape) → PlaceMeans checked slots q s (place_of_designator x path) → Means checked slots (code.Truth t) s (value_of_expression e) → StatementMeans checked slots targets (lowered.stores_truth q (truth_of t)) (assigns x path e)
-  stores_truth t integer_shape hq ht = absurd ht
-  stores_truth t boolean_shape hq ht = (assignments_lower-holds checked slots targets x path e q).1 (truth_of t) hq ht
-  stores_truth t (array_shape k m s) hq ht = absurd ht
-  stores_truth t (record_shape k fs) hq ht = absurd ht
+  stores_truth t boolean_shape hq ht = truth-assigned checked slots targets x path e q (truth_of t) hq ht
+  stores_truth t _ hq ht = absurd ht
 
   copied : (r : lowered.Place) (n : ℕ) (s : Shape) → PlaceMeans checked slots q s (place_of_designator x path) → (n ≡ size s) × ValueAt checked slots r s (value_of_expression e) → StatementMeans checked slots targets (lowered.copies q r n) (assigns x path e)
   copied r n s hq hr =
       let P : ℕ → Type 0 = λ n. StatementMeans checked slots targets (lowered.copies q r n) (assigns x path e) in
-      subst P (sym hr.0) ((assignments_lower-holds checked slots targets x path e q).2 r s hq hr.1)
+      subst P (sym hr.0) (block-assigned checked slots targets x path e q r s hq hr.1)
 
   copies : (r : Place) (n : ℕ) (s : Shape) → PlaceMeans checked slots q s (place_of_designator x path) → Means checked slots (code.Block r n) s (value_of_expression e) → StatementMeans checked slots targets (lowered.copies q (place_of r) n) (assigns x path e)
-  copies r n integer_shape hq hr = absurd hr
-  copies r n boolean_shape hq hr = absurd hr
   copies r n (array_shape k m s) hq hr = copied (place_of r) n (array_shape k m s) hq hr
   copies r n (record_shape k fs) hq hr = copied (place_of r) n (record_shape k fs) hq hr
+  copies r n _ hq hr = absurd hr
 
   nothing : (c : lowered.Instruction) (s : Shape) → Means checked slots code.Nothing s (value_of_expression e) → StatementMeans checked slots targets c (assigns x path e)
   nothing c integer_shape h = absurd h

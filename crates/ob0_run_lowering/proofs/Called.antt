@@ -3,7 +3,7 @@ use Rattle.std.proofs.Common.{◌≡◌, ℕ, ◌+◌, ◌<◌, min, true, false
 use Rattle.std.proofs.lemmas.List.{drop_more}
 use Rattle.std.specs.declared.alloc.Global.{Global}
 use Rattle.std.specs.declared.vec.Vec.{Vec}
-use Rattle.ob0_tree.specs.Tree.{Tree, arguments, calls, compares, end, expression, integer, maybe, none, product, sum}
+use Rattle.ob0_tree.specs.Tree.{Tree, arguments, calls, expression, maybe}
 use Rattle.ob0_tree.specs.View.{arguments_of, expression_of}
 use Rattle.ob0_tree.specs.declared.tree.Expression.{Expression}
 use Rattle.ob0_language_names.specs.Names.{Label}
@@ -26,7 +26,8 @@ use Rattle.ob0_run_machine.specs.Lowered as lowered
 use Rattle.ob0_run_machine.specs.View.{argument_of, number_of, place_of}
 use Rattle.ob0_run_cells.specs.LoweredStatements.{StatementMeans, Target}
 use Rattle.ob0_run_cells.specs.Lowering.{Slot}
-use Rattle.ob0_run_cells.proofs.StatementsLowered.{calls_lower-holds, standard_calls_lower-holds}
+use Rattle.ob0_run_cells.proofs.LoweredAssignments.{line-means, reads-mean, writes-mean}
+use Rattle.ob0_run_cells.proofs.PassedArguments.{call-means}
 use Rattle.ob0_run_lowering.specs.Means.{LocatesAlone, LowersArgument, LowersNumber}
 use Rattle.ob0_run_lowering.specs.Scenes.{Sees, object_at, target_at}
 use Rattle.ob0_run_lowering.specs.declared.lowered.TypedPlace.{TypedPlace}
@@ -71,7 +72,7 @@ called scene x es signature cs procedure up declared hs there checked slots targ
     let is_there = called_as scene x es (Some (a_procedure signature)) declared checked slots targets sees fits in
     let args = hs checked slots targets sees (signed checked signature (arguments_listed es) (called_with scene x es (Some (a_procedure signature)) declared checked slots targets sees fits)) in
     let P : Target → Type 0 = λ t. StatementMeans checked slots targets (lowered.calls t.procedure t.up cs) (calls x es) in
-    subst P (sees.procedures x signature is_there ∙ sym there) (calls_lower-holds checked slots targets x es signature cs is_there args)
+    subst P (sees.procedures x signature is_there ∙ sym there) (call-means checked slots targets x es signature cs is_there args)
 
 -- arguments as they are written
 pub given_listed : (r : Resolution) (given : Option (Vec Expression Global)) → arguments_listed (in_labels r (arguments_of given)) ≡ all_in_labels r (given_in given)
@@ -124,19 +125,19 @@ module _ (scene : Scene) (x : Label) (given : Option (Vec Expression Global)) wh
       let f : Formal = record { mode = by_place; shape = integer_shape } in
       let one = one_fits checked scene.resolved.now f (given_in given) e here (all_fit (a_standard reads) (f ∷ []) refl declared checked slots targets sees fits) in
       let at = (hl checked slots targets sees integer_shape (placed checked (in_labels scene.resolved.now (expression_of e)) one.1)).1 in
-      (standard_calls_lower-holds checked slots targets x written_arguments (in_labels scene.resolved.now (expression_of e))).0 (place_of l.place) (called_as scene x written_arguments (Some (a_standard reads)) declared checked slots targets sees fits) (given_listed scene.resolved.now given ∙ one.0) at
+      reads-mean checked slots targets x written_arguments (in_labels scene.resolved.now (expression_of e)) (place_of l.place) (called_as scene x written_arguments (Some (a_standard reads)) declared checked slots targets sees fits) (given_listed scene.resolved.now given ∙ one.0) at
 
   pub written : (e : Expression) (n : Number) → slice_get (given_in given) 0 ≡ Some e → LowersNumber scene (expression_of e) n → object_at scene.types.now x ≡ Some (a_standard writes) → StatementLowers scene (lowered.writes (number_of n)) (calls x written_arguments)
   written e n here hn declared checked slots targets sees fits =
       let f : Formal = record { mode = by_value; shape = integer_shape } in
       let one = one_fits checked scene.resolved.now f (given_in given) e here (all_fit (a_standard writes) (f ∷ []) refl declared checked slots targets sees fits) in
       let has_value_one = hn checked slots targets sees (valued checked (in_labels scene.resolved.now (expression_of e)) one.1) in
-      (standard_calls_lower-holds checked slots targets x written_arguments (in_labels scene.resolved.now (expression_of e))).1 (number_of n) (called_as scene x written_arguments (Some (a_standard writes)) declared checked slots targets sees fits) (given_listed scene.resolved.now given ∙ one.0) has_value_one
+      writes-mean checked slots targets x written_arguments (in_labels scene.resolved.now (expression_of e)) (number_of n) (called_as scene x written_arguments (Some (a_standard writes)) declared checked slots targets sees fits) (given_listed scene.resolved.now given ∙ one.0) has_value_one
 
   pub line_written : object_at scene.types.now x ≡ Some (a_standard writes_line) → StatementLowers scene lowered.writes_line (calls x written_arguments)
   line_written declared checked slots targets sees fits =
       let listed = no_argument_fits checked (all_in_labels scene.resolved.now (given_in given)) (all_fit (a_standard writes_line) [] refl declared checked slots targets sees fits) in
-      (standard_calls_lower-holds checked slots targets x written_arguments (compares (sum None (product (integer 0) end) end) none)).2 (called_as scene x written_arguments (Some (a_standard writes_line)) declared checked slots targets sees fits) (given_listed scene.resolved.now given ∙ listed)
+      line-means checked slots targets x written_arguments (called_as scene x written_arguments (Some (a_standard writes_line)) declared checked slots targets sees fits) (given_listed scene.resolved.now given ∙ listed)
 
   pub nothing_read : (c : lowered.Instruction) → slice_get (given_in given) 0 ≡ None → object_at scene.types.now x ≡ Some (a_standard reads) → StatementLowers scene c (calls x written_arguments)
   nothing_read c here declared checked slots targets sees fits =
@@ -185,9 +186,8 @@ arguments_go_on {scene = scene} {fs = fs} {es = es} {n = n} {made = made} f e a 
 over : (scene : Scene) (fs : List formal.Formal) (es : List Expression) → min (length fs) (length es) ≡ 0 → ArgumentsLower scene (signature_in scene fs) [] (all_in_labels scene.resolved.now es)
 unfolding arguments_fit
 over scene [] [] h checked slots targets sees fits = tt
-over scene [] (e ∷ es) h checked slots targets sees fits = absurd (cc)
-over scene (f ∷ fs) [] h checked slots targets sees fits = absurd (cc)
 over scene (f ∷ fs) (e ∷ es) h checked slots targets sees fits = absurd (omega (arith, h))
+over scene _ _ h checked slots targets sees fits = absurd (cc)
 
 pub arguments_end : {scene : Scene} {fs : List formal.Formal} {es : List Expression} {n : ℕ} {made : List argument.Argument} → ArgumentsMade scene fs es n made → n ≡ min (length fs) (length es)
     → ArgumentsLower scene (signature_in scene fs) (map argument_of made) (all_in_labels scene.resolved.now es)

@@ -17,8 +17,10 @@ use Rattle.ob0_language_values.specs.Values.{Outcome, Shape, Value, array_shape,
 use Rattle.ob0_run_machine.specs.Lowered as lowered
 use Rattle.ob0_run_cells.specs.Cells.{size}
 use Rattle.ob0_run_cells.specs.Lowering.{Evaluated, Leads, NumberLeads, NumberMeans, RestOfChain, Slot, TruthLeads, TruthMeans, ValueAt, addends_left, multipliers_left, value_of_expression, value_of_factor, value_of_simple, value_of_term}
-use Rattle.ob0_run_cells.proofs.Lowered.{addends_lower-holds, conjunctions_lower-holds, disjunctions_lower-holds, negations_lower-holds, operators_end-holds, products_lower-holds, relations_lower-holds, sums_lower-holds, terms_lower-holds}
-use Rattle.ob0_run_lowering.specs.Codes.{ExpressionCode, CodeMeans, a_block, a_number, a_truth, added, multiplied, negated, no_code, related, signed}
+use Rattle.ob0_run_cells.proofs.LoweredNumbers as numbers
+use Rattle.ob0_run_cells.proofs.LoweredOutcomes.{difference-operates, product-operates, quotient-operates, remainder-operates, sum-operates}
+use Rattle.ob0_run_cells.proofs.LoweredTruths as truths
+use Rattle.ob0_run_lowering.specs.Codes.{ExpressionCode, CodeMeans, a_block, a_number, a_truth, added, multiplied, negated, related, signed}
 
 pub some_inj : {A : Type 0} {x y : A} → Some x ≡ Some y → x ≡ y
 some_inj e = cc
@@ -39,27 +41,19 @@ module _ (checked : Typed Label) (slots : Label → Slot) where
   -- the code of an INTEGER is a number, that of a BOOLEAN a truth
   pub number-code : (c : ExpressionCode) (value : Evaluated Label Value) → CodeMeans checked slots c integer_shape value → (n : lowered.Number) × (c ≡ a_number n) × NumberMeans checked slots n value
   number-code (a_number n) value h = (n, refl, h)
-  number-code (a_truth t) value h = absurd h
-  number-code (a_block q n) value h = absurd h
-  number-code no_code value h = absurd h
+  number-code _ value h = absurd h
 
   pub truth-code : (c : ExpressionCode) (value : Evaluated Label Value) → CodeMeans checked slots c boolean_shape value → (t : lowered.Truth) × (c ≡ a_truth t) × TruthMeans checked slots t value
-  truth-code (a_number n) value h = absurd h
   truth-code (a_truth t) value h = (t, refl, h)
-  truth-code (a_block q n) value h = absurd h
-  truth-code no_code value h = absurd h
+  truth-code _ value h = absurd h
 
   pub number-leads : (c : ExpressionCode) (rest : RestOfChain Label Value) (whole : Evaluated Label Value) → CodeLeads checked slots c integer_shape rest whole → (n : lowered.Number) × (c ≡ a_number n) × NumberLeads checked slots n rest whole
   number-leads (a_number n) rest whole h = (n, refl, h)
-  number-leads (a_truth t) rest whole h = absurd h
-  number-leads (a_block q n) rest whole h = absurd h
-  number-leads no_code rest whole h = absurd h
+  number-leads _ rest whole h = absurd h
 
   pub truth-leads : (c : ExpressionCode) (rest : RestOfChain Label Value) (whole : Evaluated Label Value) → CodeLeads checked slots c boolean_shape rest whole → (t : lowered.Truth) × (c ≡ a_truth t) × TruthLeads checked slots t rest whole
-  truth-leads (a_number n) rest whole h = absurd h
   truth-leads (a_truth t) rest whole h = (t, refl, h)
-  truth-leads (a_block q n) rest whole h = absurd h
-  truth-leads no_code rest whole h = absurd h
+  truth-leads _ rest whole h = absurd h
 
   module _ (e : Tree Label term) (rest : Tree Label (items addend)) (whole : Evaluated Label Value) where
     abbrev AddedLeads : AddOperator → ExpressionCode → ExpressionCode → Shape → Type 0
@@ -73,30 +67,13 @@ module _ (checked : Typed Label) (slots : Label → Slot) where
         two-codes (AddedLeads o) em en h (step m n hn hm)
 
     pub added-leads : (o : AddOperator) (c d : ExpressionCode) (x y z : Shape) → add_type o x y ≡ Some z → CodeLeads checked slots c x (addends_left (more (adds o e) rest)) whole → CodeMeans checked slots d y (value_of_term e) → AddedLeads o c d z
-    added-leads add_operator.Add c d integer_shape integer_shape z h hc hd = numbers-added add_operator.Add c d z (λ m n hn hm. (addends_lower-holds checked slots m n e rest whole hn).0 hm) h hc hd
-    added-leads add_operator.Add c d integer_shape boolean_shape z h hc hd = absurd (cc)
-    added-leads add_operator.Add c d integer_shape (array_shape k n s) z h hc hd = absurd (cc)
-    added-leads add_operator.Add c d integer_shape (record_shape k fs) z h hc hd = absurd (cc)
-    added-leads add_operator.Add c d boolean_shape y z h hc hd = absurd (cc)
-    added-leads add_operator.Add c d (array_shape k n s) y z h hc hd = absurd (cc)
-    added-leads add_operator.Add c d (record_shape k fs) y z h hc hd = absurd (cc)
-    added-leads add_operator.Subtract c d integer_shape integer_shape z h hc hd = numbers-added add_operator.Subtract c d z (λ m n hn hm. (addends_lower-holds checked slots m n e rest whole hn).1 hm) h hc hd
-    added-leads add_operator.Subtract c d integer_shape boolean_shape z h hc hd = absurd (cc)
-    added-leads add_operator.Subtract c d integer_shape (array_shape k n s) z h hc hd = absurd (cc)
-    added-leads add_operator.Subtract c d integer_shape (record_shape k fs) z h hc hd = absurd (cc)
-    added-leads add_operator.Subtract c d boolean_shape y z h hc hd = absurd (cc)
-    added-leads add_operator.Subtract c d (array_shape k n s) y z h hc hd = absurd (cc)
-    added-leads add_operator.Subtract c d (record_shape k fs) y z h hc hd = absurd (cc)
+    added-leads add_operator.Add c d integer_shape integer_shape z h hc hd = numbers-added add_operator.Add c d z (λ m n hn hm. numbers.addend-leads checked slots add_operator.Add lowered.sum sum-operates (λ x. refl) m n e rest whole hn hm) h hc hd
+    added-leads add_operator.Subtract c d integer_shape integer_shape z h hc hd = numbers-added add_operator.Subtract c d z (λ m n hn hm. numbers.addend-leads checked slots add_operator.Subtract lowered.difference difference-operates (λ x. refl) m n e rest whole hn hm) h hc hd
     added-leads add_operator.Or c d boolean_shape boolean_shape z h hc hd =
         let (t, et, ht) = truth-leads c (addends_left (more (adds add_operator.Or e) rest)) whole hc in
         let (u, eu, hu) = truth-code d (value_of_term e) hd in
-        two-codes (AddedLeads add_operator.Or) et eu h (disjunctions_lower-holds checked slots t u e rest whole hu ht)
-    added-leads add_operator.Or c d boolean_shape integer_shape z h hc hd = absurd (cc)
-    added-leads add_operator.Or c d boolean_shape (array_shape k n s) z h hc hd = absurd (cc)
-    added-leads add_operator.Or c d boolean_shape (record_shape k fs) z h hc hd = absurd (cc)
-    added-leads add_operator.Or c d integer_shape y z h hc hd = absurd (cc)
-    added-leads add_operator.Or c d (array_shape k n s) y z h hc hd = absurd (cc)
-    added-leads add_operator.Or c d (record_shape k fs) y z h hc hd = absurd (cc)
+        two-codes (AddedLeads add_operator.Or) et eu h (truths.either-leads checked slots t u e rest whole hu ht)
+    added-leads _ c d _ _ z h hc hd = absurd (cc)
 
   module _ (f : Tree Label factor) (rest : Tree Label (items multiplier)) (whole : Evaluated Label Value) where
     abbrev MultipliedLeads : MultiplyOperator → ExpressionCode → ExpressionCode → Shape → Type 0
@@ -110,37 +87,14 @@ module _ (checked : Typed Label) (slots : Label → Slot) where
         two-codes (MultipliedLeads o) em en h (step m n hn hm)
 
     pub multiplied-leads : (o : MultiplyOperator) (c d : ExpressionCode) (x y z : Shape) → multiply_type o x y ≡ Some z → CodeLeads checked slots c x (multipliers_left (more (multiplies o f) rest)) whole → CodeMeans checked slots d y (value_of_factor f) → MultipliedLeads o c d z
-    multiplied-leads multiply_operator.Multiply c d integer_shape integer_shape z h hc hd = numbers-multiplied multiply_operator.Multiply c d z (λ m n hn hm. (products_lower-holds checked slots m n f rest whole hn).0 hm) h hc hd
-    multiplied-leads multiply_operator.Multiply c d integer_shape boolean_shape z h hc hd = absurd (cc)
-    multiplied-leads multiply_operator.Multiply c d integer_shape (array_shape k n s) z h hc hd = absurd (cc)
-    multiplied-leads multiply_operator.Multiply c d integer_shape (record_shape k fs) z h hc hd = absurd (cc)
-    multiplied-leads multiply_operator.Multiply c d boolean_shape y z h hc hd = absurd (cc)
-    multiplied-leads multiply_operator.Multiply c d (array_shape k n s) y z h hc hd = absurd (cc)
-    multiplied-leads multiply_operator.Multiply c d (record_shape k fs) y z h hc hd = absurd (cc)
-    multiplied-leads multiply_operator.Divide c d integer_shape integer_shape z h hc hd = numbers-multiplied multiply_operator.Divide c d z (λ m n hn hm. (products_lower-holds checked slots m n f rest whole hn).1 hm) h hc hd
-    multiplied-leads multiply_operator.Divide c d integer_shape boolean_shape z h hc hd = absurd (cc)
-    multiplied-leads multiply_operator.Divide c d integer_shape (array_shape k n s) z h hc hd = absurd (cc)
-    multiplied-leads multiply_operator.Divide c d integer_shape (record_shape k fs) z h hc hd = absurd (cc)
-    multiplied-leads multiply_operator.Divide c d boolean_shape y z h hc hd = absurd (cc)
-    multiplied-leads multiply_operator.Divide c d (array_shape k n s) y z h hc hd = absurd (cc)
-    multiplied-leads multiply_operator.Divide c d (record_shape k fs) y z h hc hd = absurd (cc)
-    multiplied-leads multiply_operator.Modulo c d integer_shape integer_shape z h hc hd = numbers-multiplied multiply_operator.Modulo c d z (λ m n hn hm. (products_lower-holds checked slots m n f rest whole hn).2 hm) h hc hd
-    multiplied-leads multiply_operator.Modulo c d integer_shape boolean_shape z h hc hd = absurd (cc)
-    multiplied-leads multiply_operator.Modulo c d integer_shape (array_shape k n s) z h hc hd = absurd (cc)
-    multiplied-leads multiply_operator.Modulo c d integer_shape (record_shape k fs) z h hc hd = absurd (cc)
-    multiplied-leads multiply_operator.Modulo c d boolean_shape y z h hc hd = absurd (cc)
-    multiplied-leads multiply_operator.Modulo c d (array_shape k n s) y z h hc hd = absurd (cc)
-    multiplied-leads multiply_operator.Modulo c d (record_shape k fs) y z h hc hd = absurd (cc)
+    multiplied-leads multiply_operator.Multiply c d integer_shape integer_shape z h hc hd = numbers-multiplied multiply_operator.Multiply c d z (λ m n hn hm. numbers.multiplier-leads checked slots multiply_operator.Multiply lowered.product product-operates (λ x. refl) m n f rest whole hn hm) h hc hd
+    multiplied-leads multiply_operator.Divide c d integer_shape integer_shape z h hc hd = numbers-multiplied multiply_operator.Divide c d z (λ m n hn hm. numbers.multiplier-leads checked slots multiply_operator.Divide lowered.quotient quotient-operates (λ x. refl) m n f rest whole hn hm) h hc hd
+    multiplied-leads multiply_operator.Modulo c d integer_shape integer_shape z h hc hd = numbers-multiplied multiply_operator.Modulo c d z (λ m n hn hm. numbers.multiplier-leads checked slots multiply_operator.Modulo lowered.remainder remainder-operates (λ x. refl) m n f rest whole hn hm) h hc hd
     multiplied-leads multiply_operator.And c d boolean_shape boolean_shape z h hc hd =
         let (t, et, ht) = truth-leads c (multipliers_left (more (multiplies multiply_operator.And f) rest)) whole hc in
         let (u, eu, hu) = truth-code d (value_of_factor f) hd in
-        two-codes (MultipliedLeads multiply_operator.And) et eu h (conjunctions_lower-holds checked slots t u f rest whole hu ht)
-    multiplied-leads multiply_operator.And c d boolean_shape integer_shape z h hc hd = absurd (cc)
-    multiplied-leads multiply_operator.And c d boolean_shape (array_shape k n s) z h hc hd = absurd (cc)
-    multiplied-leads multiply_operator.And c d boolean_shape (record_shape k fs) z h hc hd = absurd (cc)
-    multiplied-leads multiply_operator.And c d integer_shape y z h hc hd = absurd (cc)
-    multiplied-leads multiply_operator.And c d (array_shape k n s) y z h hc hd = absurd (cc)
-    multiplied-leads multiply_operator.And c d (record_shape k fs) y z h hc hd = absurd (cc)
+        two-codes (MultipliedLeads multiply_operator.And) et eu h (truths.both-leads checked slots t u f rest whole hu ht)
+    multiplied-leads _ c d _ _ z h hc hd = absurd (cc)
 
   -- a chain begins with its first operand
 
@@ -149,38 +103,22 @@ module _ (checked : Typed Label) (slots : Label → Slot) where
   value-begins q s f rest h = (value_of_factor f, h, λ z shown. refl)
 
   pub term-begins : (c : ExpressionCode) (x : Shape) (f : Tree Label factor) (rest : Tree Label (items multiplier)) → CodeMeans checked slots c x (value_of_factor f) → CodeLeads checked slots c x (multipliers_left rest) (value_of_term (product f rest))
-  term-begins (a_number n) integer_shape f rest h = (terms_lower-holds checked slots f rest).0 n h
-  term-begins (a_truth t) boolean_shape f rest h = (terms_lower-holds checked slots f rest).1 t h
+  term-begins (a_number n) integer_shape f rest h = numbers.product-begins checked slots f rest n h
+  term-begins (a_truth t) boolean_shape f rest h = truths.product-begins checked slots f rest t h
   term-begins (a_block q n) (array_shape k m s) f rest h = (h.0, value-begins q (array_shape k m s) f rest h.1)
   term-begins (a_block q n) (record_shape k fs) f rest h = (h.0, value-begins q (record_shape k fs) f rest h.1)
-  term-begins (a_number n) boolean_shape f rest h = absurd h
-  term-begins (a_number n) (array_shape k m s) f rest h = absurd h
-  term-begins (a_number n) (record_shape k fs) f rest h = absurd h
-  term-begins (a_truth t) integer_shape f rest h = absurd h
-  term-begins (a_truth t) (array_shape k m s) f rest h = absurd h
-  term-begins (a_truth t) (record_shape k fs) f rest h = absurd h
-  term-begins (a_block q n) integer_shape f rest h = absurd h
-  term-begins (a_block q n) boolean_shape f rest h = absurd h
-  term-begins no_code x f rest h = absurd h
+  term-begins _ _ f rest h = absurd h
 
   value-signed : (q : lowered.Place) (s : Shape) (e : Tree Label term) (rest : Tree Label (items addend)) → ValueAt checked slots q s (value_of_term e) → Leads checked slots (ValueAt checked slots q s) (addends_left rest) (value_of_simple (sum None e rest))
   unfolding evaluate
   value-signed q s e rest h = (value_of_term e, h, λ z shown. refl)
 
   unsigned-begins : (c : ExpressionCode) (x : Shape) (e : Tree Label term) (rest : Tree Label (items addend)) → CodeMeans checked slots c x (value_of_term e) → CodeLeads checked slots c x (addends_left rest) (value_of_simple (sum None e rest))
-  unsigned-begins (a_number n) integer_shape e rest h = ((sums_lower-holds checked slots e rest).0 n h).0
-  unsigned-begins (a_truth t) boolean_shape e rest h = (sums_lower-holds checked slots e rest).1 t h
+  unsigned-begins (a_number n) integer_shape e rest h = numbers.sum-begins checked slots e rest n h
+  unsigned-begins (a_truth t) boolean_shape e rest h = truths.sum-begins checked slots e rest t h
   unsigned-begins (a_block q n) (array_shape k m s) e rest h = (h.0, value-signed q (array_shape k m s) e rest h.1)
   unsigned-begins (a_block q n) (record_shape k fs) e rest h = (h.0, value-signed q (record_shape k fs) e rest h.1)
-  unsigned-begins (a_number n) boolean_shape e rest h = absurd h
-  unsigned-begins (a_number n) (array_shape k m s) e rest h = absurd h
-  unsigned-begins (a_number n) (record_shape k fs) e rest h = absurd h
-  unsigned-begins (a_truth t) integer_shape e rest h = absurd h
-  unsigned-begins (a_truth t) (array_shape k m s) e rest h = absurd h
-  unsigned-begins (a_truth t) (record_shape k fs) e rest h = absurd h
-  unsigned-begins (a_block q n) integer_shape e rest h = absurd h
-  unsigned-begins (a_block q n) boolean_shape e rest h = absurd h
-  unsigned-begins no_code x e rest h = absurd h
+  unsigned-begins _ _ e rest h = absurd h
 
   module _ (e : Tree Label term) (rest : Tree Label (items addend)) where
     abbrev SignedLeads : Option Sign → ExpressionCode → Shape → Type 0
@@ -191,14 +129,9 @@ module _ (checked : Typed Label) (slots : Label → Slot) where
 
     pub sum-begins : (g : Option Sign) (c : ExpressionCode) (x y : Shape) → sign_type g x ≡ Some y → CodeMeans checked slots c x (value_of_term e) → SignedLeads g c y
     sum-begins None c x y h hc = one-code None c c y x refl h (unsigned-begins c x e rest hc)
-    sum-begins (Some sign.Plus) c integer_shape y h hc = let (n, en, hn) = number-code c (value_of_term e) hc in one-code (Some sign.Plus) c (a_number n) y integer_shape en h ((sums_lower-holds checked slots e rest).0 n hn).1
-    sum-begins (Some sign.Plus) c boolean_shape y h hc = absurd (cc)
-    sum-begins (Some sign.Plus) c (array_shape k m s) y h hc = absurd (cc)
-    sum-begins (Some sign.Plus) c (record_shape k fs) y h hc = absurd (cc)
-    sum-begins (Some sign.Minus) c integer_shape y h hc = let (n, en, hn) = number-code c (value_of_term e) hc in one-code (Some sign.Minus) c (a_number n) y integer_shape en h ((sums_lower-holds checked slots e rest).0 n hn).2
-    sum-begins (Some sign.Minus) c boolean_shape y h hc = absurd (cc)
-    sum-begins (Some sign.Minus) c (array_shape k m s) y h hc = absurd (cc)
-    sum-begins (Some sign.Minus) c (record_shape k fs) y h hc = absurd (cc)
+    sum-begins (Some sign.Plus) c integer_shape y h hc = let (n, en, hn) = number-code c (value_of_term e) hc in one-code (Some sign.Plus) c (a_number n) y integer_shape en h (numbers.plus-begins checked slots e rest n hn)
+    sum-begins (Some sign.Minus) c integer_shape y h hc = let (n, en, hn) = number-code c (value_of_term e) hc in one-code (Some sign.Minus) c (a_number n) y integer_shape en h (numbers.minus-begins checked slots e rest n hn)
+    sum-begins _ c _ y h hc = absurd (cc)
 
   -- where nothing is left, what was found is the whole
 
@@ -211,34 +144,20 @@ module _ (checked : Typed Label) (slots : Label → Slot) where
       given-end (gives v) k h = h v
       given-end (ends x) k h = refl
 
-  pub leads-end : (c : ExpressionCode) (x : Shape) (rest : RestOfChain Label Value) (whole : Evaluated Label Value) → ((z : _) (v : Value) → rest z v ≡ gives v)
-      → ((n : lowered.Number) → NumberLeads checked slots n rest whole → NumberMeans checked slots n whole) → ((t : lowered.Truth) → TruthLeads checked slots t rest whole → TruthMeans checked slots t whole)
-      → CodeLeads checked slots c x rest whole → CodeMeans checked slots c x whole
-  leads-end (a_number n) integer_shape rest whole ends_here numbers truths h = numbers n h
-  leads-end (a_truth t) boolean_shape rest whole ends_here numbers truths h = truths t h
-  leads-end (a_block q n) (array_shape k m s) rest whole ends_here numbers truths h = (h.0, value-whole q (array_shape k m s) rest whole ends_here h.1)
-  leads-end (a_block q n) (record_shape k fs) rest whole ends_here numbers truths h = (h.0, value-whole q (record_shape k fs) rest whole ends_here h.1)
-  leads-end (a_number n) boolean_shape rest whole ends_here numbers truths h = absurd h
-  leads-end (a_number n) (array_shape k m s) rest whole ends_here numbers truths h = absurd h
-  leads-end (a_number n) (record_shape k fs) rest whole ends_here numbers truths h = absurd h
-  leads-end (a_truth t) integer_shape rest whole ends_here numbers truths h = absurd h
-  leads-end (a_truth t) (array_shape k m s) rest whole ends_here numbers truths h = absurd h
-  leads-end (a_truth t) (record_shape k fs) rest whole ends_here numbers truths h = absurd h
-  leads-end (a_block q n) integer_shape rest whole ends_here numbers truths h = absurd h
-  leads-end (a_block q n) boolean_shape rest whole ends_here numbers truths h = absurd h
-  leads-end no_code x rest whole ends_here numbers truths h = absurd h
+  pub leads-end : (c : ExpressionCode) (x : Shape) (rest : RestOfChain Label Value) (whole : Evaluated Label Value) → ((z : _) (v : Value) → rest z v ≡ gives v) → CodeLeads checked slots c x rest whole → CodeMeans checked slots c x whole
+  leads-end (a_number n) integer_shape rest whole ends_here h = numbers.number-whole checked slots n rest whole ends_here h
+  leads-end (a_truth t) boolean_shape rest whole ends_here h = truths.truth-whole checked slots t rest whole ends_here h
+  leads-end (a_block q n) (array_shape k m s) rest whole ends_here h = (h.0, value-whole q (array_shape k m s) rest whole ends_here h.1)
+  leads-end (a_block q n) (record_shape k fs) rest whole ends_here h = (h.0, value-whole q (record_shape k fs) rest whole ends_here h.1)
+  leads-end _ _ rest whole ends_here h = absurd h
 
   pub addends-end : (c : ExpressionCode) (x : Shape) (whole : Evaluated Label Value) → CodeLeads checked slots c x (addends_left end) whole → CodeMeans checked slots c x whole
   unfolding evaluate
-  addends-end c x whole h =
-      let ended = operators_end-holds checked slots whole in
-      leads-end c x (addends_left end) whole (λ z v. refl) (λ n. ended.number_sum n) (λ t. ended.truth_sum t) h
+  addends-end c x whole h = leads-end c x (addends_left end) whole (λ z v. refl) h
 
   pub multipliers-end : (c : ExpressionCode) (x : Shape) (whole : Evaluated Label Value) → CodeLeads checked slots c x (multipliers_left end) whole → CodeMeans checked slots c x whole
   unfolding evaluate
-  multipliers-end c x whole h =
-      let ended = operators_end-holds checked slots whole in
-      leads-end c x (multipliers_left end) whole (λ z v. refl) (λ n. ended.number_term n) (λ t. ended.truth_term t) h
+  multipliers-end c x whole h = leads-end c x (multipliers_left end) whole (λ z v. refl) h
 
   -- an expression without a relation is its sum, and what is in parentheses evaluates to the same
 
@@ -253,10 +172,8 @@ module _ (checked : Typed Label) (slots : Label → Slot) where
   pub negated-means : (f : Tree Label factor) (c : ExpressionCode) (x s : Shape) → complement_type x ≡ Some s → CodeMeans checked slots c x (value_of_factor f) → CodeMeans checked slots (negated c) s (value_of_factor (negation f))
   negated-means f c boolean_shape s h hc =
       let (t, et, ht) = truth-code c (value_of_factor f) hc in
-      subst (λ s. CodeMeans checked slots (negated c) s (value_of_factor (negation f))) (some_inj h) (subst (λ c. CodeMeans checked slots (negated c) boolean_shape (value_of_factor (negation f))) (sym et) (negations_lower-holds checked slots f t ht))
-  negated-means f c integer_shape s h hc = absurd (cc)
-  negated-means f c (array_shape k m t) s h hc = absurd (cc)
-  negated-means f c (record_shape k fs) s h hc = absurd (cc)
+      subst (λ s. CodeMeans checked slots (negated c) s (value_of_factor (negation f))) (some_inj h) (subst (λ c. CodeMeans checked slots (negated c) boolean_shape (value_of_factor (negation f))) (sym et) (truths.negation-means checked slots f t ht))
+  negated-means f c _ s h hc = absurd (cc)
 
   module _ (a b : Tree Label simple) where
     abbrev RelatedMeans : Relation → ExpressionCode → ExpressionCode → Shape → Type 0
@@ -273,94 +190,7 @@ module _ (checked : Typed Label) (slots : Label → Slot) where
     related-means r c d integer_shape integer_shape z h hc hd =
         let (m, em, hm) = number-code c (value_of_simple a) hc in
         let (n, en, hn) = number-code d (value_of_simple b) hd in
-        two-codes (RelatedMeans r) em en h ((relations_lower-holds checked slots a b).0 r m n hm hn)
-    related-means relation.Equal c d boolean_shape boolean_shape z h hc hd = truths-related relation.Equal c d z (λ t u ht hu. ((relations_lower-holds checked slots a b).1 t u ht hu).0) h hc hd
-    related-means relation.NotEqual c d boolean_shape boolean_shape z h hc hd = truths-related relation.NotEqual c d z (λ t u ht hu. ((relations_lower-holds checked slots a b).1 t u ht hu).1) h hc hd
-    related-means relation.Less c d boolean_shape boolean_shape z h hc hd = absurd (cc)
-    related-means relation.LessEqual c d boolean_shape boolean_shape z h hc hd = absurd (cc)
-    related-means relation.Greater c d boolean_shape boolean_shape z h hc hd = absurd (cc)
-    related-means relation.GreaterEqual c d boolean_shape boolean_shape z h hc hd = absurd (cc)
-    related-means relation.Equal c d integer_shape boolean_shape z h hc hd = absurd (cc)
-    related-means relation.NotEqual c d integer_shape boolean_shape z h hc hd = absurd (cc)
-    related-means relation.Less c d integer_shape boolean_shape z h hc hd = absurd (cc)
-    related-means relation.LessEqual c d integer_shape boolean_shape z h hc hd = absurd (cc)
-    related-means relation.Greater c d integer_shape boolean_shape z h hc hd = absurd (cc)
-    related-means relation.GreaterEqual c d integer_shape boolean_shape z h hc hd = absurd (cc)
-    related-means relation.Equal c d integer_shape (array_shape j l t) z h hc hd = absurd (cc)
-    related-means relation.NotEqual c d integer_shape (array_shape j l t) z h hc hd = absurd (cc)
-    related-means relation.Less c d integer_shape (array_shape j l t) z h hc hd = absurd (cc)
-    related-means relation.LessEqual c d integer_shape (array_shape j l t) z h hc hd = absurd (cc)
-    related-means relation.Greater c d integer_shape (array_shape j l t) z h hc hd = absurd (cc)
-    related-means relation.GreaterEqual c d integer_shape (array_shape j l t) z h hc hd = absurd (cc)
-    related-means relation.Equal c d integer_shape (record_shape j gs) z h hc hd = absurd (cc)
-    related-means relation.NotEqual c d integer_shape (record_shape j gs) z h hc hd = absurd (cc)
-    related-means relation.Less c d integer_shape (record_shape j gs) z h hc hd = absurd (cc)
-    related-means relation.LessEqual c d integer_shape (record_shape j gs) z h hc hd = absurd (cc)
-    related-means relation.Greater c d integer_shape (record_shape j gs) z h hc hd = absurd (cc)
-    related-means relation.GreaterEqual c d integer_shape (record_shape j gs) z h hc hd = absurd (cc)
-    related-means relation.Equal c d boolean_shape integer_shape z h hc hd = absurd (cc)
-    related-means relation.NotEqual c d boolean_shape integer_shape z h hc hd = absurd (cc)
-    related-means relation.Less c d boolean_shape integer_shape z h hc hd = absurd (cc)
-    related-means relation.LessEqual c d boolean_shape integer_shape z h hc hd = absurd (cc)
-    related-means relation.Greater c d boolean_shape integer_shape z h hc hd = absurd (cc)
-    related-means relation.GreaterEqual c d boolean_shape integer_shape z h hc hd = absurd (cc)
-    related-means relation.Equal c d boolean_shape (array_shape j l t) z h hc hd = absurd (cc)
-    related-means relation.NotEqual c d boolean_shape (array_shape j l t) z h hc hd = absurd (cc)
-    related-means relation.Less c d boolean_shape (array_shape j l t) z h hc hd = absurd (cc)
-    related-means relation.LessEqual c d boolean_shape (array_shape j l t) z h hc hd = absurd (cc)
-    related-means relation.Greater c d boolean_shape (array_shape j l t) z h hc hd = absurd (cc)
-    related-means relation.GreaterEqual c d boolean_shape (array_shape j l t) z h hc hd = absurd (cc)
-    related-means relation.Equal c d boolean_shape (record_shape j gs) z h hc hd = absurd (cc)
-    related-means relation.NotEqual c d boolean_shape (record_shape j gs) z h hc hd = absurd (cc)
-    related-means relation.Less c d boolean_shape (record_shape j gs) z h hc hd = absurd (cc)
-    related-means relation.LessEqual c d boolean_shape (record_shape j gs) z h hc hd = absurd (cc)
-    related-means relation.Greater c d boolean_shape (record_shape j gs) z h hc hd = absurd (cc)
-    related-means relation.GreaterEqual c d boolean_shape (record_shape j gs) z h hc hd = absurd (cc)
-    related-means relation.Equal c d (array_shape k m s) integer_shape z h hc hd = absurd (cc)
-    related-means relation.NotEqual c d (array_shape k m s) integer_shape z h hc hd = absurd (cc)
-    related-means relation.Less c d (array_shape k m s) integer_shape z h hc hd = absurd (cc)
-    related-means relation.LessEqual c d (array_shape k m s) integer_shape z h hc hd = absurd (cc)
-    related-means relation.Greater c d (array_shape k m s) integer_shape z h hc hd = absurd (cc)
-    related-means relation.GreaterEqual c d (array_shape k m s) integer_shape z h hc hd = absurd (cc)
-    related-means relation.Equal c d (array_shape k m s) boolean_shape z h hc hd = absurd (cc)
-    related-means relation.NotEqual c d (array_shape k m s) boolean_shape z h hc hd = absurd (cc)
-    related-means relation.Less c d (array_shape k m s) boolean_shape z h hc hd = absurd (cc)
-    related-means relation.LessEqual c d (array_shape k m s) boolean_shape z h hc hd = absurd (cc)
-    related-means relation.Greater c d (array_shape k m s) boolean_shape z h hc hd = absurd (cc)
-    related-means relation.GreaterEqual c d (array_shape k m s) boolean_shape z h hc hd = absurd (cc)
-    related-means relation.Equal c d (array_shape k m s) (array_shape j l t) z h hc hd = absurd (cc)
-    related-means relation.NotEqual c d (array_shape k m s) (array_shape j l t) z h hc hd = absurd (cc)
-    related-means relation.Less c d (array_shape k m s) (array_shape j l t) z h hc hd = absurd (cc)
-    related-means relation.LessEqual c d (array_shape k m s) (array_shape j l t) z h hc hd = absurd (cc)
-    related-means relation.Greater c d (array_shape k m s) (array_shape j l t) z h hc hd = absurd (cc)
-    related-means relation.GreaterEqual c d (array_shape k m s) (array_shape j l t) z h hc hd = absurd (cc)
-    related-means relation.Equal c d (array_shape k m s) (record_shape j gs) z h hc hd = absurd (cc)
-    related-means relation.NotEqual c d (array_shape k m s) (record_shape j gs) z h hc hd = absurd (cc)
-    related-means relation.Less c d (array_shape k m s) (record_shape j gs) z h hc hd = absurd (cc)
-    related-means relation.LessEqual c d (array_shape k m s) (record_shape j gs) z h hc hd = absurd (cc)
-    related-means relation.Greater c d (array_shape k m s) (record_shape j gs) z h hc hd = absurd (cc)
-    related-means relation.GreaterEqual c d (array_shape k m s) (record_shape j gs) z h hc hd = absurd (cc)
-    related-means relation.Equal c d (record_shape k fs) integer_shape z h hc hd = absurd (cc)
-    related-means relation.NotEqual c d (record_shape k fs) integer_shape z h hc hd = absurd (cc)
-    related-means relation.Less c d (record_shape k fs) integer_shape z h hc hd = absurd (cc)
-    related-means relation.LessEqual c d (record_shape k fs) integer_shape z h hc hd = absurd (cc)
-    related-means relation.Greater c d (record_shape k fs) integer_shape z h hc hd = absurd (cc)
-    related-means relation.GreaterEqual c d (record_shape k fs) integer_shape z h hc hd = absurd (cc)
-    related-means relation.Equal c d (record_shape k fs) boolean_shape z h hc hd = absurd (cc)
-    related-means relation.NotEqual c d (record_shape k fs) boolean_shape z h hc hd = absurd (cc)
-    related-means relation.Less c d (record_shape k fs) boolean_shape z h hc hd = absurd (cc)
-    related-means relation.LessEqual c d (record_shape k fs) boolean_shape z h hc hd = absurd (cc)
-    related-means relation.Greater c d (record_shape k fs) boolean_shape z h hc hd = absurd (cc)
-    related-means relation.GreaterEqual c d (record_shape k fs) boolean_shape z h hc hd = absurd (cc)
-    related-means relation.Equal c d (record_shape k fs) (array_shape j l t) z h hc hd = absurd (cc)
-    related-means relation.NotEqual c d (record_shape k fs) (array_shape j l t) z h hc hd = absurd (cc)
-    related-means relation.Less c d (record_shape k fs) (array_shape j l t) z h hc hd = absurd (cc)
-    related-means relation.LessEqual c d (record_shape k fs) (array_shape j l t) z h hc hd = absurd (cc)
-    related-means relation.Greater c d (record_shape k fs) (array_shape j l t) z h hc hd = absurd (cc)
-    related-means relation.GreaterEqual c d (record_shape k fs) (array_shape j l t) z h hc hd = absurd (cc)
-    related-means relation.Equal c d (record_shape k fs) (record_shape j gs) z h hc hd = absurd (cc)
-    related-means relation.NotEqual c d (record_shape k fs) (record_shape j gs) z h hc hd = absurd (cc)
-    related-means relation.Less c d (record_shape k fs) (record_shape j gs) z h hc hd = absurd (cc)
-    related-means relation.LessEqual c d (record_shape k fs) (record_shape j gs) z h hc hd = absurd (cc)
-    related-means relation.Greater c d (record_shape k fs) (record_shape j gs) z h hc hd = absurd (cc)
-    related-means relation.GreaterEqual c d (record_shape k fs) (record_shape j gs) z h hc hd = absurd (cc)
+        two-codes (RelatedMeans r) em en h (truths.related-means checked slots a b r m n hm hn)
+    related-means relation.Equal c d boolean_shape boolean_shape z h hc hd = truths-related relation.Equal c d z (truths.same-means checked slots a b) h hc hd
+    related-means relation.NotEqual c d boolean_shape boolean_shape z h hc hd = truths-related relation.NotEqual c d z (truths.different-means checked slots a b) h hc hd
+    related-means _ c d _ _ z h hc hd = absurd (cc)

@@ -15,7 +15,7 @@ use Rattle.ob0_run_machine.specs.declared.code.Truth.{Truth}
 use Rattle.ob0_run_machine.specs.Lowered as lowered
 use Rattle.ob0_run_machine.specs.View.{truth_of}
 use Rattle.ob0_run_cells.specs.Activations.{slots_in, targets_in}
-use Rattle.ob0_run_cells.proofs.StatementsLowered.{branches_lower-holds, elses_lower-holds, loops_lower-holds, sequences_end-holds, sequences_lower-holds}
+use Rattle.ob0_run_cells.proofs.LoweredControl as control
 use Rattle.ob0_run_lowering.specs.Means.{LowersTruth}
 use Rattle.ob0_run_lowering.specs.declared.scene.Scene.{Scene}
 use Rattle.ob0_run_lowering.specs.LoweredBodies.{BodyLowers, ConditionLowers, ElseLowers, ElsifsLower, FurtherLower, SequenceLowers, StatementLowers}
@@ -23,21 +23,21 @@ use Rattle.ob0_run_lowering.specs.LoweredBodies.{BodyLowers, ConditionLowers, El
 module _ (scene : Scene) where
   -- sequences, from the beginning
   pub none-left : FurtherLower scene lowered.no_statement end
-  none-left checked slots targets sees fits = sequences_end-holds checked slots targets
+  none-left checked slots targets sees fits = control.sequence-ends checked slots targets
 
   pub one-more : (a : Tree Label statement) (c : lowered.Instruction) (rest : Tree Label (items further_statement)) (cs : lowered.Instructions) → StatementLowers scene c a → FurtherLower scene cs rest → FurtherLower scene (lowered.before c cs) (more (then_statement a) rest)
   unfolding statement_fits
   one-more a c rest cs hc hr checked slots targets sees fits =
       let both = both_true (statement_fits checked a) (statements_fit checked rest) fits in
-      ((sequences_lower-holds checked slots targets rest cs (hr checked slots targets sees both.1)).0 a c (hc checked slots targets sees both.0)).1
+      control.further-means checked slots targets a c rest cs (hc checked slots targets sees both.0) (hr checked slots targets sees both.1)
 
   pub empty-more : (rest : Tree Label (items further_statement)) (cs : lowered.Instructions) → FurtherLower scene cs rest → FurtherLower scene cs (more (then_statement empty) rest)
   unfolding statement_fits
-  empty-more rest cs hr checked slots targets sees fits = (sequences_lower-holds checked slots targets rest cs (hr checked slots targets sees fits)).2
+  empty-more rest cs hr checked slots targets sees fits = control.further-empty checked slots targets rest cs (hr checked slots targets sees fits)
 
   pub empty-alone : (cs : lowered.Instructions) → FurtherLower scene cs end → SequenceLowers scene cs (runs empty end)
   unfolding statement_fits
-  empty-alone cs hr checked slots targets sees fits = (sequences_lower-holds checked slots targets end cs (hr checked slots targets sees fits)).1
+  empty-alone cs hr checked slots targets sees fits = control.first-empty checked slots targets end cs (hr checked slots targets sees fits)
 
   pub from-first : (a : Tree Label statement) (rest : Tree Label (items further_statement)) (cs : lowered.Instructions) → FurtherLower scene cs (more (then_statement a) rest) → SequenceLowers scene cs (runs a rest)
   unfolding statement_fits execute
@@ -54,13 +54,13 @@ module _ (scene : Scene) where
   unfolding statement_fits
   while-lowers e a t body ht ha checked slots targets sees fits =
       let both = both_true (condition_fits checked e) (sequence_fits checked a) fits in
-      (loops_lower-holds checked slots targets e a t body (ht checked slots targets sees both.0) (ha checked slots targets sees both.1)).0
+      control.while-means checked slots targets e a t body (ht checked slots targets sees both.0) (ha checked slots targets sees both.1)
 
   pub repeat-lowers : (e : Tree Label expression) (a : Tree Label sequence) (t : lowered.Truth) (body : lowered.Instructions) → ConditionLowers scene t e → SequenceLowers scene body a → StatementLowers scene (lowered.repeat_loop body t) (repeat_loop a e)
   unfolding statement_fits
   repeat-lowers e a t body ht ha checked slots targets sees fits =
       let both = both_true (sequence_fits checked a) (condition_fits checked e) fits in
-      (loops_lower-holds checked slots targets e a t body (ht checked slots targets sees both.1) (ha checked slots targets sees both.0)).1
+      control.repeat-means checked slots targets e a t body (ht checked slots targets sees both.1) (ha checked slots targets sees both.0)
 
   -- branches
   pub branches-lower : (e : Tree Label expression) (a : Tree Label sequence) (rest : Tree Label (items elsif_part)) (last : Tree Label (maybe else_part)) (t : lowered.Truth) (body : lowered.Instructions) (bs : lowered.Branches) (otherwise : lowered.Instructions)
@@ -69,7 +69,7 @@ module _ (scene : Scene) where
   branches-lower e a rest last t body bs otherwise ht ha hr checked slots targets sees fits =
       let first = both_true (condition_fits checked e) (sequence_fits checked a && (elsifs_fit checked rest && else_fits checked last)) fits in
       let second = both_true (sequence_fits checked a) (elsifs_fit checked rest && else_fits checked last) first.1 in
-      (branches_lower-holds checked slots targets e a rest last t body bs otherwise (ht checked slots targets sees first.0) (ha checked slots targets sees second.0) (hr checked slots targets sees second.1)).0
+      control.branches-mean checked slots targets e a rest last t body bs otherwise (ht checked slots targets sees first.0) (ha checked slots targets sees second.0) (hr checked slots targets sees second.1)
 
   and-joins : (p q r s : _) → ((p && (q && r)) && s) ≡ true → (p ≡ true) × (q ≡ true) × ((r && s) ≡ true)
   and-joins p q r s h =
@@ -83,18 +83,18 @@ module _ (scene : Scene) where
   unfolding statement_fits
   elsif-lowers e a rest last t body bs otherwise ht ha hr checked slots targets sees fits =
       let parts = and-joins (condition_fits checked e) (sequence_fits checked a) (elsifs_fit checked rest) (else_fits checked last) fits in
-      (branches_lower-holds checked slots targets e a rest last t body bs otherwise (ht checked slots targets sees parts.0) (ha checked slots targets sees parts.1) (hr checked slots targets sees parts.2)).1
+      control.elsif-means checked slots targets e a rest last t body bs otherwise (ht checked slots targets sees parts.0) (ha checked slots targets sees parts.1) (hr checked slots targets sees parts.2)
 
   pub no-elsif : (last : Tree Label (maybe else_part)) (cs : lowered.Instructions) → ElseLowers scene cs last → ElsifsLower scene lowered.no_branch cs end last
   unfolding statement_fits
-  no-elsif last cs h checked slots targets sees fits = (elses_lower-holds checked slots targets).0 last cs (h checked slots targets sees fits)
+  no-elsif last cs h checked slots targets sees fits = control.no-elsif checked slots targets last cs (h checked slots targets sees fits)
 
   pub else-lowers : (a : Tree Label sequence) (cs : lowered.Instructions) → SequenceLowers scene cs a → ElseLowers scene cs (one (else_branch a))
   unfolding statement_fits
-  else-lowers a cs h checked slots targets sees fits = (elses_lower-holds checked slots targets).1 a cs (h checked slots targets sees fits)
+  else-lowers a cs h checked slots targets sees fits = control.else-means checked slots targets a cs (h checked slots targets sees fits)
 
   pub no-else : ElseLowers scene lowered.no_statement none
-  no-else checked slots targets sees fits = (elses_lower-holds checked slots targets).2
+  no-else checked slots targets sees fits = control.no-else checked slots targets
 
   -- bodies
   pub no-body : (cs : lowered.Instructions) → cs ≡ lowered.no_statement → BodyLowers scene cs none

@@ -42,8 +42,7 @@ pub array_size-at : (shapes : List Shape) (layouts : List Layout) (i : ℕ) → 
 array_size-at [] [] i h = refl
 array_size-at (s ∷ shapes) (l ∷ layouts) zero h = array-entry s l h.0
 array_size-at (s ∷ shapes) (l ∷ layouts) (suc i) h = array_size-at shapes layouts i h.1
-array_size-at [] (l ∷ layouts) i h = absurd h
-array_size-at (s ∷ shapes) [] i h = absurd h
+array_size-at _ _ i h = absurd h
 
 -- the record of an entry
 abbrev pub HasRecord : Option Layout → Shape → Type 0
@@ -72,26 +71,22 @@ record-there (s ∷ shapes) [] i h = absurd h
 pub one_more : (shapes : List Shape) (layouts : List Layout) (s : Shape) (l : Layout) → LayOut shapes layouts → HasLayout s l → LayOut (shapes ++ s ∷ []) (layouts ++ l ∷ [])
 one_more [] [] s l h more = (more, tt)
 one_more (t ∷ shapes) (m ∷ layouts) s l h more = (h.0, one_more shapes layouts s l h.1 more)
-one_more [] (m ∷ layouts) s l h more = absurd h
-one_more (t ∷ shapes) [] s l h more = absurd h
+one_more _ _ s l h more = absurd h
 
 -- where a field begins
 
 further-listed : (b : Bool) (n k : ℕ) (o : Option ℕ) (f : ℕ) (xs : List ℕ) → ((i : ℕ) → o ≡ Some i → slice_index_or xs i 0 ≡ (n + k) + f) → (i : ℕ) → (if b then Some 0 else option_map suc o) ≡ Some i → slice_index_or (n ∷ xs) i 0 ≡ n + (if b then 0 else k + f)
 further-listed true n k o f xs later zero h = omega arith
-further-listed true n k o f xs later (suc i) h = absurd (cc)
-further-listed false n k None f xs later i h = absurd (cc)
-further-listed false n k (Some j) f xs later zero h = absurd (cc)
 further-listed false n k (Some j) f xs later (suc i) h = let e : Some j ≡ Some i = cc in omega (arith, later i e)
+further-listed _ n k _ f xs later _ h = absurd (cc)
 
 pub offset-listed : (fs : FieldShapes) (n : ℕ) (x : Name) (i : ℕ) → place_of_field fs x ≡ Some i → slice_index_or (offsets_from n fs) i 0 ≡ n + field_offset fs x
 offset-listed no_field_shape n x i h = absurd (cc)
 offset-listed (next_field_shape y s rest) n x i h = further-listed (same_name x y) n (size s) (place_of_field rest x) (field_offset rest x) (offsets_from (n + size s) rest) (λ i h. offset-listed rest (n + size s) x i h) i h
 
 further-past : (b : Bool) (k : ℕ) (o : Option ℕ) (f g : ℕ) → (o ≡ None → f ≡ g) → (if b then Some 0 else option_map suc o) ≡ None → (if b then 0 else k + f) ≡ k + g
-further-past true k o f g later h = absurd (cc)
 further-past false k None f g later h = ap (λ n. k + n) (later refl)
-further-past false k (Some j) f g later h = absurd (cc)
+further-past _ k _ f g later h = absurd (cc)
 
 pub offset-past : (fs : FieldShapes) (x : Name) → place_of_field fs x ≡ None → field_offset fs x ≡ field_sizes fs
 offset-past no_field_shape x h = refl

@@ -148,15 +148,7 @@ value-means checked slots f e (array_shape k m s) (code.Block q n) mode shape h 
 value-means checked slots f e (record_shape k fs) (code.Block q n) mode shape h a same =
     let there : (n ≡ size f.shape) × ValueAt checked slots (place_of q) f.shape (value_of_expression e) = subst (λ z. (n ≡ size z) × ValueAt checked slots (place_of q) z (value_of_expression e)) (sym shape) h in
     subst (λ a. ArgumentMeans checked slots f (argument_of a) e) same (mode, there.0, there.1)
-value-means checked slots f e boolean_shape (code.Number n) mode shape h a same = absurd h
-value-means checked slots f e (array_shape k m s) (code.Number n) mode shape h a same = absurd h
-value-means checked slots f e (record_shape k fs) (code.Number n) mode shape h a same = absurd h
-value-means checked slots f e integer_shape (code.Truth t) mode shape h a same = absurd h
-value-means checked slots f e (array_shape k m s) (code.Truth t) mode shape h a same = absurd h
-value-means checked slots f e (record_shape k fs) (code.Truth t) mode shape h a same = absurd h
-value-means checked slots f e integer_shape (code.Block q n) mode shape h a same = absurd h
-value-means checked slots f e boolean_shape (code.Block q n) mode shape h a same = absurd h
-value-means checked slots f e s code.Nothing mode shape h a same = absurd h
+value-means checked slots f e _ _ mode shape h a same = absurd h
 
 pub value-argument : (scene : Scene) (f : Formal) (e : Tree ℕ expression) (l : Lowered) (a : Argument) → f.by_place ≡ false → IsValueOf l a → Lowers scene e l → LowersArgument scene f e a
 value-argument scene f e l a by same h checked slots targets sees fits =

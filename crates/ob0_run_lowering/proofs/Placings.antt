@@ -83,22 +83,20 @@ suits_inward (a_standard p) w h = tt
 
 pub matches_inward : (env : TypeEnvironment Label) (placing : Placing Label) → Matches env placing → Matches env (inward placing)
 matches_inward [] [] m = tt
-matches_inward [] (w ∷ placing) m = absurd m
-matches_inward (b ∷ env) [] m = absurd m
 matches_inward (b ∷ env) (w ∷ placing) m = (m.0, suits_inward b.1 w.1 m.1, matches_inward env placing m.2)
+matches_inward _ _ m = absurd m
 
 -- names looked up
 
 matches_found : (env : TypeEnvironment Label) (placing : Placing Label) → Matches env placing → (x : Label) (o : Object Shape Signature) → newest (from_binding as_labels env x) ≡ Some o → Suits o (found placing x)
 matches_found [] [] m x o h = absurd (cc)
-matches_found [] (w ∷ placing) m x o h = absurd m
-matches_found (b ∷ env) [] m x o h = absurd m
 matches_found (b ∷ env) (w ∷ placing) m x o h =
     subst (λ (y : Label). Suits o (first_placed (elim (same_label x y) [ true ↦ w ∷ placing | false ↦ from_name as_labels placing x ]))) m.0 (by (matches_found env placing m.2 x o) (same_label x b.0) h)
   where
     by : (newest (from_binding as_labels env x) ≡ Some o → Suits o (found placing x)) → (t : Bool) → newest (elim t [ true ↦ b ∷ env | false ↦ from_binding as_labels env x ]) ≡ Some o → Suits o (first_placed (elim t [ true ↦ w ∷ placing | false ↦ from_name as_labels placing x ]))
     by following true e = subst (λ (z : Object Shape Signature). Suits z w.1) (some_inverse e) m.1
     by following false e = following e
+matches_found _ _ m x o h = absurd m
 
 same_declared : (x : Label) (k : ℕ) → same_label x (declared k) ≡ true → x ≡ declared k
 same_declared (declared j) k h = ap declared (eqb-true j k h)

@@ -4,18 +4,19 @@ use Rattle.ob0_tree.specs.Tree.{Tree, addend, adds, compares, designator, end, e
 use Rattle.ob0_tree.specs.Places.{value_at}
 use Rattle.ob0_language_names.specs.Names.{Label, label_text}
 use Rattle.ob0_scope_table.specs.InLabels.{in_labels, label_in}
-use Rattle.ob0_language_types.specs.Expressions.{Meanings, Object, a_constant, a_procedure, a_standard, a_type, a_variable}
+use Rattle.ob0_language_types.specs.Expressions.{Meanings, Object, a_constant, a_variable}
 use Rattle.ob0_language_types.specs.Typing.{add_type, complement_type, constant_of, element_type, field_type, multiply_type, object_type, relation_type, sign_type, type_at, type_of, type_of_addends, type_of_factor, type_of_multipliers, type_of_simple, type_of_term, value_type}
 use Rattle.ob0_language_types.specs.WellTyped.{Signature, Typed}
 use Rattle.ob0_language_types.proofs.TypedElsewhere.{then_some}
-use Rattle.ob0_language_values.specs.Values.{Place, Shape, Value, array_shape, boolean_shape, elements, integer_shape, members, number, record_shape, truth}
+use Rattle.ob0_language_values.specs.Values.{Place, Shape, Value, array_shape, boolean_shape, integer_shape, number, record_shape, truth}
 use Rattle.ob0_run_machine.specs.Evaluation as machine
 use Rattle.ob0_run_machine.specs.Lowered as lowered
 use Rattle.ob0_run_cells.specs.Cells.{field_offset, size}
 use Rattle.ob0_run_cells.specs.LoweredStatements.{Target}
 use Rattle.ob0_run_cells.specs.Lowering.{Evaluated, PlaceLeads, PlaceMeans, Slot, part_at, place_of_designator, slot_place, value_of_expression, value_of_factor, value_of_simple, value_of_term}
 use Rattle.ob0_run_cells.specs.Lowering as lowering
-use Rattle.ob0_run_cells.proofs.Lowered.{blocks_lower-holds, cells_lower-holds, constants_lower-holds, fields_lower-holds, indexes_lower-holds, integers_lower-holds, selectors_end-holds, variables_lower-holds}
+use Rattle.ob0_run_cells.proofs.LoweredNumbers.{integer-means}
+use Rattle.ob0_run_cells.proofs.LoweredPlaces as places
 use Rattle.ob0_run_lowering.specs.Codes.{ExpressionCode, CodeMeans, FoundPlace, a_number, a_truth, added, constant_code, element_at_place, element_found, element_of, field_found, multiplied, named_code, signed, code_at_place}
 use Rattle.ob0_run_lowering.specs.Scenes.{HasSmall, Sees, object_at, slot_at}
 use Rattle.ob0_run_lowering.specs.Trees.{addends_code, base_found, expression_code, factor_code, multipliers_code, selected_place, simple_code, term_code, variable_found}
@@ -47,29 +48,28 @@ module _ (checked : Typed Label) (slots : Label → Slot) where
 
   number-constant : (x : Label) (n : ℤ) (path : Tree Label (items selector)) (s : Shape) → checked.object_for x ≡ Some (a_constant (number n)) → machine.fits n ≡ true → type_at checked integer_shape path ≡ Some s
       → CodeMeans checked slots (a_number (lowered.literal n)) s (value_of_factor (designator x path))
-  number-constant x n end s e fit h = subst (λ s. CodeMeans checked slots (a_number (lowered.literal n)) s (value_of_factor (designator x end))) (type-end checked integer_shape s h) ((constants_lower-holds checked slots x).0 n e fit)
+  number-constant x n end s e fit h = subst (λ s. CodeMeans checked slots (a_number (lowered.literal n)) s (value_of_factor (designator x end))) (type-end checked integer_shape s h) (places.number-constant checked slots x n e fit)
   number-constant x n (more a rest) s e fit h = let no_type : None ≡ Some s = sym (integer-alone checked a rest) ∙ h in absurd (cc)
 
   truth-constant : (x : Label) (b : Bool) (path : Tree Label (items selector)) (s : Shape) → checked.object_for x ≡ Some (a_constant (truth b)) → type_at checked boolean_shape path ≡ Some s
       → CodeMeans checked slots (a_truth (lowered.constant b)) s (value_of_factor (designator x path))
-  truth-constant x b end s e h = subst (λ s. CodeMeans checked slots (a_truth (lowered.constant b)) s (value_of_factor (designator x end))) (type-end checked boolean_shape s h) ((constants_lower-holds checked slots x).1 b e)
+  truth-constant x b end s e h = subst (λ s. CodeMeans checked slots (a_truth (lowered.constant b)) s (value_of_factor (designator x end))) (type-end checked boolean_shape s h) (places.truth-constant checked slots x b e)
   truth-constant x b (more a rest) s e h = let no_type : None ≡ Some s = sym (boolean-alone checked a rest) ∙ h in absurd (cc)
 
   constant-means : (x : Label) (v : Value) (path : Tree Label (items selector)) (s : Shape) → checked.object_for x ≡ Some (a_constant v) → ((n : ℤ) → v ≡ number n → machine.fits n ≡ true) → option_and_then (λ t. type_at checked t path) (value_type v) ≡ Some s
       → CodeMeans checked slots (constant_code v) s (value_of_factor (designator x path))
   constant-means x (number n) path s e fit h = number-constant x n path s e (fit n refl) h
   constant-means x (truth b) path s e fit h = truth-constant x b path s e h
-  constant-means x (elements vs) path s e fit h = absurd (cc)
-  constant-means x (members k ms) path s e fit h = absurd (cc)
+  constant-means x _ path s e fit h = absurd (cc)
 
   -- what is at the place of a designator
 
   place-means : (x : Label) (v : Shape) (path : Tree Label (items selector)) (q : lowered.Place) (s : Shape) → checked.object_for x ≡ Some (a_variable v) → PlaceMeans checked slots q s (place_of_designator x path)
       → CodeMeans checked slots (code_at_place q s) s (value_of_factor (designator x path))
-  place-means x v path q integer_shape e h = (cells_lower-holds checked slots x v path q e).0 h
-  place-means x v path q boolean_shape e h = (cells_lower-holds checked slots x v path q e).1 h
-  place-means x v path q (array_shape k n t) e h = (refl, (blocks_lower-holds checked slots q (array_shape k n t)).0 x v path e h)
-  place-means x v path q (record_shape k fs) e h = (refl, (blocks_lower-holds checked slots q (record_shape k fs)).0 x v path e h)
+  place-means x v path q integer_shape e h = places.cell-means checked slots x v path q e h
+  place-means x v path q boolean_shape e h = places.flag-means checked slots x v path q e h
+  place-means x v path q (array_shape k n t) e h = (refl, places.block-designator checked slots q (array_shape k n t) x v path e h)
+  place-means x v path q (record_shape k fs) e h = (refl, places.block-designator checked slots q (record_shape k fs) x v path e h)
 
   -- one selector
 
@@ -80,11 +80,9 @@ module _ (checked : Typed Label) (slots : Label → Slot) where
       let same : checked.written x ≡ label_text x = ap (λ w. w x) written in (
         part_at q (field_offset fs (label_text x)),
         ap (option_map (λ t. found_at (part_at q (field_offset fs (label_text x))) t)) (ap (field_type (record_shape k fs)) (sym same) ∙ h),
-        subst (λ y. PlaceLeads checked slots (part_at q (field_offset fs y)) t rest whole) same (fields_lower-holds checked slots q k fs x t rest whole leads h),
+        subst (λ y. PlaceLeads checked slots (part_at q (field_offset fs y)) t rest whole) same (places.field-leads checked slots q k fs x t rest whole leads h),
       )
-  field-step written q integer_shape x t rest whole leads h = absurd (cc)
-  field-step written q boolean_shape x t rest whole leads h = absurd (cc)
-  field-step written q (array_shape k n u) x t rest whole leads h = absurd (cc)
+  field-step written q _ x t rest whole leads h = absurd (cc)
 
   element-step : (c : ExpressionCode) (q : lowered.Place) (z i t : Shape) (e : Tree Label expression) (rest : Tree Label (items selector)) (whole : Evaluated Label Place)
       → PlaceLeads checked slots q z (more (index e) rest) whole → element_type z i ≡ Some t → CodeMeans checked slots c i (value_of_expression e)
@@ -94,14 +92,9 @@ module _ (checked : Typed Label) (slots : Label → Slot) where
         element_at_place q m n (size u),
         ap (λ c. element_found c q (array_shape k n u)) em ∙ ap (λ t. Some (found_at (element_at_place q m n (size u)) t)) (some_inj h),
         leads-from checked slots (element_at_place q m n (size u)) (lowered.element q m n (size u) 0) t rest whole (element-same q m n (size u))
-            (subst (λ t. PlaceLeads checked slots (lowered.element q m n (size u) 0) t rest whole) (some_inj h) (indexes_lower-holds checked slots q k n u e m rest whole leads hm)),
+            (subst (λ t. PlaceLeads checked slots (lowered.element q m n (size u) 0) t rest whole) (some_inj h) (places.index-leads checked slots q k n u e m rest whole leads hm)),
       )
-  element-step c q (array_shape k n u) boolean_shape t e rest whole leads h hc = absurd (cc)
-  element-step c q (array_shape k n u) (array_shape j m v) t e rest whole leads h hc = absurd (cc)
-  element-step c q (array_shape k n u) (record_shape j gs) t e rest whole leads h hc = absurd (cc)
-  element-step c q integer_shape i t e rest whole leads h hc = absurd (cc)
-  element-step c q boolean_shape i t e rest whole leads h hc = absurd (cc)
-  element-step c q (record_shape k fs) i t e rest whole leads h hc = absurd (cc)
+  element-step c q _ _ t e rest whole leads h hc = absurd (cc)
 
 module _ (scene : Scene) (checked : Typed Label) (slots : Label → Slot) (targets : Label → Target) (sees : Sees scene checked slots targets) (small : HasSmall scene) where
   -- the place at the end of a path
@@ -115,7 +108,7 @@ module _ (scene : Scene) (checked : Typed Label) (slots : Label → Slot) (targe
       → (q : lowered.Place) × (selected_place scene (base_found scene x) (in_labels scene.resolved.now path) ≡ Some (found_at q s)) × PlaceMeans checked slots q s (place_of_designator x (in_labels scene.resolved.now path))
   variable-means x path s v selected e h =
       let here = sees.variables x v e in
-      let leads = subst (λ z. PlaceLeads checked slots (slot_place z) v (in_labels scene.resolved.now path) (place_of_designator x (in_labels scene.resolved.now path))) here (variables_lower-holds checked slots x v (in_labels scene.resolved.now path) e) in
+      let leads = subst (λ z. PlaceLeads checked slots (slot_place z) v (in_labels scene.resolved.now path) (place_of_designator x (in_labels scene.resolved.now path))) here (places.variable-leads checked slots x v (in_labels scene.resolved.now path) e) in
       let (q, eq, hq) = selected (slot_place (slot_at scene x)) v s (place_of_designator x (in_labels scene.resolved.now path)) leads h in
       (q, ap (λ o. selected_place scene (variable_found (slot_place (slot_at scene x)) o) (in_labels scene.resolved.now path)) (sees.bound x (a_variable v) e) ∙ eq, hq)
 
@@ -132,10 +125,7 @@ module _ (scene : Scene) (checked : Typed Label) (slots : Label → Slot) (targe
       subst (λ c. CodeMeans checked slots c s (value_of_factor (designator x (in_labels scene.resolved.now path))))
       (sym (ap (λ o. named_code (constant_of o) (selected_place scene (base_found scene x) (in_labels scene.resolved.now path))) there))
       (constant-means checked slots x v (in_labels scene.resolved.now path) s e (λ n en. small.constants x n (there ∙ ap (λ v. Some (a_constant v)) en)) h)
-  named-means x path s None selected e h = absurd (cc)
-  named-means x path s (Some (a_type t)) selected e h = absurd (cc)
-  named-means x path s (Some (a_procedure p)) selected e h = absurd (cc)
-  named-means x path s (Some (a_standard p)) selected e h = absurd (cc)
+  named-means x path s _ selected e h = absurd (cc)
 
   mutual
     unfolding type_of
@@ -180,7 +170,7 @@ module _ (scene : Scene) (checked : Typed Label) (slots : Label → Slot) (targe
 
     pub factor-means : (f : Tree ℕ factor) (s : Shape) → type_of_factor checked (in_labels scene.resolved.now f) ≡ Some s → CodeMeans checked slots (factor_code scene (in_labels scene.resolved.now f)) s (value_of_factor (in_labels scene.resolved.now f))
     factor-means (designator x path) s h = named-means (label_in scene.resolved.now x) path s (checked.object_for (label_in scene.resolved.now x)) (λ q z s whole. selected-means q z path s whole) refl h
-    factor-means (integer n) s h = subst (λ s. CodeMeans checked slots (a_number (lowered.literal (pos (value_at scene.resolved.now.module_read.source n)))) s (value_of_factor (integer (value_at scene.resolved.now.module_read.source n)))) (some_inj h) (integers_lower-holds checked slots (value_at scene.resolved.now.module_read.source n) (small.numbers n))
+    factor-means (integer n) s h = subst (λ s. CodeMeans checked slots (a_number (lowered.literal (pos (value_at scene.resolved.now.module_read.source n)))) s (value_of_factor (integer (value_at scene.resolved.now.module_read.source n)))) (some_inj h) (integer-means checked slots (value_at scene.resolved.now.module_read.source n) (small.numbers n))
     factor-means (parenthesised e) s h = parenthesised-means checked slots (expression_code scene (in_labels scene.resolved.now e)) s (in_labels scene.resolved.now e) (expression-means e s h)
     factor-means (negation f) s h =
         let (x, ex, h₁) = then_some (type_of_factor checked (in_labels scene.resolved.now f)) complement_type s h in
@@ -188,7 +178,7 @@ module _ (scene : Scene) (checked : Typed Label) (slots : Label → Slot) (targe
 
     selected-means : (q : lowered.Place) (z : Shape) (path : Tree ℕ (items selector)) (s : Shape) (whole : Evaluated Label Place) → PlaceLeads checked slots q z (in_labels scene.resolved.now path) whole → type_at checked z (in_labels scene.resolved.now path) ≡ Some s
         → (p : lowered.Place) × (selected_place scene (Some (found_at q z)) (in_labels scene.resolved.now path) ≡ Some (found_at p s)) × PlaceMeans checked slots p s whole
-    selected-means q z end s whole leads h = (q, ap (λ s. Some (found_at q s)) (some_inj h), subst (λ s. PlaceMeans checked slots q s whole) (some_inj h) (selectors_end-holds checked slots q z whole leads))
+    selected-means q z end s whole leads h = (q, ap (λ s. Some (found_at q s)) (some_inj h), subst (λ s. PlaceMeans checked slots q s whole) (some_inj h) (places.selectors-end checked slots q z whole leads))
     selected-means q z (more (field x) rest) s whole leads h =
         let (t, et, h₁) = then_some (field_type z (checked.written (label_in scene.resolved.now x))) (λ t. type_at checked t (in_labels scene.resolved.now rest)) s h in
         let (p, ep, leads₁) = field-step checked slots sees.written q z (label_in scene.resolved.now x) t (in_labels scene.resolved.now rest) whole leads et in

@@ -1,6 +1,6 @@
 -- Questions about the name or field at a position of a document's text, and their answers.
 -- Rule: docs/PROTOCOL.md, Requests on documents 2 to 5.
-use Rattle.std.specs.Prelude.{◌≡◌, ◌⊎◌, ℕ, List, Bool, Option, Some, None, map, option_map, option_and_then}
+use Rattle.std.specs.Prelude.{◌≡◌, ◌⊎◌, ℕ, List, Bool, Option, Some, None, map, option_map}
 use Rattle.serde_json.specs.Data.{Data, null, array, no_items}
 use Rattle.serde_json.specs.View.{items_of}
 use Rattle.ob0_scan.specs.declared.lexeme.Span.{Span}
@@ -10,10 +10,7 @@ use Rattle.ob0_text.specs.declared.position_types.Unit.{Unit}
 use Rattle.ob0_edits_tokens.specs.Ranges.{range_of}
 use Rattle.ob0_scope_table.specs.Resolution.{Resolution}
 use Rattle.ob0_refs.specs.Shown.{HoverText}
-use Rattle.ob0_refs.specs.Questions.{AreReferencesAt, hover_at_place, definition_at, identified_at}
-use Rattle.ob0_refs.specs.declared.answers.At as reported
-use Rattle.ob0_refs.specs.declared.answers.Of as of
-use Rattle.ob0_refs.specs.declared.answers.Of.TheVariants as reports
+use Rattle.ob0_refs.specs.Questions.{AreReferencesAt, hover_at_place, definition_at, renamable_at}
 use Rattle.ob0_rpc.specs.Requesting.{At}
 use Rattle.ob0_rpc.specs.Shapes.{range_value, result_message}
 use Rattle.ob0_rpc.specs.Writing.{Writes}
@@ -29,19 +26,6 @@ pub data NameQuestion : Type 0 where
   -- with the declaration or without
   references_asked : Bool → NameQuestion
   renaming_asked : NameQuestion
-
--- ---- names and fields that can be renamed, in bytes of a module's text
-
--- predeclared names keep their names
-abbrev pub can_be_renamed : of.Of → Span → Option Span
-can_be_renamed (reports.Declared ordinal) span = Some span
-can_be_renamed reports.Predeclared span = None
-can_be_renamed (reports.Field ordinal index) span = Some span
-
--- the name or field itself that is there, where it can be renamed
-abbrev pub renamable_in : Resolution → ℕ → Option Span
-renamable_in names offset =
-    option_and_then (λ (a : reported.At). can_be_renamed a.of a.span) (identified_at names offset)
 
 -- ---- as values, at positions of a unit: the unit, the uri and the characters of the text
 
@@ -89,7 +73,7 @@ AnswersIn unit text at (references_asked include) names value =
 AnswersIn unit text at renaming_asked names value =
     value
     ≡ value_or_null
-    (option_map (range_at unit text) (renamable_in names (offset_in unit text at)))
+    (option_map (range_at unit text) (renamable_at names (offset_in unit text at)))
 
 -- the answer about every other text
 abbrev pub no_answer : NameQuestion → Data

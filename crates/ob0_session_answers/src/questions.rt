@@ -9,12 +9,12 @@ ghost use Rattle.ob0_rpc.specs.Seen.{at_seen, id_data};
 ghost use Rattle.ob0_rpc.specs.Shapes.{result_message};
 ghost use Rattle.ob0_rpc.specs.Writing.{Writes};
 ghost use Rattle.ob0_refs.specs.Parts.{hover_in};
-ghost use Rattle.ob0_refs.specs.Questions.{AreReferencesAt, hover_at_place, definition_at};
-ghost use Rattle.ob0_session_answers.specs.Questions.{RepliesAboutName, can_be_renamed, definition_asked, hover_asked, hover_at, location_at, range_at, references_asked, renamable_in, renaming_asked, value_or_null};
+ghost use Rattle.ob0_refs.specs.Questions.{AreReferencesAt, hover_at_place, definition_at, renamable_at};
+ghost use Rattle.ob0_session_answers.specs.Questions.{RepliesAboutName, definition_asked, hover_asked, hover_at, location_at, range_at, references_asked, renaming_asked, value_or_null};
 
 use ob0_analysis::{Analysis, Question, WellTyped, ask};
 use ob0_edits_tokens::{range_of, ranges};
-use ob0_refs::{Of, at, definition, hover, references};
+use ob0_refs::{definition, hover, references, renamable};
 use ob0_rpc::{DocumentPosition, Id, result_of};
 use ob0_scan::Span;
 use ob0_session_documents::DocumentRequest;
@@ -85,23 +85,10 @@ struct RenamableAt {
 impl Question for RenamableAt {
     type Answer = Option<Span>;
 
-    ghost answers = { λ q names found. found ≡ renamable_in names q.offset };
+    ghost answers = { λ q names found. found ≡ renamable_at names q.offset };
 
     fn answer(&self, _alloc: Global, module: &WellTyped<'_>) -> Result<Option<Span>, AllocError> {
-        match at(module, self.offset) {
-            Some(name) => Ok(renamable(name.of, name.span)),
-            None => Ok(None),
-        }
-    }
-}
-
-fn renamable(of: Of, span: Span) -> Option<Span>
-    ensures { result ≡ can_be_renamed of span }
-{
-    match of {
-        Of::Declared(_) => Some(span),
-        Of::Predeclared => None,
-        Of::Field { .. } => Some(span),
+        Ok(renamable(module, self.offset))
     }
 }
 

@@ -17,22 +17,22 @@ kept old new text at same long low is =
     let there : 192 ≡ at + (192 - at) = omega (arith, low) in
     ap (λ n. drop n new) there ∙ sym (drop-drop (192 - at) at new) ∙ ap (drop (192 - at)) is ∙ drop_at text (drop 192 old) (192 - at) count
 
-module _ (uri : List ℕ) (range : Range) (at : ℕ) (before room : List ℕ) (ends : EndsInUri uri before) (put : drop at room ≡ codes ",{\"range\":" ++ (compact_text (range_value range.start range.end) ++ drop 192 before)) where
-  whole : drop at room ≡ 44 ∷ compact_text (location_in uri range)
+module _ (uri : List ℕ) (range : Range) (at : ℕ) (before buffer : List ℕ) (ends : EndsInUri uri before) (put : drop at buffer ≡ codes ",{\"range\":" ++ (compact_text (range_value range.start range.end) ++ drop 192 before)) where
+  whole : drop at buffer ≡ 44 ∷ compact_text (location_in uri range)
   whole =
       put ∙ ap (λ t. codes ",{\"range\":" ++ (compact_text (range_value range.start range.end) ++ t)) ends.ends
       ∙ ap (λ t. 44 ∷ t) (object_text_of_two (codes "range") (codes "uri") (range_value range.start range.end) (string uri) [] (name (codes "range") refl refl) (name (codes "uri") refl refl) ∙ append-nil _)
 
-  text_put : (later : Bool) (old new : List ℕ) → new ≡ old ++ drop (if later then at else at + 1) room → new ≡ old ++ (comma_if later ++ compact_text (location_in uri range))
+  text_put : (later : Bool) (old new : List ℕ) → new ≡ old ++ drop (if later then at else at + 1) buffer → new ≡ old ++ (comma_if later ++ compact_text (location_in uri range))
   text_put true old new is = is ∙ ap (λ t. old ++ t) whole
-  text_put false old new is = is ∙ ap (λ t. old ++ t) (sym (drop-drop 1 at room) ∙ ap (drop 1) whole)
+  text_put false old new is = is ∙ ap (λ t. old ++ t) (sym (drop-drop 1 at buffer) ∙ ap (drop 1) whole)
 
-  -- a place's text was put together in such room, and written from there, with a comma or without
-  pub location_put : (later : Bool) (old new : List ℕ) → IsReadBack (range_value range.start range.end) → new ≡ old ++ drop (if later then at else at + 1) room → AppendsItem later (location_in uri range) old new
+  -- a place's text was put together in such buffer, and written from there, with a comma or without
+  pub location_put : (later : Bool) (old new : List ℕ) → IsReadBack (range_value range.start range.end) → new ≡ old ++ drop (if later then at else at + 1) buffer → AppendsItem later (location_in uri range) old new
   location_put later old new reads is = record {
     text = text_put later old new is;
     reads = read_two (codes "range") (codes "uri") (range_value range.start range.end) (string uri) (name (codes "range") refl refl) (name (codes "uri") refl refl) refl reads ends.reads;
   }
 
 pub still_ends : (uri old new : List ℕ) → length new ≡ length old → drop 192 new ≡ drop 192 old → EndsInUri uri old → EndsInUri uri new
-still_ends uri old new same stays ends = record { roomy = omega (arith, ends.roomy, same); ends = stays ∙ ends.ends; reads = ends.reads }
+still_ends uri old new same stays ends = record { long_enough = omega (arith, ends.long_enough, same); ends = stays ∙ ends.ends; reads = ends.reads }

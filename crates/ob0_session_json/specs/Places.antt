@@ -7,8 +7,8 @@ use Rattle.ob0_rpc.specs.Appending.{IsReadBack}
 
 -- free space, and after it what follows the range of a place:
 -- its uri, and the bracket that closes it
-pub record EndsInUri (uri room : List ℕ) : Type 0 where
-  pub roomy : 192 ≤ length room
-  pub ends : drop 192 room
+pub record EndsInUri (uri buffer : List ℕ) : Type 0 where
+  pub long_enough : 192 ≤ length buffer
+  pub ends : drop 192 buffer
       ≡ 44 ∷ 34 ∷ (codes "uri" ++ 34 ∷ 58 ∷ (compact_text (string uri) ++ 125 ∷ []))
   pub reads : IsReadBack (string uri)

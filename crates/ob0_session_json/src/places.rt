@@ -15,11 +15,11 @@ use ob0_rpc::{
 use ob0_text::Range;
 use std::alloc::{AllocError, Global};
 
-/// No text of a place is longer before its uri.
-const ROOM: usize = 192;
+/// The length that a place's text has at most before its uri.
+const PREFIX_CAPACITY: usize = 192;
 
-/// As long is the text of most places before their uri.
-const USUAL: usize = 96;
+/// The length that most places' texts have at most before their uri.
+const TYPICAL_PREFIX: usize = 96;
 
 /// A range of a document.
 #[derive(Drop)]
@@ -60,15 +60,15 @@ fn write_locations(out: &mut Vec<u8>, uri: &str, ranges: &[Range]) -> Result<(),
         (AppendsEach false (map (location_in uri.now) ranges.now) out.old.items out.new.items) }
 {
     let alloc = *out.allocator();
-    let mut text = room_before_uri(alloc, uri)?;
-    let each = text.len() - ROOM + USUAL;
+    let mut text = buffer_for_uri(alloc, uri)?;
+    let each = text.len() - PREFIX_CAPACITY + TYPICAL_PREFIX;
     out.reserve(ranges.len().saturating_mul(each))?;
-    let room = text.as_mut_slice();
+    let buffer = text.as_mut_slice();
     let mut later = false;
     for range in ranges {
-        let at = location_before(room, *range);
+        let at = location_before(buffer, *range);
         let from = if later { at } else { at + 1 };
-        out.extend_from_slice(&room[from..])?;
+        out.extend_from_slice(&buffer[from..])?;
         later = true;
     }
     Ok(())
@@ -76,26 +76,26 @@ fn write_locations(out: &mut Vec<u8>, uri: &str, ranges: &[Range]) -> Result<(),
 
 /// A buffer in which a place's text is put together: what follows its range is written once, after free space for
 /// what is before.
-fn room_before_uri(alloc: Global, uri: &str) -> Result<Vec<u8>, AllocError>
-    ensures { IfOk result (λ room. EndsInUri uri.now room.items) }
+fn buffer_for_uri(alloc: Global, uri: &str) -> Result<Vec<u8>, AllocError>
+    ensures { IfOk result (λ buffer. EndsInUri uri.now buffer.items) }
 {
-    let mut room = vec![in alloc; 0u8; ROOM]?;
-    next_member(&mut room, "uri", &uri)?;
-    end_object(&mut room)?;
-    Ok(room)
+    let mut buffer = vec![in alloc; 0u8; PREFIX_CAPACITY]?;
+    next_member(&mut buffer, "uri", &uri)?;
+    end_object(&mut buffer)?;
+    Ok(buffer)
 }
 
 /// Puts a place's text, with a comma before it, before what follows its range, and returns where it begins.
-fn location_before(room: &mut [u8], range: Range) -> usize
-    requires { 192 ≤ length room.old }
+fn location_before(buffer: &mut [u8], range: Range) -> usize
+    requires { 192 ≤ length buffer.old }
     ensures within { result < 192 }
-    ensures text { drop result room.new ≡ codes ",{\"range\":"
-        ++ (compact_text (range_value range.start range.end) ++ drop 192 room.old) }
-    ensures kept { drop 192 room.new ≡ drop 192 room.old }
+    ensures text { drop result buffer.new ≡ codes ",{\"range\":"
+        ++ (compact_text (range_value range.start range.end) ++ drop 192 buffer.old) }
+    ensures kept { drop 192 buffer.new ≡ drop 192 buffer.old }
     ensures reads { IsReadBack (range_value range.start range.end) }
 {
-    let at = range_before(room, ROOM, range.start, range.end);
-    piece_before(room, at, b",{\"range\":")
+    let at = range_before(buffer, PREFIX_CAPACITY, range.start, range.end);
+    piece_before(buffer, at, b",{\"range\":")
 }
 
 /// Plain text that is displayed of a range.

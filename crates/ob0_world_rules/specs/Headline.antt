@@ -51,14 +51,14 @@ AreUpToDate e made =
 
 -- ---- the headline
 
--- What holds after each event.
+-- What holds of each state that events lead to.
 pub record Holds (w : Ends) : Type 0 where
   -- each applied edit keeps the run
   pub applied : All KeepsTheRun w.applied
   -- diagnostics are empty exactly when the text that they were made for is a well-typed module
   pub made : All IsRight w.made
-  -- when no message waits for it, the latest diagnostics of each open document are those
-  -- of its present text
+  -- when no message waits for the server, the latest diagnostics of each open document are
+  -- those of its present text
   pub latest_made : w.to_server ≡ [] → AreUpToDate w.editor w.made
 
 -- What a list of events leaves, from the beginning on: these edits were applied and these

@@ -8,5 +8,5 @@ pub returns-clause-kept : goal.returns-clause-kept
 returns-clause-kept c =
     let head = codes ",{\"range\":" in
     let range = compact_text (range_value c.args.range.start c.args.range.end) in
-    let is = c.piece_before.ensures.text ∙ ap (λ t. head ++ t) c.range_before-at.ensures.text ∙ sym (append_assoc head range (drop 192 c.args.room.now)) in
-    kept c.args.room.now c.piece_before.new.room (head ++ range) c.piece_before.result (omega arith) (omega arith) (omega arith) is
+    let is = c.piece_before.ensures.text ∙ ap (λ t. head ++ t) c.range_before-at.ensures.text ∙ sym (append_assoc head range (drop 192 c.args.buffer.now)) in
+    kept c.args.buffer.now c.piece_before.new.room (head ++ range) c.piece_before.result (omega arith) (omega arith) (omega arith) is

@@ -10,27 +10,27 @@ use Rattle.ob0_session_json.proofs.places.write_locations.Goals as goal
 use Rattle.ob0_session_json.proofs.places.write_locations.Goals.{then-later, else-later}
 
 pub location_before-at-requires : goal.location_before-at-requires
-location_before-at-requires c = c.loop-range.invariant.2.roomy
+location_before-at-requires c = c.loop-range.invariant.2.long_enough
 
 pub loop-range-init : goal.loop-range-init
-loop-range-init c = (each_none false _, refl, subst (EndsInUri c.args.uri.now) (sym c.as_mut_slice-room.ensures.value) c.in_ok-text.ensures)
+loop-range-init c = (each_none false _, refl, subst (EndsInUri c.args.uri.now) (sym c.as_mut_slice-buffer.ensures.value) c.in_ok-text.ensures)
 
 pub loop-range-preserved : goal.loop-range-preserved
 loop-range-preserved c =
     let put = c.location_before-at in
-    let room = put.new.room in
+    let buffer = put.new.buffer in
     let from = c.if-later.from in
     let chosen : from ≡ (if c.loop-range.later then put.result else put.result + 1) =
     elim c.if-later.branch [
       | then-later w ↦ rw w.if-later.true w.from-is
       | else-later w ↦ rw w.if-later.false w.from-is
     ] in
-    let rest = take_all (length room - from) (drop from room) (omega (arith, length-drop from room)) in
-    let is = c.in_ok-extend_from_slice.ensures.items ∙ ap (λ t. c.loop-range.out.items ++ t) (rest ∙ ap (λ n. drop n room) chosen) in
-    let item = location_put c.args.uri.now _ put.result c.loop-range.room room c.loop-range.invariant.2 put.ensures.text c.loop-range.later _ _ put.ensures.reads is in (
+    let rest = take_all (length buffer - from) (drop from buffer) (omega (arith, length-drop from buffer)) in
+    let is = c.in_ok-extend_from_slice.ensures.items ∙ ap (λ t. c.loop-range.out.items ++ t) (rest ∙ ap (λ n. drop n buffer) chosen) in
+    let item = location_put c.args.uri.now _ put.result c.loop-range.buffer buffer c.loop-range.invariant.2 put.ensures.text c.loop-range.later _ _ put.ensures.reads is in (
       each_next (location_in c.args.uri.now) c.args.ranges.now c.loop-range.range-index _ _ _ _ _ (omega arith) c.loop-range.invariant.0 c.loop-range.invariant.1 item,
       sym (lt-ltb 0 _ (omega arith)),
-      still_ends c.args.uri.now c.loop-range.room room (omega arith) put.ensures.kept c.loop-range.invariant.2,
+      still_ends c.args.uri.now c.loop-range.buffer buffer (omega arith) put.ensures.kept c.loop-range.invariant.2,
     )
 
 pub returns : goal.returns

@@ -1,0 +1,99 @@
+//! The hover text at a place: that of the name, or of the field, that the identifier there means.
+
+ghost use Rattle.std.specs.Prelude.{◌≡◌, IfOk, option_map};
+ghost use Rattle.ob0_refs.specs.Parts.{hover_in};
+ghost use Rattle.ob0_refs.specs.Questions.{field_hover, hover_at_place, meant_hover, typed_hover};
+ghost use Rattle.ob0_refs.specs.Shown.{hover_of};
+ghost use Rattle.ob0_types_table.specs.KnownTables.{shapes_of};
+ghost use Rattle.ob0_types_table.specs.Tables.{type_shape};
+
+use crate::answers::Hover;
+use crate::showing::{field_line, name_text};
+use ob0_scope::Named;
+use ob0_scope_table::{Resolved, token_span};
+use ob0_tree::text_at;
+use ob0_types::{Identified, Meant, WellTyped, meant_at};
+use ob0_types_fields::typed_field;
+use ob0_types_table::{Known, TypeId};
+use std::alloc::{AllocError, Global};
+
+/// The hover text at a place, where it lies in a name or at its end: of a name its declaration, and of a field its
+/// type, where it is declared and where it is selected. A closing name of a procedure has that of the procedure. None
+/// elsewhere, and at the module's name.
+pub fn hover(
+    alloc: Global,
+    well_typed: &WellTyped<'_>,
+    offset: usize,
+) -> Result<Option<Hover>, AllocError>
+    ensures { IfOk result (λ h. option_map hover_in h ≡ hover_at_place well_typed.now offset) }
+{
+    match meant_at(well_typed, offset) {
+        None => Ok(None),
+        Some(found) => meant_hover(alloc, well_typed, found),
+    }
+}
+
+fn meant_hover(
+    alloc: Global,
+    well_typed: &WellTyped<'_>,
+    found: Identified,
+) -> Result<Option<Hover>, AllocError>
+    ensures { IfOk result
+        (λ h. option_map hover_in h ≡ meant_hover well_typed.now found.token found.means) }
+{
+    let token = found.token;
+    match found.means {
+        Meant::Name(ordinal) => hover_of(alloc, well_typed, Named { token, ordinal }),
+        Meant::Field(owner) => field_hover(alloc, well_typed, (token, owner)),
+    }
+}
+
+/// The hover of a name. None where its declaration is nothing.
+fn hover_of(
+    alloc: Global,
+    well_typed: &WellTyped<'_>,
+    name: Named,
+) -> Result<Option<Hover>, AllocError>
+    ensures { IfOk result (λ h. option_map hover_in h ≡ hover_of well_typed.now.module_read name) }
+{
+    let names = well_typed.resolved();
+    let span = token_span(names.tokens(), name.token);
+    match name_text(alloc, well_typed.known(), names, name)? {
+        None => Ok(None),
+        Some(text) => Ok(Some(Hover { span, text })),
+    }
+}
+
+/// The hover of a field, by an identifier of it: the token, and the ordinal of the record.
+fn field_hover(
+    alloc: Global,
+    well_typed: &WellTyped<'_>,
+    field: (usize, usize),
+) -> Result<Option<Hover>, AllocError>
+    ensures { IfOk result (λ h. option_map hover_in h ≡ field_hover well_typed.now field) }
+{
+    let known = well_typed.known();
+    let names = well_typed.resolved();
+    match typed_field(known, names, field) {
+        None => Ok(None),
+        Some(found) => Ok(Some(typed_hover(alloc, known, names, field.0, found.of)?)),
+    }
+}
+
+fn typed_hover(
+    alloc: Global,
+    known: &Known,
+    names: &Resolved<'_>,
+    token: usize,
+    of: TypeId,
+) -> Result<Hover, AllocError>
+    ensures { IfOk result
+        (λ h. hover_in h ≡ typed_hover names.now token (type_shape (shapes_of known.now) of)) }
+{
+    let tokens = names.tokens();
+    let text = field_line(alloc, known, text_at(tokens, token), of)?;
+    Ok(Hover {
+        span: token_span(tokens, token),
+        text,
+    })
+}

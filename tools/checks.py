@@ -1,0 +1,182 @@
+"""How a crate is checked with mutants in it: over which libraries, in which copy of its files, and what the prover says of them."""
+from __future__ import annotations
+
+import os
+import re
+import shutil
+import subprocess
+from collections.abc import Callable, Iterable
+from typing import Any, Optional
+
+import build
+import common
+import reading
+from common import TOP
+from edits import Edit
+
+VERDICT = re.compile(r"^(?:fn|impl|struct|enum|trait|const|static) (\S+): (proved|not proved.*|no proof.*)", re.M)
+ERROR = re.compile(r"(?:\./)?((?:src|specs|proofs)/\S+?):(\d+):\d+: error(?:\[[\w-]+\])?: (?:(`[^`]*`): )?(.*)")
+# (what of a reason says that the function itself was not judged)
+OF_ANOTHER = r"(?:it calls |it passes |a call of |it is in a cycle of calls with )"
+# (an error by which a text can't be read, so that no contract was tried)
+UNREAD = re.compile(r"is not in scope|has no field|is no name|operand is missing|expected the end|cannot continue")
+NAMES_LOST = re.compile(r"has no field|is not in scope|has no `|was not admitted|that can be named from here")
+
+
+class Said:
+    """What a check printed."""
+
+    def __init__(self, text: str, status: int) -> None:
+        self.text, self.status = text, status
+        self.verdicts: dict[str, str] = dict(VERDICT.findall(text))
+        # (with --only the last line is another)
+        self.ended = bool(re.search(r"^(?:logic=|only=\d+ (?:proved|holes)=\d+)", text, re.M))
+
+    def is_proved(self) -> bool:
+        """Whether all that was checked is proved."""
+        last = re.search(r"^only=(\d+) proved=(\d+)", self.text, re.M)
+        return not self.status and ("\nlogic=proved " in self.text or bool(last and last[1] == last[2]))
+
+    def own(self, symbol: str) -> bool:
+        """Whether a function is refused for what it does itself."""
+        said = self.verdicts[symbol]
+        if said.startswith("no proof"):
+            reasons = said[len("no proof:") :].split("; ")
+            return any(not re.match(OF_ANOTHER, it.strip()) for it in reasons)
+        return said.startswith("not proved")
+
+    def waits(self, symbol: str) -> bool:
+        """Whether a function stands on one that isn't proved: then not all of its goals need have been tried."""
+        return bool(re.search(f"[:;] {OF_ANOTHER}", self.verdicts[symbol]))
+
+    def goals(self, symbol: str) -> list[str]:
+        """The goals of a function that were not proved, with their places."""
+        lines = self.text.split("\n")
+        end = next((i for i, it in enumerate(lines) if it.startswith(f"fn {symbol}: ")), 0)
+        found = []
+        for line in reversed(lines[:end]):
+            if VERDICT.match(line):
+                break
+            goal = re.match(r"note: (src/\S+?:\d+):\d+: .*?\(`(\S+)`\)", line)
+            found += [f"{goal[2]} at {goal[1]}"] if goal else []
+        return found[::-1]
+
+    def proof_errors(self, symbol: str, proof: str) -> list[str]:
+        """The errors in the files of a function's proof."""
+        # (that of a cycle is where the prover has its functions: of methods that is below their type. A function that calls itself by
+        # a closure has one with that, without a name of its own)
+        *above, name = symbol.partition("::")[2].split("::")
+        cycle = re.search(r"\+\w+$", proof)
+        starts = tuple("/".join(["proofs", *above, it]) for it in (f"{cycle[0] if cycle else name}/", f"+{name}+"))
+        errors = ((it, ERROR.match(it)) for it in self.text.split("\n"))
+        return [line for line, at in errors if at and at[1].startswith(starts)]
+
+    def refusing(self, symbol: str, proof: str) -> list[str]:
+        """The goals of a function that were not proved, and those that the answers in its proof don't prove any more, though all that
+        they name is there."""
+        found = self.goals(symbol)
+        for line in self.proof_errors(symbol, proof):
+            at = ERROR.match(line)
+            goal = (at[3] or "").strip("`") if at else ""
+            if at and goal and not NAMES_LOST.search(at[4]):
+                found.append(f"{goal}, by its answer at {at[1]}:{at[2]}")
+        return found
+
+    def why(self, symbol: str, proof: str) -> str:
+        """What refused a function: goals, or an error in its proof."""
+        goals, errors = self.refusing(symbol, proof), self.proof_errors(symbol, proof)
+        if goals:
+            return "; ".join(goals)[:300]
+        if errors and all(NAMES_LOST.search(it) for it in errors):
+            return "only because its proof names what was taken away, which says little"
+        return errors[0][:120] if errors else self.verdicts[symbol][:120]
+
+
+def unreadable(said: Said, edit: Edit) -> str | None:
+    """The error by which the compiler or antt could not read a mutant, if one is in what it turns."""
+    for line in said.text.split("\n"):
+        at = ERROR.match(line)
+        if not at:
+            continue
+        place = at[1], int(at[2])
+        if place not in edit.lines and not any(it.file == at[1] and it.first <= place[1] <= it.last for it in edit.turned or ()):
+            continue
+        # (an error that names a goal is a refusal, unless the goal itself can't be read)
+        if not at[3] or UNREAD.search(re.sub(r"`[^`]*`", "", at[4])):
+            return line[:160]
+    return None
+
+
+def symbols_of(said: Said, functions: Iterable[reading.Function]) -> dict[str, str]:
+    """The names under which a check judged some functions, each with the proof that it belongs to."""
+    functions = list(functions)
+    return {it: f.proof for it in said.verdicts for f in functions if f.is_named(it)}
+
+
+class Libraries:
+    """Proved libraries of this repository: a folder of hard links to them."""
+
+    def __init__(self, folder: str) -> None:
+        self.folder = folder
+        self.proved: set[str] = set()
+        shutil.rmtree(folder, ignore_errors=True)
+
+    def add(self, crate: str) -> None:
+        """Adds the library that was made of a proved crate."""
+        self.proved.add(crate)
+        try:
+            shutil.copytree(build.library_of(crate), self.place(crate), copy_function=build.link)
+        except (OSError, shutil.Error):
+            # (a program has none; what lacks another crate's is tried without these)
+            shutil.rmtree(self.place(crate), ignore_errors=True)
+
+    def place(self, crate: str) -> str:
+        return os.path.join(self.folder, f"{crate}.rlib")
+
+    def words(self, crate: str, only: Iterable[str]) -> Optional[list[str]]:
+        """The command that checks some functions of a crate over these libraries (all where none is given), or None where one
+        lacks."""
+        lines = common.listed()
+        below = [it for it in common.below(crate) if it != crate]
+        if not all(os.path.isdir(self.place(it)) for it in below):
+            return None
+        kit = os.path.dirname(os.path.dirname(reading.rattle()))
+        of_kit: Callable[[str], str] = lambda it: os.path.join(kit, "rlibs", f"{it}.rlib")
+        used = {it: self.place(it) if it in lines else of_kit(it) for it in ["std", *lines[crate]]}
+        words = [reading.rattle(), "check", "--crate-name", crate, "src/lib.rt", "--links", f"{crate}=", "--jobs", "1"]
+        words += [word for name, place in used.items() for word in ("--extern", f"{name}={place}")]
+        words += ["-L", f"dependency={os.path.join(kit, 'rlibs')}", "-L", f"dependency={self.folder}"]
+        words += ["--antt-project", os.path.join(kit, "rattle", "logic", "antt-project.json")]
+        words += ["--logic-built", os.path.join(kit, "logic_built")]
+        return words + [word for it in only for word in ("--only", it)]
+
+
+def furnish(room: str, crate: str, chosen: Iterable[Edit]) -> None:
+    """Puts a crate's files with some mutants into a folder."""
+    chosen = list(chosen)
+    for part in ("src", "specs", "proofs"):
+        folder = os.path.join(TOP, "crates", crate, part)
+        if os.path.isdir(folder):
+            shutil.copytree(folder, os.path.join(room, part))
+    for path in {path for edit in chosen for path, _ in edit.lines}:
+        with open(os.path.join(room, path), encoding="utf-8") as file:
+            text = file.read()
+        with open(os.path.join(room, path), "w", encoding="utf-8") as file:
+            file.write(with_bodies(text, path, chosen))
+
+
+def with_bodies(text: str, path: str, chosen: Iterable[Edit]) -> str:
+    """A file's text with the lines that some mutants change in it."""
+    lines = text.split("\n")
+    for edit in chosen:
+        for (where, number), now in edit.lines.items():
+            if where == path:
+                lines[number - 1] = now
+    return "\n".join(lines)
+
+
+def check(words: list[str], room: str) -> Said:
+    """What a check says that is made in a folder."""
+    how: dict[str, Any] = {"stdin": subprocess.DEVNULL, "stdout": subprocess.PIPE, "stderr": subprocess.STDOUT}
+    ran = subprocess.run(words, cwd=room, check=False, **how)
+    return Said(ran.stdout.decode(errors="replace"), ran.returncode)
