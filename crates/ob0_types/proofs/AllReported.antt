@@ -9,9 +9,11 @@ use Rattle.ob0_scope_table.specs.Resolution.{IsResolution, Resolution, is_of_dec
 use Rattle.ob0_tree.specs.Parsed.{named_tree_of}
 use Rattle.ob0_types_check.specs.DeclarationFaults.{reported_module}
 use Rattle.ob0_types_check.specs.ModuleLaws.{HasDeclarations, ModulesFit}
+use Rattle.ob0_types_check.specs.SomeBodies.{IsReportOf}
 use Rattle.ob0_types_check.specs.WellTypedLaws.{NoFaultInModules}
+use Rattle.ob0_types_check.specs.declared.reporting.Report.{Report}
 use Rattle.ob0_types.specs.FaultOrder.{AreFirstOf, faults_in}
-use Rattle.ob0_types.specs.CheckedModules.{IsChecked, IsReported}
+use Rattle.ob0_types.specs.CheckedModules.{IsChecked, IsKnownWhereTyped, IsReported}
 use Rattle.ob0_types_table.specs.KnownTables.{Tables}
 use Rattle.ob0_language_types.specs.WellTyped.{WellTyped, fits_over}
 
@@ -75,6 +77,18 @@ known_declares none (Some t) P h = h.1
 known_there : (none : Type 0) (known : Option Tables) (P : Tables → Type 0) → MatchOption known (none → ⊥) (λ t. none × P t) → none → is_some known ≡ true
 known_there none None P h n = absurd (h n)
 known_there none (Some t) P h n = refl
+
+-- nothing is reported of a well-typed module
+pub none_reported : NoFaultInModules → (r : Resolution) → IsResolution r → WellTyped (named_tree_of r.module_read) → reported_module r ≡ []
+unfolding WellTyped
+none_reported law r is w = law r is w.1
+
+-- what is known of its declarations is something where it is well-typed
+pub known_where_typed : (r : Resolution) (report : Report) → NoFaultInModules → IsResolution r → IsReportOf r report → IsKnownWhereTyped r report.known
+known_where_typed r report law is h = record {
+  holds = known_declares (reported_module r ≡ []) report.known (HasDeclarations (named_tree_of r.module_read)) h.known;
+  kept = λ typed. known_there (reported_module r ≡ []) report.known (HasDeclarations (named_tree_of r.module_read)) h.known (none_reported law r is typed);
+}
 
 -- where nothing is reported exactly of a module that fits and declares each name once, it is reported exactly of a well-typed one
 pub checked_reported : (r : Resolution) (faults : List Fault) → ModulesFit → NoFaultInModules → IsResolution r → ((faults ≡ []) ↔ (faults_in r ≡ []))

@@ -1,6 +1,7 @@
 -- Numbers that are among others.
 use Rattle.std.proofs.Common.{◌≡◌, ℕ, Bool, true, false, ◌||◌, List, [], ◌∷◌, ◌++◌, refl, ◌∙◌, nat_eq, eq-eqb}
 use Rattle.std.proofs.lemmas.List.Folds.{list_any-append}
+use Rattle.std.specs.List.{AllZip}
 use Rattle.ob0_types_check.specs.SomeBodies.{AllPass, is_among}
 
 pub all_weaker : (test other : ℕ → Bool) (xs : List ℕ) → ((k : ℕ) → test k ≡ true → other k ≡ true) → AllPass test xs → AllPass other xs
@@ -30,3 +31,10 @@ all_among (x ∷ xs) = (itself_first, all_weaker (is_among xs) (is_among (x ∷ 
   where
     itself_first : is_among (x ∷ xs) x ≡ true
     itself_first = true_or (nat_eq x x) (is_among xs x) (eq-eqb x x refl)
+
+-- a copy of a list
+pub copied_items : (xs ys : List ℕ) → AllZip (λ x y. y ≡ x) xs ys → ys ≡ xs
+copied_items [] [] h = refl
+copied_items [] (y ∷ ys) h = absurd h
+copied_items (x ∷ xs) [] h = absurd h
+copied_items (x ∷ xs) (y ∷ ys) h = λ i. h.0 i ∷ copied_items xs ys h.1 i

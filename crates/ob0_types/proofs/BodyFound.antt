@@ -1,6 +1,6 @@
 -- The tokens of a module's names and numbers but for those in one body are before the range of tokens that lies in that
 -- body, or after it: they ascend, and the body's first identifier isn't after the range begins.
-use Rattle.std.proofs.Common.{◌≡◌, ◌<◌, ◌≤◌, ℕ, ◌+◌, Bool, true, false, ◌&&◌, ◌||◌, nat_le, nat_lt, if◌then◌else◌, List, [], ◌∷◌, ◌++◌, refl, sym, ap, ◌∙◌, subst, arith, append_assoc, le_refl, lt-ltb, le-leb, leb-true, ltb-true, ltb-false}
+use Rattle.std.proofs.Common.{◌≡◌, ◌<◌, ◌≤◌, ℕ, ◌+◌, Bool, true, false, ◌&&◌, ◌||◌, nat_le, nat_lt, if◌then◌else◌, List, [], ◌∷◌, ◌++◌, refl, sym, ap, ◌∙◌, subst, arith, append_assoc, le_refl, lt-ltb, le-leb, leb-true, ltb-true}
 use Rattle.ob0_tree.specs.declared.tree.Role.{Role}
 use Rattle.ob0_tree.specs.declared.tree.Role.TheVariants as role
 use Rattle.ob0_tree.specs.Lexeme.{EndOfText, Mark, Name, Number, Terminal}
@@ -11,7 +11,7 @@ use Rattle.ob0_scope_table.specs.BodyAlone.{EachToken}
 use Rattle.ob0_scope_table.specs.OneBody.{begins_by, closing_name, is_in_block, is_in_body, is_in_procedure, is_in_procedures, is_out}
 use Rattle.ob0_scope_table.proofs.Placed.{AllOf, each_of, places, places_spelled, token_places}
 use Rattle.ob0_types_check.specs.AlikeBut.{BlockBut, ModuleBut, ProcedureBut, ProceduresBut, Unless}
-use Rattle.ob0_types.specs.OneBody.{closing_among, closing_in_block, closing_in_module, closing_in_procedure}
+use Rattle.ob0_types.specs.OneBody.{body_among, body_in_block, body_in_module, body_in_procedure}
 
 -- ---- numbers that ascend
 
@@ -105,9 +105,58 @@ module _ (P : ℕ → Type 0) (wanted : ℕ → Bool) where
 pub module_any : (P : ℕ → Type 0) (wanted : ℕ → Bool) (m : Tree ℕ module_text) → EachToken P m → ModuleBut P wanted m
 module_any P wanted (is_module x b closing) h = (h.0, block_any P wanted closing b h.1, h.2)
 
+-- ---- all tokens but those in one body
+
+-- the one or the other
+abbrev pub Chosen : Bool → Type 0 → Type 0 → Type 0
+Chosen true A B = A
+Chosen false A B = B
+
+-- of each token but those in the body in which a range of tokens lies, from `low` on
+abbrev mutual
+  -- a block
+  pub BlockOutside : (ℕ → Type 0) → ℕ → Tree ℕ block → Type 0
+  BlockOutside P low (has_body (declares cs ts vs ps) statements) = EachToken P cs × EachToken P ts × EachToken P vs × AmongOutside P low ps statements
+
+  -- the procedures of a block, and its statements
+  pub AmongOutside : (ℕ → Type 0) → ℕ → Tree ℕ (items procedure) → Tree ℕ (maybe body) → Type 0
+  AmongOutside P low end statements = Unit {0}
+  AmongOutside P low (more p rest) statements =
+      Chosen (nat_lt (closing_name p) low) (EachToken P p × AmongOutside P low rest statements) (ProcedureOutside P low p × EachToken P rest × EachToken P statements)
+
+  -- a procedure
+  pub ProcedureOutside : (ℕ → Type 0) → ℕ → Tree ℕ (item procedure) → Type 0
+  ProcedureOutside P low (declares_procedure x fs b closing) = P x × EachToken P fs × BlockOutside P low b × P closing
+
+-- a module
+abbrev pub ModuleOutside : (ℕ → Type 0) → ℕ → Tree ℕ module_text → Type 0
+ModuleOutside P low (is_module x b closing) = P x × BlockOutside P low b × P closing
+
+-- the closing name of that body is wanted
+module _ (P : ℕ → Type 0) (low : ℕ) (wanted : ℕ → Bool) where
+  mutual
+    block_but : (own : ℕ) (b : Tree ℕ block) → BlockOutside P low b → wanted (body_in_block low own b).closing ≡ true → BlockBut P wanted own b
+    block_but own (has_body (declares cs ts vs ps) statements) h is_wanted = let f = among_but own ps statements h.3 is_wanted in (h.0, h.1, h.2, f.0, f.1)
+
+    among_but : (own : ℕ) (ps : Tree ℕ (items procedure)) (statements : Tree ℕ (maybe body)) → AmongOutside P low ps statements → wanted (body_among low own ps statements).closing ≡ true
+        → ProceduresBut P wanted ps × Unless (wanted own) (EachToken P statements)
+    among_but own end statements h is_wanted = (tt, subst (λ b. Unless b (EachToken P statements)) (sym is_wanted) tt)
+    among_but own (more p rest) statements h is_wanted =
+        (elim (nat_lt (closing_name p) low) as (λ z. Chosen z (EachToken P p × AmongOutside P low rest statements) (ProcedureOutside P low p × EachToken P rest × EachToken P statements)
+        → wanted (if z then body_among low own rest statements else body_in_procedure low p).closing ≡ true → ProceduresBut P wanted (more p rest) × Unless (wanted own) (EachToken P statements)) [
+          | true ↦ λ h is_wanted. let f = among_but own rest statements h.1 is_wanted in ((procedure_any P wanted p h.0, f.0), f.1)
+          | false ↦ λ h is_wanted. ((procedure_but p h.0 is_wanted, procedures_any P wanted rest h.1), unless_any P wanted (wanted own) h.2)
+        ]) h is_wanted
+
+    procedure_but : (p : Tree ℕ (item procedure)) → ProcedureOutside P low p → wanted (body_in_procedure low p).closing ≡ true → ProcedureBut P wanted p
+    procedure_but (declares_procedure x fs b closing) h is_wanted = (h.0, h.1, block_but closing b h.2 is_wanted, h.3)
+
+  pub module_but : (m : Tree ℕ module_text) → ModuleOutside P low m → wanted (body_in_module low m).closing ≡ true → ModuleBut P wanted m
+  module_but (is_module x b closing) h is_wanted = (h.0, block_but closing b h.1 is_wanted, h.2)
+
 -- ---- in the body and out of it
 
-module _ (low high : ℕ) (P : ℕ → Type 0) (wanted : ℕ → Bool) (out : (k : ℕ) → is_out low high k ≡ true → P k) where
+module _ (low high : ℕ) (P : ℕ → Type 0) (out : (k : ℕ) → is_out low high k ≡ true → P k) where
   is_below : (k : ℕ) → k < low → P k
   is_below k less = out k (out_if_below (nat_lt k low) (nat_le high k) (lt-ltb k low less))
 
@@ -133,23 +182,20 @@ module _ (low high : ℕ) (P : ℕ → Type 0) (wanted : ℕ → Bool) (out : (k
   all_upto least [] c top h less = (is_below c less, tt)
   all_upto least (x ∷ xs) c top h less = let le = last_above (x + 1) xs c top h.1 in (is_below x (omega (arith, le, less)), all_upto (x + 1) xs c top h.1 less)
 
-  record BlockFound (own : ℕ) (b : Tree ℕ block) : Type 0 where
-    pub but : BlockBut P wanted own b
-    pub begins : Begins low (places b)
+  -- what holds of a part, which begins in time
+  record Found (A : Type 0) (xs : List ℕ) : Type 0 where
+    pub outside : A
+    pub begins : Begins low xs
 
-  record ProceduresFound (own : ℕ) (ps : Tree ℕ (items procedure)) (statements : Tree ℕ (maybe body)) : Type 0 where
-    pub but : ProceduresBut P wanted ps
-    pub own_body : Unless (wanted own) (EachToken P statements)
-    pub begins : Begins low (places ps ++ places statements)
+  abbrev BlockFound : Tree ℕ block → Type 0
+  BlockFound b = Found (BlockOutside P low b) (places b)
 
-  record ProcedureFound (p : Tree ℕ (item procedure)) : Type 0 where
-    pub but : ProcedureBut P wanted p
-    pub begins : Begins low (places p)
+  abbrev ProceduresFound : Tree ℕ (items procedure) → Tree ℕ (maybe body) → Type 0
+  ProceduresFound ps statements = Found (AmongOutside P low ps statements) (places ps ++ places statements)
 
-  own_found : (own least top : ℕ) (statements : Tree ℕ (maybe body)) → Ascending least (places statements) top → begins_by low (identifiers role.Declaring statements) ≡ true → wanted own ≡ true → ProceduresFound own end statements
-  own_found own least top statements h e is_wanted = record {
-    but = tt;
-    own_body = subst (λ b. Unless b (EachToken P statements)) (sym is_wanted) tt;
+  own_found : (least top : ℕ) (statements : Tree ℕ (maybe body)) → Ascending least (places statements) top → begins_by low (identifiers role.Declaring statements) ≡ true → ProceduresFound end statements
+  own_found least top statements h e = record {
+    outside = tt;
     begins = subst (Begins low) (places_spelled statements)
         (begins_terminals least low (spell statements) top (subst (λ l. Ascending least l top) (sym (places_spelled statements)) h)
         (subst (Begins low) (leaves_spelled role.Declaring statements) (begins_names low (identifiers role.Declaring statements) e)));
@@ -171,18 +217,18 @@ module _ (low high : ℕ) (P : ℕ → Type 0) (wanted : ℕ → Bool) (out : (k
 
   -- a procedure, of which the block is found
   with_block : (x : ℕ) (fs : List ℕ) (b : Tree ℕ block) (closing least top : ℕ) → Ascending least (x ∷ (fs ++ (places b ++ (closing ∷ [])))) top → high ≤ closing
-      → ((start : ℕ) → Ascending start (places b) closing → BlockFound closing b) → AllOf P (x ∷ fs) × BlockBut P wanted closing b × P closing × Begins low (x ∷ (fs ++ (places b ++ (closing ∷ []))))
+      → ((start : ℕ) → Ascending start (places b) closing → BlockFound b) → AllOf P (x ∷ fs) × BlockOutside P low b × P closing × Begins low (x ∷ (fs ++ (places b ++ (closing ∷ []))))
   with_block x fs b closing least top h le found =
       let last = places b ++ (closing ∷ []) in
       let s = split least (x ∷ fs) last top h in
       let t = split s.middle (places b) (closing ∷ []) top s.last in
       let f = found s.middle (ascending_higher s.middle (places b) t.middle closing t.last.0 t.first) in
       let begins = begins_then low (places b) (closing ∷ []) f.begins in
-      (all_before least (x ∷ fs) last top h begins, f.but, is_above closing le, begins_before least low (x ∷ fs) last top h begins)
+      (all_before least (x ∷ fs) last top h begins, f.outside, is_above closing le, begins_before least low (x ∷ fs) last top h begins)
 
   mutual
-    block_found : (own least top : ℕ) (b : Tree ℕ block) → Ascending least (places b) top → high ≤ top → is_in_block low high b ≡ true → wanted (closing_in_block low own b) ≡ true → BlockFound own b
-    block_found own least top (has_body (declares cs ts vs ps) statements) h le is is_wanted =
+    block_found : (least top : ℕ) (b : Tree ℕ block) → Ascending least (places b) top → high ≤ top → is_in_block low high b ≡ true → BlockFound b
+    block_found least top (has_body (declares cs ts vs ps) statements) h le is =
         let of_procedures = places ps ++ places statements in
         let of_variables = places vs ++ of_procedures in
         let of_types = places ts ++ of_variables in
@@ -193,59 +239,60 @@ module _ (low high : ℕ) (P : ℕ → Type 0) (wanted : ℕ → Bool) (out : (k
         let a = split least (places cs) of_types top all in
         let b = split a.middle (places ts) of_variables top a.last in
         let d = split b.middle (places vs) of_procedures top b.last in
-        let f = procedures_found own d.middle top ps statements d.last le is is_wanted in
+        let f = procedures_found d.middle top ps statements d.last le is in
         let begins₁ = begins_before b.middle low (places vs) of_procedures top b.last f.begins in
         let begins₂ = begins_before a.middle low (places ts) of_variables top a.last begins₁ in
         record {
-          but = (
+          outside = (
             each_of P cs (all_before least (places cs) of_types top all begins₂),
             each_of P ts (all_before a.middle (places ts) of_variables top a.last begins₁),
             each_of P vs (all_before b.middle (places vs) of_procedures top b.last f.begins),
-            f.but,
-            f.own_body,
+            f.outside,
           );
           begins = subst (Begins low) (sym e) (begins_before least low (places cs) of_types top all begins₂);
         }
 
-    procedures_found : (own least top : ℕ) (ps : Tree ℕ (items procedure)) (statements : Tree ℕ (maybe body)) → Ascending least (places ps ++ places statements) top → high ≤ top
-        → is_in_procedures low high ps statements ≡ true → wanted (closing_among low own ps) ≡ true → ProceduresFound own ps statements
-    procedures_found own least top end statements h le is is_wanted = own_found own least top statements h is is_wanted
-    procedures_found own least top (more p rest) statements h le is is_wanted =
+    procedures_found : (least top : ℕ) (ps : Tree ℕ (items procedure)) (statements : Tree ℕ (maybe body)) → Ascending least (places ps ++ places statements) top → high ≤ top
+        → is_in_procedures low high ps statements ≡ true → ProceduresFound ps statements
+    procedures_found least top end statements h le is = own_found least top statements h is
+    procedures_found least top (more p rest) statements h le is =
         let others = places rest ++ places statements in
         let e : places (more p rest) ++ places statements ≡ places p ++ others = append_assoc (places p) (places rest) (places statements) in
         let all = subst (λ l. Ascending least l top) e h in
         let s = split least (places p) others top all in
         (elim (nat_lt (closing_name p) low) as (λ z. nat_lt (closing_name p) low ≡ z → (if z then is_in_procedures low high rest statements else nat_le high (closing_name p) && is_in_procedure low high p) ≡ true
-        → wanted (if z then closing_among low own rest else closing_in_procedure low p) ≡ true → ProceduresFound own (more p rest) statements) [
-          | true ↦ λ before is is_wanted.
-              let f = procedures_found own s.middle top rest statements s.last le is is_wanted in
+        → Found (Chosen z (EachToken P p × AmongOutside P low rest statements) (ProcedureOutside P low p × EachToken P rest × EachToken P statements)) (places (more p rest) ++ places statements)) [
+          | true ↦ λ before is.
+              let f = procedures_found s.middle top rest statements s.last le is in
               record {
-                but = (procedure_any P wanted p (passed_over p least s.middle s.first (ltb-true (closing_name p) low before)), f.but);
-                own_body = f.own_body;
+                outside = (passed_over p least s.middle s.first (ltb-true (closing_name p) low before), f.outside);
                 begins = subst (Begins low) (sym e) (begins_before least low (places p) others top all f.begins);
               }
-          | false ↦ λ after is is_wanted.
+          | false ↦ λ after is.
               let parts = both_true (nat_le high (closing_name p)) (is_in_procedure low high p) is in
               let reaches = leb-true high (closing_name p) parts.0 in
-              let f = procedure_found least s.middle p s.first reaches parts.1 is_wanted in
+              let f = procedure_found least s.middle p s.first reaches parts.1 in
               let less = closes_below p least s.middle s.first in
               let t = split s.middle (places rest) (places statements) top s.last in
               let bound = ascending_bounds s.middle (places rest) t.middle t.first in
               record {
-                but = (f.but, procedures_any P wanted rest (each_of P rest (all_above s.middle (places rest) t.middle t.first (omega (arith, reaches, less)))));
-                own_body = unless_any P wanted (wanted own) (each_of P statements (all_above t.middle (places statements) top t.last (omega (arith, reaches, less, bound))));
+                outside = (
+                  f.outside,
+                  each_of P rest (all_above s.middle (places rest) t.middle t.first (omega (arith, reaches, less))),
+                  each_of P statements (all_above t.middle (places statements) top t.last (omega (arith, reaches, less, bound))),
+                );
                 begins = subst (Begins low) (sym e) (begins_then low (places p) others f.begins);
               }
-        ]) refl is is_wanted
+        ]) refl is
 
-    procedure_found : (least top : ℕ) (p : Tree ℕ (item procedure)) → Ascending least (places p) top → high ≤ closing_name p → is_in_procedure low high p ≡ true → wanted (closing_in_procedure low p) ≡ true → ProcedureFound p
-    procedure_found least top (declares_procedure x fs b closing) h le is is_wanted =
-        let w = with_block x (places fs) b closing least top h le (λ start asc. block_found closing start closing b asc le is is_wanted) in
-        record { but = (w.0.0, each_of P fs w.0.1, w.1, w.2); begins = w.3 }
+    procedure_found : (least top : ℕ) (p : Tree ℕ (item procedure)) → Ascending least (places p) top → high ≤ closing_name p → is_in_procedure low high p ≡ true → Found (ProcedureOutside P low p) (places p)
+    procedure_found least top (declares_procedure x fs b closing) h le is =
+        let w = with_block x (places fs) b closing least top h le (λ start asc. block_found start closing b asc le is) in
+        record { outside = (w.0.0, each_of P fs w.0.1, w.1, w.2); begins = w.3 }
 
-  pub module_found : (least top : ℕ) (m : Tree ℕ module_text) → Ascending least (places m) top → is_in_body low high m ≡ true → wanted (closing_in_module low m) ≡ true → ModuleBut P wanted m
-  module_found least top (is_module x b closing) h is is_wanted =
+  pub module_found : (least top : ℕ) (m : Tree ℕ module_text) → Ascending least (places m) top → is_in_body low high m ≡ true → ModuleOutside P low m
+  module_found least top (is_module x b closing) h is =
       let parts = both_true (nat_le high closing) (is_in_block low high b) is in
       let reaches = leb-true high closing parts.0 in
-      let w = with_block x [] b closing least top h reaches (λ start asc. block_found closing start closing b asc reaches parts.1 is_wanted) in
+      let w = with_block x [] b closing least top h reaches (λ start asc. block_found start closing b asc reaches parts.1) in
       (w.0.0, w.1, w.2)

@@ -1,15 +1,21 @@
 -- The fields that are kept with a module that has no fault are its fields.
-use Rattle.std.proofs.Common.{◌≡◌, [], true, IfSome, is_some, Option, Some, None, sym, subst, true≢false}
+use Rattle.std.proofs.Common.{◌≡◌, IfSome, is_some, Option, Some, None, sym, subst, ap, ◌∙◌, true≢false}
+use Rattle.ob0_language_types.specs.WellTyped.{WellTyped}
+use Rattle.ob0_scope_table.specs.Resolution.{IsResolution, Resolution}
+use Rattle.ob0_tree.specs.Parsed.{named_tree_of}
+use Rattle.ob0_types.specs.CheckedModules.{IsKnownWhereTyped}
+use Rattle.ob0_types_check.specs.ModuleLaws.{HasDeclarations}
 use Rattle.ob0_types_fields.specs.Listed.{AreFields, Listed, listed_by}
 use Rattle.ob0_types_fields.proofs.ListedFields.{listed_fields}
 use Rattle.ob0_types_table.specs.KnownTables.{Tables}
-use Rattle.ob0_tree.specs.Parsed.{named_tree_of}
-use Rattle.ob0_types.specs.CheckedModules.{CheckedModule, IsChecked}
-use Rattle.ob0_types_check.specs.ModuleLaws.{HasDeclarations}
 
-pub fields_kept : (c : CheckedModule) → IsChecked c → (fields : Listed) → IfSome c.known (λ t. fields ≡ listed_by t c.names) → c.faults ≡ [] → AreFields c.names fields
-fields_kept c is fields listed none = go c.known (is.kept none) is.holds listed
-  where
-    go : (known : Option Tables) → is_some known ≡ true → IfSome known (HasDeclarations (named_tree_of c.names.module_read)) → IfSome known (λ t. fields ≡ listed_by t c.names) → AreFields c.names fields
-    go None some holds same = absurd (true≢false (sym some))
-    go (Some t) some holds same = subst (AreFields c.names) (sym same) (listed_fields c.names is.resolved (is.reported.0 none) t holds)
+module _ (r : Resolution) (known : Option Tables) (is : IsResolution r) (h : IsKnownWhereTyped r known) where
+  -- nothing is known of a module that isn't well-typed
+  pub none_typed : {A : Type 0} → known ≡ None → WellTyped (named_tree_of r.module_read) → A
+  none_typed e typed = absurd (true≢false (sym (h.kept typed) ∙ ap is_some e))
+
+  pub table_holds : (t : Tables) → known ≡ Some t → HasDeclarations (named_tree_of r.module_read) t
+  table_holds t e = subst (λ k. IfSome k (HasDeclarations (named_tree_of r.module_read))) e h.holds
+
+  pub fields_listed : (t : Tables) (fields : Listed) → known ≡ Some t → fields ≡ listed_by t r → WellTyped (named_tree_of r.module_read) → AreFields r fields
+  fields_listed t fields e same typed = subst (AreFields r) (sym same) (listed_fields r is typed t (table_holds t e))

@@ -15,10 +15,10 @@ use Rattle.ob0_scope_table.specs.Resolution.{IsResolution, Resolution}
 use Rattle.ob0_scope_table.proofs.Placed.{places_ascend}
 use Rattle.ob0_types_check.specs.AlikeBut.{AreAlikeBut, IsAlikeAt}
 use Rattle.ob0_types_check.specs.SomeBodies.{WereFaulty, faulty_bodies, is_among}
-use Rattle.ob0_types.specs.OneBody.{WereTypes, closing_in_module, over_text}
+use Rattle.ob0_types.specs.OneBody.{WereTypes, body_in_module, over_text}
 use Rattle.ob0_types.specs.declared.checked.ModuleTypes.{ModuleTypes}
 use Rattle.ob0_types.proofs.Among.{all_weaker, among_further, among_last}
-use Rattle.ob0_types.proofs.BodyFound.{module_found}
+use Rattle.ob0_types.proofs.BodyFound.{ModuleOutside, module_but, module_found}
 
 -- how a token is written and its number, by its word
 abbrev word_text : Option Word → List ℕ
@@ -48,26 +48,35 @@ module _ (old new : Scanned) (k : ℕ) (same : slice_get (words_in new.text new.
   value_same = by_value new.text (slice_get new.tokens k) ∙ (ap word_value words ∙ sym (by_value old.text (slice_get old.tokens k)))
 
 module _ (r : Resolution) (types : ModuleTypes) (low : ℕ) (w : WereTypes r types low) where
-  abbrev before : Resolution
+  abbrev pub before : Resolution
   before = resolution_by (over_text w.old r.module_read) w.bindings
 
   abbrev kind_of : Token → TokenKind
   kind_of t = valueless t.kind
 
-  abbrev last_body : ℕ
-  last_body = closing_in_module low (tree_of r.module_read)
+  abbrev pub last_body : ℕ
+  last_body = (body_in_module low (tree_of r.module_read)).closing
 
-  were_alike : (wanted : ℕ → Bool) → IsResolution r → wanted last_body ≡ true → AreAlikeBut wanted before r
+  alike_out : (k : ℕ) → is_out low w.high k ≡ true → IsAlikeAt before r k
+  alike_out k e =
+      let new = r.module_read.source in
+      record { written = text_same w.old new k (w.change.same_words k e); value = value_same w.old new k (w.change.same_words k e); bound = w.bound k e }
+
+  -- what holds of tokens that are alike holds of each but those in that body
+  pub alike_outside : (P : ℕ → Type 0) → ((k : ℕ) → IsAlikeAt before r k → P k) → IsResolution r → ModuleOutside P low (tree_of r.module_read)
+  alike_outside P holds is =
+      module_found low w.high P (λ k e. holds k (alike_out k e)) 0 (length r.module_read.source.tokens) (tree_of r.module_read) (places_ascend r.module_read is.parsed) w.change.in_body
+
+  pub were_alike : (wanted : ℕ → Bool) → IsResolution r → wanted last_body ≡ true → AreAlikeBut wanted before r
   were_alike wanted is is_wanted =
       let new = r.module_read.source in
-      let alike : (k : ℕ) → is_out low w.high k ≡ true → IsAlikeAt before r k = λ k e. record { written = text_same w.old new k (w.change.same_words k e); value = value_same w.old new k (w.change.same_words k e); bound = w.bound k e } in
       record {
         tree = refl;
         count = sym (length-map new.tokens kind_of) ∙ (ap length w.change.same_kinds ∙ length-map w.old.tokens kind_of);
-        alike = module_found low w.high (IsAlikeAt before r) wanted alike 0 (length new.tokens) (tree_of r.module_read) (places_ascend r.module_read is.parsed) w.change.in_body is_wanted;
+        alike = module_but (IsAlikeAt before r) low wanted (tree_of r.module_read) (alike_outside (IsAlikeAt before r) (λ k h. h) is) is_wanted;
       }
 
-  pub were_faulty : IsResolution r → WereFaulty (is_among (types.faulty.items ++ last_body ∷ [])) r
+  abbrev pub were_faulty : IsResolution r → WereFaulty (is_among (types.faulty.items ++ last_body ∷ [])) r
   were_faulty is =
       let bodies = types.faulty.items ++ last_body ∷ [] in
       record {

@@ -1,17 +1,17 @@
 -- Where the tokens of a text are written as they were, what was found of a module's types is found of it again: its tree has
 -- the same names and numbers, and its faults are at the same tokens, which are in the same order.
-use Rattle.std.proofs.Common.{◌≡◌, ◌↔◌, ◌<◌, ◌≤◌, ℕ, ◌+◌, true, false, List, [], ◌∷◌, ◌++◌, Option, IfSome, is_some, length, map, take, get_or, option_and_then, sym, refl, ap, ◌∙◌, subst, arith}
+use Rattle.std.proofs.Common.{◌≡◌, ◌<◌, ◌≤◌, ℕ, ◌+◌, List, [], ◌∷◌, Option, IfSome, is_some, length, map, take, get_or, option_and_then, sym, refl, ap, ◌∙◌, subst, arith}
 use Rattle.std.proofs.Math.ListN.{get_or-map}
 use Rattle.std.proofs.lemmas.List.{get_or_default, length-map, map-set, nil_from_length, take-map}
 use Rattle.std.proofs.lemmas.List.Sorted.{IsPermutation-keeps, IsPermutation-map, IsPermutation-refl, IsPermutation-swap, IsPermutation-trans}
-use Rattle.std.specs.List.{filter, swap}
+use Rattle.std.specs.List.{swap}
 use Rattle.std.specs.Prelude.{set}
 use Rattle.std.specs.List.Sorted.{IsPermutation, IsSorted}
 use Rattle.std.specs.Ordering.{is_lt, nat_cmp, ordering_then}
 use Rattle.ob0_scan.specs.Scanned.{Scanned, read_in}
 use Rattle.ob0_scan.specs.declared.fault.Code.TheVariants as code
 use Rattle.ob0_scan.specs.declared.fault.Fault.{Fault}
-use Rattle.ob0_tree.specs.Parsed.{Parsed, named_tree_of, parsed_by, tree_of}
+use Rattle.ob0_tree.specs.Parsed.{named_tree_of, parsed_by, tree_of}
 use Rattle.ob0_tree.specs.declared.tree.ModuleTree.{ModuleTree}
 use Rattle.ob0_language_types.specs.Bindings.{declared_object}
 use Rattle.ob0_language_types.specs.WellTyped.{WellTyped}
@@ -32,11 +32,9 @@ use Rattle.ob0_types_check.proofs.SomeBodies.{faulty_stay}
 use Rattle.ob0_types_fields.specs.Identifiers.{field_identifiers}
 use Rattle.ob0_types_fields.specs.Listed.{Listed}
 use Rattle.ob0_types_fields.specs.Owned.{fields_among, owned_module}
-use Rattle.ob0_types.specs.CheckedModules.{AreTypesOf}
 use Rattle.ob0_types.proofs.BodyFound.{module_any}
 use Rattle.ob0_types.specs.FaultOrder.{AreFirstOf, code_number, fault_cmp, faults_in}
-use Rattle.ob0_types.specs.Respelled.{AreTypesMoved, TypesKeepTokens}
-use Rattle.ob0_types.specs.declared.checked.ModuleTypes.{ModuleTypes}
+use Rattle.ob0_types.specs.Respelled.{TypesKeepTokens}
 
 -- ---- lists of what is made of others
 

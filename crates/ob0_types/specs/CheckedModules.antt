@@ -49,6 +49,16 @@ pub record AreTypesOf (names : Resolution) (types : ModuleTypes) : Type 0 where
   pub fields : types.faults.items ≡ [] → AreFields names types.fields
   pub faulty : AllPass (is_among types.faulty.items) (faulty_bodies names)
 
+-- what is known of a module's declarations, which is something where it is well-typed
+pub record IsKnownWhereTyped (names : Resolution) (known : Option Tables) : Type 0 where
+  pub holds : IfSome known (HasDeclarations (named_tree_of names.module_read))
+  pub kept : WellTyped (named_tree_of names.module_read) → is_some known ≡ true
+
+-- they are the fields of a module, where it is well-typed
+abbrev pub AreFieldsWhereTyped : Resolution → Listed → Type 0
+AreFieldsWhereTyped names fields =
+    WellTyped (named_tree_of names.module_read) → AreFields names fields
+
 -- a module that is well-typed
 pub record IsWellTyped (names : Resolution) : Type 0 where
   pub resolved : IsResolution names

@@ -1,7 +1,8 @@
 -- What was found of a module's types before its tokens changed in the statements of one body.
 -- Rule: docs/LANGUAGE.md, Types 8, Faults of scopes and types 1.
 use Rattle.std.specs.Prelude.{◌≡◌, ℕ, true, nat_lt, if◌then◌else◌}
-use Rattle.ob0_tree.specs.Tree.{Tree, block, declares, declares_procedure, end, has_body, is_module, item, items, module_text, more, procedure}
+use Rattle.ob0_tree.specs.Tree.{Tree, block, body, declares, declares_procedure, end, has_body, is_module, item, items, maybe, module_text, more, procedure}
+use Rattle.ob0_tree.specs.View.{body_of}
 use Rattle.ob0_scan.specs.Scanned.{Scanned}
 use Rattle.ob0_scope_table.specs.Bindings.{resolution_by}
 use Rattle.ob0_scope_table.specs.OneBody.{IsBodyChange, closing_name, is_out}
@@ -10,29 +11,40 @@ use Rattle.ob0_scope_table.specs.declared.resolved.Bindings.{Bindings}
 use Rattle.ob0_tree.specs.Parsed.{Parsed}
 use Rattle.ob0_types.specs.CheckedModules.{AreTypesOf}
 use Rattle.ob0_types.specs.declared.checked.ModuleTypes.{ModuleTypes}
+use Rattle.ob0_types.specs.declared.one_body.Body.{Body}
 
--- a range of tokens that lies in the statements of one block, from `low` on: the block's closing name
+-- the statements of a block, with the block's closing name
+pub record OneBody : Type 0 where
+  pub closing : ℕ
+  pub statements : Tree ℕ (maybe body)
+
+-- as the code has it
+abbrev pub body_seen : Body → OneBody
+body_seen b = record { closing = b.closing; statements = body_of b.statements.now }
+
+-- the body in which a range of tokens lies, from `low` on
 abbrev mutual
   -- of a block with this closing name, or of one in it
-  pub closing_in_block : ℕ → ℕ → Tree ℕ block → ℕ
-  closing_in_block low own (has_body (declares cs ts vs ps) statements) = closing_among low own ps
+  pub body_in_block : ℕ → ℕ → Tree ℕ block → OneBody
+  body_in_block low own (has_body (declares cs ts vs ps) statements) =
+      body_among low own ps statements
 
   -- of the first procedure that doesn't close before it, or of one in that; where all close before
   -- it, of the block
-  pub closing_among : ℕ → ℕ → Tree ℕ (items procedure) → ℕ
-  closing_among low own end = own
-  closing_among low own (more p ps) =
+  pub body_among : ℕ → ℕ → Tree ℕ (items procedure) → Tree ℕ (maybe body) → OneBody
+  body_among low own end statements = record { closing = own; statements = statements }
+  body_among low own (more p ps) statements =
       if nat_lt (closing_name p) low
-      then closing_among low own ps
-      else closing_in_procedure low p
+      then body_among low own ps statements
+      else body_in_procedure low p
 
   -- of a procedure, or of one in it
-  pub closing_in_procedure : ℕ → Tree ℕ (item procedure) → ℕ
-  closing_in_procedure low (declares_procedure x fs b closing) = closing_in_block low closing b
+  pub body_in_procedure : ℕ → Tree ℕ (item procedure) → OneBody
+  body_in_procedure low (declares_procedure x fs b closing) = body_in_block low closing b
 
 -- of a module, or of a procedure in it
-abbrev pub closing_in_module : ℕ → Tree ℕ module_text → ℕ
-closing_in_module low (is_module x b closing) = closing_in_block low closing b
+abbrev pub body_in_module : ℕ → Tree ℕ module_text → OneBody
+body_in_module low (is_module x b closing) = body_in_block low closing b
 
 -- a module over the tokens of another text
 abbrev pub over_text : Scanned → Parsed → Parsed

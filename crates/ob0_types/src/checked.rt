@@ -4,21 +4,20 @@
 //! `Checked` joins it to them: `check` makes one that owns its part, `Checked::from_parts` one of a part that is kept
 //! elsewhere, which takes no memory.
 //!
-//! Faults are sorted by (start, end, code). The lists of fields are made for a module that fits (`known_fields`); in
-//! `Checked`'s invariant is that they are the module's fields where it has no fault (`fields_kept`), so that the value
-//! of a `Checked` doesn't have them.
+//! Faults are sorted by (start, end, code). The lists of fields are made for a module that fits (`known_fields`), or by
+//! those of the text before where one body changed (`fields_again`); in `Checked`'s invariant is that they are the
+//! module's fields where it has no fault, so that the value of a `Checked` doesn't have them.
 
 ghost use Rattle.ob0_scope_table.specs.Resolution.{is_of_declarations};
-ghost use Rattle.ob0_types.specs.CheckedModules.{AreTypesOf, IsChecked, checked_by};
+ghost use Rattle.ob0_types.specs.CheckedModules.{AreFieldsWhereTyped, AreTypesOf, IsChecked, IsKnownWhereTyped, checked_by};
 ghost use Rattle.ob0_types.specs.FaultOrder.{AreFirstOf};
 ghost use Rattle.ob0_types.specs.OneBody.{WereTypes};
 ghost use Rattle.ob0_types_check.specs.SomeBodies.{IsReportOf};
 ghost use Rattle.std.specs.List.{filter};
-ghost use Rattle.std.specs.Prelude.{◌≡◌, ◌≤◌, ◌↔◌, ◌++◌, [], length, IfOk, IfSome, OnOk, MatchOption};
-ghost use Rattle.ob0_types_fields.specs.Listed.{listed_by};
+ghost use Rattle.std.specs.Prelude.{◌≡◌, ◌≤◌, ◌↔◌, ◌++◌, [], length, IfOk, OnOk, MatchOption};
 ghost use Rattle.ob0_scan.specs.Scanned.{max_faults};
 
-use crate::closing::closing_from;
+use crate::one_body::body_from;
 use ob0_language_values::Scalar;
 use ob0_scan::{Code, Fault, MAX_FAULTS};
 use ob0_scope_table::{PREDECLARED, Resolved};
@@ -118,12 +117,17 @@ pub fn check<'t>(alloc: Global, resolved: &'t Resolved<'t>) -> Result<Checked<'t
 pub fn types_of<'t>(alloc: Global, resolved: &'t Resolved<'t>) -> Result<ModuleTypes, AllocError>
     ensures { IfOk result (AreTypesOf resolved.now) }
 {
+    no_fault_in_modules();
+    // For the proof: what the contract of this call says.
+    let _module = resolved.module();
     let report = report_faults(alloc, resolved)?;
-    types_reported(alloc, resolved, report)
+    let fields = known_fields(alloc, resolved, &report.known)?;
+    types_reported(resolved, report, fields)
 }
 
 /// What checking a module finds, by what was found before some of its tokens changed, which lie in one body; `low` is
-/// the first. Of the other bodies those alone are checked again that had a fault.
+/// the first. Of the other bodies those alone are checked again that had a fault, and the fields of that body alone are
+/// looked for again.
 pub fn types_again<'t>(
     alloc: Global,
     resolved: &'t Resolved<'t>,
@@ -136,25 +140,23 @@ pub fn types_again<'t>(
     if before.faulty.len() > MOST_FAULTY {
         return types_of(alloc, resolved);
     }
-    let read = resolved.module();
-    let ModuleTypes {
-        known: _,
-        fields: _,
-        faults: _,
-        mut faulty,
-    } = before;
-    faulty.push(closing_from(read, low))?;
-    let report = report_bodies(alloc, resolved, faulty.as_slice())?;
-    types_reported(alloc, resolved, report)
+    no_fault_in_modules();
+    let body = body_from(resolved.module(), low);
+    let mut bodies = before.faulty.clone()?;
+    bodies.push(body.closing)?;
+    let report = report_bodies(alloc, resolved, bodies.as_slice())?;
+    let fields = fields_again(alloc, resolved, &report.known, before, low)?;
+    types_reported(resolved, report, fields)
 }
 
-/// What checking a module finds, by what is reported of it.
+/// What checking a module finds, by what is reported of it and by its fields, where it is well-typed.
 fn types_reported<'t>(
-    alloc: Global,
     resolved: &'t Resolved<'t>,
     report: Report,
+    fields: FieldList,
 ) -> Result<ModuleTypes, AllocError>
-    requires { IsReportOf resolved.now report }
+    requires report { IsReportOf resolved.now report }
+    requires fields { AreFieldsWhereTyped resolved.now fields }
     ensures { IfOk result (AreTypesOf resolved.now) }
 {
     modules_fit();
@@ -167,7 +169,6 @@ fn types_reported<'t>(
         faulty,
     } = report;
     let faults = faults_of(resolved, faults)?;
-    let fields = known_fields(alloc, resolved, &known)?;
     Ok(ModuleTypes {
         known,
         fields,
@@ -182,13 +183,48 @@ fn known_fields<'t>(
     resolved: &'t Resolved<'t>,
     known: &Option<Known>,
 ) -> Result<FieldList, AllocError>
-    ensures { IfOk result (λ fields. IfSome known.now (λ t. fields ≡ listed_by t resolved.now)) }
+    requires { IsKnownWhereTyped resolved.now known.now }
+    ensures { IfOk result (AreFieldsWhereTyped resolved.now) }
 {
-    let names = resolved;
+    // For the proof: what the contract of this call says.
+    let _module = resolved.module();
     match known {
         None => Ok(FieldList::none(alloc)),
-        Some(known) => FieldList::of(alloc, known, names),
+        Some(known) => {
+            let fields = FieldList::of(alloc, known, resolved)?;
+            Ok(fields)
+        }
     }
+}
+
+/// The fields of a well-typed module, by those that it had before some of its tokens changed, which lie in one body.
+fn fields_again<'t>(
+    alloc: Global,
+    resolved: &'t Resolved<'t>,
+    known: &Option<Known>,
+    before: ModuleTypes,
+    low: usize,
+) -> Result<FieldList, AllocError>
+    requires before { WereTypes resolved.now before low }
+    requires known { IsKnownWhereTyped resolved.now known.now }
+    ensures { IfOk result (AreFieldsWhereTyped resolved.now) }
+{
+    no_fault_in_modules();
+    let body = body_from(resolved.module(), low);
+    let ModuleTypes {
+        known: _,
+        fields,
+        faults,
+        faulty: _,
+    } = before;
+    let Some(table) = known else {
+        return Ok(fields);
+    };
+    if faults.is_empty() {
+        let fields = fields.with_body(alloc, table, resolved, body.statements)?;
+        return Ok(fields);
+    }
+    known_fields(alloc, resolved, known)
 }
 
 /// The faults of scopes and types, sorted by start, end and number, the first 100. Names that nothing binds are

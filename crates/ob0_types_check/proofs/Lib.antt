@@ -46,3 +46,4 @@ pub mod TypedModules
 pub mod SameFaults
 pub mod SameModules
 pub mod SomeBodies
+pub mod DeclarationsStay

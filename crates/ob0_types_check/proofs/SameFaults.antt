@@ -1,9 +1,8 @@
 -- Where the tokens of a part are alike in two texts (`Alikeness`: written alike and bound alike), what is reported of the
 -- part over the one is reported of it over the other, at the same tokens; and the same is known of it. A value that goes
 -- along has its text, so it is one value over each of the two.
-use Rattle.std.proofs.Common.{◌≡◌, ℕ, suc, Bool, true, false, not, ◌&&◌, List, [], ◌∷◌, ◌++◌, Option, Some, None, length, nat_eq, option_and_then, pos, ◌+◌, refl, sym, ap, ◌∙◌, subst, if◌then◌else◌}
+use Rattle.std.proofs.Common.{◌≡◌, ℕ, Bool, true, false, not, ◌&&◌, List, [], ◌∷◌, Option, Some, None, length, nat_eq, option_and_then, pos, ◌+◌, refl, sym, ap, subst, if◌then◌else◌}
 use Rattle.std.specs.Prelude.{nat_lt}
-use Rattle.std.specs.List.{filter}
 use Rattle.ob0_scan.specs.declared.fault.Code.{Code}
 use Rattle.ob0_scan.specs.declared.fault.Code.TheVariants as code
 use Rattle.ob0_scan.specs.declared.fault.Fault.{Fault}
@@ -13,7 +12,7 @@ use Rattle.ob0_tree.specs.declared.tree.MultiplyOperator.{MultiplyOperator}
 use Rattle.ob0_tree.specs.declared.tree.Relation.{Relation}
 use Rattle.ob0_tree.specs.declared.tree.Sign.{Sign}
 use Rattle.ob0_tree.specs.Places.{text_at, value_at}
-use Rattle.ob0_tree.specs.Tree.{Sort, Tree, addend, arguments, no_arguments, some_arguments, then_argument, further_argument, adds, assigns, branches, calls, compares, designator, else_branch, else_part, elsif_branch, elsif_part, empty, end, expression, factor, field, further_statement, index, integer, item, items, maybe, more, multiplier, multiplies, negation, none, one, parenthesised, product, relates, repeat_loop, runs, selector, sequence, simple, statement, sum, term, then_statement, while_loop}
+use Rattle.ob0_tree.specs.Tree.{Sort, Tree, addend, arguments, no_arguments, some_arguments, then_argument, further_argument, adds, assigns, branches, calls, compares, designator, else_branch, else_part, elsif_branch, elsif_part, empty, end, expression, factor, field, further_statement, index, integer, items, maybe, more, multiplier, multiplies, negation, none, one, parenthesised, product, relates, repeat_loop, runs, selector, sequence, simple, statement, sum, term, then_statement, while_loop}
 use Rattle.ob0_language_types.specs.Arguments.{arguments_listed, further_arguments}
 use Rattle.ob0_language_types.specs.Selected.{both}
 use Rattle.ob0_language_types.specs.Typing.{array_length, given_value}

@@ -1,14 +1,12 @@
 -- Where the tokens of a part are alike in two texts, the faults of its types are at the same tokens: those of types as
 -- they are written, of declarations and of bodies.
 use Rattle.std.proofs.Common.{◌≡◌, ℕ, suc, Bool, true, false, List, [], ◌∷◌, ◌++◌, Option, Some, None, length, map, slice_index_or, refl, sym, ap, ◌∙◌, subst, if◌then◌else◌}
-use Rattle.std.specs.List.{filter}
 use Rattle.ob0_scan.specs.declared.fault.Code.TheVariants as code
 use Rattle.ob0_scan.specs.declared.fault.Fault.{Fault}
 use Rattle.ob0_scan.specs.Scanned.{Scanned}
 use Rattle.ob0_language_names.specs.Parts.{formal_sections, further_names, module_block, names_listed, section_constants, section_types, section_variables}
-use Rattle.ob0_tree.specs.Parsed.{Parsed, parsed_by, tree_of}
-use Rattle.ob0_tree.specs.Places.{text_at}
-use Rattle.ob0_tree.specs.Tree.{Sort, Tree, no_formals, some_formals, listed, then_name, further_name, constants, type_names, variables, formals, declares_constants, declares_types, declares_variables, array_type, begins, block, body, constant, declares, declares_constant, declares_procedure, declares_type, declares_variable, end, fields, further_fields, further_section, has_body, item, items, maybe, module_text, more, named_type, names, no_fields, none, one, procedure, record_type, some_fields, then_fields, then_section, type_name, value_section, variable, variable_section, written_type}
+use Rattle.ob0_tree.specs.Parsed.{parsed_by, tree_of}
+use Rattle.ob0_tree.specs.Tree.{Sort, Tree, no_formals, some_formals, listed, then_name, further_name, constants, type_names, variables, formals, declares_constants, declares_types, declares_variables, array_type, begins, block, body, constant, declares, declares_constant, declares_procedure, declares_type, declares_variable, end, fields, further_fields, further_section, has_body, item, items, maybe, more, named_type, names, no_fields, none, one, procedure, record_type, some_fields, then_fields, then_section, type_name, value_section, variable, variable_section, written_type}
 use Rattle.ob0_tree.specs.declared.tree.ModuleTree.{ModuleTree}
 use Rattle.std.proofs.lemmas.List.{length-map}
 use Rattle.ob0_scan.specs.Scanned.{read_in}
@@ -20,12 +18,10 @@ use Rattle.ob0_scope_table.proofs.FaultTokens.{both_same, filter_same, none_same
 use Rattle.ob0_types_table.specs.declared.types.TypeId.{TypeId}
 use Rattle.ob0_types_table.specs.declared.types.TypeId.TheVariants as type
 use Rattle.ob0_types_check.specs.DeclarationFaults.{KnownHeading, after_heading, constant_declared, reported_block, reported_body, reported_constants, reported_module, reported_parameters, reported_procedure, reported_procedures, reported_section, reported_sections, reported_types, reported_variables, type_declared, variables_declared, with_parameters}
-use Rattle.ob0_types_check.specs.ExpressionFaults.{reported_expression}
-use Rattle.ob0_types_check.specs.Known.{Facts, Meaning, Operand, Reported, a_constant, a_procedure, a_type, a_variable}
+use Rattle.ob0_types_check.specs.Known.{Meaning, Operand, Reported, a_constant, a_procedure, a_type, a_variable}
 use Rattle.ob0_types_check.specs.Operations.{right, token_before, ◌>>=◌}
-use Rattle.ob0_types_check.specs.SoFar.{FieldSoFar, PartTypes, Size, SoFar, TypedAfter, at_first, define, define_all, facts_at, is_within, made, make, of_elements, of_fields, size_at, too_large, types_at, with_declared}
-use Rattle.ob0_types_check.specs.StatementFaults.{reported_sequence}
-use Rattle.ob0_types_check.specs.TypeFaults.{length_of, reported_constant, type_named}
+use Rattle.ob0_types_check.specs.SoFar.{PartTypes, Size, SoFar, TypedAfter, at_first, define, define_all, facts_at, is_within, made, make, of_elements, of_fields, size_at, too_large, types_at, with_declared}
+use Rattle.ob0_types_check.specs.TypeFaults.{length_of}
 use Rattle.ob0_types_check.specs.WrittenTypeFaults.{Gathered, array_made, array_size, gathered_after, nothing_gathered, ordinal_here, record_made, record_size, record_word, reported_fields, reported_groups, reported_type, with_field_names, with_name, word_before}
 use Rattle.ob0_types_check.proofs.SameFaults.{Alike, Alikeness, at_same, constant_same, expression_same, goes_on, length_same, rightly, sequence_same, type_named_same}
 

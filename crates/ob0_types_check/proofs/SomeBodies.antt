@@ -1,5 +1,5 @@
 -- Nothing is reported of a body of which nothing was reported before the tokens of the module changed in others.
-use Rattle.std.proofs.Common.{◌≡◌, ℕ, Bool, true, false, List, [], ◌∷◌, ◌++◌, map, Option, Some, None, length, refl, sym, ap, ◌∙◌, subst, arith, true≢false}
+use Rattle.std.proofs.Common.{◌≡◌, ℕ, Bool, true, false, List, [], ◌∷◌, ◌++◌, map, Option, None, length, refl, sym, ap, ◌∙◌, subst, arith, true≢false}
 use Rattle.std.proofs.lemmas.List.{length-map, nil_from_length}
 use Rattle.ob0_scan.specs.Scanned.{Scanned}
 use Rattle.ob0_scan.specs.declared.fault.Fault.{Fault}
@@ -249,19 +249,49 @@ module _ (old new : Scanned) (os ns : List (Option ℕ)) (P : ℕ → Type 0) (w
 abbrev closing_of : Tree ℕ module_text → ℕ
 closing_of (is_module x b closing) = closing
 
+-- what is known at the end of a module comes of one value in both texts
+pub record IsKnownAlike (old new : Resolution) : Type 0 where
+  pub value : SoFar
+  pub before : (module_with every old).known.so_far ≡ so_over old.module_read.source old.ordinals value
+  pub after : (module_with every new).known.so_far ≡ so_over new.module_read.source new.ordinals value
+
+module _ (wanted : ℕ → Bool) (r : Resolution) (is : IsResolution r) (w : WereFaulty wanted r) where
+  abbrev old : Resolution
+  old = w.old
+
+  abbrev old_block : Tree ℕ block
+  old_block = module_block (tree_of old.module_read)
+
+  likeness : Alikeness old.module_read.source r.module_read.source old.ordinals r.ordinals (IsAlikeAt old r)
+  likeness = record { count = w.alike.count; written = λ k h. h.written; value = λ k h. h.value; bound = λ k h. h.bound }
+
+  abbrev start : Both
+  start = record { so = at_first old; in_old = []; in_new = [] }
+
+  abbrev at_start : Walked
+  at_start = record { so_far = so_over r.module_read.source r.ordinals (at_first old); faulty = [] }
+
+  one : One (walked_before old.module_read.source r.module_read.source old.ordinals r.ordinals (IsAlikeAt old r) likeness wanted) (walked_now old.module_read.source r.module_read.source old.ordinals r.ordinals (IsAlikeAt old r) likeness wanted)
+      (module_with every old) (block_with every old.module_read.closing at_start old_block) (block_with wanted old.module_read.closing at_start old_block)
+  one = block_one old.module_read.source r.module_read.source old.ordinals r.ordinals (IsAlikeAt old r) likeness wanted old.module_read.closing start old_block w.alike.alike.1 w.faulty
+
+  as_read : (test : ℕ → Bool) → module_with test r ≡ block_with test old.module_read.closing at_start old_block
+  as_read test =
+      let tree = w.alike.tree in
+      let declared : r.declarations ≡ old.declarations = is.declaring ∙ (ap (λ t. declaring_only (identifiers role.Declaring t)) tree ∙ sym w.resolved.declaring) in
+      let first : at_first r ≡ so_over r.module_read.source r.ordinals (at_first old) = ap (λ (ds : List ℕ). record { source = r.module_read.source; ordinals = r.ordinals; declared = predeclared_meanings ++ map (λ token. None) ds; made = [] }) declared in
+      let own : r.module_read.closing ≡ old.module_read.closing = ap closing_of tree in
+      λ i. block_with test (own i) (record { so_far = first i; faulty = [] }) (module_block (tree i))
+
+  pub known_alike : IsKnownAlike old r
+  known_alike = record {
+    value = one.value.so;
+    before = ap (λ (v : Walked). v.so_far) one.before;
+    after = ap (λ (t : Reported Walked). t.known.so_far) (as_read every) ∙ ap (λ (v : Walked). v.so_far) one.after;
+  }
+
 pub some_bodies_reported : SomeBodiesReported
-some_bodies_reported wanted r is w =
-    let old = w.old in
-    let likeness : Alikeness old.module_read.source r.module_read.source old.ordinals r.ordinals (IsAlikeAt old r) = record { count = w.alike.count; written = λ k h. h.written; value = λ k h. h.value; bound = λ k h. h.bound } in
-    let tree = w.alike.tree in
-    let declared : r.declarations ≡ old.declarations = is.declaring ∙ (ap (λ t. declaring_only (identifiers role.Declaring t)) tree ∙ sym w.resolved.declaring) in
-    let first : at_first r ≡ so_over r.module_read.source r.ordinals (at_first old) = ap (λ (ds : List ℕ). record { source = r.module_read.source; ordinals = r.ordinals; declared = predeclared_meanings ++ map (λ token. None) ds; made = [] }) declared in
-    let b : Tree ℕ block = module_block (tree_of old.module_read) in
-    let own : r.module_read.closing ≡ old.module_read.closing = ap closing_of tree in
-    let start : Both = record { so = at_first old; in_old = []; in_new = [] } in
-    let one = block_one old.module_read.source r.module_read.source old.ordinals r.ordinals (IsAlikeAt old r) likeness wanted old.module_read.closing start b w.alike.alike.1 w.faulty in
-    let read : (test : ℕ → Bool) → module_with test r ≡ block_with test old.module_read.closing (record { so_far = so_over r.module_read.source r.ordinals (at_first old); faulty = [] }) b = λ test. λ i. block_with test (own i) (record { so_far = first i; faulty = [] }) (module_block (tree i)) in
-    read wanted ∙ (sym one.same ∙ sym (read every))
+some_bodies_reported wanted r is w = as_read wanted r is w wanted ∙ (sym (one wanted r is w).same ∙ sym (as_read wanted r is w every))
 
 -- which bodies something is reported of is known by going through the wanted ones
 pub faulty_stay : (wanted : ℕ → Bool) (r : Resolution) → IsResolution r → WereFaulty wanted r → AllPass wanted (faulty_bodies r)

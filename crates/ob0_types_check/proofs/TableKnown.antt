@@ -107,7 +107,7 @@ formals_there shapes [] (g ∷ gs) h = absurd h
 formals_there shapes (f ∷ fs) [] h = absurd h
 formals_there shapes (f ∷ fs) (g ∷ gs) h = λ i. record { mode = sym h.0 i; shape = type_there shapes f.of g.shape h.1 i } ∷ formals_there shapes fs gs h.2 i
 
-procedure_there : (o : Option (meant.Object Shape Signature)) (signature : Signature) → is_standard o ≡ false → signature_of o ≡ Some signature → Some (meant.a_procedure signature) ≡ o
+pub procedure_there : (o : Option (meant.Object Shape Signature)) (signature : Signature) → is_standard o ≡ false → signature_of o ≡ Some signature → Some (meant.a_procedure signature) ≡ o
 procedure_there None signature own e = absurd (cc)
 procedure_there (Some (meant.a_type s)) signature own e = absurd (cc)
 procedure_there (Some (meant.a_constant v)) signature own e = absurd (cc)

@@ -24,3 +24,5 @@ pub mod FieldLabels
 pub mod ConstructorWalks
 pub mod DeclaredTypes
 pub mod TypedFields
+pub mod MarkedSame
+mod WrittenOver

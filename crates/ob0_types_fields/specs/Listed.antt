@@ -1,10 +1,11 @@
 -- The fields of a module in lists, as they are kept with it.
 -- Rule: none; for contracts: fields in lists.
-use Rattle.std.specs.Prelude.{◌≡◌, ◌==◌, ℕ, List, [], length, if◌then◌else◌}
+use Rattle.std.specs.Prelude.{◌≡◌, ◌==◌, ◌+◌, ℕ, List, [], ◌∷◌, ◌++◌, length, set, if◌then◌else◌}
+use Rattle.ob0_tree.specs.Order.{Ascending}
 use Rattle.ob0_tree.specs.Parsed.{tree_of}
 use Rattle.ob0_scope_table.specs.Resolution.{Resolution}
 use Rattle.ob0_types_table.specs.KnownTables.{Tables, declared_in}
-use Rattle.ob0_types_fields.specs.Identifiers.{declared_fields, field_identifiers}
+use Rattle.ob0_types_fields.specs.Identifiers.{declared_fields, field_identifiers, firsts}
 use Rattle.ob0_types_fields.specs.Owned.{marked_module, token_objects}
 
 -- tokens of fields, each with the ordinal of its record: those that declare, and all
@@ -28,3 +29,17 @@ listed_by t r = record {
 -- they are the fields of a module
 abbrev pub AreFields : Resolution → Listed → Type 0
 AreFields r f = (f.declared ≡ declared_fields r.module_read) × (f.all ≡ field_identifiers r)
+
+-- a list with others written over it from a place on
+abbrev pub written_over : List (ℕ × ℕ) → ℕ → List (ℕ × ℕ) → List (ℕ × ℕ)
+written_over xs k [] = xs
+written_over xs k (y ∷ ys) = written_over (set xs k y) (k + 1) ys
+
+-- Fields in text order, some of which have others in their places between these two ends, at the
+-- same tokens.
+pub record HasOthersWithin (all before others after : List (ℕ × ℕ)) : Type 0 where
+  pub old : List (ℕ × ℕ)
+  pub top : ℕ
+  pub in_order : Ascending 0 (firsts all) top
+  pub is : all ≡ before ++ (old ++ after)
+  pub same : firsts all ≡ firsts (before ++ (others ++ after))

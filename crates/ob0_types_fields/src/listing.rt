@@ -4,24 +4,31 @@
 //! finds nothing the walk over all isn't made, since a field that is selected is declared (`fields_declared`). So a
 //! module without RECORD costs a look at its declarations. The laws require `IsResolution` and `WellTyped`.
 //!
+//! Where the tokens of one body changed, its fields are found again and written over those at their tokens
+//! (`FieldList::with_body`): nothing moves, since the fields of a well-typed module are all identifiers that are written
+//! as fields (`fields_listed`).
+//!
 //! A list doesn't hold its text, and a token that a text hasn't got has the empty span at its start, so the
 //! clause of `FieldList::at` has a premise (`AreInTextOrder`). A module's fields fulfil it (`fields_ascend`).
 
-ghost use Rattle.std.specs.Prelude.{◌≡◌, [], IfOk};
+ghost use Rattle.std.specs.Prelude.{◌≡◌, ◌++◌, ℕ, List, [], false, true, nat_lt, IfOk};
 ghost use Rattle.std.specs.List.{position_from};
+ghost use Rattle.std.specs.List.Sorted.{IsNonDecreasingBy, IsPartitionPoint};
 ghost use Rattle.ob0_tree.specs.Parsed.{tree_of};
 ghost use Rattle.ob0_tree.specs.Places.{text_at};
+ghost use Rattle.ob0_tree.specs.View.{body_of};
 ghost use Rattle.ob0_language_names.specs.Names.{same_name};
 ghost use Rattle.ob0_types_table.specs.KnownTables.{declared_in};
 ghost use Rattle.ob0_types_fields.specs.Identifiers.{AreInTextOrder, declared_fields, field_on, first, record_tokens, tokens_among};
-ghost use Rattle.ob0_types_fields.specs.Listed.{if_declared, listed_by};
-ghost use Rattle.ob0_types_fields.specs.Owned.{marked_module, token_objects};
+ghost use Rattle.ob0_types_fields.specs.Listed.{HasOthersWithin, if_declared, listed_by, written_over};
+ghost use Rattle.ob0_types_fields.specs.Owned.{marked_module, marked_tree, token_objects};
 
 use crate::declaring::block;
 use crate::owning::{FieldTokens, Owning};
 use crate::reading::{field_on, first_among, place_among, tokens_among};
 use ob0_scan::Tokens;
 use ob0_scope_table::Resolved;
+use ob0_tree::Statement;
 use ob0_types_table::Known;
 use std::alloc::{AllocError, Global};
 use std::marker::Model;
@@ -67,6 +74,31 @@ impl FieldList {
         Ok(FieldList { declared, all })
     }
 
+    /// The same fields but for those that the statements of one body select, which are found again and written over
+    /// those at their tokens.
+    pub fn with_body<'a, 't>(
+        self,
+        alloc: Global,
+        known: &'a Known,
+        resolved: &'a Resolved<'t>,
+        statements: &Option<Vec<Statement>>,
+    ) -> Result<FieldList, AllocError>
+        ensures declared { IfOk result (λ f. f.declared ≡ self.declared) }
+        ensures all { IfOk result (λ f. (before after : List (ℕ × ℕ))
+            → HasOthersWithin self.all before (marked_tree (token_objects (declared_in known.now)
+            resolved.now) (body_of statements.now)) after
+            → f.all
+            ≡ before ++ (marked_tree (token_objects (declared_in known.now) resolved.now)
+            (body_of statements.now) ++ after)) }
+    {
+        let FieldList { declared, mut all } = self;
+        let walk = Owning { known, resolved };
+        let mut found = Vec::new(alloc);
+        walk.body(&mut found, statements)?;
+        write_at_tokens(&mut all, &found);
+        Ok(FieldList { declared, all })
+    }
+
     /// The field that a place is on, where it lies in an identifier of the field or at its end: the identifier's token,
     /// and the ordinal of the field's record. The tokens are those of the text that the fields are in.
     pub fn at(&self, tokens: &Tokens, offset: usize) -> Option<(usize, usize)>
@@ -105,6 +137,42 @@ impl FieldList {
             (record_tokens owner self.now.declared) }
     {
         place_among(tokens, &self.declared, owner, name)
+    }
+}
+
+/// Writes fields over those of a list that are at their tokens.
+fn write_at_tokens(all: &mut FieldTokens, found: &[(usize, usize)])
+    ensures { (before after : List (ℕ × ℕ)) → HasOthersWithin all.old.items before found.now after
+        → all.new.items ≡ before ++ (found.now ++ after) }
+{
+    match found.first() {
+        None => (),
+        Some(first) => {
+            let start = count_before(all, first.0);
+            write_over(all, start, found);
+        }
+    }
+}
+
+/// How many fields of a list come before a token.
+fn count_before(all: &[(usize, usize)], token: usize) -> usize
+    ensures { IsNonDecreasingBy (λ x. x.0) all.now
+        → IsPartitionPoint (λ x. nat_lt x.0 token ≡ true) (λ x. nat_lt x.0 token ≡ false)
+        all.now result }
+{
+    all.partition_point(|field| field.0 < token)
+}
+
+/// Writes fields over those of a list from a place on.
+fn write_over(all: &mut FieldTokens, start: usize, found: &[(usize, usize)])
+    ensures { all.new.items ≡ written_over all.old.items start found.now }
+{
+    let mut place = start;
+    for field in found {
+        if place < all.len() {
+            all[place] = *field;
+            place += 1;
+        }
     }
 }
 

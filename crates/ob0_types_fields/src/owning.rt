@@ -312,7 +312,8 @@ impl<'a, 't> Owning<'a, 't> {
         Ok(())
     }
 
-    fn body(
+    /// What is selected in the statements of a block.
+    pub(crate) fn body(
         &self,
         found: &mut FieldTokens,
         statements: &Option<Vec<Statement>>,

@@ -1,0 +1,44 @@
+//! The body in which a range of tokens lies.
+
+ghost use Rattle.std.specs.Prelude.{◌≡◌};
+ghost use Rattle.ob0_tree.specs.Parsed.{tree_of};
+ghost use Rattle.ob0_tree.specs.View.{block_of, procedure_of};
+ghost use Rattle.ob0_types.specs.OneBody.{body_in_block, body_in_module, body_in_procedure, body_seen};
+
+use ob0_tree::{Block, Module, Procedure, Statement};
+
+/// The statements of a block, with the block's closing name.
+#[derive(Clone, Copy)]
+pub(crate) struct Body<'t> {
+    pub(crate) closing: usize,
+    pub(crate) statements: &'t Option<Vec<Statement>>,
+}
+
+/// The body of a module in which a range of tokens from `low` on lies, if it lies in one.
+pub(crate) fn body_from<'t>(read: &'t Module<'t>, low: usize) -> Body<'t>
+    ensures { body_seen result ≡ body_in_module low (tree_of read.now) }
+{
+    body_in_block(read.block(), read.closing(), low)
+}
+
+#[cycle(blocks)]
+fn body_in_block<'t>(b: &'t Block, own: usize, low: usize) -> Body<'t>
+    ensures { body_seen result ≡ body_in_block low own (block_of b.now) }
+{
+    for p in &b.procedures {
+        if p.closing >= low {
+            return body_in_procedure(p, low);
+        }
+    }
+    Body {
+        closing: own,
+        statements: &b.body,
+    }
+}
+
+#[cycle(blocks)]
+fn body_in_procedure<'t>(p: &'t Procedure, low: usize) -> Body<'t>
+    ensures { body_seen result ≡ body_in_procedure low (procedure_of p.now) }
+{
+    body_in_block(&p.block, p.closing, low)
+}

@@ -1,0 +1,102 @@
+-- The fields that statements select are the same where the names at their tokens mean the same and are written alike.
+use Rattle.std.proofs.Common.{◌≡◌, ℕ, ◌+◌, List, ◌++◌, Option, option_and_then, refl, ap}
+use Rattle.ob0_tree.specs.Tree.{Sort, Tree, adds, array_type, assigns, begins, block, branches, calls, compares, declares, declares_constant, declares_constants, declares_procedure, declares_type, declares_types, declares_variable, declares_variables, designator, else_branch, elsif_branch, empty, end, field, has_body, index, integer, is_module, item, items, listed, more, multiplies, named_type, negation, no_arguments, no_fields, no_formals, none, one, parenthesised, procedure, product, record_type, relates, repeat_loop, runs, selector, some_arguments, some_fields, some_formals, sum, then_argument, then_fields, then_name, then_section, then_statement, value_section, variable_section, while_loop}
+use Rattle.ob0_language_names.specs.Parts.{formal_sections, section_types, section_variables}
+use Rattle.ob0_language_types.specs.Declarations.{after_formals, after_types, after_variables, procedure_constructors}
+use Rattle.ob0_language_types.specs.Expressions.{Meanings}
+use Rattle.ob0_language_types.specs.Typing.{element_type, field_type, object_type}
+use Rattle.ob0_language_values.specs.Values.{Shape, integer_shape}
+use Rattle.ob0_scope_table.specs.BodyAlone.{EachToken}
+use Rattle.ob0_types_fields.specs.Owned.{marked_block, marked_field, marked_path, marked_procedure, marked_procedures, marked_sections, marked_tree, marked_types, marked_variables, owner}
+
+-- names at a token mean the same, and are written alike
+pub record MeansSame {Q : Type 0} (m n : Meanings ℕ Shape Q) (token : ℕ) : Type 0 where
+  pub object : m.object_for token ≡ n.object_for token
+  pub written : m.written token ≡ n.written token
+
+both_same : {xs us ys vs : List (ℕ × ℕ)} → xs ≡ us → ys ≡ vs → xs ++ ys ≡ us ++ vs
+both_same e f = λ i. e i ++ f i
+
+module _ {Q : Type 0} (m n : Meanings ℕ Shape Q) where
+  abbrev Same : ℕ → Type 0
+  Same token = MeansSame m n token
+
+  mutual
+    pub tree_same : {s : Sort} (t : Tree ℕ s) → EachToken Same t → marked_tree m t ≡ marked_tree n t
+    tree_same none h = refl
+    tree_same (one a) h = tree_same a h
+    tree_same end h = refl
+    tree_same (more a b) h = both_same (tree_same a h.0) (tree_same b h.1)
+    tree_same (compares a b) h = both_same (tree_same a h.0) (tree_same b h.1)
+    tree_same (relates a b) h = tree_same b h
+    tree_same (sum a b c) h = both_same (tree_same b h.0) (tree_same c h.1)
+    tree_same (adds a b) h = tree_same b h
+    tree_same (product a b) h = both_same (tree_same a h.0) (tree_same b h.1)
+    tree_same (multiplies a b) h = tree_same b h
+    tree_same (designator a b) h = path_same (object_type (m.object_for a)) (object_type (n.object_for a)) (ap object_type h.0.object) b h.1
+    tree_same (integer a) h = refl
+    tree_same (parenthesised a) h = tree_same a h
+    tree_same (negation a) h = tree_same a h
+    tree_same (field a) h = refl
+    tree_same (index a) h = tree_same a h
+    tree_same empty h = refl
+    tree_same (assigns a b c) h = both_same (path_same (object_type (m.object_for a)) (object_type (n.object_for a)) (ap object_type h.0.object) b h.1) (tree_same c h.2)
+    tree_same (calls a b) h = tree_same b h.1
+    tree_same (branches a b c d) h = both_same (tree_same a h.0) (both_same (tree_same b h.1) (both_same (tree_same c h.2) (tree_same d h.3)))
+    tree_same (while_loop a b) h = both_same (tree_same a h.0) (tree_same b h.1)
+    tree_same (repeat_loop a b) h = both_same (tree_same a h.0) (tree_same b h.1)
+    tree_same no_arguments h = refl
+    tree_same (some_arguments a b) h = both_same (tree_same a h.0) (tree_same b h.1)
+    tree_same (then_argument a) h = tree_same a h
+    tree_same (runs a b) h = both_same (tree_same a h.0) (tree_same b h.1)
+    tree_same (then_statement a) h = tree_same a h
+    tree_same (elsif_branch a b) h = both_same (tree_same a h.0) (tree_same b h.1)
+    tree_same (else_branch a) h = tree_same a h
+    tree_same (listed a b) h = refl
+    tree_same (then_name a) h = refl
+    tree_same (named_type a) h = refl
+    tree_same (array_type a b) h = refl
+    tree_same (record_type a b) h = refl
+    tree_same no_fields h = refl
+    tree_same (some_fields a b) h = refl
+    tree_same (then_fields a) h = refl
+    tree_same no_formals h = refl
+    tree_same (some_formals a b) h = refl
+    tree_same (value_section a b) h = refl
+    tree_same (variable_section a b) h = refl
+    tree_same (then_section a) h = refl
+    tree_same (declares_constant a b) h = refl
+    tree_same (declares_constants a) h = refl
+    tree_same (declares_type a b) h = refl
+    tree_same (declares_types a) h = refl
+    tree_same (declares_variable a b) h = refl
+    tree_same (declares_variables a) h = refl
+    tree_same (declares_procedure a b c d) h = refl
+    tree_same (declares a b c d) h = refl
+    tree_same (begins a) h = tree_same a h
+    tree_same (has_body a b) h = refl
+    tree_same (is_module a b c) h = refl
+
+    -- from a value of the same type on
+    path_same : (s t : Option Shape) → s ≡ t → (path : Tree ℕ (items selector)) → EachToken Same path → marked_path m s path ≡ marked_path n t path
+    path_same s t e end h = refl
+    path_same s t e (more (field x) rest) h =
+        both_same (λ i. marked_field x (owner (e i) (h.0.written i)))
+        (path_same (option_and_then (λ u. field_type u (m.written x)) s) (option_and_then (λ u. field_type u (n.written x)) t) (λ i. option_and_then (λ u. field_type u (h.0.written i)) (e i)) rest h.1)
+    path_same s t e (more (index a) rest) h =
+        both_same (tree_same a h.0)
+        (path_same (option_and_then (λ u. element_type u integer_shape) s) (option_and_then (λ u. element_type u integer_shape) t) (ap (option_and_then (λ u. element_type u integer_shape)) e) rest h.1)
+
+  mutual
+    pub block_same : (k : ℕ) (b : Tree ℕ block) → EachToken Same b → marked_block m k b ≡ marked_block n k b
+    block_same k (has_body (declares cs ts vs ps) statements) h =
+        both_same (ap (λ l. marked_types k (section_types ts) ++ (marked_variables (after_types k (has_body (declares cs ts vs ps) statements)) (section_variables vs) ++ l)) (procedures_same (after_variables k (has_body (declares cs ts vs ps) statements)) ps h.0.3))
+        (tree_same statements h.1)
+
+    pub procedures_same : (k : ℕ) (ps : Tree ℕ (items procedure)) → EachToken Same ps → marked_procedures m k ps ≡ marked_procedures n k ps
+    procedures_same k end h = refl
+    procedures_same k (more p rest) h = both_same (procedure_same k p h.0) (procedures_same (k + procedure_constructors p) rest h.1)
+
+    pub procedure_same : (k : ℕ) (p : Tree ℕ (item procedure)) → EachToken Same p → marked_procedure m k p ≡ marked_procedure n k p
+    procedure_same k (declares_procedure x fs b closing) h =
+        ap (λ l. marked_sections k (formal_sections fs) ++ l) (block_same (after_formals k (declares_procedure x fs b closing)) b h.2)

@@ -1,0 +1,128 @@
+-- Fields that are written over others at their tokens.
+use Rattle.std.proofs.Common.{◌≡◌, ℕ, zero, suc, ◌+◌, ◌<◌, ◌≤◌, true, false, nat_lt, List, [], ◌∷◌, ◌++◌, length, get_or, slice_get, Option, Some, None, unwrap_or, ⊎_elim, refl, sym, ap, ◌∙◌, subst, arith, append_assoc, length-append}
+use Rattle.std.proofs.Math.ListN.{get_or-map}
+use Rattle.std.proofs.Math.Seq.{set-append_seam}
+use Rattle.std.proofs.lemmas.Bool.{cases_lt, ltb-false, ltb-true}
+use Rattle.std.proofs.lemmas.List.{append_cancel_left, length-map, map-append, nil_from_length, set_past}
+use Rattle.std.specs.List.Sorted.{IsNonDecreasingBy, IsPartitionPoint}
+use Rattle.ob0_tree.specs.Order.{Ascending}
+use Rattle.ob0_types_fields.specs.Identifiers.{firsts}
+use Rattle.ob0_types_fields.specs.Listed.{HasOthersWithin, written_over}
+
+pub past_end : (xs : List (ℕ × ℕ)) (k : ℕ) (ys : List (ℕ × ℕ)) → length xs ≤ k → written_over xs k ys ≡ xs
+past_end xs k [] le = refl
+past_end xs k (y ∷ ys) le = ap (λ l. written_over l (k + 1) ys) (set_past xs k y le) ∙ past_end xs (k + 1) ys (omega (arith, le))
+
+-- as many as there are behind some
+over_as_many : (before old others after : List (ℕ × ℕ)) → length old ≡ length others → written_over (before ++ (old ++ after)) (length before) others ≡ before ++ (others ++ after)
+over_as_many before [] [] after e = refl
+over_as_many before [] (y ∷ ys) after e = absurd (omega (arith, e))
+over_as_many before (x ∷ old) [] after e = absurd (omega (arith, e))
+over_as_many before (x ∷ old) (y ∷ ys) after e =
+    let count : length before + 1 ≡ length (before ++ y ∷ []) = sym (length-append before (y ∷ [])) in
+    let longer : before ++ y ∷ (old ++ after) ≡ (before ++ y ∷ []) ++ (old ++ after) = sym (append_assoc before (y ∷ []) (old ++ after)) in
+    ap (λ l. written_over l (length before + 1) ys) (set-append_seam before x (old ++ after) y ∙ longer)
+    ∙ (ap (λ k. written_over ((before ++ y ∷ []) ++ (old ++ after)) k ys) count
+    ∙ (over_as_many (before ++ y ∷ []) old ys after (omega (arith, e)) ∙ append_assoc before (y ∷ []) (ys ++ after)))
+
+-- ---- tokens in text order
+
+item_bounds : (xs : List ℕ) (low top i d : ℕ) → Ascending low xs top → i < length xs → low ≤ get_or xs i d
+item_bounds [] low top i d h less = absurd (omega (arith, less))
+item_bounds (x ∷ xs) low top zero d h less = h.0
+item_bounds (x ∷ xs) low top (suc i) d h less = let later = item_bounds xs (x + 1) top i d h.1 (omega (arith, less)) in omega (arith, h.0, later)
+
+pub tokens_rise : (xs : List (ℕ × ℕ)) (low top : ℕ) → Ascending low (firsts xs) top → IsNonDecreasingBy (λ x. x.0) xs
+tokens_rise [] low top h i j d le less = absurd (omega (arith, less))
+tokens_rise (x ∷ xs) low top h zero zero d le less = omega arith
+tokens_rise (x ∷ xs) low top h (suc i) zero d le less = absurd (omega (arith, le))
+tokens_rise (x ∷ xs) low top h zero (suc j) d le less =
+    let long = length-map xs (λ y. y.0) in
+    let later = item_bounds (firsts xs) (x.0 + 1) top j d.0 h.1 (omega (arith, less, long)) in
+    let here : get_or (firsts xs) j d.0 ≡ (get_or xs j d).0 = get_or-map (λ y. y.0) xs j d in
+    omega (arith, later, here)
+tokens_rise (x ∷ xs) low top h (suc i) (suc j) d le less = tokens_rise xs (x.0 + 1) top h.1 i j d (omega (arith, le)) (omega (arith, less))
+
+-- those before a token that is behind some
+below_seam : (before : List ℕ) (x : ℕ) (rest : List ℕ) (low top i d : ℕ) → Ascending low (before ++ x ∷ rest) top → i < length before → get_or (before ++ x ∷ rest) i d < x
+below_seam [] x rest low top i d h less = absurd (omega (arith, less))
+below_seam (y ∷ before) x rest low top zero d h less = from_start before (y + 1) h.1 (omega arith)
+  where
+    from_start : (ys : List ℕ) (least : ℕ) → Ascending least (ys ++ x ∷ rest) top → y + 1 ≤ least → y < x
+    from_start [] least h le = omega (arith, h.0, le)
+    from_start (z ∷ ys) least h le = from_start ys (z + 1) h.1 (omega (arith, h.0, le))
+below_seam (y ∷ before) x rest low top (suc i) d h less = below_seam before x rest (y + 1) top i d h.1 (omega (arith, less))
+
+at_seam : (before : List ℕ) (x : ℕ) (rest : List ℕ) (d : ℕ) → get_or (before ++ x ∷ rest) (length before) d ≡ x
+at_seam [] x rest d = refl
+at_seam (y ∷ before) x rest d = at_seam before x rest d
+
+-- ---- where they are written
+
+module _ (all before others after : List (ℕ × ℕ)) (h : HasOthersWithin all before others after) where
+  parts_same : firsts h.old ++ firsts after ≡ firsts others ++ firsts after
+  parts_same =
+      append_cancel_left (firsts before) (firsts h.old ++ firsts after) (firsts others ++ firsts after)
+      (ap (λ l. firsts before ++ l) (sym (map-append (λ x. x.0) h.old after)) ∙ (sym (map-append (λ x. x.0) before (h.old ++ after))
+      ∙ (sym (ap firsts h.is) ∙ (h.same ∙ (map-append (λ x. x.0) before (others ++ after) ∙ ap (λ l. firsts before ++ l) (map-append (λ x. x.0) others after))))))
+
+  as_many : length h.old ≡ length others
+  as_many =
+      let e = ap length parts_same in
+      omega (arith, e, length-append (firsts h.old) (firsts after), length-append (firsts others) (firsts after), length-map h.old (λ (x : ℕ × ℕ). x.0), length-map others (λ (x : ℕ × ℕ). x.0))
+
+  pub over_others : (k : ℕ) → k ≡ length before → written_over all k others ≡ before ++ (others ++ after)
+  over_others k e = (λ i. written_over (h.is i) (e i) others) ∙ over_as_many before h.old others after as_many
+
+  pub rise : IsNonDecreasingBy (λ x. x.0) all
+  rise = tokens_rise all 0 h.top h.in_order
+
+  -- nothing is written where there is none
+  none_over : others ≡ [] → all ≡ before ++ (others ++ after)
+  none_over none =
+      let empty : length h.old ≡ 0 = as_many ∙ ap length none in
+      h.is ∙ (λ i. before ++ ((nil_from_length h.old empty ∙ sym none) i ++ after))
+
+  -- the first of them is at a place of the list: those before it are before its token, and it isn't
+  module _ (y : ℕ × ℕ) (ys : List (ℕ × ℕ)) (e : others ≡ y ∷ ys) where
+    tokens_are : firsts all ≡ firsts before ++ y.0 ∷ (firsts ys ++ firsts after)
+    tokens_are =
+        h.same ∙ (map-append (λ x. x.0) before (others ++ after) ∙ ap (λ l. firsts before ++ l) (map-append (λ x. x.0) others after ∙ ap (λ l. firsts l ++ firsts after) e))
+
+    in_order : Ascending 0 (firsts before ++ y.0 ∷ (firsts ys ++ firsts after)) h.top
+    in_order = subst (λ l. Ascending 0 l h.top) tokens_are h.in_order
+
+    token_there : (i : ℕ) (d : ℕ × ℕ) → (get_or all i d).0 ≡ get_or (firsts before ++ y.0 ∷ (firsts ys ++ firsts after)) i d.0
+    token_there i d = sym (get_or-map (λ x. x.0) all i d) ∙ ap (λ l. get_or l i d.0) tokens_are
+
+    long : length before < length all
+    long =
+        let e = ap length tokens_are in
+        omega (arith, e, length-append (firsts before) (y.0 ∷ (firsts ys ++ firsts after)), length-map all (λ (x : ℕ × ℕ). x.0), length-map before (λ (x : ℕ × ℕ). x.0))
+
+    before_first : (k : ℕ) → IsPartitionPoint (λ x. nat_lt x.0 y.0 ≡ true) (λ x. nat_lt x.0 y.0 ≡ false) all k → k ≡ length before
+    before_first k point = ⊎_elim
+        (λ less.
+        -- then the one at k is before the first of them
+        let here = ltb-false (get_or all k y).0 y.0 (point.1 k y (omega arith) (omega (arith, less, long))) in
+        let there = below_seam (firsts before) y.0 (firsts ys ++ firsts after) 0 h.top k y.0 in_order (omega (arith, less, length-map before (λ (x : ℕ × ℕ). x.0))) in
+        absurd (omega (arith, here, there, token_there k y)))
+        (λ le. ⊎_elim
+        (λ more.
+        -- then the first of them is before itself
+        let here = ltb-true (get_or all (length before) y).0 y.0 (point.0 (length before) y (omega arith) more) in
+        let there = ap (λ n. get_or (firsts before ++ y.0 ∷ (firsts ys ++ firsts after)) n y.0) (sym (length-map before (λ (x : ℕ × ℕ). x.0))) ∙ at_seam (firsts before) y.0 (firsts ys ++ firsts after) y.0 in
+        absurd (omega (arith, here, there, token_there (length before) y)))
+        (λ same. omega (arith, le, same)) (cases_lt (length before) k))
+        (cases_lt k (length before))
+
+pub without_others : (all before others after : List (ℕ × ℕ)) → HasOthersWithin all before others after → slice_get others 0 ≡ None → all ≡ before ++ (others ++ after)
+without_others all before [] after h e = none_over all before [] after h refl
+without_others all before (z ∷ zs) after h e = absurd (cc)
+
+pub start_found : (all before others after : List (ℕ × ℕ)) → HasOthersWithin all before others after → (y : ℕ × ℕ) → slice_get others 0 ≡ Some y
+    → (k : ℕ) → IsPartitionPoint (λ x. nat_lt x.0 y.0 ≡ true) (λ x. nat_lt x.0 y.0 ≡ false) all k → k ≡ length before
+start_found all before [] after h y e k point = absurd (cc)
+start_found all before (z ∷ zs) after h y e k point =
+    let same : z ≡ y = ap (λ (o : Option (ℕ × ℕ)). unwrap_or o y) e in
+    before_first all before (z ∷ zs) after h z zs refl k (subst (λ (x : ℕ × ℕ). IsPartitionPoint (λ u. nat_lt u.0 x.0 ≡ true) (λ u. nat_lt u.0 x.0 ≡ false) all k) (sym same) point)
