@@ -189,7 +189,11 @@ def times_hold() -> None:
         holds(first <= said <= 50, f"parts 0 to 3 take {first:.1f} minutes, and not {said}")
 
 
-@test("statement: what parts 0 to 3 name is in them, in words at least")
+# (the names of which a comment under a definition or a contract says what they mean)
+NOTE = r"^(?:--|//)   (?! )([^:]+): "
+
+
+@test("statement: what parts 0 to 3 name is in them, in words at least, under a definition that names it")
 def nothing_unsaid() -> None:
     counted = Counted()
     read = first_reading()
@@ -203,9 +207,14 @@ def nothing_unsaid() -> None:
         if name in counted.files[crate, file][0]
     ]
     holds(len(shown) > 30, f"hardly any definition is in parts 0 to 3: {shown}")
-    sections = re.findall(r"^### (?:Believed in part \d|Named and not unfolded)\n\n((?:\|.*\n)+)", read, re.M)
-    tables = "\n".join(re.findall(r"^\| \[?(`.*?) \|", "\n".join(sections), re.M))
-    said = {name.rpartition(".")[2] for name in re.findall(r"`([^`|]+)`", tables)} | {name for _, _, name in shown}
+    said = {name for _, _, name in shown}
+    for piece in re.split(r"\n\n+(?=\S)|^```.*\n", read, flags=re.M):
+        noted = [name for names in re.findall(NOTE, piece, re.M) for name in names.split(", ")]
+        code = re.sub(r"^ *(?:--|//).*$", "", piece, flags=re.M)
+        # (of a data type its cases may be what is named)
+        unnamed = [name for name in noted if not re.search(rf"(?<!\w){re.escape(name.split()[0])}(?!\w)", code)]
+        same([name for name in unnamed if name != "SessionState" or " serving " not in code], [], "said where it isn't named")
+        said |= {name.rpartition(".")[2] for name in noted}
     missing = set()
     for crate, file, name in shown:
         own, others = counted.files[crate, file]
@@ -219,6 +228,15 @@ def nothing_unsaid() -> None:
             if home[2] not in said and of_type not in said:
                 missing.add(f"{word}, by {name} of {file}")
     same(sorted(missing), [], "what parts 0 to 3 name and don't say")
+
+
+@test("statement: the words of the page link each law that it shows in part 9 to that part")
+def laws_are_linked() -> None:
+    laws = [name for part, text in fenced("rust") if str(part).startswith("Part 9") for name in re.findall(r"^pub fn (\w+)\(\)", text, re.M)]
+    holds(len(laws) > 6, f"hardly any law is in part 9: {laws}")
+    words = re.sub(r"^```\w+\n.*?^```$", "", text_of(PAGE), flags=re.M | re.S)
+    for name in laws:
+        same(re.findall(rf"(?<!\[)`{name}`|\[`{name}`\](?!\(#part-9)", words), [], f"{name} without a link")
 
 
 @test("statement: the laws and tests that speak for what is believed are there")
