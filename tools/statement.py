@@ -3,9 +3,9 @@
 is there once, with its comment.
 
 A definition is needed where a contract of the page names it, or a needed definition does (tools/definitions.py). Parts 0
-to 3 unfold some (`KEPT`) and are read first; of the others that they name they have words (`BELIEVED`), and later
-parts unfold them. Some are nowhere unfolded (`CLOSED`). With --check the page isn't written: it fails where the page
-isn't of these sources."""
+to 3 unfold some (`KEPT`) and are read first; what the others that they name mean is said in words under the first that
+names them (`BELIEVED`), and later parts unfold them. Some are nowhere unfolded (`CLOSED`). With --check the page isn't
+written: it fails where the page isn't of these sources."""
 from __future__ import annotations
 
 import math
@@ -86,12 +86,12 @@ KEPT: dict[int, dict[tuple[str, str], str]] = {
         ("ob0_text", "Patches"): "patched_by_cuts",
     },
     3: {
-        ("ob0_world", "Worlds"): "Plays PlaysBefore BothStep IsTied",
+        ("ob0_world", "Worlds"): "Plays BothStep IsTied PlaysBefore",
         ("ob0_world_determined", "Determined"): "ConversationIsServed",
     },
 }
-# (what parts 0 to 3 name besides, and what it says: this is believed. It is said under the definition or the contract that
-# names it first; several names may be said together)
+# (what parts 0 to 3 name besides, and what it says: this is believed. It is said under the definition or the contract
+# that names it first; several names may be said together)
 BELIEVED = {
     "start": "nothing was opened yet, and all lists are empty",
     "Unit": "what positions are counted in: UTF-16 units or bytes",
@@ -103,11 +103,12 @@ BELIEVED = {
     "OpenDocuments": "each `InStep` or `OutOfStep`",
     "DocumentEvent": "a document is opened, changed, lost or closed",
     "Ask": "a rename, an inlining of a constant at one use or everywhere, a formatting",
-    "EditorDocuments": "`Open` ones by their uris",
+    "EditorDocuments": "`Open` documents by their uris",
     "SentAsk": "its `uri`, and the `opening` and `version` of the document then",
     "Answer": "its number and edits",
     "Act": "the cases of `done_by`",
-    "after_act": "what is sent waits for the server, last; what is applied is added to `applied`",
+    "after_act": "the editor is that of `Done`; what is sent waits for the server, last; what is applied is added to "
+    "`applied`",
     "after_taking": "the first of these messages is taken; an answer with edits is kept",
     "Replies": "what is sent and made for a message: 'The server', above",
     "after_message": "the server's documents after a message",
@@ -129,14 +130,15 @@ BELIEVED = {
     "all_apart": "no two of the cuts share a character (an insertion strictly inside another cut does)",
     "in_text_order": "the cuts by their starts, then by their ends, then as in the list",
     "pieced": "what cuts in this order make of the text from a place on",
-    "device_of, has_failed, is_flushed, reads_of": "of a `Noted` its device; whether a call of it has returned an error; "
-    "whether a flush has succeeded since the last write, or nothing was written; how it was read",
+    "device_of, has_failed, is_flushed, reads_of": "of a `Noted` its device; whether a call of it has returned an "
+    "error; whether a flush has succeeded since the last write, or nothing was written; how it was read",
     "IsTaken": "by at most 2^40 reads, each of at most 8,192 bytes",
-    "Serves": "the table of results below, case by case",
+    "Serves": "`put` is the frames of the replies to contents of `taken` (at `Err(Write)` perhaps their first bytes "
+    "alone). To which, a table in part 6 says by the result: at `Err(Memory)` to the first n, for some n",
     "AreAllRead": "2^40 reads were made",
-    "IsFlushedAfter": "flushed, as said below that table",
-    "code.Event": "one of the code",
-    "PlayFault": "`played`, and `steps`: how many events went before",
+    "IsFlushedAfter": "if the writer was flushed before, or anything was put, it is flushed now",
+    "code.Event": "an event of the code",
+    "PlayFault": "`played`, and `steps`: how many events went before the failed one",
     "PlaysNothing": "no event was made, no edit or publication has come, and no content has passed",
     "Played": "what `play_in` returns",
     "event_of": "the same as an event of the model (`Take` is `take_message`, and so on)",
@@ -149,9 +151,9 @@ BELIEVED = {
     "Conversation": "these contents in turn have these replies in turn (`reacts`), from state to state",
     "bytes": "contents as the lists of their bytes",
     "MovesWire": "contents move as in the table above; at `serve` the session replies by `reacts`, and else it stays",
-    "AllSay": "as many contents as messages; each is what its message means",
+    "AllSay": "as many contents as messages; each content says its message",
     "SessionState": "`serving`, in a state, or `failed`",
-    "ServeFault": "the errors of the table of results",
+    "ServeFault": "`Memory`, `Write`, and others",
     "IsWritten": "the result is neither `Err(Memory)` nor `Err(Write)`",
     "MayServe": "`Serves`, whatever failed, without flushes, counts of reads and the input's end",
 }
@@ -204,16 +206,31 @@ WORKED = """
 | `serve` | I O R | | i d | r |
 | the editor takes r and applies it | I O R | C | i d r | |
 """
+# (what `serve` has written, by what it returns: `Serves`)
+ROWS = """
+| `serve` returns | The program's status | It has written the frames of |
+|---|---|---|
+| `Ok(status)` | `status` | all replies up to an `exit`, which gives the status; or, with status 1, all replies, where no `exit` came and the input ends between messages |
+| `Err(BadHead)` | 3 | all replies to the contents before the place where no message can begin, as one with too long a content |
+| `Err(Truncated)` | 3 | all replies; the input ends inside a message |
+| `Err(Read)` | 4 | all replies to the contents read; the reader failed |
+| `Err(TooManyReads)` | 4 | all replies to the contents read, by 2^40 reads and from at least as many bytes |
+| `Err(Write)` | 4 | all replies to the first n contents, for some n, or these frames' first bytes alone; the writer failed |
+| `Err(Memory)` | 5 | all replies to the first n contents, for some n, each whole |
+"""
+AFTER_ROWS = (
+    "No device failed but where it is said. At the first four errors no `exit` came. Except at `Err(Write)` it is "
+    "*flushed*: if the writer was flushed before the call, or `serve` wrote anything, the writer is flushed at the "
+    "return."
+)
 # (the title of a part, what it says in words, what one may believe instead of it, and what else speaks for that)
 PARTS: list[tuple[str, list[str], str, str]] = [
     ("Part 0: the headline", [], "", ""),
     (
         "Part 1: client and server",
         [
-            "`Ends` is the state of both ends and of the messages between them, a queue each way. An `Event` is one of "
-            "three: the editor acts; the server takes the first message that waits for the server, and sends what it "
-            "replies; the editor takes the first message that waits for the editor. `Happens` says what one event "
-            "leaves (at most one state: the law `one_step`), `Course` what a list of events leaves.",
+            "`Ends` is the state of both ends and of the messages between them, a queue each way. `Happens` says what "
+            "one `Event` leaves (at most one state: the law `one_step`), `Course` what a list of events leaves.",
             "*The server* (`Replies`) knows a document's version and text (`InStep`) or doesn't (`OutOfStep`, after a "
             "notification that it couldn't read, `Lost`). The model's editor sends no `Lost`: when no message waits "
             "for the server, its documents are the editor's, each `InStep` (the law `server_mirrors`). It sends",
@@ -223,8 +240,8 @@ PARTS: list[tuple[str, list[str], str, str]] = [
             "- for each request: one answer with its number. If the document is `InStep`, it has the edits that were "
             "requested, by docs/PROTOCOL.md, or none, where docs/PROTOCOL.md refuses them or the text isn't a "
             "well-typed module (`GivesEdits` and `Refuses`, in part 8). Else it has none.",
-            "*The editor* (`done_by`) sends each opening, change, close and request. It may apply an answer that it "
-            "keeps at any time, while its document is the same opening with the same version as at the request.",
+            "*The editor* (`done_by`) sends each opening, change, close and request. It applies answers as part 0 "
+            "says, at any time.",
         ],
         "what part 0 says",
         "",
@@ -246,18 +263,19 @@ PARTS: list[tuple[str, list[str], str, str]] = [
             WORKED,
             "`play_in` returns `to_editor` as `unread`. The tie has four steps:",
             "1. *Model and session.* If `play_in` returns an `Ok`, with `few`, `Plays` holds: a `BothStep` for each "
-            "event leads from `begin` to `end`. In each the model does what `Happens` says, and the session and the "
-            "contents do the same (`IsTied`). `begin` has the model's `start`, so, by `only`, the model in `end` is the "
-            "`end` of `Headline`. (By `Begins` and `MovesWire` the session is always `serving`.)\n"
-            "2. *Session and contents.* So the contents are a `Conversation`, from before `initialize` on: the session "
-            "took `taken`, and sent `got ++ unread`.\n"
+            "event leads from `begin` to `end`. `begin` has the model's `start`, and each step does what `Happens` "
+            "says; so, by `only`, the model in `end` is the `end` of `Headline`. And the session has done the same "
+            "(`IsTied`; by `Begins` and `MovesWire` it is always `serving`).\n"
+            "2. *Session and contents.* So the contents are a `Conversation`, from before `initialize` on: the "
+            "session took `taken`, and sent `got ++ unread`.\n"
             "3. *Contents and bytes.* `serve` returns with `Serves`, if neither device had failed before. This is "
             "`MayServe` and more ([by definition](#determined-of-ob0_world_determined-part-6)). By the law "
-            "`a_conversation_is_served`, under the premises of part 0, the bytes written are the frames of "
-            "`got ++ unread`.\n"
-            "4. *Bytes and the program.* `ob0 serve` calls `serve` over standard input and output, whose types know no "
-            "bytes: this is tested.",
-            "After an `Err` of `play_in` the law `in_every_interleaving` alone speaks of the events that follow.",
+            "`a_conversation_is_served`, under the premises of part 0, the bytes written are the frames of `got ++ "
+            "unread`.\n"
+            "4. *Bytes and the program.* `ob0 serve` calls `serve` over standard input and output, whose types know "
+            "no bytes: this is tested.",
+            "After an `Err` of `play_in` the law [`in_every_interleaving`](#part-0-the-headline) alone speaks of the "
+            "events that follow.",
         ],
         "that `serve` writes what `play_in` returns as sent, for what that returns as taken",
         "",
@@ -280,8 +298,8 @@ PARTS: list[tuple[str, list[str], str, str]] = [
     (
         "Part 5: texts in detail",
         [],
-        "LSP 3.17 on positions and lists of edits, docs/PROTOCOL.md, Positions and Documents, and what parts 1 and 2 say "
-        "of these names",
+        "LSP 3.17 on positions and lists of edits, docs/PROTOCOL.md, Positions and Documents, and what parts 1 and 2 "
+        "say of these names",
         "the laws `lines_are_the_text`, `fitting_is_longest` and `places_have_positions` (`ob0_text`), the tests "
         "`edits_are_made_at_once` and `places_are_counted_in_either_unit` (crates/ob0_tests_low), and "
         "tests/test_changes.py, where Python makes the same 2,000 changes",
@@ -293,6 +311,9 @@ PARTS: list[tuple[str, list[str], str, str]] = [
             "contract of `serve`: it holds for all readers and writers, also for such as fail from any call on, and "
             "`Serves` allows no result where a read failed and after it the writer. So nothing can be left to write "
             "after a read, which may fail. This is no theorem; tests show it too.",
+            "`Serves`, case by case:",
+            ROWS,
+            AFTER_ROWS,
         ],
         "what part 3 says of these names",
         "the laws `feeding_is_determined` and `written_is_read` (`ob0_frame`), `one_conversation` and `one_output` "
@@ -323,23 +344,6 @@ PARTS: list[tuple[str, list[str], str, str]] = [
         "(crates/ob0_tests_session)",
     ),
 ]
-# (what `serve` has written, by what it returns: `Serves`)
-ROWS = """
-| `serve` returns | The program's status | It has written the frames of |
-|---|---|---|
-| `Ok(status)` | `status` | all replies up to an `exit`, which gives the status; or, with status 1, all replies, where no `exit` came and the input ends between messages |
-| `Err(BadHead)` | 3 | all replies to the contents before the place where no message can begin, as one with too long a content |
-| `Err(Truncated)` | 3 | all replies; the input ends inside a message |
-| `Err(Read)` | 4 | all replies to the contents read; the reader failed |
-| `Err(TooManyReads)` | 4 | all replies to the contents read, by 2^40 reads and from at least as many bytes |
-| `Err(Write)` | 4 | all replies to the first n contents, for some n, or these frames' first bytes alone; the writer failed |
-| `Err(Memory)` | 5 | all replies to the first n contents, for some n, each whole |
-"""
-AFTER_ROWS = (
-    "No device failed but where it is said. At the first four errors no `exit` came. Except at `Err(Write)` it is "
-    "*flushed*: if the writer was flushed before the call, or `serve` wrote anything, the writer is flushed at the "
-    "return."
-)
 SENTENCE = (
     "> In every interleaving of an editor and the server, each edit that the editor applies to a well-typed document "
     "leaves a well-typed module with the same run: the same output and end for every input and every bound on calls "
@@ -347,14 +351,16 @@ SENTENCE = (
     "well-typed module."
 )
 OPENING = (
-    "`ob0` is a language server for Oberon-0: an *editor* starts it and speaks with it by LSP 3.17. A message is sent in a "
-    "*frame*: a head with a length, and the *content*, so many bytes of JSON. A *session* is what one server has taken "
-    "and sent, from `initialize` on. An *opening* of a document lasts until its close."
+    "`ob0` is a language server for Oberon-0: an *editor* starts it and speaks with it by LSP 3.17. A message is sent "
+    "in a *frame*: a head with a length, and the *content*, so many bytes of JSON. A *session* is what one server has "
+    "taken and sent, from `initialize` on. An *opening* of a document lasts until its close. The code is in Rattle: "
+    "Rust with contracts that a checker proves. What is after `ensures` holds at the return of every call for which "
+    "that after `requires` does. A *law* is the contract of a function with an empty body: a fact about definitions."
 )
 AFTER_SENTENCE = (
-    "The definitions say more: *every* applied edit was made in a well-typed text, and *every* list of diagnostics with a "
-    "version is right in this way. Under which premises, and what is proved, inferred, tested or not promised, is "
-    "[below](#what-is-proved-and-what-isnt), after the definitions."
+    "The definitions say more: *every* applied edit was made in a well-typed text (`before_fits`), and *every* list "
+    "of diagnostics with a version is right in this way. The premises, and what is proved, inferred, tested or not "
+    "promised, come [below](#what-is-proved-and-what-isnt), after the definitions."
 )
 # (what its words mean, an item each)
 MEANINGS = (
@@ -371,67 +377,66 @@ MEANINGS = (
 )
 # (how the headline is tied to the program, a paragraph each)
 TIE = (
-    "*The tie to the program.* `play_in` is a proof harness, which the program never runs: it plays a list of events with "
-    "a `Session`, the server's code, and a model of an editor. `ob0 serve` runs `serve`, which gives a `Session` what it "
-    "reads, and writes what that sends. Both are proved against one specification (`reacts`, docs/PROTOCOL.md as a "
-    "function): so for the same contents `serve` writes what `play_in` returns as sent (part 3). The last step, to "
-    "standard input and output, is tested.",
+    "*The tie to the program.* `play_in` is a proof harness, which the program never runs: it plays a list of events "
+    "with a `Session`, the server's code, and a model of an editor. `ob0 serve` runs `serve`, which gives a `Session` "
+    "what it reads, and writes what that sends. Both are proved against one specification (`reacts`, docs/PROTOCOL.md "
+    "as a function): so for the same contents `serve` writes what `play_in` returns as sent (part 3). The last step, "
+    "to standard input and output, is tested.",
     "*What each contract says.* The law `in_every_interleaving` speaks of the model alone, where each publication and "
     "each answer is right by the model's own definition (`Replies`); it gives `Holds`, not `made_for`. That the code's "
-    "are right is what the contract of `play_in` and the tie add. Of a real session the headline holds if `play_in` "
-    "would return an `Ok` on its events. Tests, which run it, show that it does; no contract says it, since any "
-    "allocation may fail.",
+    "are right is what the contract of `play_in` and the tie add. Beside a session nobody runs `play_in`: the headline "
+    "holds of one with the model's editor if `play_in` would return an `Ok` on its events. That it does is tested, by "
+    "running it on lists of events; no contract says it, since any allocation may fail.",
 )
 LISTS = "What is proved, and what isn't"
 # (what is promised with a proof, what without one, and what isn't, an item each)
 PROVED = (
     "*The headline, and that its events were those of a session*, for fewer than 2^63 - 1 events (`few`) on which "
-    "`play_in` returns an `Ok`: its contract (`Plays`).",
-    "*`Holds`* of each state of the model that events lead to, without a premise: the law `in_every_interleaving`.",
-    "*`serve` has written the frames of what that session sent*: its contract, and the law "
+    "`play_in` returns an `Ok`: by its contract (`Plays`).",
+    "*`Holds`* of each state of the model that events lead to, without a premise: by the law `in_every_interleaving`.",
+    "*`serve` has written the frames of what that session sent*: by its contract, and the law "
     "[`a_conversation_is_served`](#part-3-the-tie-to-the-program). The premises: the types of its *devices*, a reader "
     "and a writer, know their bytes, and neither had failed before (`reads`, `writes`); it has read exactly the frames "
     "of what the session took, with no content of more than 16,777,216 bytes; it has returned; and neither an "
     "allocation nor the writer failed.",
-    "*Where an allocation fails* `play_in` may return an `Err`: then all that an `Ok` says holds of the first n events, for "
-    "some n, or no session had begun (`PlaysBefore`). `serve` may return `Err(Memory)`: then it has written whole replies "
-    "to the first n contents, for some n.",
-    "*Every function returns*, given memory, stack, and devices whose calls return, and in none is anything undefined: "
-    "the checker. (`serve` hasn't returned while its reader waits.) Rattle's checker and compiler, and its libraries' "
-    "contracts, are trusted.",
+    "*Where an allocation fails* `play_in` may return an `Err`: then all that an `Ok` says holds of the first n "
+    "events, for some n, or no session had begun (`PlaysBefore`). `serve` may return `Err(Memory)`: then it has "
+    "written whole replies to the first n contents, for some n.",
+    "*Every function returns*, given memory, stack, and devices whose calls return, and in none is anything "
+    "undefined: by the checker. (`serve` hasn't returned while its reader waits.) Rattle's checker and compiler, and "
+    "its libraries' contracts, are trusted.",
 )
 UNPROVED = (
-    "*Another editor* (inferred). It holds with any editor that sends every change, makes the edits of an answer at once "
-    "and as the protocol says, and drops an answer whose document was changed, or closed and opened again, since it "
-    "asked. Changes are sent in order, columns are counted as LSP does, and to take no keys until the answer comes is as "
-    "good as to drop it. The model's editor does so. It sends the whole text after an edit, and says in `initialize` "
-    "that it takes edits that name their document's version and code actions that hold edits. Others write other "
-    "contents (editors/README.md has tests).",
-    "*Other messages* (inferred; tests/test_lifecycle.py). The model has `initialize`, openings, changes, closes and "
-    "requests for edits alone. So *every session that ends normally is in this list*: it has `initialized`, `shutdown` "
-    "and `exit`, and perhaps hovers. By `reacts` these change no document, nor, up to `shutdown`, another reply.",
-    "*Standard input and output* (tests/test_stream.py, tests/test_devices.py): their types know no bytes. That pipes "
-    "lose, add and reorder nothing is trusted. `main`, which has no contract, calls `serve` and hands its status on "
-    "(tests/test_lifecycle.py).",
-    "*A `serve` that still runs* has written and flushed each reply before it reads on (inferred in part 6; "
+    "*Another editor* (inferred). It holds with any editor that sends every change, makes the edits of an answer at "
+    "once and as the protocol says, and drops an answer whose document was changed, or closed and opened again, since "
+    "it asked. Changes are sent in order, columns are counted as LSP does, and to take no keys until the answer comes "
+    "is as good as to drop it. The model's editor does so. After an edit it sends the whole text, and in `initialize` "
+    "it says that it takes edits that name their document's version and code actions that hold edits. Others write "
+    "other contents; real ones are tested (editors/README.md).",
+    "*Other messages* (inferred; tested in tests/test_lifecycle.py). The model has `initialize`, openings, changes, "
+    "closes and requests for edits alone. So *every session that ends normally is in this list*: it has "
+    "`initialized`, `shutdown` and `exit`, and perhaps hovers. By `reacts` these change no document, nor, up to "
+    "`shutdown`, another reply.",
+    "*Standard input and output* (tested in tests/test_stream.py and tests/test_devices.py): their types know no "
+    "bytes. That pipes lose, add and reorder nothing is trusted. `main`, which has no contract, calls `serve` and "
+    "hands its status on (tests/test_lifecycle.py), 5 for `Err(Memory)`.",
+    "*A `serve` that still runs* has written and flushed each reply before it reads on (inferred in part 6; tested in "
     "tests/test_stream.py). An editor waits for replies, while the contract takes all that will come as given at the "
     "call (`R.remaining`): that is harmless, since `serve` sees only what has come.",
-    "*That `Err(Memory)` comes only where an allocation failed* (docs/ROBUSTNESS.md): no contract can say it.",
+    "*That an `Err(Memory)` comes only where an allocation failed* (tested, docs/ROBUSTNESS.md): no contract can say "
+    "it.",
 )
 UNPROMISED = (
-    "**Not promised**: that memory, stack and time suffice; that events lead somewhere (an `Ok` shows it of its list), or "
-    "a message that waits is taken; on this page, which diagnostics are in a list, and that a request gets edits (part "
-    "8). That the definitions say what is meant is for the reader to judge."
+    "**Not promised**: that memory, stack and time suffice; that events lead somewhere (an `Ok` shows it of its "
+    "list), or that a message that waits is taken; on this page, which diagnostics are in a list, and that a request "
+    "gets edits (part 8). That the definitions say what is meant is for the reader to judge."
 )
-RATTLE = (
-    "The code is in Rattle: Rust with contracts that a checker proves. What is after `ensures` holds at the return of "
-    "every call for which that after `requires` does. A *law* is the contract of a function with an empty body: a fact "
-    "about definitions. (`×` is 'and', `→` 'if .. then' or 'for all', `≡` equality; more is [below](#the-notation).)"
-)
+SIGNS = "(`×` is 'and', `→` 'if .. then' or 'for all', `≡` equality; more is [below](#the-notation).)"
 BESIDE = (
-    "`Plays` (part 3) has `Headline`, of these events as the model's, and the tie to a session. `Ends`, `Event`, `Course`, "
-    "`Applied`, `Made`, `Editor` and `Open` are in part 1. `end` is the state after all events, `applied` and `made` all "
-    "edits and publications so far. `only` says that there is at most one end; an `Ok` shows that there is one."
+    "`Plays` (part 3) has `Headline`, of these events as the model's, and the tie to a session. `Ends`, `Event`, "
+    "`Course`, `Applied`, `Made`, `Editor` and `Open` are in part 1. `end` is the state after all events, `applied` "
+    "and `made` all edits and publications so far. `only` says that there is at most one end; an `Ok` shows that "
+    "there is one."
 )
 # (what a reader has to know of the notation of parts 0 to 3, an item each)
 READING = (
@@ -441,10 +446,10 @@ READING = (
     "the model's, `Answers.start` a session's. Parts of records and cases of types may have any name: `answers` is a "
     "case and a part, `serve` an event and a function.",
     "*Contracts*: `few`, `ok` and such are names of clauses. `result` is what is returned, `x.now` what an argument "
-    "is, `x.old` and `x.new` what it was and is afterwards; `IfOk result f` and `IfErr result f` say f of the value of "
-    "an `Ok` and of the error of an `Err`. `Consumes r s taken` says that a reader that had r to give has s left, having "
-    "given `taken`; `IsAtEnd s` that none is left; `Appends v w put` that a writer that had v written has w, with `put` "
-    "at its end.",
+    "is, `x.old` and `x.new` what it was and is afterwards; `IfOk result f` and `IfErr result f` say f of the value "
+    "of an `Ok` and of the error of an `Err`. `Consumes r s taken` says that a reader that had r to give has s left, "
+    "having given `taken`; `IsAtEnd s` that none is left; `Appends v w put` that a writer that had v written has w, "
+    "with `put` at its end.",
     "*Lists*: a text is the list of its characters, a uri and a content that of its bytes; `v.items` is the list of a "
     "`Vec` of the code. `take` and `drop` cut after n elements, `flat_map f xs` joins the lists f x.",
 )
@@ -458,15 +463,15 @@ KNOWN_SIGNS = (
     "`A ⊎ B` 'A or B', `A ↔ B` 'A exactly if B', `≡` equality; `⊥` never holds. `IsTrue b` is `b ≡ true`; `All P xs` "
     "says P of each element, `MatchOption o P f` says P where `o` has no value, and else f of it.",
     "*Values*: `λ x. y` gives y for x; `let` names a value (in a `do` for the lines below). In a `do`, `x ← o` takes "
-    "the value out of `o`; where `o` has none, the whole has none (so has `o >>= f`). `is_some o` says whether `o` has "
-    "a value, `unwrap_or o x` is that or x. `==` and `&&` give truth values. `x ∷ xs` has x first, `xs ++ ys` joins two. "
-    "`pos n` is the number n of ℤ.",
+    "the value out of `o`; where `o` has none, the whole has none (so has `o >>= f`). `is_some o` says whether `o` "
+    "has a value, `unwrap_or o x` is that or x. `==` and `&&` give truth values. `x ∷ xs` has x first, `xs ++ ys` "
+    "joins two. `pos n` is the number n of ℤ.",
 )
 # (and of that of the others)
 OTHERS = "The notation of the other parts"
 MORE = (
-    "*This page*: what a definition uses comes after it; *Elsewhere* leads to what it uses of other files. *Rule* is the "
-    "text that the definitions of a file state.",
+    "*This page*: what a definition uses comes after it; *Elsewhere* leads to what it uses of other files. *Rule* is "
+    "the text that the definitions of a file state.",
     "*Facts*: `¬ A` is 'not A', `≢` is not equal; `⊤` and the library's `Unit {0}` always hold (`Unit` alone is what "
     "positions are counted in). `OnOk result P` says P where the result is an `Ok`.",
     "*Values*: `elim x [ p ↦ y | q ↦ z ]` is y or z, by what x is. `negsuc n` is -(n + 1); in ℕ are `zero` and `suc "
@@ -488,7 +493,7 @@ HEAD_OF_NAMES = ["| Name | What it says | File or part |", "|---|---|---|"]
 # (how many words and lines of definitions are read in a minute, and how many of these by who is used to the notation)
 WORDS_A_MINUTE, LINES_A_MINUTE, LINES_ONCE_USED = 200, 6, 10
 # (the last part of the first reading, and how many minutes parts 0 to 3 may take with the notation)
-FIRST_ENDS, FIRST_TAKES = 3, 50
+FIRST_ENDS, FIRST_TAKES = 3, 48
 # (how long a line of code may be)
 WIDTH = 100
 # (the parts after those of the first reading)
@@ -497,24 +502,24 @@ MODEL, TEXTS, WIRE, LANGUAGE, RIGHT, STEPS = range(4, 10)
 
 # (how to read the other parts)
 LATER_PARTS = "The other parts, and how long each takes"
-HOMES = "Where that is defined of which parts 0 to 3 have words"
+HOMES = "Where the names are defined that are believed"
 HOW = (
-    "The first reading ends here. Whoever believes that these definitions say what they are meant to say knows what is proved; proofs and code "
-    "needn't be read. What parts 0 to 3 name and don't unfold is *believed*: comments have it in words. Above all "
-    "it is that a module and its run are those of docs/LANGUAGE.md (`WellTypedText`, `SameRun`), that a session is "
-    "docs/PROTOCOL.md (`reacts`), and that bytes and contents are read as the words of part 3 say. Parts 4 to 6 "
-    "unfold the rest of the model, texts and the wire, part 7 says what a module is and does, part 8 which edits are "
-    "right answers; part 9 has laws and details. Each says what one may believe instead, and what speaks for that: "
-    "laws, which are proved of the definitions, and tests (of the code, which is proved to do what these say)."
+    "The first reading ends here. Whoever believes that these definitions say what they are meant to say knows what "
+    "is proved: proofs and code needn't be read. *Believed* is what comments under definitions say: above all that a "
+    "module and its run are those of docs/LANGUAGE.md (`WellTypedText`, `SameRun`), that a session is "
+    "docs/PROTOCOL.md (`reacts`), and that bytes and contents are read as part 3 says. Parts 4 to 6 unfold the rest "
+    "of the model, texts and the wire, part 7 what a module is and does, part 8 which edits are right answers; part 9 "
+    "has laws and details. Each says what one may believe instead, and what speaks for that: laws, which are proved "
+    "of the definitions, and tests, of the code."
 )
 WHOLE = (
     "No definition that the headline needs is left out, but for those that the table of part 6 gives with a file: this "
     "is the work of the page's script, and a test counts them in another way."
 )
 PACES = (
-    f"Times are of {WORDS_A_MINUTE} words and {LINES_A_MINUTE} lines a minute, for who knows types, each rounded up; in "
-    f"the last column of {LINES_ONCE_USED} lines, for who is used to the notation. Lines are those of definitions in the sources (of "
-    "contracts in the times alone); words are all others, without lists of links."
+    f"Times are of {WORDS_A_MINUTE} words and {LINES_A_MINUTE} lines a minute, for who knows types, each rounded up; "
+    f"in the last column of {LINES_ONCE_USED} lines, for who is used to the notation. Lines are those of definitions "
+    "in the sources (of contracts in the times alone); words are all others, without lists of links."
 )
 
 
@@ -656,6 +661,8 @@ class Page:
         for part, files in KEPT.items():
             order = [*files]
             self.groups[part].sort(key=lambda group: order.index((group.crate, group.file.name if group.file else "")))
+            for group, names in zip(self.groups[part], files.values()):
+                group.items.sort(key=lambda item: names.split().index(item.names[0]))
         self.groups[LANGUAGE].sort(key=Group.section)
         self.sizes: dict[int, Size] = {}
         self.homes: dict[Item, str] = {}  # the heading that an item is under
@@ -793,7 +800,7 @@ class Page:
             common.stop(f"nothing of parts 0 to {FIRST_ENDS} names {', '.join({*BELIEVED} - noted)}")
 
     def first_named(self) -> list[tuple[object, list[Item]]]:
-        """The contracts, by name, and the definitions of parts 0 to 3 in the order of the page, with what each names."""
+        """The contracts, by name, and the definitions of parts 0 to 3 as they follow, with what each names."""
         found: list[tuple[object, list[Item]]] = []
         for part in range(FIRST_ENDS + 1):
             found += [(key[2], roots(self.sources, [key])) for key in SHOWN.get(part, [])]
@@ -801,7 +808,12 @@ class Page:
         return found
 
     def shown_contracts(self, part: int) -> list[str]:
-        shown = [contract(*key) + noted("//", self.notes.get(key[2], [])) for key in SHOWN.get(part, [])]
+        # (what is said over a law that the first reading unfolds is said over its definition too)
+        unsaid = "///" if part <= FIRST_ENDS else "\n"
+        shown = []
+        for key in SHOWN.get(part, []):
+            lines = [line for line in contract(*key) if key[1] != "laws" or not line.startswith(unsaid)]
+            shown.append(lines + noted("//", self.notes.get(key[2], [])))
         return ["```rust", *between(shown), "```", ""]
 
     def elsewhere(self, items: Iterable[Block], heading: str, named: Iterable[Item] = ()) -> list[str]:
@@ -861,9 +873,7 @@ class Page:
         if not shown:
             return []
         out = self.shown_contracts(part)
-        if part == 3:
-            return [*out, *ROWS.strip().splitlines(), "", *wrapped(AFTER_ROWS), ""]
-        return out + self.elsewhere([], "", roots(self.sources, shown))
+        return out + (self.elsewhere([], "", roots(self.sources, shown)) if part > FIRST_ENDS else [])
 
     def size(self, part: int) -> Size:
         """How many words and how many lines of definitions and contracts are to be read in a part."""
@@ -932,15 +942,15 @@ class Page:
 
     def first_lines(self) -> list[str]:
         out = [*wrapped(OPENING), "", *quoted(SENTENCE), "", *wrapped(AFTER_SENTENCE), "", *listed(MEANINGS), ""]
-        for paragraph in (*TIE, RATTLE):
+        for paragraph in (*TIE, SIGNS):
             out += [*wrapped(paragraph), ""]
         out += [*self.shown_contracts(0), *self.fenced(self.first), *wrapped(BESIDE), ""]
-        out += [f"### {LISTS}", "", "**Proved**, of the model's editor:", "", *listed(PROVED), ""]
+        out += [f"### {LISTS}", "", "**Proved**, with the model's editor:", "", *listed(PROVED), ""]
         return [*out, "**Inferred or tested**, and no theorem:", "", *listed(UNPROVED), "", *wrapped(UNPROMISED), ""]
 
     def notation(self) -> list[str]:
         """What is said between part 0 and part 1."""
-        known = "The rest is for whom such definitions are new:"
+        known = "The rest is for readers to whom such definitions are new:"
         return ["## The notation", "", *listed(READING), "", known, "", *listed(KNOWN_SIGNS), ""]
 
     def other_parts(self) -> list[str]:
@@ -1046,8 +1056,8 @@ def listed(items: Iterable[str]) -> list[str]:
 
 def noted(mark: str, notes: Iterable[str]) -> list[str]:
     """Notes as comments, indented, which begin with this mark."""
-    wide: Callable[[str], list[str]] = lambda note: textwrap.wrap(note, WIDTH, initial_indent=f"{mark}   ", subsequent_indent=f"{mark}     ")
-    return [line for note in notes for line in wide(note)]
+    how: dict[str, Any] = {"initial_indent": f"{mark}   ", "subsequent_indent": f"{mark}     "}
+    return [line for note in notes for line in textwrap.wrap(note, WIDTH, break_on_hyphens=False, **how)]
 
 
 def between(contracts: Iterable[list[str]]) -> list[str]:
@@ -1064,9 +1074,8 @@ def slug(heading: str) -> str:
 
 
 def wrapped(text: str, indent: str = "") -> list[str]:
-    """The lines of a text; what is between backquotes stays in one line, and so does a link. Laws that a part shows link
-    to it."""
-    text = re.sub(r"(?<!\[)`(\w+)`", lambda at: f"[{at[0]}](#{slug(PARTS[STEPS][0])})" if at[1] in LAW_NAMES else at[0], text)
+    """The lines of a text; what is between backquotes stays in one line, and so does a link. Laws link to their part."""
+    text = re.sub(rf"(?<!\[)`(?:{'|'.join(LAW_NAMES)})`", lambda at: f"[{at[0]}](#{slug(PARTS[STEPS][0])})", text)
     kept = re.sub(r"\[?`[^`]*`(?:\]\([^)]*\))?", lambda at: at[0].replace(" ", "\N{NO-BREAK SPACE}"), text)
     lines = textwrap.wrap(kept, 120, subsequent_indent=indent, break_on_hyphens=False, break_long_words=False)
     return [line.replace("\N{NO-BREAK SPACE}", " ") for line in lines]
