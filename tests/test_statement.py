@@ -162,7 +162,7 @@ def tie_is_there() -> None:
 def first_reading() -> str:
     """Parts 0 to 3."""
     page = text_of(PAGE)
-    return page[: page.index("\n## The other parts, and how long each takes\n")]
+    return page[: page.index("\n## The other parts\n")]
 
 
 def read_in(part: str, pace: int) -> float:

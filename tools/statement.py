@@ -144,7 +144,8 @@ BELIEVED = {
     "event_of": "the same as an event of the model (`Take` is `take_message`, and so on)",
     "all_applied, all_made": "the edits and the publications that are returned",
     "Both": "the model (`ends`) and the `wire`: a `session` and the columns of the table above",
-    "Begins": "the first row of the table above, where `initialize` says what part 0 names; the model is at `start`",
+    "Begins": "the first row of the table above; `initialize` says that the editor takes edits that name their "
+    "document's version, and code actions that hold edits; the model is at `start`",
     "BothCourse": "these events, each a `BothStep`, lead from the one to the other",
     "HasCome": "these edits and publications are returned",
     "HasPassed": "`taken`, `got` and `to_editor` of this wire are returned",
@@ -288,8 +289,8 @@ PARTS: list[tuple[str, list[str], str, str]] = [
             "its list.",
             "An editor that counts no openings, compares the version in an answer with its document's, and drops what "
             "it asked about a document before this was opened again, does the same with an answer as the model does "
-            "(the law `versions_suffice`). By the law `versions_are_named` (docs/PROMISES.md) edits that answer a "
-            "request name that version, but for those of a formatting, which name none.",
+            "(the law `versions_suffice`). By the law [`versions_are_named`](PROMISES.md#client-and-server) edits "
+            "that answer a request name that version, but for those of a formatting, which name none.",
         ],
         "what parts 0 and 1 say of these names",
         "the laws `one_step`, `server_mirrors` and `versions_suffice` (part 9), and the test `worlds_play_as_written` "
@@ -364,8 +365,8 @@ AFTER_SENTENCE = (
 )
 # (what its words mean, an item each)
 MEANINGS = (
-    "*Well-typed* is a text that docs/LANGUAGE.md allows. (A text is a list of Unicode scalar values: half of a "
-    "surrogate pair can't be in one.) A *run* ends as it should, by an error, or at a bound.",
+    "*Well-typed* is a text that docs/LANGUAGE.md allows. (A text is a list of Unicode scalar values: half a "
+    "surrogate pair is none.) A *run* ends as it should, by an error, or at a bound.",
     "*An applied edit* is all that one answer replaces, made at once: of a rename, an inlining of a constant at one "
     "use or everywhere, or a formatting. No two replacements share a character (the law `edits_keep_the_run`). The "
     "editor applies an answer only to the opening of the document that it asked about, with the version of then; else "
@@ -377,16 +378,17 @@ MEANINGS = (
 )
 # (how the headline is tied to the program, a paragraph each)
 TIE = (
-    "*The tie to the program.* `play_in` is a proof harness, which the program never runs: it plays a list of events "
-    "with a `Session`, the server's code, and a model of an editor. `ob0 serve` runs `serve`, which gives a `Session` "
-    "what it reads, and writes what that sends. Both are proved against one specification (`reacts`, docs/PROTOCOL.md "
-    "as a function): so for the same contents `serve` writes what `play_in` returns as sent (part 3). The last step, "
-    "to standard input and output, is tested.",
-    "*What each contract says.* The law `in_every_interleaving` speaks of the model alone, where each publication and "
-    "each answer is right by the model's own definition (`Replies`); it gives `Holds`, not `made_for`. That the code's "
-    "are right is what the contract of `play_in` and the tie add. Beside a session nobody runs `play_in`: the headline "
-    "holds of one with the model's editor if `play_in` would return an `Ok` on its events. That it does is tested, by "
-    "running it on lists of events; no contract says it, since any allocation may fail.",
+    "*The tie to the program.* `play_in` (`ob0_world`) is a proof harness, which the program never runs: it plays a "
+    "list of events with a `Session`, the server's code, and code of a model editor. `ob0 serve` runs `serve` "
+    "(`ob0_session`), which gives a `Session` what it reads, and writes what that sends. Both are proved against one "
+    "specification (`reacts`, docs/PROTOCOL.md as a function): so for the same contents `serve` writes what `play_in` "
+    "returns as sent (part 3). The last step, to standard input and output, is tested.",
+    "*What each contract says.* The law `in_every_interleaving` speaks of the model alone, definitions of both ends "
+    "(part 1), where each publication and each answer is right by definition (`Replies`); it gives `Holds`, not "
+    "`made_for`. That the code's are right is what the contract of `play_in` and the tie add. Beside a session nobody "
+    "runs `play_in`: the headline holds of one with the model's editor if `play_in` would return an `Ok` on its "
+    "events. That it does is tested, by running it on lists of events; no contract says it, since any allocation may "
+    "fail.",
 )
 LISTS = "What is proved, and what isn't"
 # (what is promised with a proof, what without one, and what isn't, an item each)
@@ -407,12 +409,11 @@ PROVED = (
     "its libraries' contracts, are trusted.",
 )
 UNPROVED = (
-    "*Another editor* (inferred). It holds with any editor that sends every change, makes the edits of an answer at "
-    "once and as the protocol says, and drops an answer whose document was changed, or closed and opened again, since "
-    "it asked. Changes are sent in order, columns are counted as LSP does, and to take no keys until the answer comes "
-    "is as good as to drop it. The model's editor does so. After an edit it sends the whole text, and in `initialize` "
-    "it says that it takes edits that name their document's version and code actions that hold edits. Others write "
-    "other contents; real ones are tested (editors/README.md).",
+    "*The headline with another editor* (inferred). It holds with any editor that sends every change, makes the edits "
+    "of an answer at once and as the protocol says, and drops an answer whose document was changed, or closed and "
+    "opened again, since it asked. Changes are sent in order, columns are counted as LSP does, and to take no keys "
+    "until the answer comes is as good as to drop it. The model's editor does so. Others write other "
+    "contents; of them there is no theorem, but real ones are tested (editors/README.md).",
     "*Other messages* (inferred; tested in tests/test_lifecycle.py). The model has `initialize`, openings, changes, "
     "closes and requests for edits alone. So *every session that ends normally is in this list*: it has "
     "`initialized`, `shutdown` and `exit`, and perhaps hovers. By `reacts` these change no document, nor, up to "
@@ -501,7 +502,7 @@ MODEL, TEXTS, WIRE, LANGUAGE, RIGHT, STEPS = range(4, 10)
 
 
 # (how to read the other parts)
-LATER_PARTS = "The other parts, and how long each takes"
+LATER_PARTS, SIZES = "The other parts", "How long each part takes"
 HOMES = "Where the names are defined that are believed"
 HOW = (
     "The first reading ends here. Whoever believes that these definitions say what they are meant to say knows what "
@@ -509,8 +510,8 @@ HOW = (
     "module and its run are those of docs/LANGUAGE.md (`WellTypedText`, `SameRun`), that a session is "
     "docs/PROTOCOL.md (`reacts`), and that bytes and contents are read as part 3 says. Parts 4 to 6 unfold the rest "
     "of the model, texts and the wire, part 7 what a module is and does, part 8 which edits are right answers; part 9 "
-    "has laws and details. Each says what one may believe instead, and what speaks for that: laws, which are proved "
-    "of the definitions, and tests, of the code."
+    "has laws and details. Each says how long it takes ([all of it](#how-long-each-part-takes)), what one may believe "
+    "instead, and what speaks for that: laws, which are proved of the definitions, and tests, of the code."
 )
 WHOLE = (
     "No definition that the headline needs is left out, but for those that the table of part 6 gives with a file: this "
@@ -910,8 +911,8 @@ class Page:
     def items_of(self, part: int) -> list[Item]:
         return [*self.first] if part == 0 else [item for group in self.groups[part] for item in group.items]
 
-    def table(self, others: list[str]) -> list[str]:
-        """The parts with their sizes, and what some of them are together. `others` is what is said before part 4."""
+    def table(self) -> list[str]:
+        """The parts with their sizes, and what some of them are together."""
         head = f"| Part | Definitions | Lines | Words | Minutes | At {LINES_ONCE_USED} lines |"
         rows = [head, "|---|---|---|---|---|---|"]
         sizes = [self.size(part) for part in range(len(PARTS))]
@@ -923,7 +924,7 @@ class Page:
             times = f"{minutes(size):,} | {minutes(size, LINES_ONCE_USED):,}"
             rows.append(f"| {name} | {many} | {lines:,} | {size[0]:,} | {times} |")
 
-        notation, after = read_of(self.notation()), read_of(others)
+        notation, after = read_of(self.notation()), read_of(self.after_first())
         for part, (title, _, _, _) in enumerate(PARTS):
             row(f"[{title}](#{slug(title)})", part, part)
             if part == 0:
@@ -955,14 +956,17 @@ class Page:
 
     def other_parts(self) -> list[str]:
         """What is said after the first reading."""
-        paces = PACES + " " + self.left_out()
-        head = [f"## {LATER_PARTS}", "", *wrapped(HOW), "", *wrapped(WHOLE), "", *wrapped(paces), ""]
-        table: list[str] = []
-        for _ in range(2):  # (the table is to be read too)
-            table = self.table([*head, *table])
         unfolded = [item for part in range(FIRST_ENDS + 1) for item in self.items_of(part)]
         named = [need for _, needs in self.first_named() for need in needs if need not in unfolded]
-        return [*head, *table, "", f"### {HOMES}", "", *self.elsewhere([], "", named)]
+        return [*self.after_first(), f"### {HOMES}", "", *self.elsewhere([], "", named)]
+
+    def after_first(self) -> list[str]:
+        return [f"## {LATER_PARTS}", "", *wrapped(HOW), ""]
+
+    def times(self) -> list[str]:
+        """The sizes of all parts, and how they were counted."""
+        paces = PACES + " " + self.left_out()
+        return [f"## {SIZES}", "", *wrapped(paces), "", *self.table(), "", *wrapped(WHOLE), ""]
 
     def left_out(self) -> str:
         """What isn't counted in the rows of several parts."""
@@ -979,7 +983,7 @@ class Page:
             if part == FIRST_ENDS + 1:
                 out += self.other_parts()
             out += self.part_lines(part)
-        out += ["## Names of the standard library", ""]
+        out += [*self.times(), "## Names of the standard library", ""]
         by_module: dict[str, set[str]] = {}
         for module, name in self.sources.std:
             by_module.setdefault(module, set()).add(name)
