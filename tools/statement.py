@@ -144,8 +144,8 @@ BELIEVED = {
     "event_of": "the same as an event of the model (`Take` is `take_message`, and so on)",
     "all_applied, all_made": "the edits and the publications that are returned",
     "Both": "the model (`ends`) and the `wire`: a `session` and the columns of the table above",
-    "Begins": "the first row of the table above; `initialize` says that the editor takes edits that name their "
-    "document's version, and code actions that hold edits; the model is at `start`",
+    "Begins": "the first row of the table above; `initialize` says that the editor counts in this unit, and takes "
+    "edits that name their document's version and code actions that hold edits; the model is at `start`",
     "BothCourse": "these events, each a `BothStep`, lead from the one to the other",
     "HasCome": "these edits and publications are returned",
     "HasPassed": "`taken`, `got` and `to_editor` of this wire are returned",
