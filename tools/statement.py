@@ -139,7 +139,7 @@ BELIEVED = {
     "IsFlushedAfter": "if the writer was flushed before, or anything was put, it is flushed now",
     "code.Event": "an event of the code",
     "PlayFault": "`played`, and `steps`: how many events went before the failed one",
-    "PlaysNothing": "no event was made, no edit or publication has come, and no content has passed",
+    "PlaysNothing": "nothing was played, and no content has passed",
     "Played": "what `play_in` returns",
     "event_of": "the same as an event of the model (`Take` is `take_message`, and so on)",
     "all_applied, all_made": "the edits and the publications that are returned",
@@ -262,7 +262,7 @@ PARTS: list[tuple[str, list[str], str, str]] = [
             "A small session: I is the content of `initialize`, O of an opening, R of a request for a rename, C of the "
             "change after the applied edit; i and r are the replies to I and R, d the diagnostics.",
             WORKED,
-            "`play_in` returns `to_editor` as `unread`. The tie has four steps:",
+            "`play_in` returns `to_editor` as `unread`. The tie has three steps before the last, which is tested:",
             "1. *Model and session.* If `play_in` returns an `Ok`, with `few`, `Plays` holds: a `BothStep` for each "
             "event leads from `begin` to `end`. `begin` has the model's `start`, and each step does what `Happens` "
             "says; so, by `only`, the model in `end` is the `end` of `Headline`. And the session has done the same "
@@ -272,9 +272,7 @@ PARTS: list[tuple[str, list[str], str, str]] = [
             "3. *Contents and bytes.* `serve` returns with `Serves`, if neither device had failed before. This is "
             "`MayServe` and more ([by definition](#determined-of-ob0_world_determined-part-6)). By the law "
             "`a_conversation_is_served`, under the premises of part 0, the bytes written are the frames of `got ++ "
-            "unread`.\n"
-            "4. *Bytes and the program.* `ob0 serve` calls `serve` over standard input and output, whose types know "
-            "no bytes: this is tested.",
+            "unread`.",
             "After an `Err` of `play_in` the law [`in_every_interleaving`](#part-0-the-headline) alone speaks of the "
             "events that follow.",
         ],
@@ -428,9 +426,9 @@ UNPROVED = (
     "it.",
 )
 UNPROMISED = (
-    "**Not promised**: that memory, stack and time suffice; that events lead somewhere (an `Ok` shows it of its "
-    "list), or that a message that waits is taken; on this page, which diagnostics are in a list, and that a request "
-    "gets edits (part 8). That the definitions say what is meant is for the reader to judge."
+    "**Not promised**: that memory, stack and time suffice; that an editor does its part; that events lead somewhere "
+    "(an `Ok` shows it of its list), or that a message that waits is taken; on this page, which diagnostics are in a "
+    "list, and that a request gets edits (part 8). That the definitions say what is meant is for the reader to judge."
 )
 SIGNS = "(`×` is 'and', `→` 'if .. then' or 'for all', `≡` equality; more is [below](#the-notation).)"
 BESIDE = (
@@ -510,8 +508,8 @@ HOW = (
     "module and its run are those of docs/LANGUAGE.md (`WellTypedText`, `SameRun`), that a session is "
     "docs/PROTOCOL.md (`reacts`), and that bytes and contents are read as part 3 says. Parts 4 to 6 unfold the rest "
     "of the model, texts and the wire, part 7 what a module is and does, part 8 which edits are right answers; part 9 "
-    "has laws and details. Each says how long it takes ([all of it](#how-long-each-part-takes)), what one may believe "
-    "instead, and what speaks for that: laws, which are proved of the definitions, and tests, of the code."
+    "has laws and details ([how long each takes](#how-long-each-part-takes)). Each says what one may believe instead, "
+    "and which laws and tests speak for that."
 )
 WHOLE = (
     "No definition that the headline needs is left out, but for those that the table of part 6 gives with a file: this "
