@@ -781,7 +781,7 @@ class Page:
         by_name = {shown: item for (item, _), shown in self.names.items()}
         said = {by_name[name]: (names, says) for names, says in BELIEVED.items() for name in names.split(", ")}
         said.update({item: (self.names[item, key[2]], says) for item, (key, says) in self.closed.items()})
-        unfolded = [item for part in range(FIRST_ENDS + 1) for item in self.items_of(part)]
+        unfolded = self.unfolded_first()
         noted: set[str] = set()
         for place, needs in self.first_named():
             self.notes[place] = []
@@ -789,7 +789,8 @@ class Page:
                 names, says = said.get(need, ("", ""))
                 # (the notation has operators, and a type of the code is said with what has it)
                 if isinstance(need, Block) and not names and need not in unfolded and not need.names[0].startswith("◌"):
-                    common.stop(f"{place} names {need.names[0]}, which parts 0 to {FIRST_ENDS} neither unfold nor say")
+                    name = place.names[0] if isinstance(place, Block) else place
+                    common.stop(f"{name} names {need.names[0]}, which parts 0 to {FIRST_ENDS} neither unfold nor say")
                 if names and names not in noted:
                     noted.add(names)
                     self.notes[place].append(f"{names}: {says}")
@@ -797,6 +798,10 @@ class Page:
             self.notes[name] = [f"{names}: {says}" for names, says in more.items()] + self.notes[name]
         if not noted >= {*BELIEVED}:
             common.stop(f"nothing of parts 0 to {FIRST_ENDS} names {', '.join({*BELIEVED} - noted)}")
+
+    def unfolded_first(self) -> list[Item]:
+        """What parts 0 to 3 unfold."""
+        return [item for part in range(FIRST_ENDS + 1) for item in self.items_of(part)]
 
     def first_named(self) -> list[tuple[object, list[Item]]]:
         """The contracts, by name, and the definitions of parts 0 to 3 as they follow, with what each names."""
@@ -807,11 +812,12 @@ class Page:
         return found
 
     def shown_contracts(self, part: int) -> list[str]:
-        # (what is said over a law that the first reading unfolds is said over its definition too)
-        unsaid = "///" if part <= FIRST_ENDS else "\n"
         shown = []
         for key in SHOWN.get(part, []):
-            lines = [line for line in contract(*key) if key[1] != "laws" or not line.startswith(unsaid)]
+            lines = contract(*key)
+            # (what is said over a law that the first reading unfolds is said over its definition too)
+            if part <= FIRST_ENDS and key[1] == "laws":
+                lines = [line for line in lines if not line.startswith("///")]
             shown.append(lines + noted("//", self.notes.get(key[2], [])))
         return ["```rust", *between(shown), "```", ""]
 
@@ -954,7 +960,7 @@ class Page:
 
     def other_parts(self) -> list[str]:
         """What is said after the first reading."""
-        unfolded = [item for part in range(FIRST_ENDS + 1) for item in self.items_of(part)]
+        unfolded = self.unfolded_first()
         named = [need for _, needs in self.first_named() for need in needs if need not in unfolded]
         return [*self.after_first(), f"### {HOMES}", "", *self.elsewhere([], "", named)]
 
