@@ -162,7 +162,7 @@ def tie_is_there() -> None:
 def first_reading() -> str:
     """Parts 0 to 3."""
     page = text_of(PAGE)
-    return page[: page.index("\n## The other parts, and how long each takes\n")]
+    return page[: page.index("\n## The other parts\n")]
 
 
 def read_in(part: str, pace: int) -> float:
@@ -175,7 +175,7 @@ def read_in(part: str, pace: int) -> float:
     return (len(words) - len(in_lines)) / 200 + len(lines) / pace
 
 
-@test("statement: the times of the page aren't less than its words and lines take, and parts 0 to 3 take 50 minutes")
+@test("statement: the times of the page aren't less than its words and lines take, and parts 0 to 3 take 48 minutes")
 def times_hold() -> None:
     page, table = text_of(PAGE), rows()
     parts = re.split(r"^(?=## )", page, flags=re.M)
@@ -186,10 +186,14 @@ def times_hold() -> None:
             holds(needed <= said, f"part {part} takes {needed:.1f} minutes, and not {said}")
         first = read_in(first_reading(), pace)
         said = table["**The first reading**"][column]
-        holds(first <= said <= 50, f"parts 0 to 3 take {first:.1f} minutes, and not {said}")
+        holds(first <= said <= 48, f"parts 0 to 3 take {first:.1f} minutes, and not {said}")
 
 
-@test("statement: what parts 0 to 3 name is in them, in words at least")
+# (the names of which a comment under a definition or a contract says what they mean)
+NOTE = r"^(?:--|//)   (?! )([^:]+): "
+
+
+@test("statement: what parts 0 to 3 name is in them, in words at least, under a definition that names it")
 def nothing_unsaid() -> None:
     counted = Counted()
     read = first_reading()
@@ -203,9 +207,15 @@ def nothing_unsaid() -> None:
         if name in counted.files[crate, file][0]
     ]
     holds(len(shown) > 30, f"hardly any definition is in parts 0 to 3: {shown}")
-    sections = re.findall(r"^### (?:Believed in part \d|Named and not unfolded)\n\n((?:\|.*\n)+)", read, re.M)
-    tables = "\n".join(re.findall(r"^\| \[?(`.*?) \|", "\n".join(sections), re.M))
-    said = {name.rpartition(".")[2] for name in re.findall(r"`([^`|]+)`", tables)} | {name for _, _, name in shown}
+    said = {name for _, _, name in shown}
+    for piece in re.split(r"\n\n+(?=\S)|^```.*\n", read, flags=re.M):
+        noted = [name for names in re.findall(NOTE, piece, re.M) for name in names.split(", ")]
+        code = re.sub(r"^ *(?:--|//).*$", "", piece, flags=re.M)
+        # (of a data type its cases may be what is named)
+        unnamed = [name for name in noted if not re.search(rf"(?<!\w){re.escape(name.split()[0])}(?!\w)", code)]
+        unnamed = [name for name in unnamed if name != "SessionState" or " serving " not in code]
+        same(unnamed, [], "said where it isn't named")
+        said |= {name.rpartition(".")[2] for name in noted}
     missing = set()
     for crate, file, name in shown:
         own, others = counted.files[crate, file]
@@ -219,6 +229,16 @@ def nothing_unsaid() -> None:
             if home[2] not in said and of_type not in said:
                 missing.add(f"{word}, by {name} of {file}")
     same(sorted(missing), [], "what parts 0 to 3 name and don't say")
+
+
+@test("statement: the words of the page link each law that it shows in part 9 to that part")
+def laws_are_linked() -> None:
+    shown = "\n".join(text for part, text in fenced("rust") if str(part).startswith("Part 9"))
+    laws = re.findall(r"^pub fn (\w+)\(\)", shown, re.M)
+    holds(len(laws) > 6, f"hardly any law is in part 9: {laws}")
+    words = re.sub(r"^```\w+\n.*?^```$", "", text_of(PAGE), flags=re.M | re.S)
+    for name in laws:
+        same(re.findall(rf"(?<!\[)`{name}`|\[`{name}`\](?!\(#part-9)", words), [], f"{name} without a link")
 
 
 @test("statement: the laws and tests that speak for what is believed are there")

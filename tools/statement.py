@@ -3,9 +3,9 @@
 is there once, with its comment.
 
 A definition is needed where a contract of the page names it, or a needed definition does (tools/definitions.py). Parts 0
-to 3 unfold some (`KEPT`) and are read first; of the others that they name they have words (`BELIEVED`), and later
-parts unfold them. Some are nowhere unfolded (`CLOSED`). With --check the page isn't written: it fails where the page
-isn't of these sources."""
+to 3 unfold some (`KEPT`) and are read first; what the others that they name mean is said in words under the first that
+names them (`BELIEVED`), and later parts unfold them. Some are nowhere unfolded (`CLOSED`). With --check the page isn't
+written: it fails where the page isn't of these sources."""
 from __future__ import annotations
 
 import math
@@ -36,6 +36,7 @@ STEP = ("ob0_world", "world", "step")
 # (laws that the words name)
 LAWS = [("ob0_world_rules", "laws", name) for name in ("one_step", "a_course_fits", "answers_are_one", "edits_keep_the_run", "server_mirrors")]
 LAWS += [("ob0_world", "laws", "versions_suffice"), ("ob0_world_determined", "laws", "one_output")]
+LAW_NAMES = [name for _, _, name in LAWS]
 # (the contracts that a part shows)
 SHOWN = {0: HEADLINE, 3: [SERVE, LAW], 9: [STEP, *LAWS]}
 # (on the first screen, in this order)
@@ -73,8 +74,6 @@ CLOSED = {
     ("ob0_frame", "Frames", "frame"): "the message with this content: a head that gives the length, and the content",
     ("ob0_frame", "Head", "max_content"): "16,777,216, the bytes that a content may have",
 }
-# (what the words of part 3 name of these)
-SAID = [("ob0_session_server", "Answers", "reacts")]
 # (what parts 1 to 3 unfold, by file, in the order of the page)
 KEPT: dict[int, dict[tuple[str, str], str]] = {
     1: {
@@ -87,109 +86,85 @@ KEPT: dict[int, dict[tuple[str, str], str]] = {
         ("ob0_text", "Patches"): "patched_by_cuts",
     },
     3: {
-        ("ob0_world", "Worlds"): "Plays PlaysBefore BothStep IsTied",
+        ("ob0_world", "Worlds"): "Plays BothStep IsTied PlaysBefore",
         ("ob0_world_determined", "Determined"): "ConversationIsServed",
     },
 }
-# (what they name besides and the page unfolds in a later part, and what it says: this is believed)
-BELIEVED: dict[int, list[tuple[str, str]]] = {
-    1: [
-        ("WellTypedText", "the text is one of a well-typed module, by docs/LANGUAGE.md"),
-        ("SameRun", "the modules of two texts give the same output and end, for every input and all bounds"),
-        ("WasMadeFor", "at some moment of these events the editor had the document open with this version and text"),
-        ("last_publication", "the last of these publications for a uri"),
-        ("Unit", "what positions are counted in: UTF-16 units or bytes"),
-        ("start", "nothing was opened yet, and all lists are empty"),
-        ("EditorDocuments", "the documents that are open in the editor"),
-        ("open_at", "the document of a uri that is open in the editor, if there is one"),
-        ("Ask", "a rename at a place, an inlining of a constant at the use there or everywhere, a formatting"),
-        ("Act", "what the editor may do: the cases of `done_by`"),
-        ("Done", "what an act leaves: the editor, what it sends and what it applies"),
-        ("after_act", "what is sent waits for the server, last; what is applied is added to `applied`"),
-        ("opens", "the document is open with version 1 and a number that no other opening has; an opening is sent"),
-        ("rewrites", "the document has this text and the next version; the changes are sent; the last list is what was "
-            "applied"),
-        ("closes", "the document isn't open any more; a close is sent"),
-        ("asks", "the request is kept in `requested`, and sent"),
-        ("stays", "the editor is this one; nothing is sent or applied"),
-        ("after_taking", "the first message that waits for the editor is taken; an answer that has edits is kept"),
-        ("Answer", "an answer that is kept"),
-        ("kept_answer", "the edits of the answer to request k, if the editor keeps it"),
-        ("without_answer", "the editor without the answer to request k"),
-        ("SentAsk", "a request that was sent: its `uri`, and the `opening` and `version` that the document had then"),
-        ("request_numbered", "the request with this number"),
-        ("after_changes", "the text after changes, each of the result of the one before"),
-        ("whole_text", "the change that gives the whole text"),
-        ("OpenDocuments", "the documents that the server has, each `InStep` or `OutOfStep`"),
-        ("DocumentEvent", "that a document is opened, changed, lost or closed"),
-        ("after_message", "the server's documents after a message"),
-        (
-            "Replies",
-            "what is sent for a message, and the publications made by that: for a notification see "
-            "`RepliesToNotification`; for a request one answer, with its number and the edits of `IsAnswer`",
-        ),
-        (
-            "RepliesToNotification",
-            "of a document that was opened or changed and is now `InStep`: one publication (and `Made`) with its "
-            "version and text, of which `IsEmptyIfCorrect` holds; of an open one that was closed: an empty list "
-            "without a version, and nothing made; else nothing",
-        ),
-        (
-            "IsAnswer",
-            "of a document `InStep` the edits of `GivesEdits`, or none: where `Refuses` holds, or its text isn't a "
-            "well-typed module; of any other document none",
-        ),
-        ("GivesEdits", "these edits are what was requested, by docs/PROTOCOL.md"),
-        ("Refuses", "docs/PROTOCOL.md refuses such edits of this text"),
-    ],
-    2: [
-        ("Range", "from one position to another"),
-        ("Cut", "where characters are taken out, and those that are put there"),
-        ("cut_at", "the cut of a range: between the characters at its two positions, the lesser first"),
-        ("width_of", "how many units a character has"),
-        ("in_text_order", "the cuts by their starts, then by their ends, then as in the list"),
-        ("pieced", "what cuts in this order make of the text from a place on"),
-        ("all_apart", "no two of the cuts share a character (an insertion strictly inside another cut does)"),
-    ],
-    3: [
-        ("Played", "what `play_in` returns at an `Ok`"),
-        ("PlayFault", "what it returns at an `Err`: `played`, and `steps`, how many events went before"),
-        ("code.Event", "an event of the code"),
-        ("event_of", "the same as an event of the model (`Take` is `take_message`, and so on)"),
-        ("all_applied", "the edits that the code returns"),
-        ("all_made", "the publications that the code returns"),
-        ("Both", "the model (`ends`) and the `wire`: a `session` and the columns of the small conversation"),
-        ("SessionState", "the session is `serving`, in a state, or has `failed`"),
-        (
-            "Begins",
-            "the session has taken the JSON of `initialize`, whose capabilities are fixed: this unit, and what part 0 "
-            "says; the editor has got the reply; the model is at `start`",
-        ),
-        ("BothCourse", "these events, each a `BothStep`, lead from the one to the other"),
-        ("HasCome", "the edits and publications that are returned are those of this state"),
-        ("HasPassed", "the contents that are returned are `taken`, `got` and `to_editor` of this wire"),
-        (
-            "MovesWire",
-            "the contents move as in the small conversation; at the server's event the session goes on from state to "
-            "state by `Answers`, at others it stays",
-        ),
-        ("AllSay", "as many contents as messages; each content is the notification or request that its message means"),
-        ("PlaysNothing", "no event was made, no edit or publication has come, and no content has passed"),
-        ("Answers", "in a state a session replies to a content by these contents, and this is its next state (`reacts`)"),
-        ("Conversation", "these contents in turn have these replies in turn (`Answers`), from state to state"),
-        ("bytes", "contents as the lists of their bytes"),
-        ("Serves", "the table of results, case by case"),
-        ("MayServe", "`Serves` of some failures, without what it says of flushes, counts of reads and the input's end"),
-        ("IsWritten", "the result is neither `Err(Memory)` nor `Err(Write)`"),
-        ("ServeFault", "the errors of the table of results"),
-        ("device_of", "of a `Noted`: the device"),
-        ("has_failed", "of a `Noted`: a call of its device has returned an error"),
-        ("is_flushed", "of a `Noted`: a flush has succeeded since the last write, or nothing was written"),
-        ("reads_of", "of a `Noted`: how it was read"),
-        ("IsTaken", "the bytes were taken by at most 2^40 reads, of at most 8,192 bytes each"),
-        ("AreAllRead", "2^40 reads were made"),
-        ("IsFlushedAfter", "flushed, as below the table of results"),
-    ],
+# (what parts 0 to 3 name besides, and what it says: this is believed. It is said under the definition or the contract
+# that names it first; several names may be said together)
+BELIEVED = {
+    "start": "nothing was opened yet, and all lists are empty",
+    "Unit": "what positions are counted in: UTF-16 units or bytes",
+    "WasMadeFor": "at some moment of these events the editor had the document open with this version and text",
+    "WellTypedText": "the text is one of a well-typed module, by docs/LANGUAGE.md",
+    "SameRun": "the modules of two texts give the same output and end, for every input and all bounds",
+    "open_at": "the document of this uri, if it is open",
+    "last_publication": "the last of these for this uri",
+    "OpenDocuments": "each `InStep` or `OutOfStep`",
+    "DocumentEvent": "a document is opened, changed, lost or closed",
+    "Ask": "a rename, an inlining of a constant at one use or everywhere, a formatting",
+    "EditorDocuments": "`Open` documents by their uris",
+    "SentAsk": "its `uri`, and the `opening` and `version` of the document then",
+    "Answer": "its number and edits",
+    "Act": "the cases of `done_by`",
+    "after_act": "the editor is that of `Done`; what is sent waits for the server, last; what is applied is added to "
+    "`applied`",
+    "after_taking": "the first of these messages is taken; an answer with edits is kept",
+    "Replies": "what is sent and made for a message: 'The server', above",
+    "after_message": "the server's documents after a message",
+    "Done": "the editor, what it sends and what it applies",
+    "stays": "the editor is this one; nothing is sent or applied",
+    "opens": "it is open with version 1 and a number that no other opening has; an opening is sent",
+    "after_changes": "the text after changes, each of the result of the one before",
+    "rewrites": "it has this text and the next version; these changes are sent; the last list is what was applied",
+    "closes": "it isn't open any more; a close is sent",
+    "asks": "the request is kept in `requested`, and sent",
+    "without_answer": "the editor without the answer to request k",
+    "kept_answer": "the edits of the answer to request k, if it is kept",
+    "request_numbered": "the request with this number",
+    "whole_text": "the change that gives the whole text",
+    "Range": "from one position to another",
+    "width_of": "how many units a character has",
+    "cut_at": "the cut of a range: between the characters at its two positions, the lesser first",
+    "Cut": "where characters are taken out, and those that are put there",
+    "all_apart": "no two of the cuts share a character (an insertion strictly inside another cut does)",
+    "in_text_order": "the cuts by their starts, then by their ends, then as in the list",
+    "pieced": "what cuts in this order make of the text from a place on",
+    "device_of, has_failed, is_flushed, reads_of": "of a `Noted` its device; whether a call of it has returned an "
+    "error; whether a flush has succeeded since the last write, or nothing was written; how it was read",
+    "IsTaken": "by at most 2^40 reads, each of at most 8,192 bytes",
+    "Serves": "`put` is the frames of the replies to contents of `taken` (at `Err(Write)` perhaps their first bytes "
+    "alone). To which, a table in part 6 says by the result: at `Err(Memory)` to the first n, for some n",
+    "AreAllRead": "2^40 reads were made",
+    "IsFlushedAfter": "if the writer was flushed before, or anything was put, it is flushed now",
+    "code.Event": "an event of the code",
+    "PlayFault": "`played`, and `steps`: how many events went before the failed one",
+    "PlaysNothing": "nothing was played, and no content has passed",
+    "Played": "what `play_in` returns",
+    "event_of": "the same as an event of the model (`Take` is `take_message`, and so on)",
+    "all_applied, all_made": "the edits and the publications that are returned",
+    "Both": "the model (`ends`) and the `wire`: a `session` and the columns of the table above",
+    "Begins": "the first row of the table above; `initialize` says that the editor counts in this unit, and takes "
+    "edits that name their document's version and code actions that hold edits; the model is at `start`",
+    "BothCourse": "these events, each a `BothStep`, lead from the one to the other",
+    "HasCome": "these edits and publications are returned",
+    "HasPassed": "`taken`, `got` and `to_editor` of this wire are returned",
+    "Conversation": "these contents in turn have these replies in turn (`reacts`), from state to state",
+    "bytes": "contents as the lists of their bytes",
+    "MovesWire": "contents move as in the table above; at `serve` the session replies by `reacts`, and else it stays",
+    "AllSay": "as many contents as messages; each content says its message",
+    "SessionState": "`serving`, in a state, or `failed`",
+    "ServeFault": "`Memory`, `Write`, and others",
+    "IsWritten": "the result is neither `Err(Memory)` nor `Err(Write)`",
+    "MayServe": "`Serves`, whatever failed, without flushes, counts of reads and the input's end",
+}
+# (what is said besides under a contract)
+BESIDE_CONTRACTS = {
+    "serve": {
+        "Noted": "a reader or a writer, the *device*, with notes of its calls",
+        "R.remaining d, W.contents d": "the bytes that a device has left to give, and that were written to it",
+        "taken": "bytes here, contents in the law and everywhere else",
+    },
 }
 # (what the headline or its tie names and the last part unfolds)
 LATE: list[Key] = [("ob0_world", "Code", name) for name in ("event_of", "all_applied", "all_made")]
@@ -210,8 +185,6 @@ WORDS = (
         "the bytes that a device has left to give, and those that were written to it, where its type knows them",
         "`std::io`",
     ),
-)
-WIRED = (
     ("Data", "a JSON value", "`serde_json`"),
     (
         "Change, Ask, Applied",
@@ -234,23 +207,42 @@ WORKED = """
 | `serve` | I O R | | i d | r |
 | the editor takes r and applies it | I O R | C | i d r | |
 """
+# (what `serve` has written, by what it returns: `Serves`)
+ROWS = """
+| `serve` returns | The program's status | It has written the frames of |
+|---|---|---|
+| `Ok(status)` | `status` | all replies up to an `exit`, which gives the status; or, with status 1, all replies, where no `exit` came and the input ends between messages |
+| `Err(BadHead)` | 3 | all replies to the contents before the place where no message can begin, as one with too long a content |
+| `Err(Truncated)` | 3 | all replies; the input ends inside a message |
+| `Err(Read)` | 4 | all replies to the contents read; the reader failed |
+| `Err(TooManyReads)` | 4 | all replies to the contents read, by 2^40 reads and from at least as many bytes |
+| `Err(Write)` | 4 | all replies to the first n contents, for some n, or these frames' first bytes alone; the writer failed |
+| `Err(Memory)` | 5 | all replies to the first n contents, for some n, each whole |
+"""
+AFTER_ROWS = (
+    "No device failed but where it is said. At the first four errors no `exit` came. Except at `Err(Write)` it is "
+    "*flushed*: if the writer was flushed before the call, or `serve` wrote anything, the writer is flushed at the "
+    "return."
+)
 # (the title of a part, what it says in words, what one may believe instead of it, and what else speaks for that)
 PARTS: list[tuple[str, list[str], str, str]] = [
     ("Part 0: the headline", [], "", ""),
     (
         "Part 1: client and server",
         [
-            "`Ends` is the state of both ends. The editor has documents, the requests that it sent and the answers "
-            "that it keeps. The server has documents. Between them is a queue each way. An `Event` is one of three: "
-            "the editor acts; the server takes the first message that waits for the server, and sends what it "
-            "replies; the editor takes the first message that waits for the editor. `Happens` says what one event "
-            "leaves (at most one state: the law `one_step`), `Course` what a list of events leaves.",
-            "*The server* publishes diagnostics of each document that was opened or changed, and answers each request "
-            "with edits or none. It knows a document's version and text (`InStep`) or doesn't (`OutOfStep`, after a "
+            "`Ends` is the state of both ends and of the messages between them, a queue each way. `Happens` says what "
+            "one `Event` leaves (at most one state: the law `one_step`), `Course` what a list of events leaves.",
+            "*The server* (`Replies`) knows a document's version and text (`InStep`) or doesn't (`OutOfStep`, after a "
             "notification that it couldn't read, `Lost`). The model's editor sends no `Lost`: when no message waits "
-            "for the server, its documents are the editor's, each `InStep` (the law `server_mirrors`).",
-            "*The editor* sends each opening, change, close and request. It may apply an answer that it keeps at any "
-            "time, while its document is the same opening with the same version as at the request.",
+            "for the server, its documents are the editor's, each `InStep` (the law `server_mirrors`). It sends",
+            "- for an opening or a change, if the document is then `InStep`: one list of diagnostics, with its version "
+            "(and that is a `Made`, with its text), which is right by `IsEmptyIfCorrect`;\n"
+            "- for the close of an open document: an empty list without a version;\n"
+            "- for each request: one answer with its number. If the document is `InStep`, it has the edits that were "
+            "requested, by docs/PROTOCOL.md, or none, where docs/PROTOCOL.md refuses them or the text isn't a "
+            "well-typed module (`GivesEdits` and `Refuses`, in part 8). Else it has none.",
+            "*The editor* (`done_by`) sends each opening, change, close and request. It applies answers as part 0 "
+            "says, at any time.",
         ],
         "what part 0 says",
         "",
@@ -267,40 +259,22 @@ PARTS: list[tuple[str, list[str], str, str]] = [
     (
         "Part 3: the tie to the program",
         [
-            "1. *`play_in` returns an `Ok`*, with `few`. Then `Plays` holds of the edits, "
-            "publications and contents that it returns.\n"
-            "2. *So each event of the model was one of a session.* `course` goes from `begin` to `end` by a `BothStep` "
-            "for each event. `begin.ends` is the model's `start`, and each `BothStep` contains `Happens`; so, by "
-            "`only`, `end.ends` is the `end` of `Headline`. After each event the contents that wait say the messages "
-            "that wait, and the session's documents are the model's (`IsTied`). The session is `serving` throughout: "
-            "`Begins` and `MovesWire` leave it no other state.\n"
-            "3. *So the contents are a `Conversation`*, from the state before `initialize` on: `taken` are taken, "
-            "`got ++ unread` are sent.\n"
-            "4. *So its frames are written.* By the law `a_conversation_is_served`, with `got ++ unread` as its "
-            "`sent`, the bytes written are the frames of `sent`. It supposes that no content of `taken` is longer "
-            "than 16,777,216 bytes, that the bytes read are exactly the frames of `taken`, that the result is neither "
-            "`Err(Memory)` nor `Err(Write)` (`IsWritten`), and `MayServe`.\n"
-            "5. *`serve` writes them.* Its contract gives `Serves` at its return, if neither device had failed before. "
-            "`MayServe` follows by its definition: it is `Serves` with less.\n"
-            "6. *The program writes them*: `ob0 serve` calls `ob0_session::serve` over standard input and output. "
-            "Their types know no bytes, so this step is tested.",
-            "So it doesn't matter that the program doesn't call `play_in`. How a session ends:",
-            "- *The input ends* after the frames of `taken`: the chain as it stands, with status 1 where no read "
-            "fails.\n"
-            "- *`shutdown` and `exit` follow.* The model has no such messages, so more bytes are read than the frames "
-            "of `taken`. By the law [`one_output`](#part-9-steps-laws-and-details) what is written for the first bytes "
-            "of an input begins what is written for more of it, unless an allocation or the writer fails in the call "
-            "for more. So the frames of `got ++ unread` come first, then those of the replies to what follows. Status "
-            "0 needs both. (That this law and that of step 4 give this together is inferred.)\n"
-            "- *`serve` still runs*: its contract is of its return. What it wrote before is inferred in part 6, and "
-            "tested.\n"
-            "- *A session fails* when an allocation fails: in an `Ok` of `play_in` none has (step 2). At its `Err` the "
-            "chain holds of the events before; of those that follow, the law `in_every_interleaving` alone. At "
-            "`Err(Memory)` of `serve` the table of results holds.",
-            "A small conversation: I is the content of `initialize`, O of an opening, R of a request for a rename, C "
-            "of the change after the applied edit; i and r are the replies to I and R, d the diagnostics. `play_in` "
-            "returns `to_editor` as `unread`.",
+            "A small session: I is the content of `initialize`, O of an opening, R of a request for a rename, C of the "
+            "change after the applied edit; i and r are the replies to I and R, d the diagnostics.",
             WORKED,
+            "`play_in` returns `to_editor` as `unread`. The tie has three steps before the last, which is tested:",
+            "1. *Model and session.* If `play_in` returns an `Ok`, with `few`, `Plays` holds: a `BothStep` for each "
+            "event leads from `begin` to `end`. `begin` has the model's `start`, and each step does what `Happens` "
+            "says; so, by `only`, the model in `end` is the `end` of `Headline`. And the session has done the same "
+            "(`IsTied`; by `Begins` and `MovesWire` it is always `serving`).\n"
+            "2. *Session and contents.* So the contents are a `Conversation`, from before `initialize` on: the "
+            "session took `taken`, and sent `got ++ unread`.\n"
+            "3. *Contents and bytes.* `serve` returns with `Serves`, if neither device had failed before. This is "
+            "`MayServe` and more ([by definition](#determined-of-ob0_world_determined-part-6)). By the law "
+            "`a_conversation_is_served`, under the premises of part 0, the bytes written are the frames of `got ++ "
+            "unread`.",
+            "After an `Err` of `play_in` the law [`in_every_interleaving`](#part-0-the-headline) alone speaks of the "
+            "events that follow.",
         ],
         "that `serve` writes what `play_in` returns as sent, for what that returns as taken",
         "",
@@ -313,18 +287,18 @@ PARTS: list[tuple[str, list[str], str, str]] = [
             "its list.",
             "An editor that counts no openings, compares the version in an answer with its document's, and drops what "
             "it asked about a document before this was opened again, does the same with an answer as the model does "
-            "(the law `versions_suffice`). By the law `versions_are_named` (docs/PROMISES.md) edits that answer a "
-            "request name that version, but for those of a formatting, which name none.",
+            "(the law `versions_suffice`). By the law [`versions_are_named`](PROMISES.md#client-and-server) edits "
+            "that answer a request name that version, but for those of a formatting, which name none.",
         ],
-        "what the table of part 1 says of these names",
+        "what parts 0 and 1 say of these names",
         "the laws `one_step`, `server_mirrors` and `versions_suffice` (part 9), and the test `worlds_play_as_written` "
         "(crates/ob0_tests_session), which plays lists of events and has written down what each is to leave",
     ),
     (
         "Part 5: texts in detail",
         [],
-        "LSP 3.17 on positions and lists of edits, docs/PROTOCOL.md, Positions and Documents, and what the tables of "
-        "parts 1 and 2 say of these names",
+        "LSP 3.17 on positions and lists of edits, docs/PROTOCOL.md, Positions and Documents, and what parts 1 and 2 "
+        "say of these names",
         "the laws `lines_are_the_text`, `fitting_is_longest` and `places_have_positions` (`ob0_text`), the tests "
         "`edits_are_made_at_once` and `places_are_counted_in_either_unit` (crates/ob0_tests_low), and "
         "tests/test_changes.py, where Python makes the same 2,000 changes",
@@ -336,8 +310,11 @@ PARTS: list[tuple[str, list[str], str, str]] = [
             "contract of `serve`: it holds for all readers and writers, also for such as fail from any call on, and "
             "`Serves` allows no result where a read failed and after it the writer. So nothing can be left to write "
             "after a read, which may fail. This is no theorem; tests show it too.",
+            "`Serves`, case by case:",
+            ROWS,
+            AFTER_ROWS,
         ],
-        "what the tables of part 3 say of these names",
+        "what part 3 says of these names",
         "the laws `feeding_is_determined` and `written_is_read` (`ob0_frame`), `one_conversation` and `one_output` "
         "(`ob0_world_determined`), by which what is read leaves no choice of what is written; and "
         "tests/test_stream.py, tests/test_lifecycle.py and tests/test_devices.py",
@@ -366,23 +343,6 @@ PARTS: list[tuple[str, list[str], str, str]] = [
         "(crates/ob0_tests_session)",
     ),
 ]
-# (what `serve` has written, by what it returns: `Serves`)
-ROWS = """
-| `serve` returns | The program's status | It has written the frames of | Devices |
-|---|---|---|---|
-| `Ok(status)` | `status` | all replies up to an `exit`, which gives the status; or, with status 1, all replies, where no `exit` came and the input ends between messages | none failed |
-| `Err(BadHead)` | 3 | all replies to the contents before the place where no message can begin; no `exit` came | none failed |
-| `Err(Truncated)` | 3 | all replies; no `exit` came, and the input ends inside a message | none failed |
-| `Err(Read)` | 4 | all replies to the contents read; no `exit` came | the reader alone failed |
-| `Err(TooManyReads)` | 4 | all replies to the contents read, by 2^40 reads and from at least as many bytes; no `exit` came | none failed |
-| `Err(Write)` | 4 | all replies to the contents up to one of them, or these frames' first bytes alone | the writer alone failed |
-| `Err(Memory)` | 5 | all replies to the contents up to one of them (perhaps none), each whole | none failed |
-"""
-AFTER_ROWS = (
-    "Except at `Err(Write)` it is *flushed*: if the writer was flushed before "
-    "the call, or `serve` wrote anything, the writer is flushed at the return. A content that is too long has a head "
-    "with which no message begins."
-)
 SENTENCE = (
     "> In every interleaving of an editor and the server, each edit that the editor applies to a well-typed document "
     "leaves a well-typed module with the same run: the same output and end for every input and every bound on calls "
@@ -390,69 +350,110 @@ SENTENCE = (
     "well-typed module."
 )
 OPENING = (
-    "`ob0` is a language server for Oberon-0: an *editor* starts it and speaks with it by LSP 3.17. A *session* is "
-    "what one server has taken and sent, from `initialize` on."
+    "`ob0` is a language server for Oberon-0: an *editor* starts it and speaks with it by LSP 3.17. A message is sent "
+    "in a *frame*: a head with a length, and the *content*, so many bytes of JSON. A *session* is what one server has "
+    "taken and sent, from `initialize` on. An *opening* of a document lasts until its close. The code is in Rattle: "
+    "Rust with contracts that a checker proves. What is after `ensures` holds at the return of every call for which "
+    "that after `requires` does. A *law* is the contract of a function with an empty body: a fact about definitions."
+)
+AFTER_SENTENCE = (
+    "The definitions say more: *every* applied edit was made in a well-typed text (`before_fits`), and *every* list "
+    "of diagnostics with a version is right in this way. The premises, and what is proved, inferred, tested or not "
+    "promised, come [below](#what-is-proved-and-what-isnt), after the definitions."
 )
 # (what its words mean, an item each)
 MEANINGS = (
-    "*Well-typed* is a text that docs/LANGUAGE.md allows. A *run* ends as it should, by an error, or at a bound.",
+    "*Well-typed* is a text that docs/LANGUAGE.md allows. (A text is a list of Unicode scalar values: half a "
+    "surrogate pair is none.) A *run* ends as it should, by an error, or at a bound.",
     "*An applied edit* is all that one answer replaces, made at once: of a rename, an inlining of a constant at one "
-    "use or everywhere, or a formatting. The editor applies an answer only to the opening of the document that it "
-    "asked about, with the version of then; else it drops the answer. That the text before was well-typed is a "
-    "conclusion (`before_fits`); so is that no two replacements share a character (the law `edits_keep_the_run`).",
+    "use or everywhere, or a formatting. No two replacements share a character (the law `edits_keep_the_run`). The "
+    "editor applies an answer only to the opening of the document that it asked about, with the version of then; else "
+    "it *drops* the answer: nothing of it is applied.",
     "*The latest diagnostics* of a document are the last list with a version that the server published for its uri, "
-    "taken by the editor or not. (At a close comes an empty list without a version.) The document had the text that "
-    "they were made for, with that version, in this opening or an earlier one (`made_for`). When the server has taken "
-    "all messages, they are of the present version and text (`latest_made`); until then there may be none.",
+    "taken by the editor or not. The document had the text that they were made for, with that version, in this opening "
+    "or an earlier one (`made_for`). When the server has taken all messages, they are of the present version and text "
+    "(`latest_made`); until then there may be none.",
 )
-# (what it supposes, an item each)
-PREMISES = (
-    "*Of the list*: fewer than 2^63 - 1 events (`few`).",
-    "*Of the editor*: It holds with any editor that sends every change, makes the edits of an answer at once and as "
-    "the protocol says, and drops an answer whose document was changed, or closed and opened again, since it asked. "
-    "Changes are sent in order, columns are counted as LSP does, and to take no keys until the answer comes is as good "
-    "as to drop it. The model's editor does so. It "
-    "sends the whole text after an edit, and says in `initialize` that it takes edits that name their document's "
-    "version and code actions that hold edits.",
-    "*Between the two*: nothing is lost, added or reordered. A message is a *content*, its JSON text, in a *frame*: "
-    "after a head with its length. No content of the editor is longer than 16,777,216 bytes (a longer one ends "
-    "`serve`, as 2^40 reads do). A text is a list of Unicode scalar values: half of a surrogate pair can't be in one.",
-    "*Of `serve`*: neither *device*, its reader and its writer, had failed before the call (`reads`, `writes`); it "
-    "has read exactly the frames of what the session took; it has returned; neither an allocation nor the writer "
-    "failed.",
+# (how the headline is tied to the program, a paragraph each)
+TIE = (
+    "*The tie to the program.* `play_in` (`ob0_world`) is a proof harness, which the program never runs: it plays a "
+    "list of events with a `Session`, the server's code, and code of a model editor. `ob0 serve` runs `serve` "
+    "(`ob0_session`), which gives a `Session` what it reads, and writes what that sends. Both are proved against one "
+    "specification (`reacts`, docs/PROTOCOL.md as a function): so for the same contents `serve` writes what `play_in` "
+    "returns as sent (part 3). The last step, to standard input and output, is tested.",
+    "*What each contract says.* The law `in_every_interleaving` speaks of the model alone, definitions of both ends "
+    "(part 1), where each publication and each answer is right by definition (`Replies`); it gives `Holds`, not "
+    "`made_for`. That the code's are right is what the contract of `play_in` and the tie add. Beside a session nobody "
+    "runs `play_in`: the headline holds of one with the model's editor if `play_in` would return an `Ok` on its "
+    "events. That it does is tested, by running it on lists of events; no contract says it, since any allocation may "
+    "fail.",
 )
-# (what is claimed; what proves it, what it is inferred from, what tests it, and what is trusted)
-CLAIMS = """
-| Claim | Proved by | Inferred from | Tested by | Trusted |
-|---|---|---|---|---|
-| the headline, with the model's editor | the contract of `play_in`, at an `Ok`; the law `in_every_interleaving`, of each state that events lead to | | | |
-| the headline, with another editor, which may write other contents | | the model: our conclusion, no theorem | editors/README.md | |
-| `play_in` returns the contents that a session took and sent | its contract | | | |
-| nothing is lost between the two | (a premise) | | | pipes |
-| `serve` has written the frames of what that session sent | its contract and the law `a_conversation_is_served`, for a reader and a writer whose types know their bytes | | | |
-| where more is read, as `shutdown` and `exit`, these frames come first | | the law `one_output` (part 3) | tests/test_lifecycle.py | |
-| `serve` writes and flushes a reply before it reads on | | its contract (part 6) | tests/test_stream.py | |
-| all this with standard input and output, whose types know no bytes | | | tests/test_stream.py, tests/test_devices.py | |
-| `main`, which has no contract, calls `serve` and hands its status on | | | tests/test_lifecycle.py | |
-| every function returns, and in none is anything undefined | the checker | | | Rattle's checker and compiler, its libraries' contracts |
-| where an allocation fails: the headline holds of the events before (or no session had begun); `serve` has written whole replies to the contents up to one | `PlaysBefore`; the contract of `serve` | | | |
-| `play_in` and `serve` report a failed allocation only where one failed (no contract can say it) | | | docs/ROBUSTNESS.md | |
-| memory, stack and time suffice | (not promised) | | docs/ROBUSTNESS.md | |
-| events lead somewhere; a message that waits is taken | (not promised; an `Ok` shows the first) | | | |
-| which diagnostics are in a list; that a request gets edits | (not promised here; of edits see part 8) | | | |
-| the definitions say what is meant | | | what each part names | the reader |
-"""
+LISTS = "What is proved, and what isn't"
+# (what is promised with a proof, what without one, and what isn't, an item each)
+PROVED = (
+    "*The headline, and that its events were those of a session*, for fewer than 2^63 - 1 events (`few`) on which "
+    "`play_in` returns an `Ok`: by its contract (`Plays`).",
+    "*`Holds`* of each state of the model that events lead to, without a premise: by the law `in_every_interleaving`.",
+    "*`serve` has written the frames of what that session sent*: by its contract, and the law "
+    "[`a_conversation_is_served`](#part-3-the-tie-to-the-program). The premises: the types of its *devices*, a reader "
+    "and a writer, know their bytes, and neither had failed before (`reads`, `writes`); it has read exactly the frames "
+    "of what the session took, with no content of more than 16,777,216 bytes; it has returned; and neither an "
+    "allocation nor the writer failed.",
+    "*Where an allocation fails* `play_in` may return an `Err`: then all that an `Ok` says holds of the first n "
+    "events, for some n, or no session had begun (`PlaysBefore`). `serve` may return `Err(Memory)`: then it has "
+    "written whole replies to the first n contents, for some n.",
+    "*Every function returns*, given memory, stack, and devices whose calls return, and in none is anything "
+    "undefined: by the checker. (`serve` hasn't returned while its reader waits.) Rattle's checker and compiler, and "
+    "its libraries' contracts, are trusted.",
+)
+UNPROVED = (
+    "*The headline with another editor* (inferred). It holds with any editor that sends every change, makes the edits "
+    "of an answer at once and as the protocol says, and drops an answer whose document was changed, or closed and "
+    "opened again, since it asked. Changes are sent in order, columns are counted as LSP does, and to take no keys "
+    "until the answer comes is as good as to drop it. The model's editor does so. Others write other "
+    "contents; of them there is no theorem, but real ones are tested (editors/README.md).",
+    "*Other messages* (inferred; tested in tests/test_lifecycle.py). The model has `initialize`, openings, changes, "
+    "closes and requests for edits alone. So *every session that ends normally is in this list*: it has "
+    "`initialized`, `shutdown` and `exit`, and perhaps hovers. By `reacts` these change no document, nor, up to "
+    "`shutdown`, another reply.",
+    "*Standard input and output* (tested in tests/test_stream.py and tests/test_devices.py): their types know no "
+    "bytes. That pipes lose, add and reorder nothing is trusted. `main`, which has no contract, calls `serve` and "
+    "hands its status on (tests/test_lifecycle.py), 5 for `Err(Memory)`.",
+    "*A `serve` that still runs* has written and flushed each reply before it reads on (inferred in part 6; tested in "
+    "tests/test_stream.py). An editor waits for replies, while the contract takes all that will come as given at the "
+    "call (`R.remaining`): that is harmless, since `serve` sees only what has come.",
+    "*That an `Err(Memory)` comes only where an allocation failed* (tested, docs/ROBUSTNESS.md): no contract can say "
+    "it.",
+)
+UNPROMISED = (
+    "**Not promised**: that memory, stack and time suffice; that an editor does its part; that events lead somewhere "
+    "(an `Ok` shows it of its list), or that a message that waits is taken; on this page, which diagnostics are in a "
+    "list, and that a request gets edits (part 8). That the definitions say what is meant is for the reader to judge."
+)
 SIGNS = "(`×` is 'and', `→` 'if .. then' or 'for all', `≡` equality; more is [below](#the-notation).)"
 BESIDE = (
-    "`Plays` contains `Headline unit (map event_of events) ..` and a conversation (part 3). The contract's `Event` is "
-    "the code's; `event_of` makes it the model's. `only` says that there is at most one end; an `Ok` shows that there "
-    "is one. `end` is the state after all events. "
-    "`applied` and `made` are all edits and publications so far."
+    "`Plays` (part 3) has `Headline`, of these events as the model's, and the tie to a session. `Ends`, `Event`, "
+    "`Course`, `Applied`, `Made`, `Editor` and `Open` are in part 1. `end` is the state after all events, `applied` "
+    "and `made` all edits and publications so far. `only` says that there is at most one end; an `Ok` shows that "
+    "there is one."
 )
 # (what a reader has to know of the notation of parts 0 to 3, an item each)
 READING = (
-    "*This page*: '`X` of `ob0_y`' is the file X of the crate crates/ob0_y; *Elsewhere* leads to what it uses of other "
-    "files.",
+    "*This page*: '`X` of `ob0_y`' is the file X of the crate crates/ob0_y. An indented comment after a definition, "
+    "`--   name: ..`, says in words what a later part unfolds: this is *believed*.",
+    "*Names*: where two files define a name, the one that is later on this page is shown with its file's: `start` is "
+    "the model's, `Answers.start` a session's. Parts of records and cases of types may have any name: `answers` is a "
+    "case and a part, `serve` an event and a function.",
+    "*Contracts*: `few`, `ok` and such are names of clauses. `result` is what is returned, `x.now` what an argument "
+    "is, `x.old` and `x.new` what it was and is afterwards; `IfOk result f` and `IfErr result f` say f of the value "
+    "of an `Ok` and of the error of an `Err`. `Consumes r s taken` says that a reader that had r to give has s left, "
+    "having given `taken`; `IsAtEnd s` that none is left; `Appends v w put` that a writer that had v written has w, "
+    "with `put` at its end.",
+    "*Lists*: a text is the list of its characters, a uri and a content that of its bytes; `v.items` is the list of a "
+    "`Vec` of the code. `take` and `drop` cut after n elements, `flat_map f xs` joins the lists f x.",
+)
+# (and what who is used to such definitions knows)
+KNOWN_SIGNS = (
     "*Definitions*: `name : type`, and then equations, by cases; `_` is any other case. `data` lists the cases of a "
     "type; a `record` is a value with named parts, or a list of facts that all hold. `record { a = x }` is one with "
     "this part, `record e { a = x }` is `e` with that part replaced. `abbrev`, `unfoldable`, `pub` and the 0 of `Type "
@@ -461,25 +462,15 @@ READING = (
     "`A ⊎ B` 'A or B', `A ↔ B` 'A exactly if B', `≡` equality; `⊥` never holds. `IsTrue b` is `b ≡ true`; `All P xs` "
     "says P of each element, `MatchOption o P f` says P where `o` has no value, and else f of it.",
     "*Values*: `λ x. y` gives y for x; `let` names a value (in a `do` for the lines below). In a `do`, `x ← o` takes "
-    "the value out of `o`; where `o` has none, the whole has none (so has `o >>= f`). `is_some o` says whether `o` has "
-    "a value, `unwrap_or o x` is that or x. `==` and `&&` give truth values. `pos n` is the number n of ℤ.",
-    "*Lists*: `x ∷ xs` has x first, `xs ++ ys` joins two; `take` and `drop` cut after n elements, `flat_map f xs` "
-    "joins the lists f x. A text is the list of its characters, a uri and a content that of its bytes. `v.items` "
-    "is the list of a `Vec` of the code.",
-    "*Names*: where two files define a name, the one that is later on this page is shown with its file's: `start` is "
-    "the model's, `Answers.start` a session's. Parts of records and cases of types may have any name: `answers` is a "
-    "case and a part, `Answers` a relation, `serve` an event and a function.",
-    "*Contracts*: `few`, `ok` and such are names of clauses. `result` is what is returned, `x.now` what an argument "
-    "is, `x.old` and `x.new` what it was and is afterwards; `IfOk result f` and `IfErr result f` say f of the value of "
-    "an `Ok` and of the error of an `Err`. `requires` is a premise. A *law* is a function that does "
-    "nothing: its contract is what is proved. `Consumes r s taken` says that a reader that had r to give has s left, "
-    "having given `taken`; `IsAtEnd s` that none is left; `Appends v w put` that a writer that had v written has w, "
-    "with `put` at its end.",
+    "the value out of `o`; where `o` has none, the whole has none (so has `o >>= f`). `is_some o` says whether `o` "
+    "has a value, `unwrap_or o x` is that or x. `==` and `&&` give truth values. `x ∷ xs` has x first, `xs ++ ys` "
+    "joins two. `pos n` is the number n of ℤ.",
 )
 # (and of that of the others)
 OTHERS = "The notation of the other parts"
 MORE = (
-    "*This page*: what a definition uses comes after it. *Rule* is the text that the definitions of a file state.",
+    "*This page*: what a definition uses comes after it; *Elsewhere* leads to what it uses of other files. *Rule* is "
+    "the text that the definitions of a file state.",
     "*Facts*: `¬ A` is 'not A', `≢` is not equal; `⊤` and the library's `Unit {0}` always hold (`Unit` alone is what "
     "positions are counted in). `OnOk result P` says P where the result is an `Ok`.",
     "*Values*: `elim x [ p ↦ y | q ↦ z ]` is y or z, by what x is. `negsuc n` is -(n + 1); in ℕ are `zero` and `suc "
@@ -501,7 +492,7 @@ HEAD_OF_NAMES = ["| Name | What it says | File or part |", "|---|---|---|"]
 # (how many words and lines of definitions are read in a minute, and how many of these by who is used to the notation)
 WORDS_A_MINUTE, LINES_A_MINUTE, LINES_ONCE_USED = 200, 6, 10
 # (the last part of the first reading, and how many minutes parts 0 to 3 may take with the notation)
-FIRST_ENDS, FIRST_TAKES = 3, 50
+FIRST_ENDS, FIRST_TAKES = 3, 48
 # (how long a line of code may be)
 WIDTH = 100
 # (the parts after those of the first reading)
@@ -509,24 +500,25 @@ MODEL, TEXTS, WIRE, LANGUAGE, RIGHT, STEPS = range(4, 10)
 
 
 # (how to read the other parts)
-LATER_PARTS = "The other parts, and how long each takes"
+LATER_PARTS, SIZES = "The other parts", "How long each part takes"
+HOMES = "Where the names are defined that are believed"
 HOW = (
-    "Whoever believes that these definitions say what they are meant to say knows what is proved; proofs and code "
-    "needn't be read. What parts 0 to 3 name and don't unfold is *believed*: their tables have it in words. Above all "
-    "it is that a module and its run are those of docs/LANGUAGE.md (`WellTypedText`, `SameRun`), that a session is "
-    "docs/PROTOCOL.md (`reacts`), and that bytes and contents are read as the words of part 3 say. Parts 4 to 6 "
-    "unfold the rest of the model, texts and the wire, part 7 says what a module is and does, part 8 which edits are "
-    "right answers; part 9 has laws and details. Each says what one may believe instead, and what speaks for that: "
-    "laws, which are proved of the definitions, and tests (of the code, which is proved to do what these say)."
+    "The first reading ends here. Whoever believes that these definitions say what they are meant to say knows what "
+    "is proved: proofs and code needn't be read. *Believed* is what comments under definitions say: above all that a "
+    "module and its run are those of docs/LANGUAGE.md (`WellTypedText`, `SameRun`), that a session is "
+    "docs/PROTOCOL.md (`reacts`), and that bytes and contents are read as part 3 says. Parts 4 to 6 unfold the rest "
+    "of the model, texts and the wire, part 7 what a module is and does, part 8 which edits are right answers; part 9 "
+    "has laws and details ([how long each takes](#how-long-each-part-takes)). Each says what one may believe instead, "
+    "and which laws and tests speak for that."
 )
 WHOLE = (
-    "No definition that the headline needs is left out, but for those that the tables of parts 3 and 6 give with a "
-    "file: this is the work of the page's script, and a test counts them in another way."
+    "No definition that the headline needs is left out, but for those that the table of part 6 gives with a file: this "
+    "is the work of the page's script, and a test counts them in another way."
 )
 PACES = (
-    f"Times are of {WORDS_A_MINUTE} words and {LINES_A_MINUTE} lines a minute, for who knows types; in the last column "
-    f"of {LINES_ONCE_USED} lines, for who is used to the notation. Lines are those of definitions in the sources (of "
-    "contracts in the times alone); words are all others, without lists of links."
+    f"Times are of {WORDS_A_MINUTE} words and {LINES_A_MINUTE} lines a minute, for who knows types, each rounded up; "
+    f"in the last column of {LINES_ONCE_USED} lines, for who is used to the notation. Lines are those of definitions "
+    "in the sources (of contracts in the times alone); words are all others, without lists of links."
 )
 
 
@@ -538,14 +530,15 @@ def source(crate: str, module: str) -> list[str]:
 
 
 def contract(crate: str, module: str, name: str) -> list[str]:
-    """The contract of a function, with what is said over it, without indent."""
+    """The contract of a function, with the first paragraph of what is said over it, without indent."""
     text = source(crate, module)
     at = next(i for i, line in enumerate(text) if re.search(rf"\bfn {name}\b[(<]", line))
     first = at
     while text[first - 1].lstrip().startswith("///"):
         first -= 1
+    end = next((i for i in range(first, at) if text[i].strip() == "///"), at)
     last = next(i for i in range(at, len(text)) if text[i].strip() in ("{", "{}"))
-    return textwrap.dedent("\n".join(text[first:last])).splitlines()
+    return textwrap.dedent("\n".join(text[first:end] + text[at:last])).splitlines()
 
 
 def roots(sources: Sources, functions: Iterable[tuple[str, str, str]]) -> list[Item]:
@@ -667,11 +660,15 @@ class Page:
         for part, files in KEPT.items():
             order = [*files]
             self.groups[part].sort(key=lambda group: order.index((group.crate, group.file.name if group.file else "")))
+            for group, names in zip(self.groups[part], files.values()):
+                group.items.sort(key=lambda item: names.split().index(item.names[0]))
         self.groups[LANGUAGE].sort(key=Group.section)
         self.sizes: dict[int, Size] = {}
         self.homes: dict[Item, str] = {}  # the heading that an item is under
         self.names: dict[tuple[Item, str], str] = {}  # the name that it has on the page
         self.give_names()
+        self.notes: dict[object, list[str]] = {}  # what is said in words under a definition or a contract
+        self.place_notes()
 
     def give_names(self) -> None:
         """Each item's heading, and the name of each definition on the page: no name stands twice."""
@@ -689,10 +686,8 @@ class Page:
                     self.homes[item] = group.heading(by_rule)
                     if isinstance(item, Block):
                         self.take_names(item, taken)
-        needed = [need for part in KEPT for need in self.named_in(part)]
-        needed += [block for block, (key, _) in self.closed.items() if key in SAID]
         for block in self.closed:
-            self.homes[block] = NAMED if block in needed else f"{NAMED}, of part {WIRE}"
+            self.homes[block] = NAMED
             self.take_names(block, taken)
         for item in self.homes:
             if isinstance(item, Declared):
@@ -775,11 +770,56 @@ class Page:
             return [*out, "```rust", *code, "```", ""]
         out += [*wrapped(re.sub(r"\s*Rule: none.*$", "", group.file.title)), ""] if titled else []
         out += self.fenced(group.items)
-        return out + self.elsewhere(group.items, heading)
+        return out + (self.elsewhere(group.items, heading) if titled else [])
 
     def fenced(self, items: Iterable[Block]) -> list[str]:
-        code = [line for i, item in enumerate(items) for line in ([""] if i else []) + item.comment + self.code_of(item)]
-        return ["```agda", *code, "```", ""]
+        shown = [item.comment + self.code_of(item) + noted("--", self.notes.get(item, [])) for item in items]
+        return ["```agda", *between(shown), "```", ""]
+
+    def place_notes(self) -> None:
+        """Puts what is believed under the first that names it. It stops where a name isn't said, or isn't there."""
+        by_name = {shown: item for (item, _), shown in self.names.items()}
+        said = {by_name[name]: (names, says) for names, says in BELIEVED.items() for name in names.split(", ")}
+        said.update({item: (self.names[item, key[2]], says) for item, (key, says) in self.closed.items()})
+        unfolded = self.unfolded_first()
+        noted: set[str] = set()
+        for place, needs in self.first_named():
+            self.notes[place] = []
+            for need in needs:
+                names, says = said.get(need, ("", ""))
+                # (the notation has operators, and a type of the code is said with what has it)
+                if isinstance(need, Block) and not names and need not in unfolded and not need.names[0].startswith("◌"):
+                    name = place.names[0] if isinstance(place, Block) else place
+                    common.stop(f"{name} names {need.names[0]}, which parts 0 to {FIRST_ENDS} neither unfold nor say")
+                if names and names not in noted:
+                    noted.add(names)
+                    self.notes[place].append(f"{names}: {says}")
+        for name, more in BESIDE_CONTRACTS.items():
+            self.notes[name] = [f"{names}: {says}" for names, says in more.items()] + self.notes[name]
+        if not noted >= {*BELIEVED}:
+            common.stop(f"nothing of parts 0 to {FIRST_ENDS} names {', '.join({*BELIEVED} - noted)}")
+
+    def unfolded_first(self) -> list[Item]:
+        """What parts 0 to 3 unfold."""
+        return [item for part in range(FIRST_ENDS + 1) for item in self.items_of(part)]
+
+    def first_named(self) -> list[tuple[object, list[Item]]]:
+        """The contracts, by name, and the definitions of parts 0 to 3 as they follow, with what each names."""
+        found: list[tuple[object, list[Item]]] = []
+        for part in range(FIRST_ENDS + 1):
+            found += [(key[2], roots(self.sources, [key])) for key in SHOWN.get(part, [])]
+            found += [(item, self.needs(item)) for item in self.items_of(part) if isinstance(item, Block)]
+        return found
+
+    def shown_contracts(self, part: int) -> list[str]:
+        shown = []
+        for key in SHOWN.get(part, []):
+            lines = contract(*key)
+            # (what is said over a law that the first reading unfolds is said over its definition too)
+            if part <= FIRST_ENDS and key[1] == "laws":
+                lines = [line for line in lines if not line.startswith("///")]
+            shown.append(lines + noted("//", self.notes.get(key[2], [])))
+        return ["```rust", *between(shown), "```", ""]
 
     def elsewhere(self, items: Iterable[Block], heading: str, named: Iterable[Item] = ()) -> list[str]:
         """Where the names are defined that these use, those of other groups, and others that are named."""
@@ -790,11 +830,6 @@ class Page:
             name = need.name if isinstance(need, Declared) else need.names[0]
             links.append(f"[`{self.names[need, name].strip('◌')}`](#{slug(self.homes[need])})")
         return [*wrapped("Elsewhere: " + ", ".join(links) + "."), ""] if links else []
-
-    def named_in(self, part: int) -> list[Item]:
-        """What the definitions and contracts of a part name."""
-        blocks = [item for item in self.items_of(part) if isinstance(item, Block)]
-        return roots(self.sources, SHOWN.get(part, [])) + [need for block in blocks for need in self.needs(block)]
 
     def needs(self, block: Block) -> list[Item]:
         """What a definition names, but for the names of its own parts."""
@@ -819,8 +854,9 @@ class Page:
         """What is under the heading of a part, and under what it says of itself."""
         if part == 0:
             return self.first_lines()
-        out = self.words(part) + self.contracts(part)
-        out += self.named_lines(part) + self.believed_lines(part)
+        out = [f"### {OTHERS}", "", *listed(MORE), ""] if part == MODEL else []
+        out += self.words(part) + self.contracts(part)
+        out += self.named_lines(part)
         for group in self.groups[part]:
             out += self.group_lines(group, part == LANGUAGE, titled=part > FIRST_ENDS)
         return out
@@ -841,9 +877,8 @@ class Page:
         shown = SHOWN.get(part, [])
         if not shown:
             return []
-        out = ["```rust", *between(contract(*name) for name in shown), "```", ""]
-        out += self.elsewhere([], "", roots(self.sources, shown))
-        return [*out, *ROWS.strip().splitlines(), "", *wrapped(AFTER_ROWS), ""] if part == 3 else out
+        out = self.shown_contracts(part)
+        return out + (self.elsewhere([], "", roots(self.sources, shown)) if part > FIRST_ENDS else [])
 
     def size(self, part: int) -> Size:
         """How many words and how many lines of definitions and contracts are to be read in a part."""
@@ -859,35 +894,18 @@ class Page:
         return read_of([*head, "", *self.body(part)])[0], lines
 
     def named_lines(self, part: int) -> list[str]:
-        """What a part names and the page doesn't unfold, or does in a part that it doesn't count."""
-        heading = NAMED if part == 3 else f"{NAMED}, of part {part}"
+        """What the page doesn't unfold, or does in a part that isn't counted."""
+        heading = NAMED if part == WIRE else f"{NAMED}, of part {part}"
         rows = [
             f"| `{self.names[block, key[2]]}` | {says} | `{key[1]}` of `{key[0]}` |"
             for block, (key, says) in self.closed.items()
             if self.homes[block] == heading
         ]
-        others = {3: WORDS, WIRE: WIRED}.get(part, ())
-        rows += [f"| {ticked(names)} | {says} | {where} |" for names, says, where in others]
+        if part == WIRE:
+            rows += [f"| {ticked(names)} | {says} | {where} |" for names, says, where in WORDS]
         if part == LANGUAGE:
             rows = [f"| `{block.names[0]}` | {says} | {self.link(block)} |" for block, says in self.later.items()]
         return [f"### {heading}", "", *HEAD_OF_NAMES, *rows, ""] if rows else []
-
-    def believed_lines(self, part: int) -> list[str]:
-        """What parts 0 to 3 name and a later one unfolds, which is believed. It stops where a name is missing."""
-        if part not in BELIEVED:
-            return []
-        by_name = {shown: item for (item, _), shown in self.names.items()}
-        rows = []
-        for name, says in BELIEVED[part]:
-            rows.append(f"| [`{name}`](#{slug(self.homes[by_name[name]])}) | {says} |")
-        said = {by_name[name] for rows_of in BELIEVED.values() for name, _ in rows_of}
-        unfolded = [item for at in range(FIRST_ENDS + 1) for item in self.items_of(at)]
-        for need in self.named_in(part) + (self.named_in(0) if part == 1 else []):
-            is_said = need in said or need in self.closed or need in unfolded
-            # (the notation has operators, and a type of the code is said with what has it)
-            if isinstance(need, Block) and not is_said and not need.names[0].startswith("◌"):
-                common.stop(f"part {part} names {need.names[0]}, which is neither unfolded nor believed there")
-        return [f"### Believed in part {part}", "", "| Name | What it says |", "|---|---|", *rows, ""]
 
     def link(self, item: Item) -> str:
         """Where an item is defined, with its part."""
@@ -897,8 +915,8 @@ class Page:
     def items_of(self, part: int) -> list[Item]:
         return [*self.first] if part == 0 else [item for group in self.groups[part] for item in group.items]
 
-    def table(self, others: list[str]) -> list[str]:
-        """The parts with their sizes, and what some of them are together. `others` is what is said before part 4."""
+    def table(self) -> list[str]:
+        """The parts with their sizes, and what some of them are together."""
         head = f"| Part | Definitions | Lines | Words | Minutes | At {LINES_ONCE_USED} lines |"
         rows = [head, "|---|---|---|---|---|---|"]
         sizes = [self.size(part) for part in range(len(PARTS))]
@@ -910,7 +928,7 @@ class Page:
             times = f"{minutes(size):,} | {minutes(size, LINES_ONCE_USED):,}"
             rows.append(f"| {name} | {many} | {lines:,} | {size[0]:,} | {times} |")
 
-        notation, after = read_of(self.notation()), read_of(others)
+        notation, after = read_of(self.notation()), read_of(self.after_first())
         for part, (title, _, _, _) in enumerate(PARTS):
             row(f"[{title}](#{slug(title)})", part, part)
             if part == 0:
@@ -928,25 +946,31 @@ class Page:
         return rows
 
     def first_lines(self) -> list[str]:
-        out = [*wrapped(OPENING), "", *quoted(SENTENCE), "", *listed(MEANINGS), ""]
-        out += ["Premises:", "", *listed(PREMISES), "", *CLAIMS.strip().splitlines(), ""]
-        out += [*wrapped(SIGNS), "", "```rust", *between(contract(*name) for name in HEADLINE), "```", ""]
-        out += [*self.fenced(self.first), *wrapped(BESIDE), ""]
-        return out + self.elsewhere(self.first, PARTS[0][0], roots(self.sources, HEADLINE))
+        out = [*wrapped(OPENING), "", *quoted(SENTENCE), "", *wrapped(AFTER_SENTENCE), "", *listed(MEANINGS), ""]
+        for paragraph in (*TIE, SIGNS):
+            out += [*wrapped(paragraph), ""]
+        out += [*self.shown_contracts(0), *self.fenced(self.first), *wrapped(BESIDE), ""]
+        out += [f"### {LISTS}", "", "**Proved**, with the model's editor:", "", *listed(PROVED), ""]
+        return [*out, "**Inferred or tested**, and no theorem:", "", *listed(UNPROVED), "", *wrapped(UNPROMISED), ""]
 
     def notation(self) -> list[str]:
         """What is said between part 0 and part 1."""
-        return ["## The "
-            "notation", "", *listed(READING), ""]
+        known = "The rest is for readers to whom such definitions are new:"
+        return ["## The notation", "", *listed(READING), "", known, "", *listed(KNOWN_SIGNS), ""]
 
     def other_parts(self) -> list[str]:
         """What is said after the first reading."""
+        unfolded = self.unfolded_first()
+        named = [need for _, needs in self.first_named() for need in needs if need not in unfolded]
+        return [*self.after_first(), f"### {HOMES}", "", *self.elsewhere([], "", named)]
+
+    def after_first(self) -> list[str]:
+        return [f"## {LATER_PARTS}", "", *wrapped(HOW), ""]
+
+    def times(self) -> list[str]:
+        """The sizes of all parts, and how they were counted."""
         paces = PACES + " " + self.left_out()
-        head = [f"## {LATER_PARTS}", "", *wrapped(HOW), "", *wrapped(WHOLE), "", *wrapped(paces), ""]
-        table: list[str] = []
-        for _ in range(2):  # (the table is to be read too)
-            table = self.table([*head, *table])
-        return [*head, *table, ""]
+        return [f"## {SIZES}", "", *wrapped(paces), "", *self.table(), "", *wrapped(WHOLE), ""]
 
     def left_out(self) -> str:
         """What isn't counted in the rows of several parts."""
@@ -961,9 +985,9 @@ class Page:
         out += self.first_lines() + self.notation()
         for part in range(1, len(PARTS)):
             if part == FIRST_ENDS + 1:
-                out += self.other_parts() + [f"## {OTHERS}", "", *listed(MORE), ""]
+                out += self.other_parts()
             out += self.part_lines(part)
-        out += ["## Names of the standard library", ""]
+        out += [*self.times(), "## Names of the standard library", ""]
         by_module: dict[str, set[str]] = {}
         for module, name in self.sources.std:
             by_module.setdefault(module, set()).add(name)
@@ -1038,8 +1062,14 @@ def listed(items: Iterable[str]) -> list[str]:
     return [line for item in items for line in wrapped(f"- {item}", "  ")]
 
 
+def noted(mark: str, notes: Iterable[str]) -> list[str]:
+    """Notes as comments, indented, which begin with this mark."""
+    how: dict[str, Any] = {"initial_indent": f"{mark}   ", "subsequent_indent": f"{mark}     "}
+    return [line for note in notes for line in textwrap.wrap(note, WIDTH, break_on_hyphens=False, **how)]
+
+
 def between(contracts: Iterable[list[str]]) -> list[str]:
-    """Contracts one after another, with an empty line between."""
+    """Contracts or definitions one after another, with an empty line between."""
     found: list[str] = []
     for lines in contracts:
         found += ([""] if found else []) + lines
@@ -1052,7 +1082,8 @@ def slug(heading: str) -> str:
 
 
 def wrapped(text: str, indent: str = "") -> list[str]:
-    """The lines of a text; what is between backquotes stays in one line, and so does a link."""
+    """The lines of a text; what is between backquotes stays in one line, and so does a link. Laws link to their part."""
+    text = re.sub(rf"(?<!\[)`(?:{'|'.join(LAW_NAMES)})`", lambda at: f"[{at[0]}](#{slug(PARTS[STEPS][0])})", text)
     kept = re.sub(r"\[?`[^`]*`(?:\]\([^)]*\))?", lambda at: at[0].replace(" ", "\N{NO-BREAK SPACE}"), text)
     lines = textwrap.wrap(kept, 120, subsequent_indent=indent, break_on_hyphens=False, break_long_words=False)
     return [line.replace("\N{NO-BREAK SPACE}", " ") for line in lines]
