@@ -353,13 +353,14 @@ OPENING = (
     "`ob0` is a language server for Oberon-0: an *editor* starts it and speaks with it by LSP 3.17. A message is sent "
     "in a *frame*: a head with a length, and the *content*, so many bytes of JSON. A *session* is what one server has "
     "taken and sent, from `initialize` on. An *opening* of a document lasts until its close. The code is in Rattle: "
-    "Rust with contracts that a checker proves. What is after `ensures` holds at the return of every call for which "
-    "that after `requires` does. A *law* is the contract of a function with an empty body: a fact about definitions."
+    "Rust with contracts that a checker proves: `requires` is what a caller owes, `ensures` what then holds at the "
+    "return. A *law* is the contract of a function with an empty body: a fact about definitions."
 )
 AFTER_SENTENCE = (
-    "The definitions say more: *every* applied edit was made in a well-typed text (`before_fits`), and *every* list "
-    "of diagnostics with a version is right in this way. The premises, and what is proved, inferred, tested or not "
-    "promised, come [below](#what-is-proved-and-what-isnt), after the definitions."
+    "It is proved of a model of an editor; for others it is inferred, and tested. The premises, and what is proved, "
+    "inferred, tested or not promised, come [below](#what-is-proved-and-what-isnt), after the definitions. These say "
+    "more: *every* applied edit was made in a well-typed text (`before_fits`), and *every* list of diagnostics with a "
+    "version is right in this way."
 )
 # (what its words mean, an item each)
 MEANINGS = (
@@ -367,8 +368,8 @@ MEANINGS = (
     "surrogate pair is none.) A *run* ends as it should, by an error, or at a bound.",
     "*An applied edit* is all that one answer replaces, made at once: of a rename, an inlining of a constant at one "
     "use or everywhere, or a formatting. No two replacements share a character (the law `edits_keep_the_run`). The "
-    "editor applies an answer only to the opening of the document that it asked about, with the version of then; else "
-    "it *drops* the answer: nothing of it is applied.",
+    "editor applies an answer only while the document has the opening and the version that it had at the request; else "
+    "nothing of it is applied.",
     "*The latest diagnostics* of a document are the last list with a version that the server published for its uri, "
     "taken by the editor or not. The document had the text that they were made for, with that version, in this opening "
     "or an earlier one (`made_for`). When the server has taken all messages, they are of the present version and text "
@@ -382,11 +383,12 @@ TIE = (
     "specification (`reacts`, docs/PROTOCOL.md as a function): so for the same contents `serve` writes what `play_in` "
     "returns as sent (part 3). The last step, to standard input and output, is tested.",
     "*What each contract says.* The law `in_every_interleaving` speaks of the model alone, definitions of both ends "
-    "(part 1), where each publication and each answer is right by definition (`Replies`); it gives `Holds`, not "
-    "`made_for`. That the code's are right is what the contract of `play_in` and the tie add. Beside a session nobody "
-    "runs `play_in`: the headline holds of one with the model's editor if `play_in` would return an `Ok` on its "
-    "events. That it does is tested, by running it on lists of events; no contract says it, since any allocation may "
-    "fail.",
+    "(part 1). There each publication is right by definition, and an answer's edits are some that part 8 allows "
+    "(`Replies`); that these keep the run is the law `edits_keep_the_run`. It gives `Holds`, not `made_for`. That the "
+    "code's publications and edits are such is what the contract of `play_in` and the tie add. So take a session with "
+    "the model's editor, and the list of its events: if a call of `play_in` with this list returns an `Ok`, the "
+    "headline holds of that session. Where memory suffices it does: that is tested, with lists of events; no contract "
+    "says it.",
 )
 LISTS = "What is proved, and what isn't"
 # (what is promised with a proof, what without one, and what isn't, an item each)
@@ -396,7 +398,7 @@ PROVED = (
     "*`Holds`* of each state of the model that events lead to, without a premise: by the law `in_every_interleaving`.",
     "*`serve` has written the frames of what that session sent*: by its contract, and the law "
     "[`a_conversation_is_served`](#part-3-the-tie-to-the-program). The premises: the types of its *devices*, a reader "
-    "and a writer, know their bytes, and neither had failed before (`reads`, `writes`); it has read exactly the frames "
+    "and a writer, say which bytes are left or written (`R.remaining`, `W.contents`), and neither had failed before (`reads`, `writes`); it has read exactly the frames "
     "of what the session took, with no content of more than 16,777,216 bytes; it has returned; and neither an "
     "allocation nor the writer failed.",
     "*Where an allocation fails* `play_in` may return an `Err`: then all that an `Ok` says holds of the first n "
@@ -413,8 +415,8 @@ UNPROVED = (
     "until the answer comes is as good as to drop it. The model's editor does so. Others write other "
     "contents; of them there is no theorem, but real ones are tested (editors/README.md).",
     "*Other messages* (inferred; tested in tests/test_lifecycle.py). The model has `initialize`, openings, changes, "
-    "closes and requests for edits alone. So *every session that ends normally is in this list*: it has "
-    "`initialized`, `shutdown` and `exit`, and perhaps hovers. By `reacts` these change no document, nor, up to "
+    "closes and requests for edits alone. So *no session that ends normally is covered by the theorem "
+    "alone*: it has `initialized`, `shutdown` and `exit`, and perhaps hovers. By `reacts` these change no document, nor, up to "
     "`shutdown`, another reply.",
     "*Standard input and output* (tested in tests/test_stream.py and tests/test_devices.py): their types know no "
     "bytes. That pipes lose, add and reorder nothing is trusted. `main`, which has no contract, calls `serve` and "
