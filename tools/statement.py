@@ -384,8 +384,8 @@ TIE = (
     "returns as sent (part 3). The last step, to standard input and output, is tested.",
     "*What each contract says.* The law `in_every_interleaving` speaks of the model alone, definitions of both ends "
     "(part 1). There each publication is right by definition, and an answer's edits are some that part 8 allows "
-    "(`Replies`); that these keep the run is the law `edits_keep_the_run`. It gives `Holds`, not `made_for`. That the "
-    "code's publications and edits are such is what the contract of `play_in` and the tie add. So take a session with "
+    "(`Replies`); that these keep the run is the law `edits_keep_the_run`. `in_every_interleaving` gives `Holds`, not "
+    "`made_for`. That the code's publications and edits are such is what the contract of `play_in` and the tie add. So take a session with "
     "the model's editor, and the list of its events: if a call of `play_in` with this list returns an `Ok`, the "
     "headline holds of that session. Where memory suffices it does: that is tested, with lists of events; no contract "
     "says it.",
@@ -399,13 +399,13 @@ PROVED = (
     "*`serve` has written the frames of what that session sent*: by its contract, and the law "
     "[`a_conversation_is_served`](#part-3-the-tie-to-the-program). The premises: the types of its *devices*, a reader "
     "and a writer, say which bytes are left or written (`R.remaining`, `W.contents`), and neither had failed before (`reads`, `writes`); it has read exactly the frames "
-    "of what the session took, with no content of more than 16,777,216 bytes; it has returned; and neither an "
-    "allocation nor the writer failed.",
+    "of what the session took, with no content of more than 16,777,216 bytes; it has returned, and neither "
+    "`Err(Memory)` nor `Err(Write)`.",
     "*Where an allocation fails* `play_in` may return an `Err`: then all that an `Ok` says holds of the first n "
     "events, for some n, or no session had begun (`PlaysBefore`). `serve` may return `Err(Memory)`: then it has "
     "written whole replies to the first n contents, for some n.",
-    "*Every function returns*, given memory, stack, and devices whose calls return, and in none is anything "
-    "undefined: by the checker. (`serve` hasn't returned while its reader waits.) Rattle's checker and compiler, and "
+    "*Every function returns*, given stack enough and devices whose calls return (where an allocation fails, an "
+    "`Err`), and in none is anything undefined: by the checker. (`serve` hasn't returned while its reader waits.) Rattle's checker and compiler, and "
     "its libraries' contracts, are trusted.",
 )
 UNPROVED = (
@@ -413,10 +413,10 @@ UNPROVED = (
     "of an answer at once and as the protocol says, and drops an answer whose document was changed, or closed and "
     "opened again, since it asked. Changes are sent in order, columns are counted as LSP does, and to take no keys "
     "until the answer comes is as good as to drop it. The model's editor does so. Others write other "
-    "contents; of them there is no theorem, but real ones are tested (editors/README.md).",
-    "*Other messages* (inferred; tested in tests/test_lifecycle.py). The model has `initialize`, openings, changes, "
-    "closes and requests for edits alone. So *no session that ends normally is covered by the theorem "
-    "alone*: it has `initialized`, `shutdown` and `exit`, and perhaps hovers. By `reacts` these change no document, nor, up to "
+    "contents; of the headline with them there is no theorem, but real ones are tested (editors/README.md).",
+    "*Other messages* (inferred; tested in tests/test_lifecycle.py). The model begins after `initialize`, and has openings, "
+    "changes, closes and requests for edits alone. So *no session of a real editor is covered by the theorem alone*: it "
+    "has `initialized` too, `shutdown` and `exit` at its normal end, and perhaps hovers. By `reacts` these change no document, nor, up to "
     "`shutdown`, another reply.",
     "*Standard input and output* (tested in tests/test_stream.py and tests/test_devices.py): their types know no "
     "bytes. That pipes lose, add and reorder nothing is trusted. `main`, which has no contract, calls `serve` and "
@@ -429,8 +429,8 @@ UNPROVED = (
 )
 UNPROMISED = (
     "**Not promised**: that memory, stack and time suffice; that an editor does its part; that events lead somewhere "
-    "(an `Ok` shows it of its list), or that a message that waits is taken; on this page, which diagnostics are in a "
-    "list, and that a request gets edits (part 8). That the definitions say what is meant is for the reader to judge."
+    "(an `Ok` shows it of its list), or that a message that waits is taken; in parts 0 to 3, which diagnostics are in a "
+    "list, and that a request gets edits (of that is part 8). That the definitions say what is meant is for the reader to judge."
 )
 SIGNS = "(`×` is 'and', `→` 'if .. then' or 'for all', `≡` equality; more is [below](#the-notation).)"
 BESIDE = (
