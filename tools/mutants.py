@@ -40,7 +40,7 @@ HAS_PROVED = re.compile(r"rt: (\w+) (?:proved$|is kept: )")
 COULD_NOT_TELL = 3
 # What a check reads beside the mutant's functions: the contracts of the others, what they call, or the whole crate.
 CONTRACTS, CALLED, WHOLE = "contracts", "called", "whole"
-# What stands in place of a body that is not proved, and of its proof.
+# What is in place of a body that is not proved, and of its proof.
 NO_BODY = "unreachable!()"
 HOLE = """use Rattle.{crate}.proofs.{module}.Statement.{{statement}}
 

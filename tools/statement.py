@@ -351,7 +351,7 @@ SENTENCE = (
 )
 OPENING = (
     "`ob0` is a language server for Oberon-0: an *editor* starts it and speaks with it by LSP 3.17. A message is sent "
-    "in a *frame*: a head with a length, and the *content*, so many bytes of JSON. A *session* is what one server has "
+    "in a *frame*: a head with a length, and the *content*, JSON of that many bytes. A *session* is what one server has "
     "taken and sent, from `initialize` on. An *opening* of a document lasts until its close. The code is in Rattle: "
     "Rust with contracts that a checker proves: `requires` is what a caller owes, `ensures` what then holds at the "
     "return. A *law* is the contract of a function with an empty body: a fact about definitions."
@@ -673,7 +673,7 @@ class Page:
         self.place_notes()
 
     def give_names(self) -> None:
-        """Each item's heading, and the name of each definition on the page: no name stands twice."""
+        """Each item's heading, and the name of each definition on the page: no name is there twice."""
         taken: set[str] = set()
         headings: set[str] = set()
         for block in self.first:
@@ -847,10 +847,10 @@ class Page:
 
     def head_of(self, part: int, time: str) -> str:
         """What a part says of itself."""
-        _, _, believe, behind = PARTS[part]
+        _, _, believe, support = PARTS[part]
         many, lines = self.counts(self.items_of(part))
         head = f"{many} definitions, {lines:,} lines: {time}. Or believe {believe}."
-        return head + (f" For that speak {behind}." if behind else "")
+        return head + (f" For that speak {support}." if support else "")
 
     def body(self, part: int) -> list[str]:
         """What is under the heading of a part, and under what it says of itself."""
@@ -1047,7 +1047,7 @@ def summed(sizes: Iterable[Size]) -> Size:
 
 
 def minutes(size: Size, lines_a_minute: int = LINES_A_MINUTE) -> int:
-    """How long it takes to read so many words and lines."""
+    """How long it takes to read this many words and lines."""
     return math.ceil(size[0] / WORDS_A_MINUTE + size[1] / lines_a_minute)
 
 
