@@ -96,12 +96,14 @@ fn commands_print_what_they_flush(rt: HostRuntime) {
 fn word_of(line: &CommandLine<'_>) -> &'static str {
     match line {
         CommandLine::Serve => "serve",
+        CommandLine::Check { .. } => "check",
         CommandLine::Run {
             file: "m",
             calls: 64,
             turns: 100_000,
         } => "run m",
-        _ => "another",
+        CommandLine::Run { .. } => "another run",
+        CommandLine::Rename { .. } => "rename",
     }
 }
 
@@ -116,7 +118,8 @@ fn line_of(alloc: Global, words: &[&str]) -> &'static str {
 static LINES: &[(&[&str], &str)] = &[
     (&["ob0", "serve"], "serve"),
     (&["ob0", "run", "m"], "run m"),
-    (&["ob0", "check", "m"], "another"),
+    (&["ob0", "check", "m"], "check"),
+    (&["ob0", "rename", "m", "0", "7", "x"], "rename"),
     (&["ob0", "serve", "m"], "refused"),
 ];
 

@@ -8,14 +8,11 @@ use std::process::Abort;
 /// The first conversation.
 const INPUT: &[u8] = b"Content-Length: 75\r\n\r\n\
     {\"id\":1,\"jsonrpc\":\"2.0\",\"method\":\"initialize\",\"params\":{\"capabilities\":{}}}\
-    Content-Length: 171\r\n\r\n\
-    {\"jsonrpc\":\"2.0\",\"method\":\"textDocument/didOpen\",\
+    Content-Length: 171\r\n\r\n{\"jsonrpc\":\"2.0\",\"method\":\"textDocument/didOpen\",\
     \"params\":{\"textDocument\":{\"languageId\":\"oberon-0\",\
     \"text\":\"MODULE M; BEGIN WriteLn END M.\",\"uri\":\"file:///m\",\"version\":1}}}\
-    Content-Length: 44\r\n\r\n\
-    {\"id\":2,\"jsonrpc\":\"2.0\",\"method\":\"shutdown\"}\
-    Content-Length: 33\r\n\r\n\
-    {\"jsonrpc\":\"2.0\",\"method\":\"exit\"}";
+    Content-Length: 44\r\n\r\n{\"id\":2,\"jsonrpc\":\"2.0\",\"method\":\"shutdown\"}\
+    Content-Length: 33\r\n\r\n{\"jsonrpc\":\"2.0\",\"method\":\"exit\"}";
 
 /// The first message, and a head that is bad.
 const BAD_HEAD: &[u8] = b"Content-Length: 75\r\n\r\n\
@@ -37,15 +34,8 @@ struct ServeEnd {
 /// `BYTES to LEN, GIVEN a read, READS; ROOM, FLUSHES => RESULT;` for each.
 macro_rules! ends {
     ($($bytes:ident to $len:expr, $given:expr, $reads:expr; $room:expr, $flushes:expr => $result:expr;)*) => {
-        &[$(ServeEnd {
-            bytes: $bytes,
-            len: $len,
-            given: $given,
-            reads: $reads,
-            room: $room,
-            flushes: $flushes,
-            result: $result,
-        }),*]
+        &[$(ServeEnd { bytes: $bytes, len: $len, given: $given, reads: $reads, room: $room, flushes: $flushes,
+            result: $result }),*]
     };
 }
 

@@ -57,13 +57,8 @@ macro_rules! moments {
 macro_rules! stories {
     ($($name:expr, $unit:expr, $moments:expr, [$($before:expr => $after:expr),*],
         [$($version:expr, $text:expr => $empty:expr);*];)*) => {
-        &[$(Story {
-            name: $name,
-            unit: $unit,
-            moments: $moments,
-            applied: &[$(($before, $after)),*],
-            made: &[$(($version, $text, $empty)),*],
-        }),*]
+        &[$(Story { name: $name, unit: $unit, moments: $moments, applied: &[$(($before, $after)),*],
+            made: &[$(($version, $text, $empty)),*] }),*]
     };
 }
 

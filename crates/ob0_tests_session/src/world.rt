@@ -17,22 +17,10 @@ enum Telling {
 
 /// How a story goes, how many of its events are made, and how many edits and publications come of them.
 #[derive(Clone, Copy)]
-struct Outcome {
-    way: Way,
-    steps: u64,
-    applied: usize,
-    made: usize,
-}
+struct Outcome(Way, u64, usize, usize);
 
-/// Nothing is made of a story.
-fn nothing(way: Way) -> Outcome {
-    Outcome {
-        way,
-        steps: 0,
-        applied: 0,
-        made: 0,
-    }
-}
+/// Nothing comes of a story.
+const NOTHING: Outcome = Outcome(Way::Otherwise, 0, 0, 0);
 
 /// Whether edits are the first of these.
 fn are_first_edits(found: &[Applied], wanted: &[(&str, &str)]) -> bool {
@@ -48,17 +36,17 @@ fn are_first_edits(found: &[Applied], wanted: &[(&str, &str)]) -> bool {
     true
 }
 
-fn is_publication(made: &Made, wanted: (i64, &str, bool)) -> bool {
-    made.version == wanted.0 && made.text.as_str() == wanted.1 && made.empty == wanted.2
-}
-
 /// Whether publications are the first of these.
 fn are_first_publications(found: &[Made], wanted: &[(i64, &str, bool)]) -> bool {
     if found.len() > wanted.len() {
         return false;
     }
     for i in 0..found.len() {
-        if !is_publication(&found[i], wanted[i]) {
+        let (version, text, empty) = wanted[i];
+        if found[i].version != version
+            || found[i].text.as_str() != text
+            || found[i].empty != empty
+        {
             return false;
         }
     }
@@ -69,14 +57,9 @@ fn are_first_publications(found: &[Made], wanted: &[(i64, &str, bool)]) -> bool 
 fn outcome_of(story: &Story, way: Way, steps: u64, played: &Played) -> Outcome {
     let are_edits = are_first_edits(played.applied.as_slice(), story.applied);
     if !are_edits || !are_first_publications(played.made.as_slice(), story.made) {
-        return nothing(Way::Otherwise);
+        return NOTHING;
     }
-    Outcome {
-        way,
-        steps,
-        applied: played.applied.len(),
-        made: played.made.len(),
-    }
+    Outcome(way, steps, played.applied.len(), played.made.len())
 }
 
 fn begin_world<T: TextStore>(alloc: Global, unit: Unit) -> Result<World<T>, WorldFault> {
@@ -98,7 +81,7 @@ fn way_through<T: TextStore>(world: &mut World<T>, story: &Story, events: &[Even
 /// What comes of a story's events that are made one by one.
 fn step_through<T: TextStore>(alloc: Global, story: &Story, events: &[Event]) -> Outcome {
     let Ok(mut world) = begin_world::<T>(alloc, story.unit) else {
-        return nothing(Way::Refused);
+        return Outcome(Way::Refused, 0, 0, 0);
     };
     let way = way_through(&mut world, story, events);
     let steps = world.steps();
@@ -128,23 +111,23 @@ fn tell(alloc: Global, story: &Story, telling: Telling) -> Outcome {
             Telling::OverWhole => step_through::<Whole>(alloc, story, events.as_slice()),
             Telling::Played => play_through(alloc, story, events.as_slice()),
         },
-        Err(AllocError) => nothing(Way::Otherwise),
+        Err(AllocError) => NOTHING,
     }
 }
 
 /// Whether a story is told to its end, and leaves all that it is to leave.
 fn is_told(alloc: Global, story: &Story, telling: Telling) -> bool {
-    let found = tell(alloc, story, telling);
-    found.way == Way::AsTold
-        && found.steps == story.moments.len() as u64
-        && found.applied == story.applied.len()
-        && found.made == story.made.len()
+    let Outcome(way, steps, applied, made) = tell(alloc, story, telling);
+    way == Way::AsTold
+        && steps == story.moments.len() as u64
+        && applied == story.applied.len()
+        && made == story.made.len()
 }
 
 /// Whether a story goes as it is written, or, where an allocation may fail, up to there.
 fn goes_as_written(alloc: Global, story: &Story, may_fail: bool) -> bool {
     if may_fail {
-        return tell(alloc, story, Telling::OverLines).way != Way::Otherwise;
+        return tell(alloc, story, Telling::OverLines).0 != Way::Otherwise;
     }
     is_told(alloc, story, Telling::OverLines)
         && is_told(alloc, story, Telling::OverWhole)
@@ -176,7 +159,7 @@ fn a_refused_event_ends_a_world(rt: HostRuntime) {
 fn tell_first(alloc: Global, telling: Telling) -> Outcome {
     match stories().first() {
         Some(story) => tell(alloc, story, telling),
-        None => nothing(Way::Otherwise),
+        None => NOTHING,
     }
 }
 
@@ -184,14 +167,14 @@ fn tell_first(alloc: Global, telling: Telling) -> Outcome {
 // here knows at which event it failed.
 #[test]
 fn a_refused_event_leaves_what_was_played_before(rt: HostRuntime) {
-    let told = tell_first(rt.alloc(), Telling::Played);
-    assert!(rt; told.way != Way::Otherwise);
-    let _ = println!(rt; "played {} {} {}", told.steps, told.applied, told.made);
+    let Outcome(way, steps, applied, made) = tell_first(rt.alloc(), Telling::Played);
+    assert!(rt; way != Way::Otherwise);
+    let _ = println!(rt; "played {steps} {applied} {made}");
 }
 
 #[test]
 fn a_refused_step_ends_what_was_played(rt: HostRuntime) {
-    let told = tell_first(rt.alloc(), Telling::OverLines);
-    assert!(rt; told.way != Way::Otherwise);
-    let _ = println!(rt; "played {} {} {}", told.steps, told.applied, told.made);
+    let Outcome(way, steps, applied, made) = tell_first(rt.alloc(), Telling::OverLines);
+    assert!(rt; way != Way::Otherwise);
+    let _ = println!(rt; "played {steps} {applied} {made}");
 }
