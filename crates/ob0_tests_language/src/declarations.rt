@@ -2,7 +2,7 @@
 
 use crate::asking::Asked::{Bound, Free, TypeOf};
 use crate::asking::{Row, Walk, first_wrong, push_number, push_span, rows};
-use ob0_refs::captures;
+use ob0_refs::{Capture, captures};
 use ob0_scope::resolve_renamed;
 use ob0_types::{Shape, WellTyped};
 use ob0_types_table::{ArrayShape, Parts, RecordShape};
@@ -64,7 +64,7 @@ pub fn push_capture(
 ) -> Result<(), AllocError> {
     match captures(alloc, module.resolved(), declaration, new)? {
         None => out.push_str("free"),
-        Some(capture) => push_span(out, "", capture.span),
+        Some(Capture { span }) => push_span(out, "", span),
     }
 }
 

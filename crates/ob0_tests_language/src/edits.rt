@@ -117,8 +117,7 @@ static RENAMED: &[Row] = rows![
         "MODULE M;\nTYPE R = RECORD a, b: INTEGER END;\nVAR r: R; s: RECORD a: INTEGER END; b: INTEGER;\n\
         BEGIN r.a := 1; s.a := 2; b := r.a + s.a; Write(b) END M.";
     FIELDS, Rename(3, 8, "INTEGER") =>
-        "MODULE M;\nTYPE R = RECORD INTEGER, b: INTEGER END;\n\
-        VAR r: R; s: RECORD a: INTEGER END; a: INTEGER;\n\
+        "MODULE M;\nTYPE R = RECORD INTEGER, b: INTEGER END;\nVAR r: R; s: RECORD a: INTEGER END; a: INTEGER;\n\
         BEGIN r.INTEGER := 1; s.a := 2; a := r.INTEGER + s.a; Write(a) END M.";
     FIELDS, Rename(3, 18, "b") =>
         "MODULE M;\nTYPE R = RECORD a, b: INTEGER END;\nVAR r: R; s: RECORD b: INTEGER END; a: INTEGER;\n\
@@ -133,13 +132,11 @@ static RENAMED: &[Row] = rows![
         BEGIN q[0].y.x := 1; q[q[0].y.x].n.x := 2; q[1].y.y := 3 END M.";
     LOCAL, Rename(6, 20, "b") => "Duplicate 4:16-4:17";
     LOCAL, Rename(7, 8, "b") =>
-        "MODULE M;\nTYPE R = RECORD b: INTEGER END;\nVAR r: R;\n\
-        PROCEDURE P(VAR r: R; s: RECORD a: INTEGER END);\nTYPE R = RECORD b, a: INTEGER END;\nVAR t: R;\n\
-        BEGIN r.b := s.a; t.a := t.b END P;\nBEGIN r.b := 1 END M.";
+        "MODULE M;\nTYPE R = RECORD b: INTEGER END;\nVAR r: R;\nPROCEDURE P(VAR r: R; s: RECORD a: INTEGER END);\n\
+        TYPE R = RECORD b, a: INTEGER END;\nVAR t: R;\nBEGIN r.b := s.a; t.a := t.b END P;\nBEGIN r.b := 1 END M.";
     LOCAL, Rename(6, 15, "b") =>
-        "MODULE M;\nTYPE R = RECORD a: INTEGER END;\nVAR r: R;\n\
-        PROCEDURE P(VAR r: R; s: RECORD b: INTEGER END);\nTYPE R = RECORD b, a: INTEGER END;\nVAR t: R;\n\
-        BEGIN r.a := s.b; t.a := t.b END P;\nBEGIN r.a := 1 END M.";
+        "MODULE M;\nTYPE R = RECORD a: INTEGER END;\nVAR r: R;\nPROCEDURE P(VAR r: R; s: RECORD b: INTEGER END);\n\
+        TYPE R = RECORD b, a: INTEGER END;\nVAR t: R;\nBEGIN r.a := s.b; t.a := t.b END P;\nBEGIN r.a := 1 END M.";
 ];
 
 fn rename_rows() -> &'static [Row] {
@@ -178,8 +175,7 @@ const DEEP: &str = "MODULE M; CONST c = -1; VAR x: INTEGER; BEGIN x := \
 
 static INLINED: &[Row] = rows![
     LEAST, InlineHere(3, 15) =>
-        "MODULE M;\nCONST c = -2147483647 - 1;\nVAR x: INTEGER;\n\
-        BEGIN x := 0 + (-2147483647 - 1); Write(x) END M.";
+        "MODULE M;\nCONST c = -2147483647 - 1;\nVAR x: INTEGER;\nBEGIN x := 0 + (-2147483647 - 1); Write(x) END M.";
     LEAST, InlineHere(1, 6) => "NoName";
     LEAST, InlineHere(3, 6) => "NoName";
     LEAST, InlineAll(1, 6) =>

@@ -2,7 +2,7 @@
 
 use crate::asking::Asked::{NameAt, Shown};
 use crate::asking::{FIELDS, RECURSIVE, Row, Walk, first_wrong, push_number, push_span, rows};
-use ob0_refs::{Hover, Of, at, definition, hover, references};
+use ob0_refs::{At, Hover, Of, at, definition, hover, references};
 use ob0_scan::Span;
 use ob0_types::WellTyped;
 use std::alloc::{AllocError, Global};
@@ -15,15 +15,15 @@ pub fn push_name(
     module: &WellTyped<'_>,
     offset: usize,
 ) -> Result<(), AllocError> {
-    let Some(found) = at(module, offset) else {
+    let Some(At { span, of }) = at(module, offset) else {
         return Ok(());
     };
-    push_of(out, found.of)?;
+    push_of(out, of)?;
     if let Some(declared) = definition(module, offset) {
         push_span(out, " from ", declared)?;
     }
     push_named(alloc, out, module, offset)?;
-    push_shown(alloc, out, module, offset, found.span)
+    push_shown(alloc, out, module, offset, span)
 }
 
 fn push_of(out: &mut String, of: Of) -> Result<(), AllocError> {

@@ -33,11 +33,8 @@ enum Known {
 const OPENED: &str = "a\rb";
 
 /// Three changes of that text in one note, and what they make of it.
-const THREE_CHANGES: &[ChangeRow] = &[
-    ((1, 0), (1, 0), "\n"),
-    ((1, 1), (1, 1), "\nc"),
-    ((2, 0), (2, 1), "d"),
-];
+const THREE_CHANGES: &[ChangeRow] =
+    rows![((1, 0), (1, 0), "\n"); ((1, 1), (1, 1), "\nc"); ((2, 0), (2, 1), "d");];
 
 const CHANGED_BY_THREE: &str = "a\r\nb\nd";
 

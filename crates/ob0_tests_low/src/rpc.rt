@@ -26,7 +26,7 @@ enum Asked {
 #[derive(Clone, Copy)]
 enum Message {
     Nothing,
-    NotJson,
+    Refusal(RpcFault),
     NoteOfNothing,
     LargestRange,
     OneRange,
@@ -109,12 +109,18 @@ static ROWS: &[Row] = rows![
         r#"{"options":{"insertSpaces":false,"tabSize":4},"textDocument":{"uri":"u"}}"#) => "layout by tabs";
     Request("textDocument/formatting",
         r#"{"options":{"insertSpaces":true,"tabSize":-1},"textDocument":{"uri":"u"}}"#) => "bad params";
-    Notification("textDocument/didClose", r#"{"textDocument":{"uri":"u"}}"#) => "read";
+    Notification("textDocument/didClose", r#"{"textDocument":{"uri":"u"}}"#) => "close";
     Notification("textDocument/didChange", r#"{"textDocument":{"uri":"u"}}"#) => "unreadable, of a document";
     Notification("textDocument/didOpen", "{}") => "unreadable";
     Notification("$/cancelRequest", "null") => "other";
     Sent(Nothing) => r#"{"id":-7,"jsonrpc":"2.0","result":null}"#;
-    Sent(NotJson) => r#"{"error":{"code":-32700,"message":"not JSON"},"id":null,"jsonrpc":"2.0"}"#;
+    Sent(Refusal(RpcFault::NotJson)) => r#"{"error":{"code":-32700,"message":"not JSON"},"id":null,"jsonrpc":"2.0"}"#;
+    Sent(Refusal(RpcFault::NotAMessage)) =>
+        r#"{"error":{"code":-32600,"message":"not a message"},"id":null,"jsonrpc":"2.0"}"#;
+    Sent(Refusal(RpcFault::UnknownMethod)) =>
+        r#"{"error":{"code":-32601,"message":"unknown method"},"id":null,"jsonrpc":"2.0"}"#;
+    Sent(Refusal(RpcFault::BadParams)) => r#"{"error":{"code":-32602,"message":"bad params"},"id":null,"jsonrpc":"2.0"}"#;
+    Sent(Refusal(RpcFault::Memory)) => r#"{"error":{"code":-32603,"message":"out of memory"},"id":null,"jsonrpc":"2.0"}"#;
     Sent(NoteOfNothing) => r#"{"jsonrpc":"2.0","method":"m","params":null}"#;
     Sent(LargestRange) =>
         "{\"id\":1,\"jsonrpc\":\"2.0\",\"result\":{\"end\":{\"character\":18446744073709551615,\
@@ -147,27 +153,17 @@ fn word_of_message(message: &Incoming) -> &'static str {
     }
 }
 
-const NOTHING: Client = Client {
-    counts_utf8: false,
-    prepares_renames: false,
-    takes_literal_actions: false,
-    takes_document_changes: false,
-};
-
-const EVERYTHING: Client = Client {
-    counts_utf8: true,
-    prepares_renames: true,
-    takes_literal_actions: true,
-    takes_document_changes: true,
-};
-
 fn said_of(client: Client) -> &'static str {
-    if client == NOTHING {
-        "of a client that can nothing"
-    } else if client == EVERYTHING {
-        "of a client that can everything"
-    } else {
-        "of a client that can something"
+    let Client {
+        counts_utf8: utf8,
+        prepares_renames: renames,
+        takes_literal_actions: actions,
+        takes_document_changes: changes,
+    } = client;
+    match (utf8, renames, actions, changes) {
+        (false, false, false, false) => "of a client that can nothing",
+        (true, true, true, true) => "of a client that can everything",
+        _ => "of a client that can something",
     }
 }
 
@@ -221,7 +217,10 @@ fn word_of_note(note: &Note) -> &'static str {
         Note::Unreadable { uri: None } => "unreadable",
         Note::Unreadable { uri: Some(_uri) } => "unreadable, of a document",
         Note::Other => "other",
-        _ => "read",
+        Note::Exit => "exit",
+        Note::Open { .. } => "open",
+        Note::Change { .. } => "change",
+        Note::Close { .. } => "close",
     }
 }
 
@@ -265,12 +264,7 @@ fn written(alloc: Global, message: Message) -> Result<Vec<u8>, AllocError> {
     const MOST: (u64, u64) = (u64::MAX, u64::MAX);
     match message {
         Nothing => result_of(alloc, &Id::Signed(-7), &()),
-        NotJson => error(
-            alloc,
-            None,
-            RpcFault::NotJson.code(),
-            RpcFault::NotJson.text(),
-        ),
+        Refusal(fault) => error(alloc, None, fault.code(), fault.text()),
         NoteOfNothing => notify(alloc, "m", &()),
         LargestRange => range_written(alloc, MOST, MOST),
         OneRange => range_written(alloc, (0, 9), (10, 12345)),

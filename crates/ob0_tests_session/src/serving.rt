@@ -1,7 +1,7 @@
 //! Conversations over devices that fail, and a writer that passes on what it is given only where it is flushed.
 
 use crate::devices::{Count, Counter, Source};
-use ob0_session::{Noted, ServeFault, serve, status_of};
+use ob0_session::{DeviceFault, Noted, ServeFault, serve, status_of};
 use std::alloc::Global;
 use std::process::Abort;
 
@@ -129,7 +129,7 @@ fn is_reader_noted() -> bool {
     });
     let mut piece = [0; 4];
     let is_read = reader.read(&mut piece) == Ok(1) && piece[0] == b'a' && !reader.failed();
-    is_read && reader.read(&mut piece).is_err() && reader.failed()
+    is_read && reader.read(&mut piece) == Err(DeviceFault) && reader.failed()
 }
 
 /// The same of a writer.
@@ -137,7 +137,7 @@ fn is_writer_noted() -> bool {
     let mut count = Count::new(1, 1);
     let mut writer = Noted::new(Counter { count: &mut count });
     let is_written = writer.write(b"ab") == Ok(1) && writer.flush().is_ok() && !writer.failed();
-    is_written && writer.write(b"b").is_err() && writer.failed()
+    is_written && writer.write(b"b") == Err(DeviceFault) && writer.failed()
 }
 
 #[test]
