@@ -2,7 +2,7 @@
 //!
 //! What the commands print to is an `Output`: a writer that remembers whether it was flushed since something was last
 //! written, and whether it has failed. std's `Write` says nothing of that, so `print`, which has to say that what it
-//! wrote is flushed, takes one; `Flushed` makes one of any writer. Clauses on `O.contents` are those of `Write` still,
+//! wrote is flushed, takes one; `TrackedWriter` makes one of any writer. Clauses on `O.contents` are those of `Write` still,
 //! an option: where what a writer holds isn't known, nothing is said of it. Standard error is an `Output` too.
 //!
 //! A command returns the output flushed where it printed; where a name is refused the output is as it was, of which
@@ -47,20 +47,20 @@ pub trait Output: Write {
 
 /// A device, whether it has been flushed since something was last written to it, and whether it has failed.
 #[derive(Drop)]
-pub struct Flushed<W> {
+pub struct TrackedWriter<W> {
     device: W,
     has_flushed: bool,
     has_failed: bool,
 }
 
-impl<W> Flushed<W> {
+impl<W> TrackedWriter<W> {
     /// A device that hasn't been flushed and hasn't failed.
-    pub fn new(device: W) -> Flushed<W>
+    pub fn new(device: W) -> TrackedWriter<W>
         ensures device { output_device result ≡ device }
         ensures fresh { has_flushed result ≡ false }
         ensures works { output_failed result ≡ false }
     {
-        Flushed {
+        TrackedWriter {
             device,
             has_flushed: false,
             has_failed: false,
@@ -68,7 +68,7 @@ impl<W> Flushed<W> {
     }
 }
 
-impl<W: Write> Write for Flushed<W> {
+impl<W: Write> Write for TrackedWriter<W> {
     ghost contents = { λ output. W.contents (output_device output) };
 
     fn write(&mut self, buf: &[u8]) -> io::Result<usize>
@@ -92,7 +92,7 @@ impl<W: Write> Write for Flushed<W> {
     }
 }
 
-impl<W: Write> Output for Flushed<W> {
+impl<W: Write> Output for TrackedWriter<W> {
     ghost is_flushed = { λ output. has_flushed output };
 
     ghost has_failed = { λ output. output_failed output };

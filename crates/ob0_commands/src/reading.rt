@@ -1,6 +1,6 @@
 //! Reading a file and the input.
 //!
-//! What the commands read from is an `Input`: a reader that remembers whether it has failed (`Watched` makes one of any
+//! What the commands read from is an `Input`: a reader that remembers whether it has failed (`TrackedReader` makes one of any
 //! reader), so the faults File and Input are tied to it (`StopsFor`). Where the bytes that a reader has left aren't
 //! known (`Read::remaining`), nothing is said of a list of numbers.
 
@@ -40,25 +40,25 @@ pub trait Input: Read {
 
 /// A device that is read, and whether it has failed.
 #[derive(Drop)]
-pub struct Watched<R> {
+pub struct TrackedReader<R> {
     device: R,
     has_failed: bool,
 }
 
-impl<R> Watched<R> {
+impl<R> TrackedReader<R> {
     /// A device that hasn't failed.
-    pub fn new(device: R) -> Watched<R>
+    pub fn new(device: R) -> TrackedReader<R>
         ensures device { input_device result ≡ device }
         ensures works { input_failed result ≡ false }
     {
-        Watched {
+        TrackedReader {
             device,
             has_failed: false,
         }
     }
 }
 
-impl<R: Read> Read for Watched<R> {
+impl<R: Read> Read for TrackedReader<R> {
     ghost remaining = { λ input. R.remaining (input_device input) };
 
     fn read(&mut self, buf: &mut [u8]) -> io::Result<usize>
@@ -77,7 +77,7 @@ impl<R: Read> Read for Watched<R> {
     }
 }
 
-impl<R: Read> Input for Watched<R> {
+impl<R: Read> Input for TrackedReader<R> {
     ghost has_failed = { λ input. input_failed input };
 
     fn take_some(&mut self, buf: &mut [u8]) -> io::Result<usize> {

@@ -16,7 +16,7 @@ use Rattle.ob0_world_editor.specs.declared.applied.Applying as applying
 use Rattle.ob0_world_editor.proofs.Hearing.{says_heard}
 use Rattle.ob0_world_rules.specs.Edited.{Replacement, after_changes}
 use Rattle.ob0_world_rules.specs.Asks.{Ask}
-use Rattle.ob0_world_rules.specs.Ends.{Open, SentAsk, Editor, open_at, ToServer, ToEditor, publishes, answers, Ends}
+use Rattle.ob0_world_rules.specs.ClientAndServer.{Open, SentAsk, Editor, open_at, ToServer, ToEditor, publishes, answers, ClientAndServer}
 use Rattle.ob0_world_rules.specs.Editing.{Act, open_document, change_document, close_document, ask_about, apply, discard, Done, stays, opens, rewrites, closes, asks, kept_answer, without_answer, done_by, reads}
 use Rattle.ob0_world_rules.specs.Happens.{does, take_message, after_act, after_taking, Happens}
 use Rattle.ob0_world_rules.proofs.Acts.{of_each}
@@ -154,11 +154,11 @@ sent_sound act e new content q q' r s (Ok shown) acts sent none sound = acted_so
 sent_sound act e new content q q' r s (Err x) acts sent none sound =
     subst (λ x. Sound new.requested x r s) (sym none) (grown_sound e new q r s (grown e new (done_by e act) (act_grows e act) acts.0) sound)
 
-pub sent_shows : {X : Type 0} (act : Act) (old : Ends) (e new : Editor) (content : Option (Vec ℕ Global)) (q q' r : Contents) (s : SessionState) (ap_list : List applied.Applied) (md : List made.Made) (result : Result seen.Seen X)
+pub sent_shows : {X : Type 0} (act : Act) (old : ClientAndServer) (e new : Editor) (content : Option (Vec ℕ Global)) (q q' r : Contents) (s : SessionState) (ap_list : List applied.Applied) (md : List made.Made) (result : Result seen.Seen X)
     → ends_from e q s r ap_list md ≡ old → (done_by e act).applied ≡ [] → act_seen e act ≡ sent_of (done_by e act) → Acts (done_by e act) content new → IfOk result (λ shown. IsSent q content shown q') → Sound e.requested q r s
     → IfOk result (λ shown. Shows old (does act) (seen_of shown) (ends_from new q' s r ap_list md))
 sent_shows act old e new content q q' r s ap_list md (Ok shown) was none as_sent acts sent sound =
-    subst (λ (w : Ends). Shows w (does act) (seen_of shown) (ends_from new q' s r ap_list md)) was (
+    subst (λ (w : ClientAndServer). Shows w (does act) (seen_of shown) (ends_from new q' s r ap_list md)) was (
       acted e new (done_by e act) content q q' r s ap_list ap_list md (act_grows e act) acts (put q q' content shown sent) (sym (append-nil (map applied_of ap_list)) ∙ ap (λ x. map applied_of ap_list ++ x) (sym none)) sound,
       seen_sent (done_by e act) new.requested q q' content shown acts.1 sent ∙ sym as_sent,
     )
@@ -237,7 +237,7 @@ pub taken_happens : (e new : Editor) (q r rest : Contents) (s : SessionState) (a
 taken_happens e new q r rest s ap_list md c m first means is =
     let waits : all_understood e.requested r ≡ m ∷ all_understood e.requested rest = ap (all_understood e.requested) first ∙ said_first (understood e.requested) c rest m means in
     let same : new.requested ≡ e.requested = ap (λ (x : Editor). x.requested) is ∙ read_asks e m in
-    let w : Ends = ends_from e q s r ap_list md in
+    let w : ClientAndServer = ends_from e q s r ap_list md in
     let after : ends_from new q s rest ap_list md ≡ after_taking w (m ∷ all_understood e.requested rest) =
     (λ i. record w { editor = is i; to_server = all_heard (same i) q; to_editor = all_understood (same i) rest }) in
     (after ∙ ap (after_taking w) (sym waits), of_message m ∙ ap taken_seen (sym waits))

@@ -14,7 +14,7 @@ use Rattle.ob0_world_editor.specs.Heard.{heard, SaysToServer}
 use Rattle.ob0_world_editor.specs.Understood.{understood}
 use Rattle.ob0_world_editor.specs.declared.applied.Applied as applied
 use Rattle.ob0_world_editor.proofs.Hearing.{says_heard}
-use Rattle.ob0_world_rules.specs.Ends.{SentAsk, Editor, ToServer, ToEditor, Made, Ends, after_message}
+use Rattle.ob0_world_rules.specs.ClientAndServer.{SentAsk, Editor, ToServer, ToEditor, Made, ClientAndServer, after_message}
 use Rattle.ob0_world_rules.specs.Serving.{Replies}
 use Rattle.ob0_world_rules.specs.Happens.{serve, ServerTakes}
 use Rattle.ob0_world.specs.Seen as seen
@@ -91,7 +91,7 @@ pub turn_happens : (e : Editor) (q rest r r' : Contents) (s s' : SessionState) (
     → q ≡ content ∷ rest → Turn e q rest s s' content sent → ((st : ServerState) → s' ≡ serving st → held ≡ st.held) → option_map publication_of o ≡ made_sent held e.requested sent → r' ≡ r ++ sent → md' ≡ md ++ option_to_list o → n ≡ length sent
     → Shows (ends_from e q s r ap_list md) serve (seen.served n) (ends_from e rest s' r' ap_list md')
 turn_happens e q rest r r' s s' ap_list md md' content sent held o n first t references is_made grown more count =
-    let w : Ends = ends_from e q s r ap_list md in
+    let w : ClientAndServer = ends_from e q s r ap_list md in
     let said : List ToEditor = t.served_so.said in
     let all : all_understood e.requested sent ≡ said = t.served_so.heard.all in
     let understood_all : All (IsUnderstood e.requested) sent = each_understood e.requested sent t.served_so.heard.each in

@@ -1,6 +1,6 @@
 -- What a step makes of a world.
 use Rattle.std.proofs.Common.{◌≡◌, ◌+◌, false, [], ◌∷◌, ◌++◌, refl, sym, subst}
-use Rattle.ob0_world_rules.specs.Ends.{Ends, start}
+use Rattle.ob0_world_rules.specs.ClientAndServer.{ClientAndServer, start}
 use Rattle.ob0_world_rules.specs.Happens.{Event, Happens}
 use Rattle.ob0_world_rules.specs.Mirror.{Mirrors}
 use Rattle.ob0_world_rules.specs.Headline.{Holds}
@@ -31,11 +31,11 @@ step_failed old Ended new on fails = let no : FailsFrom false old Ended new = su
 pub reached_start : (unit : Unit) → IsReached (start unit)
 reached_start unit = (unit, [], refl)
 
-pub reached_more : (w : Ends) (event : Event) (new : Ends) → IsReached w → Happens w event new → IsReached new
+pub reached_more : (w : ClientAndServer) (event : Event) (new : ClientAndServer) → IsReached w → Happens w event new → IsReached new
 reached_more w event new (unit, events, course) happens = (unit, events ++ event ∷ [], course_push (start unit) events w event new course happens)
 
-pub reached_holds : (w : Ends) → IsReached w → Holds w
+pub reached_holds : (w : ClientAndServer) → IsReached w → Holds w
 reached_holds w (unit, events, course) = in_every_interleaving unit events w course
 
-pub reached_mirrors : (w : Ends) → IsReached w → Mirrors w
+pub reached_mirrors : (w : ClientAndServer) → IsReached w → Mirrors w
 reached_mirrors w (unit, events, course) = server_mirrors unit events w course

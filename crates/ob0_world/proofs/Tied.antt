@@ -7,7 +7,7 @@ use Rattle.ob0_world_editor.specs.Heard.{heard}
 use Rattle.ob0_world_editor.specs.Understood.{understood}
 use Rattle.ob0_world_editor.specs.declared.applied.Applied as applied
 use Rattle.ob0_world_editor.proofs.Hearing.{says_heard}
-use Rattle.ob0_world_rules.specs.Ends.{SentAsk, Editor}
+use Rattle.ob0_world_rules.specs.ClientAndServer.{SentAsk, Editor}
 use Rattle.ob0_world.specs.declared.played.Made as made
 use Rattle.ob0_world.specs.Queues.{Contents, bytes, all_heard, all_understood, IsHeard, IsUnderstood, Sound, held_by, both_from}
 use Rattle.ob0_world.specs.Worlds.{AllSay, IsTied}

@@ -19,14 +19,14 @@ use Rattle.ob0_world_editor.specs.Heard.{heard, SaysToServer}
 use Rattle.ob0_world_editor.specs.Understood.{understood}
 use Rattle.ob0_world_editor.specs.Code.{applied_of}
 use Rattle.ob0_world_editor.specs.declared.applied.Applied as applied
-use Rattle.ob0_world_rules.specs.Ends.{Open, SentAsk, Editor, open_at, ToServer, ToEditor, publishes, answers, Made, Ends, start}
+use Rattle.ob0_world_rules.specs.ClientAndServer.{Open, SentAsk, Editor, open_at, ToServer, ToEditor, publishes, answers, Made, ClientAndServer, start}
 use Rattle.ob0_world_rules.specs.Happens.{Event, Course}
 use Rattle.ob0_world.specs.declared.events.Seen as seen
 use Rattle.ob0_world.specs.declared.played.Made as made
 pub use Rattle.ob0_world.specs.Code.{bytes}
 use Rattle.ob0_world.specs.Code.{publication_of}
 use Rattle.ob0_world.specs.Seen.{nothing, sent, seen_of}
-use Rattle.ob0_world.specs.Worlds.{Wire, Both}
+use Rattle.ob0_world.specs.Worlds.{Wire, Connection}
 
 -- contents that wait in a queue
 abbrev pub Contents : Type 0
@@ -113,7 +113,7 @@ abbrev pub ends_from : Editor
     → Contents
     → List applied.Applied
     → List made.Made
-    → Ends
+    → ClientAndServer
 ends_from e to_server session to_editor applied made =
     record {
       editor = e;
@@ -144,7 +144,7 @@ abbrev pub both_from : Editor
     → List made.Made
     → Contents
     → Contents
-    → Both
+    → Connection
 both_from e to_server session to_editor applied made taken got =
     record {
       ends = ends_from e to_server session to_editor applied made;
@@ -160,7 +160,7 @@ pub record Within (n : ℕ) (e : Editor) : Type 0 where
   pub versions : (uri : List ℕ) (d : Open) → open_at e uri ≡ Some d → d.version ≤ n
 
 -- some events lead from the beginning to this
-abbrev pub IsReached : Ends → Type 0
+abbrev pub IsReached : ClientAndServer → Type 0
 IsReached w = (unit : Unit) × (events : List Event) × Course (start unit) events w
 
 -- ---- the steps of the server's event

@@ -2,9 +2,9 @@
 //!
 //! The model of `Ends` is `Both`: the messages and documents of both, and the `Wire`: the session, and all contents,
 //! those that were taken and those that wait, in each direction. So `MovesWire` speaks of the session's own step and of
-//! what each event does to the contents, and `IsTied` joins the two views (`Ends::is_tied` is called for its contract
+//! what each event does to the contents, and `IsTied` joins the two views (`Ends::contents_say_messages` is called for its contract
 //! alone). The promise of a step is by cases of the world before it (`WorldSteps`, `WorldFails`). `Plays` has the
-//! headline and, beside it, the course of both (`BothCourse`) from a begun session on (`Begins`), with the contents
+//! headline and, beside it, the course of both (`ConnectionCourse`) from a begun session on (`Begins`), with the contents
 //! that passed returned by the code: so a body without a session would have to return the contents of a conversation
 //! all the same.
 ghost use Rattle.std.specs.Prelude.{◌≡◌, ◌<◌, ◌-◌, ◌^◌, [], length, IfOk, OnOk, IfErr};
@@ -16,7 +16,7 @@ ghost use Rattle.ob0_world.specs.Seen.{seen_of};
 ghost use Rattle.ob0_world.specs.Worlds.{HasCome, HasPassed, IsNew, Plays, PlaysBefore, WorldSteps, WorldFails};
 ghost use Rattle.ob0_world.specs.declared.faults.WorldFault.TheVariants.{Memory};
 
-use crate::ends::Ends;
+use crate::connection::Connection;
 use crate::events::{Event, Seen};
 use crate::faults::{PlayFault, WorldFault};
 use crate::played::Played;
@@ -28,7 +28,7 @@ use std::marker::Model;
 /// An editor, the server and a queue in each direction.
 #[derive(Drop)]
 pub struct World<T: TextStore> {
-    ends: Ends<T>,
+    ends: Connection<T>,
     steps: u64,
     has_ended: bool,
 }
@@ -66,7 +66,7 @@ impl<T: TextStore> World<T> {
         ensures start { IfOk result (IsNew unit) }
         ensures err { IfErr result (λ fault. fault ≡ Memory) }
     {
-        match Ends::new(alloc, unit) {
+        match Connection::new(alloc, unit) {
             Ok(ends) => Ok(World {
                 ends,
                 steps: 0,
@@ -98,7 +98,7 @@ impl<T: TextStore> World<T> {
         }
         match self.ends.make(event) {
             Ok(seen) => {
-                self.ends.is_tied();
+                self.ends.contents_say_messages();
                 self.steps += 1;
                 Ok(seen)
             }

@@ -23,4 +23,4 @@ returns-in-Ok-clause-mirror g c =
     reached_mirrors c.make.new.self.ends (reached_more c.self.inside.ends.ends (event_of c.args.event.now) c.make.new.self.ends (c.self.invariant c.if-self.false).1 c.in-Ok.ensures.ok.0)
 
 pub returns-in-Ok-clause-ok : goal.returns-in-Ok-clause-ok
-returns-in-Ok-clause-ok g c = made_step _ _ _ _ _ c.self.view_is c.if-self.false c.in-Ok.ensures.ok c.in-Ok.ensures.wire c.is_tied.ensures refl c.if-self.false
+returns-in-Ok-clause-ok g c = made_step _ _ _ _ _ c.self.view_is c.if-self.false c.in-Ok.ensures.ok c.in-Ok.ensures.wire c.contents_say_messages.ensures refl c.if-self.false

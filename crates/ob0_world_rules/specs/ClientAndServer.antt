@@ -93,7 +93,7 @@ pub record Made : Type 0 where
 -- ---- the whole
 
 -- client and server: the editor, the server's documents, the two queues, and what has come of it
-pub record Ends : Type 0 where
+pub record ClientAndServer : Type 0 where
   pub editor : Editor
   pub to_server : List ToServer
   -- the documents that are open in the server
@@ -103,7 +103,7 @@ pub record Ends : Type 0 where
   pub made : List Made
 
 -- nothing was opened yet, and both count positions in this unit
-abbrev pub start : Unit → Ends
+abbrev pub start : Unit → ClientAndServer
 start unit =
     record {
       editor = new_editor unit;

@@ -27,7 +27,7 @@ use std::marker::Model;
 
 /// An editor and a session, and the contents of the messages that wait for each.
 #[derive(Drop)]
-pub struct Ends<T: TextStore> {
+pub struct Connection<T: TextStore> {
     alloc: Global,
     editor: Editor,
     to_server: VecDeque<Vec<u8>>,
@@ -41,14 +41,14 @@ pub struct Ends<T: TextStore> {
     got: Vec<Vec<u8>>,
 }
 
-impl<T: TextStore> Model for Ends<T> {
+impl<T: TextStore> Model for Connection<T> {
     ghost use Rattle.std.specs.Coded.{codes};
     ghost use Rattle.ob0_text.specs.OpenDocuments.{documents_code};
     ghost use Rattle.ob0_world_editor.specs.Entries.{open_documents_code};
     ghost use Rattle.ob0_world.specs.Queues.{Sound, both_from};
-    ghost use Rattle.ob0_world.specs.Worlds.{Both};
+    ghost use Rattle.ob0_world.specs.Worlds.{Connection};
 
-    ghost Value = { Both };
+    ghost Value = { Connection };
 
     ghost coded = { Prim.hlevel (codes, documents_code, open_documents_code) };
 
@@ -59,9 +59,9 @@ impl<T: TextStore> Model for Ends<T> {
         Sound w.editor.requested w.to_server.items w.to_editor.items w.session };
 }
 
-impl<T: TextStore> Ends<T> {
+impl<T: TextStore> Connection<T> {
     /// An editor without documents and a session that it has initialized; both count positions in this unit.
-    pub fn new(alloc: Global, unit: Unit) -> Result<Ends<T>, AllocError>
+    pub fn new(alloc: Global, unit: Unit) -> Result<Connection<T>, AllocError>
         ensures { IfOk result (Begins unit) }
     {
         let mut session = Session::new(alloc);
@@ -69,7 +69,7 @@ impl<T: TextStore> Ends<T> {
         let got = answer(&mut session, content.as_slice())?;
         let mut taken = Vec::new(alloc);
         taken.push(content)?;
-        Ok(Ends {
+        Ok(Connection {
             alloc,
             editor: Editor::new(alloc, unit),
             to_server: VecDeque::new(alloc),
@@ -83,7 +83,7 @@ impl<T: TextStore> Ends<T> {
     }
 
     /// The contents say the messages of the model: a call for the prover.
-    pub fn is_tied(&self)
+    pub fn contents_say_messages(&self)
         ensures { IsTied self.now }
     {
         // For the proof: what the contract of this call says.

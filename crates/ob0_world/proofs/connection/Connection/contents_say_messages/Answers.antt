@@ -1,7 +1,7 @@
 use Rattle.std.proofs.Common.{subst}
 use Rattle.ob0_world.specs.Worlds.{IsTied}
 use Rattle.ob0_world.proofs.Tied.{tied}
-use Rattle.ob0_world.proofs.ends.Ends.is_tied.Goals as goal
+use Rattle.ob0_world.proofs.connection.Connection.contents_say_messages.Goals as goal
 
 pub returns : goal.returns
 returns g c =

@@ -1,13 +1,13 @@
 use Rattle.std.proofs.Common.{◌≡◌, ◌∙◌, ap, sym, subst, cond}
-use Rattle.ob0_world_rules.specs.Ends.{Ends}
+use Rattle.ob0_world_rules.specs.ClientAndServer.{ClientAndServer}
 use Rattle.ob0_world_rules.specs.Editing as acts
 use Rattle.ob0_world_rules.specs.Happens.{does}
 use Rattle.ob0_world.specs.Queues.{ends_from, wire_from}
 use Rattle.ob0_world.specs.Seen.{drops, nothing, seen_of, Shows}
-use Rattle.ob0_world.specs.Worlds.{Both, WritesContent}
+use Rattle.ob0_world.specs.Worlds.{Connection, WritesContent}
 use Rattle.ob0_world.proofs.Moved.{discard_shows, writes_none}
-use Rattle.ob0_world.proofs.ends.Ends.discard.Goals as goal
-use Rattle.ob0_world.proofs.ends.Ends.discard.Goals.{then-discard, else-discard}
+use Rattle.ob0_world.proofs.connection.Connection.discard.Goals as goal
+use Rattle.ob0_world.proofs.connection.Connection.discard.Goals.{then-discard, else-discard}
 
 pub returns-clause-ok : goal.returns-clause-ok
 returns-clause-ok g c =
@@ -19,11 +19,11 @@ returns-clause-ok g c =
       | else-discard w ↦ ap seen_of w.result-is ∙ sym (ap (λ b. cond b (drops k) nothing) w.if-discard.false)
     ] in
     let shows = discard_shows i.editor c.discard.new.self k i.to_server.items i.to_editor.items i.session i.applied.items i.made.items c.discard.result c.discard.ensures.held c.discard.ensures.after c.self.invariant in
-    subst (λ (w : Ends). Shows w (does (acts.discard k)) (seen_of c.if-discard.result) (ends_from c.discard.new.self i.to_server.items i.session i.to_editor.items i.applied.items i.made.items)) (ap (λ (w : Both). w.ends) c.self.view_is)
+    subst (λ (w : ClientAndServer). Shows w (does (acts.discard k)) (seen_of c.if-discard.result) (ends_from c.discard.new.self i.to_server.items i.session i.to_editor.items i.applied.items i.made.items)) (ap (λ (w : Connection). w.ends) c.self.view_is)
     (shows.0, shown ∙ shows.1)
 
 pub returns-clause-wire : goal.returns-clause-wire
 returns-clause-wire g c =
     let i = c.self.inside in
-    subst (λ (w : Both). WritesContent w.wire (wire_from i.session i.taken.items i.to_server.items i.got.items i.to_editor.items)) c.self.view_is
+    subst (λ (w : Connection). WritesContent w.wire (wire_from i.session i.taken.items i.to_server.items i.got.items i.to_editor.items)) c.self.view_is
     (writes_none i.session i.taken.items i.to_server.items i.got.items i.to_editor.items)

@@ -1,10 +1,10 @@
 use Rattle.std.proofs.Common.{◌∙◌, ◌∷◌, ap, option_map, sym}
-use Rattle.ob0_world_rules.specs.Ends.{Editor}
+use Rattle.ob0_world_rules.specs.ClientAndServer.{Editor}
 use Rattle.ob0_world_rules.specs.Edited.{replacements}
 use Rattle.ob0_world_editor.specs.Code.{message_of}
 use Rattle.ob0_world_editor.specs.Understood.{understood}
 use Rattle.ob0_world.proofs.Moved.{first_of, moved_first, taken_says, taken_sound, same_sound, keep_asks}
-use Rattle.ob0_world.proofs.ends.Ends.take.Goals as goal
+use Rattle.ob0_world.proofs.connection.Connection.take.Goals as goal
 
 pub invariant_of-self-in-Published : goal.invariant_of-self-in-Published
 invariant_of-self-in-Published g c =

@@ -1,10 +1,10 @@
 use Rattle.std.proofs.Common.{◌≡◌, ◌∙◌, ap, sym, map, get_or, Some}
-use Rattle.ob0_world_rules.specs.Ends.{Editor}
+use Rattle.ob0_world_rules.specs.ClientAndServer.{Editor}
 use Rattle.ob0_world_rules.specs.Editing.{kept_answer, all_but}
 use Rattle.ob0_world_editor.specs.Code.{answer_of}
 use Rattle.ob0_world_editor.specs.Moves.{IsPlaceOf}
 use Rattle.ob0_world_editor.proofs.Moving.{none_goes, edits_at}
-use Rattle.ob0_world_editor.proofs.editor.Editor.drop_document.Goals as goal
+use Rattle.ob0_world_editor.proofs.editor.Editor.take_answer.Goals as goal
 
 pub returns-in_err-place-clause-after : goal.returns-in_err-place-clause-after
 returns-in_err-place-clause-after c =
