@@ -32,14 +32,14 @@ pub trait Output: Write {
     ghost has_failed: { Self → Bool };
 
     /// Writes all of some bytes, and remembers where that fails.
-    fn put_all(&mut self, bytes: &[u8]) -> io::Result<()>
+    fn write_tracked(&mut self, bytes: &[u8]) -> io::Result<()>
         ensures bytes { OnOk result
             (Appends (Self.contents self.old) (Self.contents self.new) bytes.now) }
         ensures unflushed { bytes.now ≢ [] → is_flushed self.new ≡ false }
         ensures failed { has_failed self.new ≡ (has_failed self.old || is_err result) };
 
     /// Flushes, and remembers whether this succeeded.
-    fn hand_on(&mut self) -> io::Result<()>
+    fn flush_tracked(&mut self) -> io::Result<()>
         ensures bytes { Keeps (Self.contents self.old) (Self.contents self.new) }
         ensures flushed { OnOk result (is_flushed self.new ≡ true) }
         ensures failed { has_failed self.new ≡ (has_failed self.old || is_err result) };
@@ -97,7 +97,7 @@ impl<W: Write> Output for TrackedWriter<W> {
 
     ghost has_failed = { λ output. output_failed output };
 
-    fn put_all(&mut self, bytes: &[u8]) -> io::Result<()> {
+    fn write_tracked(&mut self, bytes: &[u8]) -> io::Result<()> {
         self.has_flushed = self.has_flushed && bytes.is_empty();
         match self.device.write_all(bytes) {
             Ok(()) => Ok(()),
@@ -108,7 +108,7 @@ impl<W: Write> Output for TrackedWriter<W> {
         }
     }
 
-    fn hand_on(&mut self) -> io::Result<()> {
+    fn flush_tracked(&mut self) -> io::Result<()> {
         match self.device.flush() {
             Ok(()) => {
                 self.has_flushed = true;
@@ -129,7 +129,7 @@ pub(crate) fn write<W: Output>(out: &mut W, text: &str) -> Result<(), FileFault>
     ensures fault { IfErr result (λ fault. fault ≡ faults.Write) }
     ensures failed { OnErr result (W.has_failed out.new ≡ true) }
 {
-    match out.put_all(text.as_bytes()) {
+    match out.write_tracked(text.as_bytes()) {
         Ok(()) => Ok(()),
         Err(_) => Err(FileFault::Write),
     }
@@ -145,7 +145,7 @@ pub fn print<W: Output>(out: &mut W, text: &str) -> Result<(), FileFault>
     ensures said { Says W.contents W.is_flushed W.has_failed out.old out.new (Some text.now) }
 {
     write(out, text)?;
-    match out.hand_on() {
+    match out.flush_tracked() {
         Ok(()) => Ok(()),
         Err(_) => Err(FileFault::Write),
     }

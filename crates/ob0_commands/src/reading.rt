@@ -31,7 +31,7 @@ pub trait Input: Read {
     ghost has_failed: { Self → Bool };
 
     /// Reads some bytes, and remembers where that fails.
-    fn take_some(&mut self, buf: &mut [u8]) -> io::Result<usize>
+    fn read_tracked(&mut self, buf: &mut [u8]) -> io::Result<usize>
         ensures bound { ReadsAtMost result buf.new }
         ensures bytes { ReadConsumes
             (Self.remaining self.old) (Self.remaining self.new) result buf.new }
@@ -80,7 +80,7 @@ impl<R: Read> Read for TrackedReader<R> {
 impl<R: Read> Input for TrackedReader<R> {
     ghost has_failed = { λ input. input_failed input };
 
-    fn take_some(&mut self, buf: &mut [u8]) -> io::Result<usize> {
+    fn read_tracked(&mut self, buf: &mut [u8]) -> io::Result<usize> {
         self.read(buf)
     }
 }
@@ -140,7 +140,7 @@ fn read_up_to<R: Input>(
     let mut piece = [0u8; PIECE_SIZE];
     while bytes.len() < most {
         let wanted = (most - bytes.len()).min(PIECE_SIZE);
-        let Ok(count) = reader.take_some(&mut piece[..wanted]) else {
+        let Ok(count) = reader.read_tracked(&mut piece[..wanted]) else {
             return Err(fault);
         };
         if count == 0 {

@@ -263,7 +263,8 @@ pub record AnswersFirst (before : ServerState) (content : List ℕ) (sent : List
   pub follows : Follows between later
   pub all : sent ≡ first ++ later
 
--- The same for contents in turn, and the messages sent for them in that order.
+-- In the one state the server replies to these contents in turn with these messages, in that order, and then it is in
+-- the other state.
 abbrev pub Conversation : ServerState → List (List ℕ) → List (List ℕ) → ServerState → Type 0
 Conversation before [] sent after = (sent ≡ []) × (after ≡ before)
 Conversation before (content ∷ contents) sent after =

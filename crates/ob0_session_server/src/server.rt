@@ -119,7 +119,10 @@ impl<T: TextStore> Server<T> {
             Ok(Incoming::Request(id, method, params)) => {
                 self.reply_to_request(&id, method.as_str(), &params)
             }
-            Ok(Incoming::Notice(method, params)) => self.react_to_notification(method.as_str(), params),
+            Ok(Incoming::Notice(method, params)) => self.react_to_notification(
+                method.as_str(),
+                params,
+            ),
             Ok(Incoming::Ignored) => Ok(None),
             Err(RpcFault::Memory) => Err(AllocError),
             Err(RpcFault::NotJson) => self.refuse_fault(None, RpcFault::NotJson),
@@ -309,7 +312,11 @@ impl<T: TextStore> Server<T> {
         self.documents = AnalysedDocuments::new(self.alloc, documents_for(self.alloc, client));
     }
 
-    fn react_to_notification(&mut self, method: &str, params: Value) -> Result<Option<Vec<u8>>, AllocError>
+    fn react_to_notification(
+        &mut self,
+        method: &str,
+        params: Value,
+    ) -> Result<Option<Vec<u8>>, AllocError>
         ensures { IfOk result (λ sent. Reacts
             (react_to_notification self.old.phase self.old method.now (view params)) sent self.new) }
     {

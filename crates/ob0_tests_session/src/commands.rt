@@ -2,7 +2,7 @@
 
 use crate::devices::{Count, Counter, Source};
 use ob0_cli::{CommandFault, CommandLine, command};
-use ob0_commands::{TrackedWriter, TrackedReader, check_text, rename_text, run_text};
+use ob0_commands::{TrackedReader, TrackedWriter, check_text, rename_text, run_text};
 use ob0_text::Position;
 use std::alloc::Global;
 use std::process::Abort;

@@ -1,4 +1,4 @@
--- What a session promises, in the words of the two ends.
+-- What a session promises, in the words of client and server.
 -- `served` is the one lemma. A request with edits is an arm of `request_served` that goes through `about_document`,
 -- with a lemma for a text in step (`formatted`, `renamed`, `inlined`). What is answered is stated in the session's own
 -- words (`GivesEdits`, `Refuses` by cases of the ask), so it is passed on as it is. Both asks to inline send the same

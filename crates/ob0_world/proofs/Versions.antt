@@ -284,28 +284,28 @@ content_names requested (requests k uri ask) before after content sent running (
 -- ---- each event
 
 record Known (w : Connection) : Type 0 where
-  pub reached : IsReached w.ends
+  pub reached : IsReached w.model
   pub tied : IsTied w
   pub running : (s : ServerState) → w.wire.session ≡ serving s → IsRunning s
-  pub asks : AsksHeld w.ends.editor.requested w.ends.held w.ends.to_server
-  pub named : All (NamesItsAsk w.ends.editor.requested) w.wire.to_editor
+  pub asks : AsksHeld w.model.editor.requested w.model.held w.model.to_server
+  pub named : All (NamesItsAsk w.model.editor.requested) w.wire.to_editor
 
 abbrev AsksOf : ClientAndServer → Type 0
 AsksOf w = AsksHeld w.editor.requested w.held w.to_server
 
-serve_known : (old new : Connection) (q : List ToServer) (c : List (List ℕ)) → old.ends.to_server ≡ q → AllSay old.ends.editor.requested q c → ServerTakes old.ends q new.ends → TakesFirst c old.wire new.wire → Known old → IsTied new → IsReached new.ends → Known new
+serve_known : (old new : Connection) (q : List ToServer) (c : List (List ℕ)) → old.model.to_server ≡ q → AllSay old.model.editor.requested q c → ServerTakes old.model q new.model → TakesFirst c old.wire new.wire → Known old → IsTied new → IsReached new.model → Known new
 serve_known old new [] [] waits says_all happens moves k tied reached =
     record {
       reached = reached;
       tied = tied;
       running = λ s is. k.running s (sym (ap (λ (x : Wire). x.session) moves) ∙ is);
       asks = subst AsksOf (sym happens) k.asks;
-      named = subst (λ (x : ClientAndServer). All (NamesItsAsk x.editor.requested) new.wire.to_editor) (sym happens) (subst (λ (x : Wire). All (NamesItsAsk old.ends.editor.requested) x.to_editor) (sym moves) k.named);
+      named = subst (λ (x : ClientAndServer). All (NamesItsAsk x.editor.requested) new.wire.to_editor) (sym happens) (subst (λ (x : Wire). All (NamesItsAsk old.model.editor.requested) x.to_editor) (sym moves) k.named);
     }
 serve_known old new (m ∷ rest) (content ∷ contents) waits (says_this, others) (said, made, replies, is_new) (before, after, sent, was, answer, wire_is) k tied reached =
-    let r : List SentAsk = old.ends.editor.requested in
+    let r : List SentAsk = old.model.editor.requested in
     let running : IsRunning before = k.running before was in
-    let see = sees_first r old.ends.held m rest (subst (AsksHeld r old.ends.held) waits k.asks) in
+    let see = sees_first r old.model.held m rest (subst (AsksHeld r old.model.held) waits k.asks) in
     let meets : AsksHeld r before.held (m ∷ []) = subst (λ (held : OpenDocuments). AsksHeld r held (m ∷ [])) (k.tied.documents before was) see.0 in
     let names : All (NamesItsAsk r) sent = content_names r m before after content sent running says_this answer meets in
     record {
@@ -336,21 +336,21 @@ gets_session (content ∷ rest) old new is = ap (λ (x : Wire). x.session) is
 
 step_known : (old : Connection) (event : Event) (new : Connection) → Known old → ConnectionStep old event new → Known new
 step_known old (does act) new k step =
-    let keeps : Keeps old.ends old.wire.to_editor (done_by old.ends.editor act) = act_keeps old.ends old.wire.to_editor (reached_mirrors old.ends k.reached) k.asks k.named act in
+    let keeps : Keeps old.model old.wire.to_editor (done_by old.model.editor act) = act_keeps old.model old.wire.to_editor (reached_mirrors old.model k.reached) k.asks k.named act in
     record {
-      reached = reached_more old.ends (does act) new.ends k.reached step.happens;
+      reached = reached_more old.model (does act) new.model k.reached step.happens;
       tied = step.tied;
       running = λ s is. k.running s (sym (ap (λ (x : Wire). x.session) step.moves.1) ∙ is);
       asks = subst AsksOf (sym step.happens) keeps.0;
       named = subst (λ (x : ClientAndServer). All (NamesItsAsk x.editor.requested) new.wire.to_editor) (sym step.happens)
-          (subst (λ (x : Wire). All (NamesItsAsk (done_by old.ends.editor act).editor.requested) x.to_editor) (sym step.moves.1) keeps.1);
+          (subst (λ (x : Wire). All (NamesItsAsk (done_by old.model.editor act).editor.requested) x.to_editor) (sym step.moves.1) keeps.1);
     }
 step_known old serve new k step =
-    serve_known old new old.ends.to_server old.wire.to_server refl k.tied.says step.happens step.moves k step.tied (reached_more old.ends serve new.ends k.reached step.happens)
+    serve_known old new old.model.to_server old.wire.to_server refl k.tied.says step.happens step.moves k step.tied (reached_more old.model serve new.model k.reached step.happens)
 step_known old take_message new k step =
-    let keeps = take_keeps old.ends old.ends.to_editor new.wire.to_editor k.asks (gets_names (NamesItsAsk old.ends.editor.requested) old.wire.to_editor old.wire new.wire refl step.moves k.named) in
+    let keeps = take_keeps old.model old.model.to_editor new.wire.to_editor k.asks (gets_names (NamesItsAsk old.model.editor.requested) old.wire.to_editor old.wire new.wire refl step.moves k.named) in
     record {
-      reached = reached_more old.ends take_message new.ends k.reached step.happens;
+      reached = reached_more old.model take_message new.model k.reached step.happens;
       tied = step.tied;
       running = λ s is. k.running s (sym (gets_session old.wire.to_editor old.wire new.wire step.moves) ∙ is);
       asks = subst AsksOf (sym step.happens) keeps.0;
@@ -366,11 +366,11 @@ unit_back Utf16 = refl
 unit_back Utf8 = refl
 
 begin_known : (unit : Unit) (begin : Connection) → Begins unit begin → Known begin
-begin_known unit begin b = subst Known (λ i. record { ends = sym b.ends i; wire = sym b.wire i }) first
+begin_known unit begin b = subst Known (λ i. record { model = sym b.model i; wire = sym b.wire i }) first
   where
     this : Connection
     this = record {
-      ends = start unit;
+      model = start unit;
       wire = record { session = serving (begins (client_for unit)); taken = b.content ∷ []; to_server = []; got = b.replies; to_editor = [] };
     }
 

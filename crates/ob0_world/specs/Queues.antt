@@ -107,14 +107,14 @@ pub record Sound (requested : List SentAsk) (to_server to_editor : Contents)
   pub running : IsRunningOrFailed session
 
 -- client and server, from what the code stores of them
-abbrev pub ends_from : Editor
+abbrev pub model_from : Editor
     → Contents
     → SessionState
     → Contents
     → List applied.Applied
     → List made.Made
     → ClientAndServer
-ends_from e to_server session to_editor applied made =
+model_from e to_server session to_editor applied made =
     record {
       editor = e;
       to_server = all_heard e.requested to_server;
@@ -136,7 +136,7 @@ wire_from session taken to_server got to_editor =
     }
 
 -- client and server from what the code keeps
-abbrev pub both_from : Editor
+abbrev pub connection_from : Editor
     → Contents
     → SessionState
     → Contents
@@ -145,9 +145,9 @@ abbrev pub both_from : Editor
     → Contents
     → Contents
     → Connection
-both_from e to_server session to_editor applied made taken got =
+connection_from e to_server session to_editor applied made taken got =
     record {
-      ends = ends_from e to_server session to_editor applied made;
+      model = model_from e to_server session to_editor applied made;
       wire = wire_from session taken to_server got to_editor;
     }
 

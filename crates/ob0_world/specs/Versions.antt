@@ -81,7 +81,7 @@ VersionsAreNamed =
     (unit : Unit) (begin : Connection) (events : List Event) (now : Connection)
     → Begins unit begin
     → ConnectionCourse begin events now
-    → All (NamesItsAsk now.ends.editor.requested) now.wire.to_editor
+    → All (NamesItsAsk now.model.editor.requested) now.wire.to_editor
 
 -- ---- a client that goes by them
 

@@ -45,14 +45,14 @@ impl<T: TextStore> Model for Connection<T> {
     ghost use Rattle.std.specs.Coded.{codes};
     ghost use Rattle.ob0_text.specs.OpenDocuments.{documents_code};
     ghost use Rattle.ob0_world_editor.specs.Entries.{open_documents_code};
-    ghost use Rattle.ob0_world.specs.Queues.{Sound, both_from};
+    ghost use Rattle.ob0_world.specs.Queues.{Sound, connection_from};
     ghost use Rattle.ob0_world.specs.Worlds.{Connection};
 
     ghost Value = { Connection };
 
     ghost coded = { Prim.hlevel (codes, documents_code, open_documents_code) };
 
-    ghost view = { λ w. both_from w.editor w.to_server.items w.session w.to_editor.items
+    ghost view = { λ w. connection_from w.editor w.to_server.items w.session w.to_editor.items
         w.applied.items w.made.items w.taken.items w.got.items };
 
     ghost invariant = { λ w.
@@ -82,8 +82,8 @@ impl<T: TextStore> Connection<T> {
         })
     }
 
-    /// The contents say the messages of the model: a call for the prover.
-    pub fn contents_say_messages(&self)
+    /// The contents say the messages of the model: a law, called for its contract alone.
+    pub(crate) fn contents_say_messages(&self)
         ensures { IsTied self.now }
     {
         // For the proof: what the contract of this call says.
@@ -92,7 +92,7 @@ impl<T: TextStore> Connection<T> {
 
     /// What has come of the events.
     pub fn into_played(self) -> Played
-        ensures come { HasCome self.ends result }
+        ensures come { HasCome self.model result }
         ensures passed { HasPassed self.wire result }
     {
         Played {
@@ -106,9 +106,9 @@ impl<T: TextStore> Connection<T> {
 
     /// Makes an event happen.
     pub fn make(&mut self, event: &Event) -> Result<Seen, AllocError>
-        requires { AreFew self.old.ends.editor }
+        requires { AreFew self.old.model.editor }
         ensures ok { IfOk result
-            (λ seen. Shows self.old.ends (event_of event.now) (seen_of seen) self.new.ends) }
+            (λ seen. Shows self.old.model (event_of event.now) (seen_of seen) self.new.model) }
         ensures wire { OnOk result (MovesWire (event_of event.now) self.old.wire self.new.wire) }
         ensures err { OnErr result (SameHistory self.old self.new) }
     {
@@ -125,9 +125,9 @@ impl<T: TextStore> Connection<T> {
     }
 
     fn open(&mut self, uri: &str, text: &str) -> Result<Seen, AllocError>
-        requires { AreFew self.old.ends.editor }
-        ensures ok { IfOk result (λ seen. Shows self.old.ends
-            (does (open_document uri.now (chars text.now))) (seen_of seen) self.new.ends) }
+        requires { AreFew self.old.model.editor }
+        ensures ok { IfOk result (λ seen. Shows self.old.model
+            (does (open_document uri.now (chars text.now))) (seen_of seen) self.new.model) }
         ensures wire { OnOk result (WritesContent self.old.wire self.new.wire) }
         ensures err { OnErr result (SameHistory self.old self.new) }
     {
@@ -136,10 +136,10 @@ impl<T: TextStore> Connection<T> {
     }
 
     fn change(&mut self, uri: &str, changes: &[Change]) -> Result<Seen, AllocError>
-        requires { AreFew self.old.ends.editor }
-        ensures ok { IfOk result (λ seen. Shows self.old.ends
+        requires { AreFew self.old.model.editor }
+        ensures ok { IfOk result (λ seen. Shows self.old.model
             (does (change_document uri.now (map reported_change changes.now))) (seen_of seen)
-            self.new.ends) }
+            self.new.model) }
         ensures wire { OnOk result (WritesContent self.old.wire self.new.wire) }
         ensures err { OnErr result (SameHistory self.old self.new) }
     {
@@ -148,8 +148,8 @@ impl<T: TextStore> Connection<T> {
     }
 
     fn close(&mut self, uri: &str) -> Result<Seen, AllocError>
-        ensures ok { IfOk result (λ seen. Shows self.old.ends
-            (does (close_document uri.now)) (seen_of seen) self.new.ends) }
+        ensures ok { IfOk result (λ seen. Shows self.old.model
+            (does (close_document uri.now)) (seen_of seen) self.new.model) }
         ensures wire { OnOk result (WritesContent self.old.wire self.new.wire) }
         ensures err { OnErr result (SameHistory self.old self.new) }
     {
@@ -158,9 +158,9 @@ impl<T: TextStore> Connection<T> {
     }
 
     fn ask(&mut self, uri: &str, ask: &Ask) -> Result<Seen, AllocError>
-        requires { AreFew self.old.ends.editor }
-        ensures ok { IfOk result (λ seen. Shows self.old.ends
-            (does (ask_about uri.now (ask_of ask.now))) (seen_of seen) self.new.ends) }
+        requires { AreFew self.old.model.editor }
+        ensures ok { IfOk result (λ seen. Shows self.old.model
+            (does (ask_about uri.now (ask_of ask.now))) (seen_of seen) self.new.model) }
         ensures wire { OnOk result (WritesContent self.old.wire self.new.wire) }
         ensures err { OnErr result (SameHistory self.old self.new) }
     {
@@ -172,7 +172,7 @@ impl<T: TextStore> Connection<T> {
     /// the text that the document has then.
     fn serve(&mut self) -> Result<Seen, AllocError>
         ensures ok { IfOk result
-            (λ seen. Shows self.old.ends events.serve (seen_of seen) self.new.ends) }
+            (λ seen. Shows self.old.model events.serve (seen_of seen) self.new.model) }
         ensures wire { OnOk result
             (TakesFirst self.old.wire.to_server self.old.wire self.new.wire) }
         ensures err { OnErr result (SameHistory self.old self.new) }
@@ -200,7 +200,7 @@ impl<T: TextStore> Connection<T> {
 
     fn take(&mut self) -> Result<Seen, AllocError>
         ensures ok { IfOk result
-            (λ seen. Shows self.old.ends take_message (seen_of seen) self.new.ends) }
+            (λ seen. Shows self.old.model take_message (seen_of seen) self.new.model) }
         ensures wire { OnOk result
             (GetsFirst self.old.wire.to_editor self.old.wire self.new.wire) }
         ensures err { OnErr result (SameHistory self.old self.new) }
@@ -230,9 +230,9 @@ impl<T: TextStore> Connection<T> {
     }
 
     fn apply(&mut self, k: u64) -> Result<Seen, AllocError>
-        requires { AreFew self.old.ends.editor }
+        requires { AreFew self.old.model.editor }
         ensures ok { IfOk result
-            (λ seen. Shows self.old.ends (does (acts.apply k)) (seen_of seen) self.new.ends) }
+            (λ seen. Shows self.old.model (does (acts.apply k)) (seen_of seen) self.new.model) }
         ensures wire { OnOk result (WritesContent self.old.wire self.new.wire) }
         ensures err { OnErr result (SameHistory self.old self.new) }
     {
@@ -248,7 +248,7 @@ impl<T: TextStore> Connection<T> {
     }
 
     fn discard(&mut self, k: u64) -> Seen
-        ensures ok { Shows self.old.ends (does (acts.discard k)) (seen_of result) self.new.ends }
+        ensures ok { Shows self.old.model (does (acts.discard k)) (seen_of result) self.new.model }
         ensures wire { WritesContent self.old.wire self.new.wire }
     {
         if self.editor.discard(k) {

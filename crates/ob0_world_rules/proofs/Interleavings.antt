@@ -1,4 +1,4 @@
--- Each event keeps what the two ends keep, and so does every list of events.
+-- Each event keeps what client and server keep, and so does every list of events.
 use Rattle.std.proofs.Common.{◌≡◌, ◌∙◌, ℕ, suc, ◌+◌, ◌≤◌, Bool, true, false, cond, List, [], ◌∷◌, ◌++◌, length, refl, sym, ap, subst, arith, inl, inr}
 use Rattle.std.specs.Prelude.{ℤ, pos, fold, All, Option, Some, None, is_some, option_map, ◌==◌}
 use Rattle.std.specs.Str.{bytes_eq}

@@ -1,4 +1,4 @@
--- What the two ends keep, whatever happens.
+-- What client and server keep, whatever happens.
 use Rattle.std.proofs.Common.{◌≡◌, ◌∙◌, ℕ, ◌+◌, ◌≤◌, Bool, true, false, cond, List, [], ◌∷◌, ◌++◌, refl, sym, ap, subst}
 use Rattle.std.specs.Prelude.{◌⊎◌, ⊤, pos, fold, All, Some, None, option_map, ◌==◌}
 use Rattle.std.specs.Str.{bytes_eq}
@@ -43,7 +43,7 @@ abbrev pub KnowsOpenings : Editor → Type 0
 KnowsOpenings e = (uri : List ℕ) (d : Open) → open_at e uri ≡ Some d → d.opening ≤ e.openings
 
 pub record Kept (unit : Unit) (w : ClientAndServer) : Type 0 where
-  -- both ends count positions in this unit
+  -- client and server count positions in this unit
   pub counts : w.editor.unit ≡ unit
   pub holds : w.held.unit ≡ unit
   pub mirror : Mirrors w
@@ -111,7 +111,7 @@ acts_kept unit w done kept later openings same_unit same mirror see keeps =
       made = kept.made;
     }
 
--- a document is put in at both ends
+-- a document is put in at client and server
 put_mirror : (w : ClientAndServer) (uri : List ℕ) (d : Open) → Mirrors w → (q : List ℕ)
     → map_of.get (map_of.insert (will_have w).by_uri uri (as_open d)) q ≡ option_map as_open (map_of.get (map_of.insert w.editor.documents uri d) q)
 put_mirror w uri d mirror q =

@@ -16,8 +16,8 @@ invariant_of-self-2 g c =
 pub returns-clause-ok : goal.returns-clause-ok
 returns-clause-ok g c =
     let i = c.self.inside in
-    sent_shows (ask_about c.args.uri.now (ask_of c.args.ask.now)) c.args.self.now.ends i.editor c.ask.new.self c.in_ok-content.content i.to_server.items c.send.new.queue.items i.to_editor.items i.session i.applied.items i.made.items c.send.result
-    (ap (λ (w : Connection). w.ends) c.self.view_is) (ask_applies i.editor c.args.uri.now (ask_of c.args.ask.now)) refl c.in_ok-content.ensures.ok c.send.ensures.ok c.self.invariant
+    sent_shows (ask_about c.args.uri.now (ask_of c.args.ask.now)) c.args.self.now.model i.editor c.ask.new.self c.in_ok-content.content i.to_server.items c.send.new.queue.items i.to_editor.items i.session i.applied.items i.made.items c.send.result
+    (ap (λ (w : Connection). w.model) c.self.view_is) (ask_applies i.editor c.args.uri.now (ask_of c.args.ask.now)) refl c.in_ok-content.ensures.ok c.send.ensures.ok c.self.invariant
 
 pub returns-clause-wire : goal.returns-clause-wire
 returns-clause-wire g c =

@@ -5,7 +5,7 @@ use Rattle.std.proofs.lemmas.List.{append-nil}
 use Rattle.ob0_world_rules.specs.ClientAndServer.{ClientAndServer}
 use Rattle.ob0_world_rules.specs.Happens.{serve}
 use Rattle.ob0_world.specs.Seen.{served, Shows}
-use Rattle.ob0_world.specs.Queues.{IsAnswered, IsRunningOrFailed, bytes, ends_from, wire_from, made_sent}
+use Rattle.ob0_world.specs.Queues.{IsAnswered, IsRunningOrFailed, bytes, model_from, wire_from, made_sent}
 use Rattle.ob0_world.specs.Worlds.{Connection, TakesFirst}
 use Rattle.ob0_world.proofs.Serving.{turn, rest_sound, turn_running, turn_sound, turn_happens, turn_taken}
 use Rattle.ob0_world.proofs.connection.Connection.serve.Goals as goal
@@ -61,16 +61,16 @@ pub returns-clause-ok : goal.returns-clause-ok
 returns-clause-ok g c =
     elim c.match-made-4.branch [
       | in-Some-made w ↦
-          subst (λ (x : Connection). Shows c.args.self.now.ends serve (served c.len-count.result) x.ends) (sym w.self-is)
-          (subst (λ (x : ClientAndServer). Shows x serve (served c.len-count.result) (ends_from c.self.inside.editor c.pop_front.new.self.items c.answer.new.session c.append.new.self.items c.self.inside.applied.items w.push_reserved-in-Some-made.new.self.items)) (ap (λ (w : Connection). w.ends) c.self.view_is)
+          subst (λ (x : Connection). Shows c.args.self.now.model serve (served c.len-count.result) x.model) (sym w.self-is)
+          (subst (λ (x : ClientAndServer). Shows x serve (served c.len-count.result) (model_from c.self.inside.editor c.pop_front.new.self.items c.answer.new.session c.append.new.self.items c.self.inside.applied.items w.push_reserved-in-Some-made.new.self.items)) (ap (λ (w : Connection). w.model) c.self.view_is)
           (turn_happens c.self.inside.editor c.self.inside.to_server.items c.pop_front.new.self.items c.self.inside.to_editor.items c.append.new.self.items c.self.inside.session c.answer.new.session c.self.inside.applied.items c.self.inside.made.items w.push_reserved-in-Some-made.new.self.items c.in-Some.content c.in_ok-sent.sent.items c.documents.result.now c.in_ok-made.made c.len-count.result c.in-Some.ensures.items
           (turn c.self.inside.editor c.self.inside.to_server.items c.pop_front.new.self.items c.self.inside.to_editor.items c.self.inside.session c.answer.new.session c.in-Some.content c.in_ok-sent.sent.items c.in-Some.ensures.items c.self.invariant
           (subst (λ x. IsAnswered c.self.inside.session x (bytes c.in_ok-sent.sent.items) c.answer.new.session) c.as_slice.ensures.value c.in_ok-sent.ensures.ok))
           c.documents.ensures (c.in_ok-made.ensures ∙ ap (made_sent c.documents.result.now c.self.inside.editor.requested) c.as_slice-2.ensures.value) (c.in_ok-append.ensures.items ∙ ap (λ x. c.self.inside.to_editor.items ++ x) c.from_vec.ensures.items)
           (w.push_reserved-in-Some-made.ensures.items ∙ ap (λ x. x ++ w.in-Some-made.made ∷ []) c.reserve-2.ensures.items ∙ ap (λ o. c.self.inside.made.items ++ option_to_list o) (sym w.in-Some-made.is)) (c.len-count.ensures ∙ c.in_ok-sent.sent.ok.0)))
       | in_default-made w ↦
-          subst (λ (x : Connection). Shows c.args.self.now.ends serve (served c.len-count.result) x.ends) (sym w.self-is)
-          (subst (λ (x : ClientAndServer). Shows x serve (served c.len-count.result) (ends_from c.self.inside.editor c.pop_front.new.self.items c.answer.new.session c.append.new.self.items c.self.inside.applied.items c.reserve-2.new.self.items)) (ap (λ (w : Connection). w.ends) c.self.view_is)
+          subst (λ (x : Connection). Shows c.args.self.now.model serve (served c.len-count.result) x.model) (sym w.self-is)
+          (subst (λ (x : ClientAndServer). Shows x serve (served c.len-count.result) (model_from c.self.inside.editor c.pop_front.new.self.items c.answer.new.session c.append.new.self.items c.self.inside.applied.items c.reserve-2.new.self.items)) (ap (λ (w : Connection). w.model) c.self.view_is)
           (turn_happens c.self.inside.editor c.self.inside.to_server.items c.pop_front.new.self.items c.self.inside.to_editor.items c.append.new.self.items c.self.inside.session c.answer.new.session c.self.inside.applied.items c.self.inside.made.items c.reserve-2.new.self.items c.in-Some.content c.in_ok-sent.sent.items c.documents.result.now c.in_ok-made.made c.len-count.result c.in-Some.ensures.items
           (turn c.self.inside.editor c.self.inside.to_server.items c.pop_front.new.self.items c.self.inside.to_editor.items c.self.inside.session c.answer.new.session c.in-Some.content c.in_ok-sent.sent.items c.in-Some.ensures.items c.self.invariant
           (subst (λ x. IsAnswered c.self.inside.session x (bytes c.in_ok-sent.sent.items) c.answer.new.session) c.as_slice.ensures.value c.in_ok-sent.ensures.ok))

@@ -7,8 +7,8 @@ use Rattle.ob0_world.proofs.world.World.new_in.Goals as goal
 
 pub invariant_of-result : goal.invariant_of-result
 invariant_of-result g c = λ goes_on. (
-  subst (λ (w : ClientAndServer). Within 0 w.editor) (sym c.in-Ok.ensures.ends) (within_start c.args.unit),
-  subst (λ (w : ClientAndServer). IsReached w) (sym c.in-Ok.ensures.ends) (reached_start c.args.unit),
+  subst (λ (w : ClientAndServer). Within 0 w.editor) (sym c.in-Ok.ensures.model) (within_start c.args.unit),
+  subst (λ (w : ClientAndServer). IsReached w) (sym c.in-Ok.ensures.model) (reached_start c.args.unit),
 )
 
 pub returns-in-Ok-clause-start : goal.returns-in-Ok-clause-start

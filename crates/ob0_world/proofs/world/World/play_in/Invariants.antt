@@ -8,6 +8,6 @@ abbrev pub invariant-loop-event : goal.invariant-loop-event
 invariant-loop-event g l =
     (begin : Connection)
     × Begins l.fn.unit begin
-    × ConnectionCourse begin (map event_of (take l.event-index l.events)) l.world.both
+    × ConnectionCourse begin (map event_of (take l.event-index l.events)) l.world.connection
     × (l.world.steps ≡ l.event-index)
     × (l.world.ended ≡ false)
