@@ -2,8 +2,8 @@
 //!
 //! What the commands print to is an `Output`: a writer that remembers whether it was flushed since something was last
 //! written, and whether it has failed. std's `Write` says nothing of that, so `print`, which has to say that what it
-//! wrote is flushed, takes one; `TrackedWriter` makes one of any writer. Clauses on `O.contents` are those of `Write` still,
-//! an option: where what a writer holds isn't known, nothing is said of it. Standard error is an `Output` too.
+//! wrote is flushed, takes one; `TrackedWriter` makes one of any writer. Clauses on `O.contents` are those of `Write`
+//! still, an option: where what a writer holds isn't known, nothing is said of it. Standard error is an `Output` too.
 //!
 //! A command returns the output flushed where it printed; where a name is refused the output is as it was, of which
 //! nobody knows whether it is flushed (`IsHandedOn`). `check` and `rename` print once, so their `Appends` is never

@@ -1,8 +1,8 @@
 //! Reading a file and the input.
 //!
-//! What the commands read from is an `Input`: a reader that remembers whether it has failed (`TrackedReader` makes one of any
-//! reader), so the faults File and Input are tied to it (`StopsFor`). Where the bytes that a reader has left aren't
-//! known (`Read::remaining`), nothing is said of a list of numbers.
+//! What the commands read from is an `Input`: a reader that remembers whether it has failed (`TrackedReader` makes one
+//! of any reader), so the faults File and Input are tied to it (`StopsFor`). Where the bytes that a reader has left
+//! aren't known (`Read::remaining`), nothing is said of a list of numbers.
 
 ghost use Rattle.std.specs.Prelude.{◌≡◌, ◌≤◌, ◌<◌, ◌||◌, ◌⊎◌, Bool, true, false, is_err, IfOk, OnOk, IfErr, IfSome, length, suc};
 ghost use Rattle.std.specs.Io.{ReadsAtMost};

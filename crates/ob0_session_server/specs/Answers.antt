@@ -213,8 +213,10 @@ publish_documents uri held s =
 -- what comes of a notification while the session runs
 abbrev pub apply_notification : ServerState → Notification → Reaction
 apply_notification s exits = ends s
-apply_notification s (opens uri version text) = publish_documents uri (opened s.held uri version text) s
-apply_notification s (changes uri version all) = publish_documents uri (changed s.held uri version all) s
+apply_notification s (opens uri version text) =
+    publish_documents uri (opened s.held uri version text) s
+apply_notification s (changes uri version all) =
+    publish_documents uri (changed s.held uri version all) s
 -- the close of a held document takes its diagnostics back
 apply_notification s (closes uri) =
     with_documents (closed s.held uri) s
@@ -226,7 +228,8 @@ apply_notification s other = stays s nothing
 -- before `initialize` and after `shutdown` only `exit` is heard
 abbrev pub react_to_notification : Phase → ServerState → List ℕ → Data → Reaction
 react_to_notification Running s method params = apply_notification s (note_of method params)
-react_to_notification phase s method params = if bytes_eq method (codes "exit") then ends s else stays s nothing
+react_to_notification phase s method params =
+    if bytes_eq method (codes "exit") then ends s else stays s nothing
 
 -- ---- messages
 

@@ -191,8 +191,8 @@ impl<T: TextStore> Server<T> {
     }
 
     fn reply_to_call(&mut self, id: &Id, call: ClientRequest) -> Result<Option<Vec<u8>>, AllocError>
-        ensures { IfOk result
-            (λ sent. Reacts (answer_request self.old (id_data id.now) (Ok (seen_call call))) sent self.new) }
+        ensures { IfOk result (λ sent. Reacts
+            (answer_request self.old (id_data id.now) (Ok (seen_call call))) sent self.new) }
     {
         match call {
             ClientRequest::Initialize(client) => {
@@ -318,7 +318,8 @@ impl<T: TextStore> Server<T> {
         params: Value,
     ) -> Result<Option<Vec<u8>>, AllocError>
         ensures { IfOk result (λ sent. Reacts
-            (react_to_notification self.old.phase self.old method.now (view params)) sent self.new) }
+            (react_to_notification self.old.phase self.old method.now (view params)) sent
+            self.new) }
     {
         if let Phase::Running = self.phase {
             return self.handle_notification(method, params);

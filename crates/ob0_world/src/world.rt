@@ -45,7 +45,8 @@ impl<T: TextStore> Model for World<T> {
 
     ghost coded = { Prim.hlevel (codes, documents_code, open_documents_code) };
 
-    ghost view = { λ w. record { connection = w.connection; steps = w.steps; ended = w.has_ended } };
+    ghost view = { λ w.
+        record { connection = w.connection; steps = w.steps; ended = w.has_ended } };
 
     ghost invariant = { λ w. w.has_ended ≡ false
         → Within w.steps w.connection.model.editor × IsReached w.connection.model };
