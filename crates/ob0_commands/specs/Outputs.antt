@@ -17,5 +17,5 @@ abbrev pub output_failed : {W : Type 0} → TrackedWriter W → Bool
 output_failed output = output.has_failed
 
 -- what was written is flushed, or the device is as it was
-abbrev pub IsHandedOn : {O : Type 0} → (is_flushed : Bool) (before after : O) → Type 0
-IsHandedOn is_flushed before after = (is_flushed ≡ true) ⊎ (after ≡ before)
+abbrev pub IsFlushedOrUnchanged : {O : Type 0} → (is_flushed : Bool) (before after : O) → Type 0
+IsFlushedOrUnchanged is_flushed before after = (is_flushed ≡ true) ⊎ (after ≡ before)

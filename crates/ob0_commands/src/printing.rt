@@ -6,9 +6,9 @@
 //! still, an option: where what a writer holds isn't known, nothing is said of it. Standard error is an `Output` too.
 //!
 //! A command returns the output flushed where it printed; where a name is refused the output is as it was, of which
-//! nobody knows whether it is flushed (`IsHandedOn`). `check` and `rename` print once, so their `Appends` is never
-//! chained, but for `print`'s flush. After a failed write nothing can be said, since std's `write_all` says nothing
-//! then.
+//! nobody knows whether it is flushed (`IsFlushedOrUnchanged`). `check` and `rename` print once, so their `Appends` is
+//! never chained, but for `print`'s flush. After a failed write nothing can be said, since std's `write_all` says
+//! nothing then.
 
 ghost use Rattle.std.specs.Prelude.{◌≡◌, ◌≢◌, ◌||◌, [], Bool, Some, true, false, is_err, OnOk, OnErr, IfErr};
 ghost use Rattle.std.specs.Io.{WritesAtMost};

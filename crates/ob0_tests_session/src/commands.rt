@@ -58,7 +58,7 @@ fn outcome_of(alloc: Global, called: Called, flushes: u32) -> (u8, usize) {
         count: &mut reported,
     });
     let status = status_of(alloc, called, &mut out, &mut err);
-    (status, printed.handed_on)
+    (status, printed.passed_on)
 }
 
 /// Whether a call ends with this status and passes on this many bytes.
