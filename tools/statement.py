@@ -143,7 +143,7 @@ BELIEVED = {
     "Played": "what `play_in` returns",
     "event_of": "the same as an event of the model (`Take` is `take_message`, and so on)",
     "all_applied, all_made": "the edits and the publications that are returned",
-    "Connection": "client and server (`model`) and the `wire`: a `session` and the columns of the table above",
+    "Connection": "the `model` and the `wire`: a `session` and the columns of the table above",
     "Begins": "the first row of the table above; `initialize` says that the editor counts in this unit, and takes "
     "edits that name their document's version and code actions that hold edits; the model is at `start`",
     "ConnectionCourse": "these events, each a `ConnectionStep`, lead from the one to the other",

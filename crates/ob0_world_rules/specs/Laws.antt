@@ -95,16 +95,12 @@ ACourseFits =
 -- what every list of events leaves has what is said of every interleaving
 abbrev pub InEveryInterleaving : Type 0
 InEveryInterleaving =
-    (unit : Unit) (events : List Event) (w : ClientAndServer)
-    → Course (start unit) events w
-    → Holds w
+    (u : Unit) (events : List Event) (w : ClientAndServer) → Course (start u) events w → Holds w
 
 -- and the server's documents, once it has taken all messages that wait for it, are the editor's
 abbrev pub ServerMirrors : Type 0
 ServerMirrors =
-    (unit : Unit) (events : List Event) (w : ClientAndServer)
-    → Course (start unit) events w
-    → Mirrors w
+    (u : Unit) (events : List Event) (w : ClientAndServer) → Course (start u) events w → Mirrors w
 
 -- each publication was made for a text that the editor had
 abbrev pub MadeForTheEditor : Type 0
