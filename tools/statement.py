@@ -138,7 +138,7 @@ BELIEVED = {
     "AreAllRead": "2^40 reads were made",
     "IsFlushedAfter": "if the writer was flushed before, or anything was put, it is flushed now",
     "code.Event": "an event of the code",
-    "PlayFault": "`played`, and `steps`: how many events went before the failed one",
+    "PlayFault": "`played`, and `steps`: how many events were played",
     "PlaysNothing": "nothing was played, and no content has passed",
     "Played": "what `play_in` returns",
     "event_of": "the same as an event of the model (`Take` is `take_message`, and so on)",

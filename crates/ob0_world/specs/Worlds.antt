@@ -144,7 +144,7 @@ pub record Plays (unit : Unit) (events : List event.Event) (p : played.Played) :
   pub conversation : Conversation server.start (bytes p.taken.items)
       (bytes p.got.items ++ bytes p.unread.items) after
 
--- An allocation failed before a session had begun: nothing was made, and nothing has passed.
+-- Nothing was played: no event is counted, nothing was made, and nothing has passed.
 pub record PlaysNothing (unit : Unit) (fault : PlayFault) : Type 0 where
   pub none : fault.steps ≡ 0
   pub headline : Headline unit [] (all_applied fault.played) (all_made fault.played)
@@ -152,8 +152,8 @@ pub record PlaysNothing (unit : Unit) (fault : PlayFault) : Type 0 where
   pub got : fault.played.got.items ≡ []
   pub unread : fault.played.unread.items ≡ []
 
--- An allocation failed at an event: all that `Plays` says holds of the events before it, which the
--- fault counts. Or one failed before a session had begun.
+-- Fewer than all events were played, as many as the fault counts: all that `Plays` says holds of
+-- these first ones. Or nothing was played.
 abbrev pub PlaysBefore : Unit → List event.Event → PlayFault → Type 0
 PlaysBefore unit events fault =
     ((fault.steps < length events) × Plays unit (take fault.steps events) fault.played)
@@ -166,7 +166,7 @@ pub record World : Type 0 where
   pub connection : Connection
   -- how many steps were made
   pub steps : ℕ
-  -- whether an allocation failed
+  -- whether a step has failed
   pub ended : Bool
 
 -- a world in which nothing has happened
@@ -191,7 +191,7 @@ StepsFrom true old event seen new = ⊥
 abbrev pub WorldSteps : World → Event → Seen → World → Type 0
 WorldSteps old event seen new = StepsFrom old.ended old event seen new
 
--- An allocation failed: what has come of the events before remains, and what has passed
+-- what has come of the events before remains, and what has passed
 pub record SameHistory (old new : Connection) : Type 0 where
   pub applied : new.model.applied ≡ old.model.applied
   pub made : new.model.made ≡ old.model.made
@@ -199,8 +199,8 @@ pub record SameHistory (old new : Connection) : Type 0 where
   pub got : new.wire.got ≡ old.wire.got
   pub unread : new.wire.to_editor ≡ old.wire.to_editor
 
--- A step whose allocation fails isn't made and not counted, and ends the world: what has come so
--- far stays. A world that has ended says so at each step, and stays as it is.
+-- A step that returns `Memory` isn't counted, and ends the world: what has come so far stays, and
+-- what has passed. A world that has ended says so at each step, and stays as it is.
 abbrev pub FailsFrom : Bool → World → WorldFault → World → Type 0
 FailsFrom false old Memory new =
     SameHistory old.connection new.connection × (new.steps ≡ old.steps) × (new.ended ≡ true)

@@ -89,7 +89,7 @@ applies e k edits = do
   Some (rewrites e a.uri d text (whole_text text ∷ []) (made ∷ []))
 
 -- What an act leaves. A document that is open isn't opened, and one that isn't is neither changed,
--- closed nor asked about; an answer is dropped, applied or not.
+-- closed nor asked about; an answer is no longer kept, applied or not.
 abbrev pub done_by : Editor → Act → Done
 done_by e (open_document uri text) =
     if is_some (open_at e uri) then stays e else opens e uri text
