@@ -26,10 +26,8 @@ from common import TOP
 from checks import Said
 
 # What a try comes to. Only after the last another try can say more.
-REFUSED, ELSEWHERE, PROVED = "refused", "refused elsewhere", "NOT REFUSED"
+REFUSED, ELSEWHERE, PROVED = "refused", "REFUSED ELSEWHERE", "NOT REFUSED"
 BAD, LIMIT, NOT_TRIED = "BAD EDIT", "ONLY A LIMIT", "NOT TRIED"
-# What counts: that the function is refused. One that is refused elsewhere than its first line says is reported and counted.
-COUNTED = (REFUSED, ELSEWHERE)
 README = os.path.join(TOP, "README.md")
 # What the checks of this run keep, a folder for each crate.
 KEPT = os.path.join(build.ROOMS, "kept")
@@ -228,8 +226,9 @@ def count_of_readme() -> int:
 
 
 def counted(outcomes: list[Outcome], wanted: int) -> tuple[int, int]:
-    """How many mutants were refused, and how many were not or are more or fewer than README says."""
-    refused = sum(it.word in COUNTED for it in outcomes)
+    """How many mutants were refused by a clause that their first line names, and how many were not or are more or fewer than README
+    says."""
+    refused = sum(it.word == REFUSED for it in outcomes)
     failed = len(outcomes) - refused
     elsewhere = [it.edit.path for it in outcomes if it.word == ELSEWHERE]
     if elsewhere:

@@ -214,13 +214,13 @@ ROWS = """
 | `Ok(status)` | `status` | all replies up to an `exit`, which gives the status; or, with status 1, all replies, where no `exit` came and the input ends between messages |
 | `Err(BadHead)` | 3 | all replies to the contents before the place where no message can begin, as one with too long a content |
 | `Err(Truncated)` | 3 | all replies; the input ends inside a message |
-| `Err(Read)` | 4 | all replies to the contents read; the reader failed |
+| `Err(Read)` | 4 | all replies to the contents read; a call of the reader has returned an error |
 | `Err(TooManyReads)` | 4 | all replies to the contents read, by 2^40 reads and from at least as many bytes |
-| `Err(Write)` | 4 | all replies to the first n contents, for some n, or these frames' first bytes alone; the writer failed |
+| `Err(Write)` | 4 | all replies to the first n contents, for some n, or these frames' first bytes alone; a call of the writer has returned an error |
 | `Err(Memory)` | 5 | all replies to the first n contents, for some n, each whole |
 """
 AFTER_ROWS = (
-    "No device failed but where it is said. At the first four errors no `exit` came. Except at `Err(Write)` it is "
+    "No call of the reader or the writer has returned an error but where it is said. At the first four errors no `exit` came. Except at `Err(Write)` it is "
     "*flushed*: if the writer was flushed before the call, or `serve` wrote anything, the writer is flushed at the "
     "return."
 )
@@ -269,7 +269,7 @@ PARTS: list[tuple[str, list[str], str, str]] = [
             "(`IsTied`; by `Begins` and `MovesWire` it is always `serving`).\n"
             "2. *Session and contents.* So the contents are a `Conversation`, from before `initialize` on: the "
             "session took `taken`, and sent `got ++ unread`.\n"
-            "3. *Contents and bytes.* `serve` returns with `Serves`, if neither device had failed before. This is "
+            "3. *Contents and bytes.* `serve` returns with `Serves`, if no call of its reader or writer had returned an error before. This is "
             "`MayServe` and more ([by definition](#determined-of-ob0_world_determined-part-6)). By the law "
             "`a_conversation_is_served`, under the premises of part 0, the bytes written are the frames of `got ++ "
             "unread`.",
@@ -308,7 +308,7 @@ PARTS: list[tuple[str, list[str], str, str]] = [
         [
             "That before each read all replies to the contents read are written and flushed is inferred from the "
             "contract of `serve`: it holds for all readers and writers, also for such as fail from any call on, and "
-            "`Serves` allows no result where a read failed and after it the writer. So nothing can be left to write "
+            "`Serves` allows no result where a read returned an error and after it a write. So nothing can be left to write "
             "after a read, which may fail. This is no theorem; tests show it too.",
             "`Serves`, case by case:",
             ROWS,
@@ -398,7 +398,7 @@ PROVED = (
     "*`Holds`* of each state of the model that events lead to, without a premise: by the law `in_every_interleaving`.",
     "*`serve` has written the frames of what that session sent*: by its contract, and the law "
     "[`a_conversation_is_served`](#part-3-the-tie-to-the-program). The premises: the types of its *devices*, a reader "
-    "and a writer, say which bytes are left or written (`R.remaining`, `W.contents`), and neither had failed before (`reads`, `writes`); it has read exactly the frames "
+    "and a writer, say which bytes are left or written (`R.remaining`, `W.contents`), and no call of either had returned an error before (`reads`, `writes`); it has read exactly the frames "
     "of what the session took, with no content of more than 16,777,216 bytes; it has returned, and neither "
     "`Err(Memory)` nor `Err(Write)`.",
     "*Where an allocation fails* `play_in` may return an `Err`: then all that an `Ok` says holds of the first n "
