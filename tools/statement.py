@@ -230,7 +230,7 @@ PARTS: list[tuple[str, list[str], str, str]] = [
     (
         "Part 1: client and server",
         [
-            "`ClientAndServer` is the state of both and of the messages between them, a queue each way. `Happens` says what "
+            "`ClientAndServer` is the state of editor and server and of the messages between them, a queue each way. `Happens` says what "
             "one `Event` leaves (at most one state: the law `one_step`), `Course` what a list of events leaves.",
             "*The server* (`Replies`) knows a document's version and text (`InStep`) or doesn't (`OutOfStep`, after a "
             "notification that it couldn't read, `Lost`). The model's editor sends no `Lost`: when no message waits "
@@ -382,7 +382,7 @@ TIE = (
     "(`ob0_session`), which gives a `Session` what it reads, and writes what that sends. Both are proved against one "
     "specification (`react`, docs/PROTOCOL.md as a function): so for the same contents `serve` writes what `play_in` "
     "returns as sent (part 3). The last step, to standard input and output, is tested.",
-    "*What each contract says.* The law `in_every_interleaving` speaks of the model alone, definitions of both "
+    "*What each contract says.* The law `in_every_interleaving` speaks of the model alone, of editor and server "
     "(part 1). There each publication is right by definition, and an answer's edits are some that part 8 allows "
     "(`Replies`); that these keep the run is the law `edits_keep_the_run`. `in_every_interleaving` gives `Holds`, not "
     "`made_for`. That the code's publications and edits are such is what the contract of `play_in` and the tie add. So take a session with "
