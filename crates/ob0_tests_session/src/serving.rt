@@ -20,21 +20,21 @@ const BAD_HEAD: &[u8] = b"Content-Length: 75\r\n\r\n\
     Content-Length: x\r\n\r\n";
 
 /// How a conversation ends: the first `len` of its bytes are read, in pieces of `given` bytes by `reads` reads at most,
-/// and its writer takes `room` bytes and `flushes` flushes.
+/// and its writer takes `capacity` bytes and `flushes` flushes.
 struct ServeEnd {
     bytes: &'static [u8],
     len: usize,
     given: usize,
     reads: u32,
-    room: usize,
+    capacity: usize,
     flushes: u32,
     result: Result<u8, ServeFault>,
 }
 
-/// `BYTES to LEN, GIVEN a read, READS; ROOM, FLUSHES => RESULT;` for each.
+/// `BYTES to LEN, GIVEN a read, READS; CAPACITY, FLUSHES => RESULT;` for each.
 macro_rules! ends {
-    ($($bytes:ident to $len:expr, $given:expr, $reads:expr; $room:expr, $flushes:expr => $result:expr;)*) => {
-        &[$(ServeEnd { bytes: $bytes, len: $len, given: $given, reads: $reads, room: $room, flushes: $flushes,
+    ($($bytes:ident to $len:expr, $given:expr, $reads:expr; $capacity:expr, $flushes:expr => $result:expr;)*) => {
+        &[$(ServeEnd { bytes: $bytes, len: $len, given: $given, reads: $reads, capacity: $capacity, flushes: $flushes,
             result: $result }),*]
     };
 }
@@ -86,12 +86,12 @@ fn is_reported(found: Found) -> bool {
 /// Whether a conversation ends as it is to end where this many flushes succeed: by a write that failed where one is
 /// lacking, and else with all that was written passed on.
 fn ends_flushed(alloc: Global, end: &ServeEnd, flushes: u32) -> bool {
-    let mut count = Count::new(end.room, flushes);
+    let mut count = Count::new(end.capacity, flushes);
     let found = converse(alloc, end, &mut count);
     if flushes < end.flushes {
         return found.result == Err(ServeFault::Write);
     }
-    found.result == end.result && is_reported(found) && count.handed_on == count.written
+    found.result == end.result && is_reported(found) && count.passed_on == count.written
 }
 
 /// Whether a conversation needs each of its flushes.
