@@ -138,14 +138,14 @@ def only_a_limit() -> None:
     same(total(mutants.LIMIT, wanted=1)[0], (0, 1), "none of one")
 
 
-@test("mutants: one that is refused by another clause, a `requires` of a callee or lost names is reported")
+@test("mutants: one that is refused by another clause, a `requires` of a callee or lost names fails, and is named")
 def elsewhere() -> None:
     for goal in ("returns-clause-ok", "loop-c-preserved", "count-requires-clause-few", "count-requires-returns"):
         same(judged(REFUSED.replace("returns-in-Utf16", goal)), mutants.ELSEWHERE, goal)
     lost = "proofs/passes/width/Answers.antt:9:3: error: `returns-in-Utf16`: `len_utf16` has no field\n"
     same(judged(lost + "fn ob0_text::passes::width: not proved\nonly=1 proved=0\n"), mutants.ELSEWHERE, "names that were lost")
     found, said = total(mutants.ELSEWHERE, wanted=1)
-    holds(found == (1, 0) and "not by a clause that the first line names" in said, said)
+    holds(found == (0, 1) and "not by a clause that the first line names" in said, said)
 
 
 @test("mutants: as many are tried as README says, each once; one that isn't found fails")

@@ -26,10 +26,8 @@ from common import TOP
 from checks import Said
 
 # What a try comes to. Only after the last another try can say more.
-REFUSED, ELSEWHERE, PROVED = "refused", "refused elsewhere", "NOT REFUSED"
+REFUSED, ELSEWHERE, PROVED = "refused", "REFUSED ELSEWHERE", "NOT REFUSED"
 BAD, LIMIT, NOT_TRIED = "BAD EDIT", "ONLY A LIMIT", "NOT TRIED"
-# What counts: that the function is refused. One that is refused elsewhere than its first line says is reported and counted.
-COUNTED = (REFUSED, ELSEWHERE)
 README = os.path.join(TOP, "README.md")
 # What the checks of this run keep, a folder for each crate.
 KEPT = os.path.join(build.ROOMS, "kept")
@@ -39,7 +37,8 @@ HAS_PROVED = re.compile(r"rt: (\w+) (?:proved$|is kept: )")
 # (the exit status of a check in which the prover stopped at a limit of its own, and refused nothing)
 COULD_NOT_TELL = 3
 # What a check reads beside the mutant's functions: the contracts of the others, what they call, or the whole crate.
-CONTRACTS, CALLED, WHOLE = "contracts", "called", "whole"
+CONTRACTS, CALLED, WHOLE = range(3)
+OVER = ("contracts", "what its function calls", "the whole crate")
 # What is in place of a body that is not proved, and of its proof.
 NO_BODY = "unreachable!()"
 HOLE = """use Rattle.{crate}.proofs.{module}.Statement.{{statement}}
@@ -116,7 +115,7 @@ class Mutant:
         """The paths under which its functions are asked for."""
         return sorted({it.checked_as for it in self.named})
 
-    def try_over(self, libraries: Libraries, reads: str) -> Outcome:
+    def try_over(self, libraries: Libraries, reads: int) -> Outcome:
         """Tries it by a check of its functions, which reads so much beside them, over what those before it kept."""
         if self.fault or not self.claim:
             return Outcome(self.edit, BAD, self.fault or "")
@@ -189,19 +188,20 @@ def mutants_of_gate() -> list[Mutant]:
     return sorted(found, key=lambda it: -sum(map(len, it.source.words.values())))
 
 
-def say(outcome: Outcome) -> Outcome:
-    print(f"{outcome.word}: {outcome.edit.path}: {outcome.why}", flush=True)
+def say(outcome: Outcome, how: str = "") -> Outcome:
+    print(f"{outcome.word}: {outcome.edit.path}{how}: {outcome.why}", flush=True)
     return outcome
 
 
-def try_side_by_side(chosen: list[Mutant], libraries: Libraries, lanes: int, reads: str) -> list[Tuple[Mutant, Outcome]]:
+def try_side_by_side(chosen: list[Mutant], libraries: Libraries, lanes: int, reads: int) -> list[Tuple[Mutant, Outcome]]:
     """Tries mutants, those of some crates side by side, and says what each came to, but for those that can be tried in another
     way."""
     os.makedirs(KEPT, exist_ok=True)
 
     def one(mutant: Mutant) -> Tuple[Mutant, Outcome]:
+        timer = common.Timer()
         found = mutant.try_over(libraries, reads)
-        return mutant, found if found.word == NOT_TRIED else say(found)
+        return mutant, found if found.word == NOT_TRIED else say(found, f", {timer} over {OVER[reads]}")
 
     def of_crate(crate: str) -> list[Tuple[Mutant, Outcome]]:
         return [one(it) for it in chosen if it.edit.crate == crate]
@@ -226,8 +226,9 @@ def count_of_readme() -> int:
 
 
 def counted(outcomes: list[Outcome], wanted: int) -> tuple[int, int]:
-    """How many mutants were refused, and how many were not or are more or fewer than README says."""
-    refused = sum(it.word in COUNTED for it in outcomes)
+    """How many mutants were refused by a clause that their first line names, and how many were not or are more or fewer than README
+    says."""
+    refused = sum(it.word == REFUSED for it in outcomes)
     failed = len(outcomes) - refused
     elsewhere = [it.edit.path for it in outcomes if it.word == ELSEWHERE]
     if elsewhere:

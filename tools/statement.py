@@ -47,7 +47,7 @@ FIRST += [("ob0_world_rules", "Laws", "InEveryInterleaving")]
 EDITS = [("ob0_world_rules", "Answers", name) for name in ("GivesEdits", "Refuses")]
 # (what is named and not unfolded, and what it says)
 CLOSED = {
-    ("ob0_session_server", "Answers", "reacts"): "docs/PROTOCOL.md as a function, all but the framing: the state after "
+    ("ob0_session_server", "Answers", "react"): "docs/PROTOCOL.md as a function, all but the framing: the state after "
     "a content, and what is to be said",
     ("ob0_session_server", "Answers", "SaysReply"): "nothing is sent, or one content, the JSON text of what is to be "
     "said: a publication, a result or an error, as docs/PROTOCOL.md has it",
@@ -77,7 +77,7 @@ CLOSED = {
 # (what parts 1 to 3 unfold, by file, in the order of the page)
 KEPT: dict[int, dict[tuple[str, str], str]] = {
     1: {
-        ("ob0_world_rules", "Ends"): "Ends ToServer ToEditor Editor Open Applied Made",
+        ("ob0_world_rules", "ClientAndServer"): "ClientAndServer ToServer ToEditor Editor Open Applied Made",
         ("ob0_world_rules", "Happens"): "Event Course Happens ServerTakes",
         ("ob0_world_rules", "Editing"): "done_by applies if_same",
     },
@@ -86,7 +86,7 @@ KEPT: dict[int, dict[tuple[str, str], str]] = {
         ("ob0_text", "Patches"): "patched_by_cuts",
     },
     3: {
-        ("ob0_world", "Worlds"): "Plays BothStep IsTied PlaysBefore",
+        ("ob0_world", "Worlds"): "Plays ConnectionStep IsTied PlaysBefore",
         ("ob0_world_determined", "Determined"): "ConversationIsServed",
     },
 }
@@ -143,15 +143,15 @@ BELIEVED = {
     "Played": "what `play_in` returns",
     "event_of": "the same as an event of the model (`Take` is `take_message`, and so on)",
     "all_applied, all_made": "the edits and the publications that are returned",
-    "Both": "the model (`ends`) and the `wire`: a `session` and the columns of the table above",
+    "Connection": "the `model` and the `wire`: a `session` and the columns of the table above",
     "Begins": "the first row of the table above; `initialize` says that the editor counts in this unit, and takes "
     "edits that name their document's version and code actions that hold edits; the model is at `start`",
-    "BothCourse": "these events, each a `BothStep`, lead from the one to the other",
+    "ConnectionCourse": "these events, each a `ConnectionStep`, lead from the one to the other",
     "HasCome": "these edits and publications are returned",
     "HasPassed": "`taken`, `got` and `to_editor` of this wire are returned",
-    "Conversation": "these contents in turn have these replies in turn (`reacts`), from state to state",
+    "Conversation": "these contents in turn have these replies in turn (`react`), from state to state",
     "bytes": "contents as the lists of their bytes",
-    "MovesWire": "contents move as in the table above; at `serve` the session replies by `reacts`, and else it stays",
+    "MovesWire": "contents move as in the table above; at `serve` the session replies by `react`, and else it stays",
     "AllSay": "as many contents as messages; each content says its message",
     "SessionState": "`serving`, in a state, or `failed`",
     "ServeFault": "`Memory`, `Write`, and others",
@@ -214,13 +214,13 @@ ROWS = """
 | `Ok(status)` | `status` | all replies up to an `exit`, which gives the status; or, with status 1, all replies, where no `exit` came and the input ends between messages |
 | `Err(BadHead)` | 3 | all replies to the contents before the place where no message can begin, as one with too long a content |
 | `Err(Truncated)` | 3 | all replies; the input ends inside a message |
-| `Err(Read)` | 4 | all replies to the contents read; the reader failed |
+| `Err(Read)` | 4 | all replies to the contents read; a call of the reader has returned an error |
 | `Err(TooManyReads)` | 4 | all replies to the contents read, by 2^40 reads and from at least as many bytes |
-| `Err(Write)` | 4 | all replies to the first n contents, for some n, or these frames' first bytes alone; the writer failed |
+| `Err(Write)` | 4 | all replies to the first n contents, for some n, or these frames' first bytes alone; a call of the writer has returned an error |
 | `Err(Memory)` | 5 | all replies to the first n contents, for some n, each whole |
 """
 AFTER_ROWS = (
-    "No device failed but where it is said. At the first four errors no `exit` came. Except at `Err(Write)` it is "
+    "No call of the reader or the writer has returned an error but where it is said. At the first four errors no `exit` came. Except at `Err(Write)` it is "
     "*flushed*: if the writer was flushed before the call, or `serve` wrote anything, the writer is flushed at the "
     "return."
 )
@@ -230,7 +230,7 @@ PARTS: list[tuple[str, list[str], str, str]] = [
     (
         "Part 1: client and server",
         [
-            "`Ends` is the state of both ends and of the messages between them, a queue each way. `Happens` says what "
+            "`ClientAndServer` is the state of editor and server and of the messages between them, a queue each way. `Happens` says what "
             "one `Event` leaves (at most one state: the law `one_step`), `Course` what a list of events leaves.",
             "*The server* (`Replies`) knows a document's version and text (`InStep`) or doesn't (`OutOfStep`, after a "
             "notification that it couldn't read, `Lost`). The model's editor sends no `Lost`: when no message waits "
@@ -263,13 +263,13 @@ PARTS: list[tuple[str, list[str], str, str]] = [
             "change after the applied edit; i and r are the replies to I and R, d the diagnostics.",
             WORKED,
             "`play_in` returns `to_editor` as `unread`. The tie has three steps before the last, which is tested:",
-            "1. *Model and session.* If `play_in` returns an `Ok`, with `few`, `Plays` holds: a `BothStep` for each "
+            "1. *Model and session.* If `play_in` returns an `Ok`, with `few`, `Plays` holds: a `ConnectionStep` for each "
             "event leads from `begin` to `end`. `begin` has the model's `start`, and each step does what `Happens` "
             "says; so, by `only`, the model in `end` is the `end` of `Headline`. And the session has done the same "
             "(`IsTied`; by `Begins` and `MovesWire` it is always `serving`).\n"
             "2. *Session and contents.* So the contents are a `Conversation`, from before `initialize` on: the "
             "session took `taken`, and sent `got ++ unread`.\n"
-            "3. *Contents and bytes.* `serve` returns with `Serves`, if neither device had failed before. This is "
+            "3. *Contents and bytes.* `serve` returns with `Serves`, if no call of its reader or writer had returned an error before. This is "
             "`MayServe` and more ([by definition](#determined-of-ob0_world_determined-part-6)). By the law "
             "`a_conversation_is_served`, under the premises of part 0, the bytes written are the frames of `got ++ "
             "unread`.",
@@ -308,7 +308,7 @@ PARTS: list[tuple[str, list[str], str, str]] = [
         [
             "That before each read all replies to the contents read are written and flushed is inferred from the "
             "contract of `serve`: it holds for all readers and writers, also for such as fail from any call on, and "
-            "`Serves` allows no result where a read failed and after it the writer. So nothing can be left to write "
+            "`Serves` allows no result where a read returned an error and after it a write. So nothing can be left to write "
             "after a read, which may fail. This is no theorem; tests show it too.",
             "`Serves`, case by case:",
             ROWS,
@@ -380,9 +380,9 @@ TIE = (
     "*The tie to the program.* `play_in` (`ob0_world`) is a proof harness, which the program never runs: it plays a "
     "list of events with a `Session`, the server's code, and code of a model editor. `ob0 serve` runs `serve` "
     "(`ob0_session`), which gives a `Session` what it reads, and writes what that sends. Both are proved against one "
-    "specification (`reacts`, docs/PROTOCOL.md as a function): so for the same contents `serve` writes what `play_in` "
+    "specification (`react`, docs/PROTOCOL.md as a function): so for the same contents `serve` writes what `play_in` "
     "returns as sent (part 3). The last step, to standard input and output, is tested.",
-    "*What each contract says.* The law `in_every_interleaving` speaks of the model alone, definitions of both ends "
+    "*What each contract says.* The law `in_every_interleaving` speaks of the model alone, of editor and server "
     "(part 1). There each publication is right by definition, and an answer's edits are some that part 8 allows "
     "(`Replies`); that these keep the run is the law `edits_keep_the_run`. `in_every_interleaving` gives `Holds`, not "
     "`made_for`. That the code's publications and edits are such is what the contract of `play_in` and the tie add. So take a session with "
@@ -398,7 +398,7 @@ PROVED = (
     "*`Holds`* of each state of the model that events lead to, without a premise: by the law `in_every_interleaving`.",
     "*`serve` has written the frames of what that session sent*: by its contract, and the law "
     "[`a_conversation_is_served`](#part-3-the-tie-to-the-program). The premises: the types of its *devices*, a reader "
-    "and a writer, say which bytes are left or written (`R.remaining`, `W.contents`), and neither had failed before (`reads`, `writes`); it has read exactly the frames "
+    "and a writer, say which bytes are left or written (`R.remaining`, `W.contents`), and no call of either had returned an error before (`reads`, `writes`); it has read exactly the frames "
     "of what the session took, with no content of more than 16,777,216 bytes; it has returned, and neither "
     "`Err(Memory)` nor `Err(Write)`.",
     "*Where an allocation fails* `play_in` may return an `Err`: then all that an `Ok` says holds of the first n "
@@ -416,7 +416,7 @@ UNPROVED = (
     "contents; of the headline with them there is no theorem, but real ones are tested (editors/README.md).",
     "*Other messages* (inferred; tested in tests/test_lifecycle.py). The model begins after `initialize`, and has openings, "
     "changes, closes and requests for edits alone. So *no session of a real editor is covered by the theorem alone*: it "
-    "has `initialized` too, `shutdown` and `exit` at its normal end, and perhaps hovers. By `reacts` these change no document, nor, up to "
+    "has `initialized` too, `shutdown` and `exit` at its normal end, and perhaps hovers. By `react` these change no document, nor, up to "
     "`shutdown`, another reply.",
     "*Standard input and output* (tested in tests/test_stream.py and tests/test_devices.py): their types know no "
     "bytes. That pipes lose, add and reorder nothing is trusted. `main`, which has no contract, calls `serve` and "
@@ -434,7 +434,7 @@ UNPROMISED = (
 )
 SIGNS = "(`×` is 'and', `→` 'if .. then' or 'for all', `≡` equality; more is [below](#the-notation).)"
 BESIDE = (
-    "`Plays` (part 3) has `Headline`, of these events as the model's, and the tie to a session. `Ends`, `Event`, "
+    "`Plays` (part 3) has `Headline`, of these events as the model's, and the tie to a session. `ClientAndServer`, `Event`, "
     "`Course`, `Applied`, `Made`, `Editor` and `Open` are in part 1. `end` is the state after all events, `applied` "
     "and `made` all edits and publications so far. `only` says that there is at most one end; an `Ok` shows that "
     "there is one."
@@ -508,7 +508,7 @@ HOW = (
     "The first reading ends here. Whoever believes that these definitions say what they are meant to say knows what "
     "is proved: proofs and code needn't be read. *Believed* is what comments under definitions say: above all that a "
     "module and its run are those of docs/LANGUAGE.md (`WellTypedText`, `SameRun`), that a session is "
-    "docs/PROTOCOL.md (`reacts`), and that bytes and contents are read as part 3 says. Parts 4 to 6 unfold the rest "
+    "docs/PROTOCOL.md (`react`), and that bytes and contents are read as part 3 says. Parts 4 to 6 unfold the rest "
     "of the model, texts and the wire, part 7 what a module is and does, part 8 which edits are right answers; part 9 "
     "has laws and details ([how long each takes](#how-long-each-part-takes)). Each says what one may believe instead, "
     "and which laws and tests speak for that."

@@ -408,6 +408,8 @@ impl<'t> Numbering<'t> {
     {
         let own = self.declaration_count();
         let outside = self.bindings();
+        // The parameters are bound twice, and left both times: a heading doesn't see its own procedure,
+        // and a body sees it below its parameters.
         let ordinal = self.number(p.name)?;
         self.heading(&p.formals)?;
         self.leave_to(outside);
