@@ -59,8 +59,9 @@ impl Kept {
     pub fn of(alloc: Global, tree: ModuleTree) -> Kept
         ensures { (s : Scanned) → IsParsed (parsed_by s tree) → AreKept s.tokens result }
     {
+        let made = tree.into_block().into_procedures();
         Kept {
-            made: tree.into_block().into_procedures(),
+            made,
             waiting: Vec::new(alloc),
         }
     }

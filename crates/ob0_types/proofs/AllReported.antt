@@ -13,9 +13,13 @@ use Rattle.ob0_types_check.specs.SomeBodies.{IsReportOf}
 use Rattle.ob0_types_check.specs.WellTypedLaws.{NoFaultInModules}
 use Rattle.ob0_types_check.specs.declared.reporting.Report.{Report}
 use Rattle.ob0_types.specs.FaultOrder.{AreFirstOf, faults_in}
-use Rattle.ob0_types.specs.CheckedModules.{IsChecked, IsKnownWhereTyped, IsReported}
+use Rattle.ob0_types.specs.CheckedModules.{IsChecked, IsKnownWhereTyped}
 use Rattle.ob0_types_table.specs.KnownTables.{Tables}
 use Rattle.ob0_language_types.specs.WellTyped.{WellTyped, fits_over}
+
+-- nothing is reported exactly where all is right
+abbrev IsReported : Bool → List Fault → Type 0
+IsReported right faults = (faults ≡ []) ↔ (right ≡ true)
 
 length-nil : (xs : List Fault) → xs ≡ [] → length xs ≡ 0
 length-nil xs e = ap length e

@@ -33,17 +33,17 @@ module _ {Q : Type 0} (m n : Meanings ℕ Shape Q) where
     second = ap (λ l. front ++ l) h.second ∙ sym (append_assoc front h.before (marked_tree n statements ++ h.after));
   }
 
-  behind_one : (zs before inner after back : List (ℕ × ℕ)) → zs ≡ before ++ (inner ++ after) → zs ++ back ≡ before ++ (inner ++ (after ++ back))
-  behind_one zs before inner after back e =
+  followed_by_one : (zs before inner after back : List (ℕ × ℕ)) → zs ≡ before ++ (inner ++ after) → zs ++ back ≡ before ++ (inner ++ (after ++ back))
+  followed_by_one zs before inner after back e =
       ap (λ l. l ++ back) e ∙ (append_assoc before (inner ++ after) back ∙ ap (λ l. before ++ l) (append_assoc inner after back))
 
-  -- with the same behind both
-  behind : (xs ys back : List (ℕ × ℕ)) (statements : Tree ℕ (maybe body)) → AreAround xs ys statements → AreAround (xs ++ back) (ys ++ back) statements
-  behind xs ys back statements h = record {
+  -- with the same after both
+  followed_by : (xs ys back : List (ℕ × ℕ)) (statements : Tree ℕ (maybe body)) → AreAround xs ys statements → AreAround (xs ++ back) (ys ++ back) statements
+  followed_by xs ys back statements h = record {
     before = h.before;
     after = h.after ++ back;
-    first = behind_one xs h.before (marked_tree m statements) h.after back h.first;
-    second = behind_one ys h.before (marked_tree n statements) h.after back h.second;
+    first = followed_by_one xs h.before (marked_tree m statements) h.after back h.first;
+    second = followed_by_one ys h.before (marked_tree n statements) h.after back h.second;
   }
 
   as_these : {xs ys us vs : List (ℕ × ℕ)} (statements : Tree ℕ (maybe body)) → us ≡ xs → vs ≡ ys → AreAround xs ys statements → AreAround us vs statements
@@ -90,7 +90,7 @@ module _ {Q : Type 0} (m n : Meanings ℕ Shape Q) where
                 let inner = (body_in_procedure low p).statements in
                 as_these inner (append_assoc first_m rest_m (marked_tree m statements))
                 (append_assoc first_n rest_n (marked_tree n statements) ∙ (λ i. first_n ++ (sym (procedures_same m n j rest h.1) i ++ sym (tree_same m n statements h.2) i)))
-                (behind first_m first_n (rest_m ++ marked_tree m statements) inner (procedure_around k p h.0))
+                (followed_by first_m first_n (rest_m ++ marked_tree m statements) inner (procedure_around k p h.0))
           ]) h
 
       procedure_around : (k : ℕ) (p : Tree ℕ (item procedure)) → ProcedureOutside Same low p → AreAround (marked_procedure m k p) (marked_procedure n k p) (body_in_procedure low p).statements

@@ -1,6 +1,6 @@
 -- A checked module: its names, and what was reported of it.
 -- Rule: docs/LANGUAGE.md, Types 8, Faults of scopes and types 1.
-use Rattle.std.specs.Prelude.{◌≡◌, ◌≤◌, Bool, true, List, [], length, ◌↔◌, IfSome, is_some, Option}
+use Rattle.std.specs.Prelude.{◌≡◌, ◌≤◌, true, List, [], length, ◌↔◌, IfSome, is_some, Option}
 use Rattle.ob0_scan.specs.Scanned.{max_faults}
 use Rattle.ob0_scan.specs.declared.fault.Fault.{Fault}
 use Rattle.ob0_scope_table.specs.Resolution.{Resolution, IsResolution}
@@ -18,10 +18,6 @@ pub record CheckedModule : Type 0 where
   pub names : Resolution
   pub faults : List Fault
   pub known : Option Tables
-
--- nothing is reported exactly where all is right
-abbrev pub IsReported : Bool → List Fault → Type 0
-IsReported right faults = (faults ≡ []) ↔ (right ≡ true)
 
 -- No fault is reported exactly where the module is well-typed; then what its declarations are is
 -- kept. Faults are reported in order, the first 100.
