@@ -6,14 +6,8 @@ use Rattle.ob0_tree.proofs.Viewed.{block_parts, procedure_made}
 use Rattle.ob0_language_names.specs.DeclaredOnce.{procedure_names}
 use Rattle.ob0_scope_table.specs.DeclaredTwice.{again, block_twice, procedure_twice, procedures_twice}
 use Rattle.ob0_language_names.specs.Parts.{formal_names, formal_sections, named_types, section_types, section_variables, variable_names}
-use Rattle.ob0_scope.proofs.Checking.{block_reported, gathered, gathers_on, procedure_reported}
+use Rattle.ob0_scope.proofs.Checking.{block_reported, gathered, procedure_reported}
 use Rattle.ob0_scope.proofs.checks.Checks.+blocks.Goals as goal
-
-pub block-loop-p-preserved : goal.block-loop-p-preserved
-block-loop-p-preserved t c =
-    let src = c.args.tokens.now in
-    let p = c.p-item.result in
-    gathers_on (λ xs. procedures_twice src (items_of procedure_of xs)) p (procedure_twice src (procedure_of p)) (λ rest. refl) c.loop-p.invariant c.loop-p-test.true c.p-item.is c.in_ok-procedure.ensures
 
 pub block-returns : goal.block-returns
 block-returns t c =
