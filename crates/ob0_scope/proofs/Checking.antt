@@ -24,6 +24,18 @@ pub record Gathering {A B : Type 0} (f : List A → List B) (xs : List A) (start
 pub gathered : {A B : Type 0} (f : List A → List B) {xs : List A} {start : List B} {done : ℕ} {out : List B} → f [] ≡ [] → Gathering f xs start done out → length xs ≤ done → out ≡ start ++ f xs
 gathered f {xs = xs} {done = done} {out = out} empty_is w all = sym (append-nil out) ∙ (ap (λ z. out ++ z) (sym (ap f (drop_all done xs all) ∙ empty_is)) ∙ w.so_far)
 
+pub gathers_on : {A B : Type 0} (f : List A → List B) {xs : List A} {start : List B} {done : ℕ} {out : List B} (x : A) (own : List B) {next : List B}
+    → ((rest : List A) → f (x ∷ rest) ≡ own ++ f rest) → Gathering f xs start done out → done < length xs → x ≡ get_or xs done x → next ≡ out ++ own → Gathering f xs start (done + 1) next
+gathers_on f {xs = xs} {done = done} {out = out} x own split w less here e =
+    let rest = drop (done + 1) xs in
+    let left : drop done xs ≡ x ∷ rest = drop_more xs done x less ∙ ap (λ y. y ∷ rest) (sym here) in
+    record {
+      so_far = ap (λ z. z ++ f rest) e
+          ∙ (append_assoc out own (f rest)
+          ∙ (sym (ap (λ z. out ++ z) (split rest))
+          ∙ (sym (ap (λ ys. out ++ f ys) left) ∙ w.so_far)));
+    }
+
 -- whether a set of texts has one
 abbrev pub has : BTreeSet (Bor Name) → Name → Bool
 has seen x = contains_by (λ key. slice_cmp nat_cmp x key.now) seen

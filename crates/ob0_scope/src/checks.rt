@@ -144,10 +144,11 @@ pub(crate) fn add_formals(
     ensures { OnOk result
         (out.new.items ≡ out.old.items ++ formal_names (formal_sections (formals_of formals.now))) }
 {
-    if let Some(sections) = formals {
-        for s in sections {
-            add_names(out, &s.names)?;
-        }
+    let Some(sections) = formals else {
+        return Ok(());
+    };
+    for s in sections {
+        add_names(out, &s.names)?;
     }
     Ok(())
 }

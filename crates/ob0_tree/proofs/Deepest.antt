@@ -1,6 +1,6 @@
 -- A walk over the items of a list, which keeps the greatest nesting.
-use Rattle.std.proofs.Common.{◌≡◌, ℕ, ◌+◌, ◌≤◌, max, List, length, drop, sym, ap, ◌∙◌, arith}
-use Rattle.std.proofs.lemmas.List.{drop_all}
+use Rattle.std.proofs.Common.{◌≡◌, ℕ, ◌+◌, ◌<◌, ◌≤◌, max, List, ◌∷◌, length, drop, get_or, sym, ap, ◌∙◌, arith}
+use Rattle.std.proofs.lemmas.List.{drop_all, drop_more}
 use Rattle.ob0_tree.specs.Depth.{capped}
 use Rattle.ob0_tree.specs.Tree.{Tree, Item, item, nesting}
 use Rattle.ob0_tree.specs.View.{items_of}
@@ -14,6 +14,21 @@ capped_more a = omega arith
 -- what is the deepest so far, with the items that are left, is what was the deepest at first, with all items
 pub record Deepest {A : Type 0} {i : Item} (f : A → Tree ℕ (item i)) (start : ℕ) (xs : List A) (done : ℕ) (deepest : ℕ) : Type 0 where
   pub so_far : max deepest (capped (nesting (items_of f (drop done xs)))) ≡ max start (capped (nesting (items_of f xs)))
+
+max_assoc : (a b c : ℕ) → max (max a b) c ≡ max a (max b c)
+max_assoc a b c = omega arith
+
+pub deeper_on : {A : Type 0} {i : Item} (f : A → Tree ℕ (item i)) {start : ℕ} {xs : List A} {done deepest of_item next : ℕ} (x : A)
+    → Deepest f start xs done deepest → done < length xs → x ≡ get_or xs done x → of_item ≡ capped (nesting (f x)) → next ≡ max deepest of_item → Deepest f start xs (done + 1) next
+deeper_on f {xs = xs} {done = done} {deepest = deepest} x w less here p q =
+    let split : drop done xs ≡ x ∷ drop (done + 1) xs = drop_more xs done x less ∙ ap (λ y. y ∷ drop (done + 1) xs) (sym here) in
+    let rest = nesting (items_of f (drop (done + 1) xs)) in
+    record {
+      so_far = ap (λ n. max n (capped rest)) (q ∙ ap (λ n. max deepest n) p)
+          ∙ (max_assoc deepest (capped (nesting (f x))) (capped rest)
+          ∙ (ap (λ n. max deepest n) (capped_max (nesting (f x)) rest)
+          ∙ (sym (ap (λ ys. max deepest (capped (nesting (items_of f ys)))) split) ∙ w.so_far)));
+    }
 
 at_the_end : (deepest all : ℕ) → max deepest 0 ≡ all → deepest ≡ all
 at_the_end deepest all e = omega (arith, e)
@@ -38,3 +53,7 @@ max_zero n = omega arith
 
 pub zero_max : (n : ℕ) → max 0 n ≡ n
 zero_max n = omega arith
+
+-- a whole list, where nothing was before it
+pub list_ends : {A : Type 0} {i : Item} {f : A → Tree ℕ (item i)} {xs : List A} {done : ℕ} {deepest : ℕ} → Deepest f 0 xs done deepest → length xs ≤ done → deepest ≡ capped (nesting (items_of f xs))
+list_ends {f = f} {xs = xs} w all = deepest_ends w all ∙ zero_max (capped (nesting (items_of f xs)))

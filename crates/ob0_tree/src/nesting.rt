@@ -96,7 +96,7 @@ fn factor(f: &Factor) -> u32
 fn designator(d: &Designator) -> u32
     ensures { result ≡ capped (nesting (designator_of d.now)) }
 {
-    let mut deepest = 0;
+    let mut deepest: u32 = 0;
     for s in &d.selectors {
         deepest = deepest.max(selector(s));
     }
@@ -125,7 +125,7 @@ fn call(c: &Call) -> u32
     let Some(arguments) = &c.arguments else {
         return 0;
     };
-    let mut deepest = 0;
+    let mut deepest: u32 = 0;
     for e in arguments {
         deepest = deepest.max(expression(e));
     }
@@ -136,7 +136,7 @@ fn call(c: &Call) -> u32
 fn sequence(statements: &Vec<Statement>) -> u32
     ensures { result ≡ capped (nesting (sequence_in statements.now)) }
 {
-    let mut deepest = 0;
+    let mut deepest: u32 = 0;
     for s in statements {
         deepest = deepest.max(statement(s));
     }
@@ -173,7 +173,7 @@ fn branches(i: &If) -> u32
 fn elsifs(parts: &Vec<Elsif>) -> u32
     ensures { result ≡ capped (nesting (elsifs_in parts.now)) }
 {
-    let mut deepest = 0;
+    let mut deepest: u32 = 0;
     for e in parts {
         deepest = deepest.max(expression(&e.condition).max(sequence(&e.then)));
     }
@@ -195,7 +195,7 @@ fn written_type(t: &WrittenType) -> u32
 fn record(r: &RecordType) -> u32
     ensures { result ≡ capped (nesting (record_in r.now)) }
 {
-    let mut deepest = 0;
+    let mut deepest: u32 = 0;
     for group in &r.groups {
         deepest = deepest.max(fields(group));
     }
@@ -224,7 +224,7 @@ fn formals(sections: &Option<Vec<Section>>) -> u32
     let Some(sections) = sections else {
         return 0;
     };
-    let mut deepest = 0;
+    let mut deepest: u32 = 0;
     for s in sections {
         deepest = deepest.max(section(s));
     }
@@ -237,7 +237,7 @@ fn constants(declared: &Option<Vec<Constant>>) -> u32
     let Some(declared) = declared else {
         return 0;
     };
-    let mut deepest = 0;
+    let mut deepest: u32 = 0;
     for c in declared {
         deepest = deepest.max(expression(&c.value));
     }
@@ -250,7 +250,7 @@ fn types(declared: &Option<Vec<TypeDeclaration>>) -> u32
     let Some(declared) = declared else {
         return 0;
     };
-    let mut deepest = 0;
+    let mut deepest: u32 = 0;
     for d in declared {
         deepest = deepest.max(written_type(&d.written));
     }
@@ -263,7 +263,7 @@ fn variables(declared: &Option<Vec<Variables>>) -> u32
     let Some(declared) = declared else {
         return 0;
     };
-    let mut deepest = 0;
+    let mut deepest: u32 = 0;
     for v in declared {
         deepest = deepest.max(written_type(&v.written));
     }
@@ -286,7 +286,7 @@ fn block(b: &Block) -> u32
     let constants = constants(&b.constants);
     let types = types(&b.types);
     let variables = variables(&b.variables);
-    let mut procedures = 0;
+    let mut procedures: u32 = 0;
     for p in &b.procedures {
         procedures = procedures.max(procedure(p));
     }

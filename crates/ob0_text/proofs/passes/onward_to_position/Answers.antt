@@ -4,7 +4,7 @@ use Rattle.std.specs.Str.Iter.{chars_rest}
 use Rattle.ob0_text.specs.Texts.{ends_line}
 use Rattle.ob0_text.specs.Units.{width_of}
 use Rattle.ob0_text.proofs.PositionSteps.{rest_border}
-use Rattle.ob0_text.proofs.PlaceSteps.{sought_past_end, sought_on, sought_past_char, sought_at_break, sought_at_full, sought_at_end}
+use Rattle.ob0_text.proofs.PlaceSteps.{sought_dropped, sought_past_end, sought_on, sought_past_char, sought_at_break, sought_at_full, sought_at_end}
 use Rattle.ob0_text.proofs.passes.onward_to_position.Goals as goal
 use Rattle.ob0_text.proofs.passes.onward_to_position.Goals.{then-line-position+then-ends_line, then-line-position+else-ends_line, else-line-position+else-is_line_break+else-position-character}
 
@@ -32,15 +32,24 @@ loop-c-preserved c =
       ]);
     }
 
+pub returns-then-is_line_break-clause-place : goal.returns-then-is_line_break-clause-place
+returns-then-is_line_break-clause-place c = sought_dropped (width_of c.args.unit) _ _ _ _ _ _ c.loop-c.invariant.sought
+
 pub returns-then-is_line_break-clause-offset : goal.returns-then-is_line_break-clause-offset
 returns-then-is_line_break-clause-offset c =
     sought_at_break (width_of c.args.unit) _ _ _ _ _ _ c.loop-c.invariant.sought c.in-Some.c (chars_rest c.next.new.self) c.in-Some.ensures.steps.0 c.if-line-position.false (sym c.is_line_break.ensures ∙ c.if-is_line_break.true)
+
+pub returns-then-position-character-clause-place : goal.returns-then-position-character-clause-place
+returns-then-position-character-clause-place c = sought_dropped (width_of c.args.unit) _ _ _ _ _ _ c.loop-c.invariant.sought
 
 pub returns-then-position-character-clause-offset : goal.returns-then-position-character-clause-offset
 returns-then-position-character-clause-offset c =
     let width = width_of c.args.unit in
     let full : c.args.position.character - c.loop-c.character < width c.in-Some.c = subst (λ k. c.args.position.character - c.loop-c.character < k) c.width-units.ensures c.if-position-character.true in
     sought_at_full width _ _ _ _ _ _ c.loop-c.invariant.sought c.in-Some.c (chars_rest c.next.new.self) c.in-Some.ensures.steps.0 c.if-line-position.false (sym c.is_line_break.ensures ∙ c.if-is_line_break.false) full
+
+pub returns-in_default-clause-place : goal.returns-in_default-clause-place
+returns-in_default-clause-place c = sought_dropped (width_of c.args.unit) _ _ _ _ _ _ c.loop-c.invariant.sought
 
 pub returns-in_default-clause-offset : goal.returns-in_default-clause-offset
 returns-in_default-clause-offset c = sought_at_end (width_of c.args.unit) _ _ _ _ _ _ c.loop-c.invariant.sought c.in_default.ensures.steps.0.0

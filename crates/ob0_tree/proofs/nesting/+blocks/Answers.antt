@@ -4,8 +4,11 @@ use Rattle.ob0_tree.specs.declared.tree.Block.{out-Block}
 use Rattle.ob0_tree.specs.Depth.{capped}
 use Rattle.ob0_tree.specs.Tree.{nesting}
 use Rattle.ob0_tree.specs.View.{items_of, constants_of, types_of, variables_of, procedure_of, body_of}
-use Rattle.ob0_tree.proofs.Deepest.{deepest_ends, two_deep, zero_max}
+use Rattle.ob0_tree.proofs.Deepest.{deeper_on, deepest_ends, two_deep, zero_max}
 use Rattle.ob0_tree.proofs.nesting.+blocks.Goals as goal
+
+pub block-loop-p-preserved : goal.block-loop-p-preserved
+block-loop-p-preserved t c = deeper_on procedure_of c.p-item.result c.loop-p.invariant c.loop-p-test.true c.p-item.is c.procedure.ensures c.max-procedures.ensures
 
 pub block-returns : goal.block-returns
 block-returns t c =

@@ -1,11 +1,35 @@
-use Rattle.std.proofs.Common.{max, sym, ap, ◌∙◌, refl}
+use Rattle.std.proofs.Common.{◌≡◌, max, List, [], ◌∷◌, sym, ap, ◌∙◌, refl}
 use Rattle.ob0_tree.proofs.Viewed.{while_read, repeat_read, if_parts}
 use Rattle.ob0_tree.specs.declared.tree.If.{out-If}
+use Rattle.ob0_tree.specs.declared.tree.Statement.{Statement}
 use Rattle.ob0_tree.specs.Depth.{capped}
 use Rattle.ob0_tree.specs.Tree.{nesting, branches}
-use Rattle.ob0_tree.specs.View.{items_of, statement_of, sequence_listed, expression_of, elsif_of, else_in}
-use Rattle.ob0_tree.proofs.Deepest.{two_deep, one_deeper, max_zero}
+use Rattle.ob0_tree.specs.View.{items_of, statement_of, further_statement_of, sequence_listed, expression_of, elsif_of, else_in}
+use Rattle.ob0_tree.proofs.Deepest.{deeper_on, list_ends, two_deep, one_deeper, max_zero}
 use Rattle.ob0_tree.proofs.nesting.+statements.Goals as goal
+
+sequence_nests : (ss : List Statement) → nesting (items_of further_statement_of ss) ≡ nesting (sequence_listed ss)
+sequence_nests [] = refl
+sequence_nests (s ∷ ss) = refl
+
+pub sequence-loop-s-preserved : goal.sequence-loop-s-preserved
+sequence-loop-s-preserved t c = deeper_on further_statement_of c.s-item.result c.loop-s.invariant c.loop-s-test.true c.s-item.is c.statement.ensures c.max-deepest.ensures
+
+pub sequence-returns : goal.sequence-returns
+sequence-returns t c =
+    list_ends c.loop-s.invariant c.loop-s-test.false
+    ∙ ap capped (ap (λ xs. nesting (items_of further_statement_of xs)) c.deref-s-items.ensures.value ∙ sequence_nests c.args.statements.now.items)
+
+pub elsifs-loop-e-preserved : goal.elsifs-loop-e-preserved
+elsifs-loop-e-preserved t c =
+    let e = c.e-item.result in
+    let parts = two_deep (nesting (expression_of e.condition)) (nesting (sequence_listed e.then.items)) c.expression.ensures c.sequence.ensures c.max.ensures in
+    deeper_on elsif_of e c.loop-e.invariant c.loop-e-test.true c.e-item.is parts c.max-deepest.ensures
+
+pub elsifs-returns : goal.elsifs-returns
+elsifs-returns t c =
+    list_ends c.loop-e.invariant c.loop-e-test.false
+    ∙ ap (λ xs. capped (nesting (items_of elsif_of xs))) c.deref-e-items.ensures.value
 
 pub branches-returns-in-Some : goal.branches-returns-in-Some
 branches-returns-in-Some t c =

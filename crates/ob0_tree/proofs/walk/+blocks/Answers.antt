@@ -6,8 +6,11 @@ use Rattle.ob0_tree.specs.declared.tree.Role.TheVariants as role
 use Rattle.ob0_tree.specs.Tree.{identifiers}
 use Rattle.ob0_tree.specs.View.{items_of, constants_of, types_of, variables_of, procedure_of, body_of, formals_of, block_of}
 use Rattle.ob0_tree.specs.Visited.{visited, visited_all}
-use Rattle.ob0_tree.proofs.Visits.{all_visited, four_visited, then_visited}
+use Rattle.ob0_tree.proofs.Visits.{all_visited, four_visited, then_visited, visits_on}
 use Rattle.ob0_tree.proofs.walk.+blocks.Goals as goal
+
+pub block-loop-p-preserved : goal.block-loop-p-preserved
+block-loop-p-preserved g t c = visits_on procedure_of c.p-item.result c.procedure.new.visitor c.loop-p.invariant c.loop-p-test.true c.p-item.is c.in_ok-procedure.ensures
 
 pub block-returns : goal.block-returns
 block-returns g t c =

@@ -1,6 +1,6 @@
 use Rattle.std.proofs.Common.{◌≡◌, ℕ, List, OnOk, sym, ap, ◌∙◌, subst}
-use Rattle.ob0_tree.proofs.Viewed.{addend_made, comparison_made, compound_parts, designator_made, simple_parts, term_parts}
-use Rattle.ob0_tree.specs.declared.tree.Addend.{Addend, out-Addend, roll-out-Addend}
+use Rattle.ob0_tree.proofs.Viewed.{addend_parts, comparison_made, compound_parts, designator_made, simple_parts, term_parts}
+use Rattle.ob0_tree.specs.declared.tree.Addend.{Addend}
 use Rattle.ob0_tree.specs.declared.tree.Comparison.{Comparison, out-Comparison, roll-out-Comparison}
 use Rattle.ob0_tree.specs.declared.tree.Compound.{back-Compound-compared, out-Compound}
 use Rattle.ob0_tree.specs.declared.tree.Multiplier.{Multiplier}
@@ -8,14 +8,11 @@ use Rattle.ob0_tree.specs.declared.tree.Role.{Role}
 use Rattle.ob0_tree.specs.declared.tree.Simple.{out-Simple}
 use Rattle.ob0_tree.specs.declared.tree.Term.{out-Term}
 use Rattle.ob0_tree.specs.declared.tree.Role.TheVariants as role
-use Rattle.ob0_tree.specs.Tree.{adds, compares, identifiers, one, relates}
+use Rattle.ob0_tree.specs.Tree.{compares, identifiers, one, relates}
 use Rattle.ob0_tree.specs.View.{items_of, addend_of, compared_of, comparison_of, multiplier_of, term_of, factor_of, simple_of, compound_of}
 use Rattle.ob0_tree.specs.Visited.{visited_all, visited}
 use Rattle.ob0_tree.proofs.Visits.{all_visited, then_visited, visits_on}
 use Rattle.ob0_tree.proofs.walk.+expressions.Goals as goal
-
-addend_parts : (a : Addend) → addend_of a ≡ adds (out-Addend a).operator (term_of (out-Addend a).term)
-addend_parts a = sym (ap addend_of (roll-out-Addend a)) ∙ addend_made (out-Addend a)
 
 comparison_parts : (x : Comparison) → comparison_of x ≡ relates (out-Comparison x).relation (simple_of (out-Comparison x).right)
 comparison_parts x = sym (ap comparison_of (roll-out-Comparison x)) ∙ comparison_made (out-Comparison x)

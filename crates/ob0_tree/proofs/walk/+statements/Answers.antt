@@ -1,12 +1,38 @@
-use Rattle.std.proofs.Common.{◌≡◌, OnOk, [], sym, ap, ◌∙◌, subst}
+use Rattle.std.proofs.Common.{◌≡◌, OnOk, List, [], ◌∷◌, refl, sym, ap, ◌∙◌, subst}
 use Rattle.ob0_tree.proofs.Viewed.{while_read, repeat_read, if_parts}
 use Rattle.ob0_tree.specs.declared.tree.If.{out-If}
 use Rattle.ob0_tree.specs.declared.tree.Role.TheVariants as role
+use Rattle.ob0_tree.specs.declared.tree.Statement.{Statement}
 use Rattle.ob0_tree.specs.Tree.{identifiers, branches}
-use Rattle.ob0_tree.specs.View.{items_of, statement_of, sequence_listed, expression_of, elsif_of, else_in}
-use Rattle.ob0_tree.specs.Visited.{visited}
-use Rattle.ob0_tree.proofs.Visits.{four_visited, then_visited}
+use Rattle.ob0_tree.specs.View.{items_of, statement_of, further_statement_of, sequence_listed, expression_of, elsif_of, else_in}
+use Rattle.ob0_tree.specs.Visited.{visited, visited_all}
+use Rattle.ob0_tree.proofs.Visits.{all_visited, four_visited, then_visited, visits_on}
 use Rattle.ob0_tree.proofs.walk.+statements.Goals as goal
+
+sequence_visited : (ss : List Statement) → identifiers role.Declaring (items_of further_statement_of ss) ≡ identifiers role.Declaring (sequence_listed ss)
+sequence_visited [] = refl
+sequence_visited (s ∷ ss) = refl
+
+pub sequence-loop-s-preserved : goal.sequence-loop-s-preserved
+sequence-loop-s-preserved g t c = visits_on further_statement_of c.s-item.result c.statement.new.visitor c.loop-s.invariant c.loop-s-test.true c.s-item.is c.in_ok-statement.ensures
+
+pub sequence-returns : goal.sequence-returns
+sequence-returns g t c =
+    all_visited c.loop-s.invariant c.loop-s-test.false
+    ∙ ap (λ is. visited_all g.V.Visitor.seen is c.args.visitor.now)
+    (ap (λ xs. identifiers role.Declaring (items_of further_statement_of xs)) c.deref-s-items.ensures.value ∙ sequence_visited c.args.statements.now.items)
+
+pub elsifs-loop-e-preserved : goal.elsifs-loop-e-preserved
+elsifs-loop-e-preserved g t c =
+    let e = c.e-item.result in
+    let condition = identifiers role.Declaring (expression_of e.condition) in
+    visits_on elsif_of e c.sequence.new.visitor c.loop-e.invariant c.loop-e-test.true c.e-item.is
+    (c.in_ok-sequence.ensures ∙ then_visited g.V.Visitor.seen c.loop-e.visitor condition (identifiers role.Declaring (sequence_listed e.then.items)) c.in_ok-expression.ensures)
+
+pub elsifs-returns : goal.elsifs-returns
+elsifs-returns g t c =
+    all_visited c.loop-e.invariant c.loop-e-test.false
+    ∙ ap (λ xs. visited_all g.V.Visitor.seen (identifiers role.Declaring (items_of elsif_of xs)) c.args.visitor.now) c.deref-e-items.ensures.value
 
 pub branches-returns-in-Some : goal.branches-returns-in-Some
 branches-returns-in-Some g t c =

@@ -1,10 +1,21 @@
 use Rattle.std.proofs.Common.{◌≡◌, [], ◌++◌, OnOk, refl, sym, ap, ◌∙◌, subst}
-use Rattle.ob0_tree.specs.View.{further_fields_of_group, items_of, type_of}
+use Rattle.ob0_tree.specs.View.{fields_of, further_fields_of_group, items_of, type_of}
 use Rattle.ob0_tree.proofs.Viewed.{record_made}
-use Rattle.ob0_language_names.specs.DeclaredOnce.{groups_fields}
-use Rattle.ob0_scope_table.specs.DeclaredTwice.{again, fields_twice, groups_twice}
-use Rattle.ob0_scope.proofs.Checking.{gathered, record_reported}
+use Rattle.ob0_language_names.specs.DeclaredOnce.{group_fields, groups_fields}
+use Rattle.ob0_scope_table.specs.DeclaredTwice.{again, fields_twice, group_twice, groups_twice}
+use Rattle.ob0_scope.proofs.Checking.{gathered, gathers_on, record_reported}
 use Rattle.ob0_scope.proofs.checks.Checks.+types.Goals as goal
+
+pub record-loop-group-preserved : goal.record-loop-group-preserved
+record-loop-group-preserved t c =
+    let g = c.group-item.result in
+    gathers_on (λ xs. groups_fields (items_of further_fields_of_group xs)) g (group_fields (fields_of g)) (λ rest. refl) c.loop-group.invariant c.loop-group-test.true c.group-item.is c.in_ok-add_fields.ensures
+
+pub record-loop-group-2-preserved : goal.record-loop-group-2-preserved
+record-loop-group-2-preserved t c =
+    let src = c.args.tokens.now in
+    let g = c.group-item-in-loop-group-2.result in
+    gathers_on (λ xs. groups_twice src (items_of further_fields_of_group xs)) g (group_twice src (fields_of g)) (λ rest. refl) c.loop-group-2.invariant c.loop-group-2-test.true c.group-item-in-loop-group-2.is c.in_ok-group.ensures
 
 pub record-returns : goal.record-returns
 record-returns t c =
