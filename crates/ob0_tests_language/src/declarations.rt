@@ -4,8 +4,7 @@ use crate::asking::Asked::{Bound, Free, TypeOf};
 use crate::asking::{Row, Walk, first_wrong, push_number, push_span, rows};
 use ob0_refs::{Capture, captures};
 use ob0_scope::resolve_renamed;
-use ob0_types::{Shape, WellTyped};
-use ob0_types_table::{ArrayShape, Parts, RecordShape};
+use ob0_types::{ArrayShape, Parts, RecordShape, Shape, WellTyped};
 use std::alloc::{AllocError, Global};
 use std::process::Abort;
 

@@ -1,6 +1,5 @@
 //! A module through the layers one by one, each call by its own path.
 
-use ob0_language_values::Scalar;
 use ob0_parse::{ParseRefusal, parse};
 use ob0_run::laws::{
     free_field_keeps_modules, never_stuck, runs_by_ordinal, runs_by_shape, well_typed_by_shape,
@@ -8,7 +7,7 @@ use ob0_run::laws::{
 use ob0_scan::{Tokens, scan};
 use ob0_scope::{Resolved, resolve};
 use ob0_tree::Module;
-use ob0_types::{Checked, WellTyped, check};
+use ob0_types::{Checked, Scalar, WellTyped, check};
 use std::alloc::Global;
 use std::process::Abort;
 
