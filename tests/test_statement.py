@@ -151,7 +151,7 @@ def counts_hold() -> None:
 @test("statement: the contract of what the program calls, both sides of that of `play_in`, and what joins them are in part 3")
 def tie_is_there() -> None:
     shown = "\n".join(text for part, text in [*fenced("agda"), *fenced("rust")] if str(part).startswith("Part 3"))
-    wanted = ["pub fn serve<", "record Plays ", "PlaysBefore :", "record BothStep ", "record IsTied "]
+    wanted = ["pub fn serve<", "record Plays ", "PlaysBefore :", "record ConnectionStep ", "record IsTied "]
     for it in [*wanted, "ConversationIsServed :"]:
         holds(it in shown, f"part 3 hasn't {it!r}")
     wire = "\n".join(text for part, text in fenced("agda") if str(part).startswith("Part 6"))

@@ -47,7 +47,7 @@ FIRST += [("ob0_world_rules", "Laws", "InEveryInterleaving")]
 EDITS = [("ob0_world_rules", "Answers", name) for name in ("GivesEdits", "Refuses")]
 # (what is named and not unfolded, and what it says)
 CLOSED = {
-    ("ob0_session_server", "Answers", "reacts"): "docs/PROTOCOL.md as a function, all but the framing: the state after "
+    ("ob0_session_server", "Answers", "react"): "docs/PROTOCOL.md as a function, all but the framing: the state after "
     "a content, and what is to be said",
     ("ob0_session_server", "Answers", "SaysReply"): "nothing is sent, or one content, the JSON text of what is to be "
     "said: a publication, a result or an error, as docs/PROTOCOL.md has it",
@@ -77,7 +77,7 @@ CLOSED = {
 # (what parts 1 to 3 unfold, by file, in the order of the page)
 KEPT: dict[int, dict[tuple[str, str], str]] = {
     1: {
-        ("ob0_world_rules", "Ends"): "Ends ToServer ToEditor Editor Open Applied Made",
+        ("ob0_world_rules", "ClientAndServer"): "ClientAndServer ToServer ToEditor Editor Open Applied Made",
         ("ob0_world_rules", "Happens"): "Event Course Happens ServerTakes",
         ("ob0_world_rules", "Editing"): "done_by applies if_same",
     },
@@ -86,7 +86,7 @@ KEPT: dict[int, dict[tuple[str, str], str]] = {
         ("ob0_text", "Patches"): "patched_by_cuts",
     },
     3: {
-        ("ob0_world", "Worlds"): "Plays BothStep IsTied PlaysBefore",
+        ("ob0_world", "Worlds"): "Plays ConnectionStep IsTied PlaysBefore",
         ("ob0_world_determined", "Determined"): "ConversationIsServed",
     },
 }
@@ -138,20 +138,20 @@ BELIEVED = {
     "AreAllRead": "2^40 reads were made",
     "IsFlushedAfter": "if the writer was flushed before, or anything was put, it is flushed now",
     "code.Event": "an event of the code",
-    "PlayFault": "`played`, and `steps`: how many events went before the failed one",
+    "PlayFault": "`played`, and `steps`: how many events were played",
     "PlaysNothing": "nothing was played, and no content has passed",
     "Played": "what `play_in` returns",
     "event_of": "the same as an event of the model (`Take` is `take_message`, and so on)",
     "all_applied, all_made": "the edits and the publications that are returned",
-    "Both": "the model (`ends`) and the `wire`: a `session` and the columns of the table above",
+    "Connection": "the `model` and the `wire`: a `session` and the columns of the table above",
     "Begins": "the first row of the table above; `initialize` says that the editor counts in this unit, and takes "
     "edits that name their document's version and code actions that hold edits; the model is at `start`",
-    "BothCourse": "these events, each a `BothStep`, lead from the one to the other",
+    "ConnectionCourse": "these events, each a `ConnectionStep`, lead from the one to the other",
     "HasCome": "these edits and publications are returned",
     "HasPassed": "`taken`, `got` and `to_editor` of this wire are returned",
-    "Conversation": "these contents in turn have these replies in turn (`reacts`), from state to state",
+    "Conversation": "these contents in turn have these replies in turn (`react`), from state to state",
     "bytes": "contents as the lists of their bytes",
-    "MovesWire": "contents move as in the table above; at `serve` the session replies by `reacts`, and else it stays",
+    "MovesWire": "contents move as in the table above; at `serve` the session replies by `react`, and else it stays",
     "AllSay": "as many contents as messages; each content says its message",
     "SessionState": "`serving`, in a state, or `failed`",
     "ServeFault": "`Memory`, `Write`, and others",
@@ -230,7 +230,7 @@ PARTS: list[tuple[str, list[str], str, str]] = [
     (
         "Part 1: client and server",
         [
-            "`Ends` is the state of both ends and of the messages between them, a queue each way. `Happens` says what "
+            "`ClientAndServer` is the state of editor and server and of the messages between them, a queue each way. `Happens` says what "
             "one `Event` leaves (at most one state: the law `one_step`), `Course` what a list of events leaves.",
             "*The server* (`Replies`) knows a document's version and text (`InStep`) or doesn't (`OutOfStep`, after a "
             "notification that it couldn't read, `Lost`). The model's editor sends no `Lost`: when no message waits "
@@ -263,7 +263,7 @@ PARTS: list[tuple[str, list[str], str, str]] = [
             "change after the applied edit; i and r are the replies to I and R, d the diagnostics.",
             WORKED,
             "`play_in` returns `to_editor` as `unread`. The tie has three steps before the last, which is tested:",
-            "1. *Model and session.* If `play_in` returns an `Ok`, with `few`, `Plays` holds: a `BothStep` for each "
+            "1. *Model and session.* If `play_in` returns an `Ok`, with `few`, `Plays` holds: a `ConnectionStep` for each "
             "event leads from `begin` to `end`. `begin` has the model's `start`, and each step does what `Happens` "
             "says; so, by `only`, the model in `end` is the `end` of `Headline`. And the session has done the same "
             "(`IsTied`; by `Begins` and `MovesWire` it is always `serving`).\n"
@@ -344,10 +344,10 @@ PARTS: list[tuple[str, list[str], str, str]] = [
     ),
 ]
 SENTENCE = (
-    "> In every interleaving of an editor and the server, each edit that the editor applies to a well-typed document "
-    "leaves a well-typed module with the same run: the same output and end for every input and every bound on calls "
-    "and loop turns; and an open document's latest diagnostics are empty exactly when the text they were made for is a "
-    "well-typed module."
+    "> In every interleaving of a model editor and the server, each edit of the server's that the editor applies to a "
+    "well-typed document leaves a well-typed module with the same run: the same output and end for every input and "
+    "every bound on calls and loop turns; and an open document's latest diagnostics are empty exactly when the text "
+    "they were made for is a well-typed module."
 )
 OPENING = (
     "`ob0` is a language server for Oberon-0: an *editor* starts it and speaks with it by LSP 3.17. A message is sent "
@@ -357,38 +357,36 @@ OPENING = (
     "return. A *law* is the contract of a function with an empty body: a fact about definitions."
 )
 AFTER_SENTENCE = (
-    "It is proved of a model of an editor; for others it is inferred, and tested. The premises, and what is proved, "
-    "inferred, tested or not promised, come [below](#what-is-proved-and-what-isnt), after the definitions. These say "
-    "more: *every* applied edit was made in a well-typed text (`before_fits`), and *every* list of diagnostics with a "
-    "version is right in this way."
+    "*No session of a real editor is covered by the theorem alone*: for these it is inferred, and tested. The "
+    "premises, and what is proved, inferred, tested or not promised, come [below](#what-is-proved-and-what-isnt), after "
+    "the definitions. The definitions say more: *every* applied edit was made in a well-typed text (`before_fits`), and "
+    "*every* list of diagnostics with a version is right in this way."
 )
 # (what its words mean, an item each)
 MEANINGS = (
-    "*Well-typed* is a text that docs/LANGUAGE.md allows. (A text is a list of Unicode scalar values: half a "
-    "surrogate pair is none.) A *run* ends as it should, by an error, or at a bound.",
+    "*Well-typed* is a text that docs/LANGUAGE.md allows. A *run* ends as it should, by an error of some kind, or at a "
+    "bound: its *end* says which.",
     "*An applied edit* is all that one answer replaces, made at once: of a rename, an inlining of a constant at one "
     "use or everywhere, or a formatting. No two replacements share a character (the law `edits_keep_the_run`). The "
     "editor applies an answer only while the document has the opening and the version that it had at the request; else "
     "nothing of it is applied.",
     "*The latest diagnostics* of a document are the last list with a version that the server published for its uri, "
-    "taken by the editor or not. The document had the text that they were made for, with that version, in this opening "
-    "or an earlier one (`made_for`). When the server has taken all messages, they are of the present version and text "
-    "(`latest_made`); until then there may be none.",
+    "taken by the editor or not. (The empty list that it sends at a close has none.) The document had the text that "
+    "they were made for, with that version, in this opening or an earlier one (`made_for`). When the server has taken "
+    "all messages, they are of the present version and text (`latest_made`); until then there may be none.",
 )
 # (how the headline is tied to the program, a paragraph each)
 TIE = (
     "*The tie to the program.* `play_in` (`ob0_world`) is a proof harness, which the program never runs: it plays a "
     "list of events with a `Session`, the server's code, and code of a model editor. `ob0 serve` runs `serve` "
     "(`ob0_session`), which gives a `Session` what it reads, and writes what that sends. Both are proved against one "
-    "specification (`reacts`, docs/PROTOCOL.md as a function): so for the same contents `serve` writes what `play_in` "
-    "returns as sent (part 3). The last step, to standard input and output, is tested.",
-    "*What each contract says.* The law `in_every_interleaving` speaks of the model alone, definitions of both ends "
-    "(part 1). There each publication is right by definition, and an answer's edits are some that part 8 allows "
-    "(`Replies`); that these keep the run is the law `edits_keep_the_run`. `in_every_interleaving` gives `Holds`, not "
-    "`made_for`. That the code's publications and edits are such is what the contract of `play_in` and the tie add. So take a session with "
-    "the model's editor, and the list of its events: if a call of `play_in` with this list returns an `Ok`, the "
-    "headline holds of that session. Where memory suffices it does: that is tested, with lists of events; no contract "
-    "says it.",
+    "specification (`react`, docs/PROTOCOL.md as a function): so for the same contents `serve` writes what `play_in` "
+    "returns as sent, under the premises below. The last step, to standard input and output, is tested.",
+    "*What each contract says.* The law `in_every_interleaving` is of the model alone (part 1). There a publication is "
+    "right by definition, and an answer has the edits that part 8 determines (`Replies`); that these keep the run is "
+    "the law `edits_keep_the_run`. That the code publishes and answers so is what the contract of `play_in` adds, list "
+    "by list, with `made_for`: where a call of it returns an `Ok`, the headline holds of the session that it played. "
+    "That it does where memory suffices is tested; no contract says it.",
 )
 LISTS = "What is proved, and what isn't"
 # (what is promised with a proof, what without one, and what isn't, an item each)
@@ -398,15 +396,15 @@ PROVED = (
     "*`Holds`* of each state of the model that events lead to, without a premise: by the law `in_every_interleaving`.",
     "*`serve` has written the frames of what that session sent*: by its contract, and the law "
     "[`a_conversation_is_served`](#part-3-the-tie-to-the-program). The premises: the types of its *devices*, a reader "
-    "and a writer, say which bytes are left or written (`R.remaining`, `W.contents`), and no call of either had returned an error before (`reads`, `writes`); it has read exactly the frames "
-    "of what the session took, with no content of more than 16,777,216 bytes; it has returned, and neither "
+    "and a writer, say which bytes are left or written (`R.remaining`, `W.contents`), which those of standard input "
+    "and output don't; no call of either had returned an error before (`reads`, `writes`); it has read exactly the "
+    "frames of what the session took, with no content of more than 16,777,216 bytes; it has returned, and neither "
     "`Err(Memory)` nor `Err(Write)`.",
     "*Where an allocation fails* `play_in` may return an `Err`: then all that an `Ok` says holds of the first n "
     "events, for some n, or no session had begun (`PlaysBefore`). `serve` may return `Err(Memory)`: then it has "
-    "written whole replies to the first n contents, for some n.",
+    "written whole replies to the first n contents, for some n. (That the headline holds of these is inferred.)",
     "*Every function returns*, given stack enough and devices whose calls return (where an allocation fails, an "
-    "`Err`), and in none is anything undefined: by the checker. (`serve` hasn't returned while its reader waits.) Rattle's checker and compiler, and "
-    "its libraries' contracts, are trusted.",
+    "`Err`), and none has undefined behaviour: by the checker. (`serve` hasn't returned while its reader waits.)",
 )
 UNPROVED = (
     "*The headline with another editor* (inferred). It holds with any editor that sends every change, makes the edits "
@@ -414,35 +412,37 @@ UNPROVED = (
     "opened again, since it asked. Changes are sent in order, columns are counted as LSP does, and to take no keys "
     "until the answer comes is as good as to drop it. The model's editor does so. Others write other "
     "contents; of the headline with them there is no theorem, but real ones are tested (editors/README.md).",
-    "*Other messages* (inferred; tested in tests/test_lifecycle.py). The model begins after `initialize`, and has openings, "
-    "changes, closes and requests for edits alone. So *no session of a real editor is covered by the theorem alone*: it "
-    "has `initialized` too, `shutdown` and `exit` at its normal end, and perhaps hovers. By `reacts` these change no document, nor, up to "
-    "`shutdown`, another reply.",
-    "*Standard input and output* (tested in tests/test_stream.py and tests/test_devices.py): their types know no "
-    "bytes. That pipes lose, add and reorder nothing is trusted. `main`, which has no contract, calls `serve` and "
-    "hands its status on (tests/test_lifecycle.py), 5 for `Err(Memory)`.",
+    "*Other messages* (inferred; tested in tests/test_lifecycle.py). The model begins after an `initialize` that takes "
+    "edits with versions and code actions with edits, and has openings, changes, closes and requests for edits alone. A "
+    "real session has `initialized` too, `shutdown` and `exit` at its normal end, and perhaps hovers. By `react` these "
+    "change no document, nor, up to `shutdown`, another reply.",
+    "*Standard input and output* (tested in tests/test_stream.py and tests/test_devices.py). That pipes lose, add and "
+    "reorder nothing is trusted. `main`, which has no contract, calls `serve` and hands its status on "
+    "(tests/test_lifecycle.py), 5 for `Err(Memory)`.",
     "*A `serve` that still runs* has written and flushed each reply before it reads on (inferred in part 6; tested in "
     "tests/test_stream.py). An editor waits for replies, while the contract takes all that will come as given at the "
     "call (`R.remaining`): that is harmless, since `serve` sees only what has come.",
-    "*That an `Err(Memory)` comes only where an allocation failed* (tested, docs/ROBUSTNESS.md): no contract can say "
-    "it.",
+    "*That an `Err(Memory)` comes only where an allocation failed* (tested, docs/ROBUSTNESS.md): contracts don't know "
+    "how much memory there is.",
 )
 UNPROMISED = (
     "**Not promised**: that memory, stack and time suffice; that an editor does its part; that events lead somewhere "
     "(an `Ok` shows it of its list), or that a message that waits is taken; in parts 0 to 3, which diagnostics are in a "
     "list, and that a request gets edits (of that is part 8). That the definitions say what is meant is for the reader to judge."
 )
-SIGNS = "(`×` is 'and', `→` 'if .. then' or 'for all', `≡` equality; more is [below](#the-notation).)"
+SIGNS = (
+    "(`×` is 'and', `→` 'if .. then' or 'for all', `≡` equality; an indented comment after a definition, "
+    "`--   name: ..`, says in words what a later part unfolds. More is [below](#the-notation).)"
+)
 BESIDE = (
-    "`Plays` (part 3) has `Headline`, of these events as the model's, and the tie to a session. `Ends`, `Event`, "
+    "`Plays` (part 3) has `Headline`, of these events as the model's, and the tie to a session. `ClientAndServer`, `Event`, "
     "`Course`, `Applied`, `Made`, `Editor` and `Open` are in part 1. `end` is the state after all events, `applied` "
     "and `made` all edits and publications so far. `only` says that there is at most one end; an `Ok` shows that "
     "there is one."
 )
 # (what a reader has to know of the notation of parts 0 to 3, an item each)
 READING = (
-    "*This page*: '`X` of `ob0_y`' is the file X of the crate crates/ob0_y. An indented comment after a definition, "
-    "`--   name: ..`, says in words what a later part unfolds: this is *believed*.",
+    "*This page*: '`X` of `ob0_y`' is the file X of the crate crates/ob0_y. What the indented comments say is *believed*.",
     "*Names*: where two files define a name, the one that is later on this page is shown with its file's: `start` is "
     "the model's, `Answers.start` a session's. Parts of records and cases of types may have any name: `answers` is a "
     "case and a part, `serve` an event and a function.",
@@ -508,7 +508,7 @@ HOW = (
     "The first reading ends here. Whoever believes that these definitions say what they are meant to say knows what "
     "is proved: proofs and code needn't be read. *Believed* is what comments under definitions say: above all that a "
     "module and its run are those of docs/LANGUAGE.md (`WellTypedText`, `SameRun`), that a session is "
-    "docs/PROTOCOL.md (`reacts`), and that bytes and contents are read as part 3 says. Parts 4 to 6 unfold the rest "
+    "docs/PROTOCOL.md (`react`), and that bytes and contents are read as part 3 says. Parts 4 to 6 unfold the rest "
     "of the model, texts and the wire, part 7 what a module is and does, part 8 which edits are right answers; part 9 "
     "has laws and details ([how long each takes](#how-long-each-part-takes)). Each says what one may believe instead, "
     "and which laws and tests speak for that."
@@ -952,7 +952,7 @@ class Page:
         for paragraph in (*TIE, SIGNS):
             out += [*wrapped(paragraph), ""]
         out += [*self.shown_contracts(0), *self.fenced(self.first), *wrapped(BESIDE), ""]
-        out += [f"### {LISTS}", "", "**Proved**, with the model's editor:", "", *listed(PROVED), ""]
+        out += [f"### {LISTS}", "", "**Proved**, with the model's editor; Rattle's checker and compiler, and its libraries' contracts, are trusted:", "", *listed(PROVED), ""]
         return [*out, "**Inferred or tested**, and no theorem:", "", *listed(UNPROVED), "", *wrapped(UNPROMISED), ""]
 
     def notation(self) -> list[str]:

@@ -39,8 +39,8 @@ use ob0_scan::{Fault, ScanRefusal, scan};
 use std::alloc::{AllocError, Global};
 use std::marker::Model;
 
-/// What is kept of a text of at most twice as many bytes as this, however short the next text is.
-const KEPT_ANYWAY: usize = 4096;
+/// Tokens are kept unless their text is more than twice as long as the next one and this together.
+const SPARED: usize = 4096;
 
 /// A text without lexemes, with its faults, and what is kept of the last text before it that had lexemes.
 #[derive(Drop)]
@@ -219,7 +219,7 @@ impl Analysis {
 
 /// What a text without lexemes keeps of the last text that had some: nothing where that was much longer.
 fn last_text(text: &str, last: ReadText) -> Option<ReadText> {
-    if last.text().len() / 2 > text.len().saturating_add(KEPT_ANYWAY) {
+    if last.text().len() / 2 > text.len().saturating_add(SPARED) {
         return None;
     }
     Some(last)

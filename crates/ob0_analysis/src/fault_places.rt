@@ -51,7 +51,7 @@ fn begins_at_front(tokens: &Tokens) -> bool
     token_span(tokens, 0).start == 0
 }
 
-/// The same bindings, with the faults at these tokens.
+/// Moves bindings to a text with the same words: their faults are at these tokens.
 pub(crate) fn move_bindings(
     alloc: Global,
     tokens: &Tokens,

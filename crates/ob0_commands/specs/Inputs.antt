@@ -2,14 +2,14 @@
 -- Rule: none; for contracts: a reader that remembers failures.
 use Rattle.std.specs.Prelude.{◌≤◌, ℕ, List, Option, Bool, length}
 use Rattle.std.specs.Io.KnownBytes.{Consumes}
-use Rattle.ob0_commands.specs.declared.reading.Watched.{Watched}
+use Rattle.ob0_commands.specs.declared.reading.TrackedReader.{TrackedReader}
 
 -- the device
-abbrev pub input_device : {R : Type 0} → Watched R → R
+abbrev pub input_device : {R : Type 0} → TrackedReader R → R
 input_device input = input.device
 
 -- whether a read has failed
-abbrev pub input_failed : {R : Type 0} → Watched R → Bool
+abbrev pub input_failed : {R : Type 0} → TrackedReader R → Bool
 input_failed input = input.has_failed
 
 -- at most n of the known bytes of a reader were read

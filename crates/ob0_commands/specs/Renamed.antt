@@ -13,7 +13,7 @@ use Rattle.ob0_text.specs.declared.position_types.Unit.TheVariants.{Utf16}
 use Rattle.ob0_text.specs.declared.refusals.EditRefusal.{EditRefusal}
 use Rattle.ob0_edits.specs.Renamings.{IsRefusedIn, RenamesIn}
 use Rattle.ob0_commands.specs.Endings.{EndsWell}
-use Rattle.ob0_commands.specs.Outputs.{IsHandedOn}
+use Rattle.ob0_commands.specs.Outputs.{IsFlushedOrUnchanged}
 use Rattle.ob0_commands.specs.Printed.{PrintsFaults}
 use Rattle.ob0_commands.specs.Said.{refused_line}
 
@@ -89,4 +89,4 @@ Renames contents is_flushed before after Said file position new =
     × (is_flushed after ≡ true)
     × Said None)
     (PrintsNoName file position new (contents before) (contents after) Said
-    × IsHandedOn (is_flushed after) before after)
+    × IsFlushedOrUnchanged (is_flushed after) before after)

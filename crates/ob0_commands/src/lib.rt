@@ -12,7 +12,7 @@ mod running;
 
 pub use checking::check_text;
 pub use faults::{FileFault, print_fault};
-pub use printing::{Flushed, Output};
-pub use reading::{Input, MAX_FILE, Watched, read_file};
+pub use printing::{Output, TrackedWriter};
+pub use reading::{Input, MAX_FILE, TrackedReader, read_file};
 pub use renaming::rename_text;
 pub use running::run_text;

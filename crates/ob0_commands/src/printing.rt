@@ -2,13 +2,13 @@
 //!
 //! What the commands print to is an `Output`: a writer that remembers whether it was flushed since something was last
 //! written, and whether it has failed. std's `Write` says nothing of that, so `print`, which has to say that what it
-//! wrote is flushed, takes one; `Flushed` makes one of any writer. Clauses on `O.contents` are those of `Write` still,
-//! an option: where what a writer holds isn't known, nothing is said of it. Standard error is an `Output` too.
+//! wrote is flushed, takes one; `TrackedWriter` makes one of any writer. Clauses on `O.contents` are those of `Write`
+//! still, an option: where what a writer holds isn't known, nothing is said of it. Standard error is an `Output` too.
 //!
 //! A command returns the output flushed where it printed; where a name is refused the output is as it was, of which
-//! nobody knows whether it is flushed (`IsHandedOn`). `check` and `rename` print once, so their `Appends` is never
-//! chained, but for `print`'s flush. After a failed write nothing can be said, since std's `write_all` says nothing
-//! then.
+//! nobody knows whether it is flushed (`IsFlushedOrUnchanged`). `check` and `rename` print once, so their `Appends` is
+//! never chained, but for `print`'s flush. After a failed write nothing can be said, since std's `write_all` says
+//! nothing then.
 
 ghost use Rattle.std.specs.Prelude.{◌≡◌, ◌≢◌, ◌||◌, [], Bool, Some, true, false, is_err, OnOk, OnErr, IfErr};
 ghost use Rattle.std.specs.Io.{WritesAtMost};
@@ -32,14 +32,14 @@ pub trait Output: Write {
     ghost has_failed: { Self → Bool };
 
     /// Writes all of some bytes, and remembers where that fails.
-    fn put_all(&mut self, bytes: &[u8]) -> io::Result<()>
+    fn write_tracked(&mut self, bytes: &[u8]) -> io::Result<()>
         ensures bytes { OnOk result
             (Appends (Self.contents self.old) (Self.contents self.new) bytes.now) }
         ensures unflushed { bytes.now ≢ [] → is_flushed self.new ≡ false }
         ensures failed { has_failed self.new ≡ (has_failed self.old || is_err result) };
 
     /// Flushes, and remembers whether this succeeded.
-    fn hand_on(&mut self) -> io::Result<()>
+    fn flush_tracked(&mut self) -> io::Result<()>
         ensures bytes { Keeps (Self.contents self.old) (Self.contents self.new) }
         ensures flushed { OnOk result (is_flushed self.new ≡ true) }
         ensures failed { has_failed self.new ≡ (has_failed self.old || is_err result) };
@@ -47,20 +47,20 @@ pub trait Output: Write {
 
 /// A device, whether it has been flushed since something was last written to it, and whether it has failed.
 #[derive(Drop)]
-pub struct Flushed<W> {
+pub struct TrackedWriter<W> {
     device: W,
     has_flushed: bool,
     has_failed: bool,
 }
 
-impl<W> Flushed<W> {
+impl<W> TrackedWriter<W> {
     /// A device that hasn't been flushed and hasn't failed.
-    pub fn new(device: W) -> Flushed<W>
+    pub fn new(device: W) -> TrackedWriter<W>
         ensures device { output_device result ≡ device }
         ensures fresh { has_flushed result ≡ false }
         ensures works { output_failed result ≡ false }
     {
-        Flushed {
+        TrackedWriter {
             device,
             has_flushed: false,
             has_failed: false,
@@ -68,7 +68,7 @@ impl<W> Flushed<W> {
     }
 }
 
-impl<W: Write> Write for Flushed<W> {
+impl<W: Write> Write for TrackedWriter<W> {
     ghost contents = { λ output. W.contents (output_device output) };
 
     fn write(&mut self, buf: &[u8]) -> io::Result<usize>
@@ -92,12 +92,12 @@ impl<W: Write> Write for Flushed<W> {
     }
 }
 
-impl<W: Write> Output for Flushed<W> {
+impl<W: Write> Output for TrackedWriter<W> {
     ghost is_flushed = { λ output. has_flushed output };
 
     ghost has_failed = { λ output. output_failed output };
 
-    fn put_all(&mut self, bytes: &[u8]) -> io::Result<()> {
+    fn write_tracked(&mut self, bytes: &[u8]) -> io::Result<()> {
         self.has_flushed = self.has_flushed && bytes.is_empty();
         match self.device.write_all(bytes) {
             Ok(()) => Ok(()),
@@ -108,7 +108,7 @@ impl<W: Write> Output for Flushed<W> {
         }
     }
 
-    fn hand_on(&mut self) -> io::Result<()> {
+    fn flush_tracked(&mut self) -> io::Result<()> {
         match self.device.flush() {
             Ok(()) => {
                 self.has_flushed = true;
@@ -129,7 +129,7 @@ pub(crate) fn write<W: Output>(out: &mut W, text: &str) -> Result<(), FileFault>
     ensures fault { IfErr result (λ fault. fault ≡ faults.Write) }
     ensures failed { OnErr result (W.has_failed out.new ≡ true) }
 {
-    match out.put_all(text.as_bytes()) {
+    match out.write_tracked(text.as_bytes()) {
         Ok(()) => Ok(()),
         Err(_) => Err(FileFault::Write),
     }
@@ -145,7 +145,7 @@ pub fn print<W: Output>(out: &mut W, text: &str) -> Result<(), FileFault>
     ensures said { Says W.contents W.is_flushed W.has_failed out.old out.new (Some text.now) }
 {
     write(out, text)?;
-    match out.hand_on() {
+    match out.flush_tracked() {
         Ok(()) => Ok(()),
         Err(_) => Err(FileFault::Write),
     }

@@ -1,8 +1,8 @@
 //! Reading a file and the input.
 //!
-//! What the commands read from is an `Input`: a reader that remembers whether it has failed (`Watched` makes one of any
-//! reader), so the faults File and Input are tied to it (`StopsFor`). Where the bytes that a reader has left aren't
-//! known (`Read::remaining`), nothing is said of a list of numbers.
+//! What the commands read from is an `Input`: a reader that remembers whether it has failed (`TrackedReader` makes one
+//! of any reader), so the faults File and Input are tied to it (`StopsFor`). Where the bytes that a reader has left
+//! aren't known (`Read::remaining`), nothing is said of a list of numbers.
 
 ghost use Rattle.std.specs.Prelude.{◌≡◌, ◌≤◌, ◌<◌, ◌||◌, ◌⊎◌, Bool, true, false, is_err, IfOk, OnOk, IfErr, IfSome, length, suc};
 ghost use Rattle.std.specs.Io.{ReadsAtMost};
@@ -31,7 +31,7 @@ pub trait Input: Read {
     ghost has_failed: { Self → Bool };
 
     /// Reads some bytes, and remembers where that fails.
-    fn take_some(&mut self, buf: &mut [u8]) -> io::Result<usize>
+    fn read_tracked(&mut self, buf: &mut [u8]) -> io::Result<usize>
         ensures bound { ReadsAtMost result buf.new }
         ensures bytes { ReadConsumes
             (Self.remaining self.old) (Self.remaining self.new) result buf.new }
@@ -40,25 +40,25 @@ pub trait Input: Read {
 
 /// A device that is read, and whether it has failed.
 #[derive(Drop)]
-pub struct Watched<R> {
+pub struct TrackedReader<R> {
     device: R,
     has_failed: bool,
 }
 
-impl<R> Watched<R> {
+impl<R> TrackedReader<R> {
     /// A device that hasn't failed.
-    pub fn new(device: R) -> Watched<R>
+    pub fn new(device: R) -> TrackedReader<R>
         ensures device { input_device result ≡ device }
         ensures works { input_failed result ≡ false }
     {
-        Watched {
+        TrackedReader {
             device,
             has_failed: false,
         }
     }
 }
 
-impl<R: Read> Read for Watched<R> {
+impl<R: Read> Read for TrackedReader<R> {
     ghost remaining = { λ input. R.remaining (input_device input) };
 
     fn read(&mut self, buf: &mut [u8]) -> io::Result<usize>
@@ -77,10 +77,10 @@ impl<R: Read> Read for Watched<R> {
     }
 }
 
-impl<R: Read> Input for Watched<R> {
+impl<R: Read> Input for TrackedReader<R> {
     ghost has_failed = { λ input. input_failed input };
 
-    fn take_some(&mut self, buf: &mut [u8]) -> io::Result<usize> {
+    fn read_tracked(&mut self, buf: &mut [u8]) -> io::Result<usize> {
         self.read(buf)
     }
 }
@@ -140,7 +140,7 @@ fn read_up_to<R: Input>(
     let mut piece = [0u8; PIECE_SIZE];
     while bytes.len() < most {
         let wanted = (most - bytes.len()).min(PIECE_SIZE);
-        let Ok(count) = reader.take_some(&mut piece[..wanted]) else {
+        let Ok(count) = reader.read_tracked(&mut piece[..wanted]) else {
             return Err(fault);
         };
         if count == 0 {

@@ -9,8 +9,7 @@ use ob0_scan::{Span, Token};
 use ob0_text::{Range, TextStore};
 use std::alloc::{AllocError, Global};
 
-/// As many spans are turned into ranges together: what is kept of them meanwhile is small, and seldom is a long line
-/// counted again from its start.
+/// Spans are converted in chunks of this many, so that the buffers stay small.
 const PART: usize = 16_384;
 
 /// The ranges of spans, found in one pass over the text where the spans are in text order.

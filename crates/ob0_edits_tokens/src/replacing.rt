@@ -48,7 +48,8 @@ pub fn edits_for<T: TextStore>(
     Ok(edits)
 }
 
-/// The same edits, and before them one that takes out a declaration, from the first of its tokens to the last.
+/// The edits that replace the tokens at some places by a text, and before them one that takes out a declaration, from
+/// the first of its tokens to the last.
 pub fn edits_without<T: TextStore>(
     alloc: Global,
     store: &T,

@@ -37,7 +37,7 @@ pub enum NextLexeme {
     Comment(Span),
 }
 
-/// The gaps of a text that change, in text order, where its tokens are so.
+/// The gaps of a text that change, in text order, where its tokens have these roles.
 pub fn changed_sites(
     alloc: Global,
     tokens: &Tokens,

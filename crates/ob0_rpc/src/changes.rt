@@ -62,7 +62,7 @@ fn read_change_in(entry: Value) -> Option<Change>
     Some(Change { range, text })
 }
 
-/// The range that is reported, or that none is; none where it can't be read.
+/// The range of a change; `Some(None)` where it has none, `None` where it can't be read.
 fn read_range(member: Option<&Value>) -> Option<Option<Range>>
     ensures { result ≡ range_of_change (option_map (λ v. view v.now) member.entry) }
 {

@@ -4,7 +4,7 @@
 ghost use Rattle.std.specs.Prelude.{◌≡◌, ◌∷◌, [], codes, is_some, option_map, option_and_then};
 ghost use Rattle.serde_json.specs.Find.{as_object, as_str};
 ghost use Rattle.serde_json.specs.View.{view, items_view};
-ghost use Rattle.ob0_rpc.specs.Requesting.{client_of as client_in, has_text, is_text as is_text_reported, is_true as truth_of, within};
+ghost use Rattle.ob0_rpc.specs.Requesting.{client_of as client_in, has_text, is_text as is_that_text, is_true as truth_of, within};
 
 use serde_json::Value;
 
@@ -121,7 +121,7 @@ fn has_text(items: &[Value], text: &str) -> bool
 }
 
 fn is_text(item: &Value, text: &str) -> bool
-    ensures { result ≡ is_text_reported text.now (as_str (view item.now)) }
+    ensures { result ≡ is_that_text text.now (as_str (view item.now)) }
 {
     match item.as_str() {
         Some(found) => found == text,

@@ -1,7 +1,7 @@
 //! What is written as JSON, straight into the text of a message.
 //!
 //! Each message that the server sends, and each part of one, is a type that says which JSON value it is and writes it
-//! (`Written`); nothing is made as a `Value` first. A writing function has `Appends` of its value as its contract: the
+//! (`WriteJson`); nothing is made as a `Value` first. A writing function has `Appends` of its value as its contract: the
 //! value's compact text comes after what was there, and it reads back as the value. A text without escapes is put down
 //! whole.
 ghost use Rattle.std.specs.Prelude.{◌≡◌, ◌<◌, ◌≤◌, ◌^◌, ◌++◌, [], ◌∷◌, true, false, OnOk, map};
@@ -18,7 +18,7 @@ use std::alloc::AllocError;
 const MAX_CAPACITY: usize = 1 << 26;
 
 /// What is written as a JSON value. No contract says what `out` has after an error: whoever made it drops it.
-pub trait Written {
+pub trait WriteJson {
     /// The value that is written.
     ghost value: { Self → Data };
 
@@ -26,7 +26,7 @@ pub trait Written {
         ensures { OnOk result (Appends (value self.now) out.old.items out.new.items) };
 }
 
-impl Written for () {
+impl WriteJson for () {
     ghost value = { λ _. null };
 
     fn write(&self, out: &mut Vec<u8>) -> Result<(), AllocError> {
@@ -34,7 +34,7 @@ impl Written for () {
     }
 }
 
-impl Written for bool {
+impl WriteJson for bool {
     ghost value = { λ b. boolean b };
 
     fn write(&self, out: &mut Vec<u8>) -> Result<(), AllocError> {
@@ -46,7 +46,7 @@ impl Written for bool {
     }
 }
 
-impl Written for u64 {
+impl WriteJson for u64 {
     ghost value = { λ n. number (unsigned n) };
 
     fn write(&self, out: &mut Vec<u8>) -> Result<(), AllocError> {
@@ -54,7 +54,7 @@ impl Written for u64 {
     }
 }
 
-impl Written for i32 {
+impl WriteJson for i32 {
     ghost value = { λ z. number (of_integer z) };
 
     fn write(&self, out: &mut Vec<u8>) -> Result<(), AllocError> {
@@ -62,7 +62,7 @@ impl Written for i32 {
     }
 }
 
-impl Written for i64 {
+impl WriteJson for i64 {
     ghost value = { λ z. number (of_integer z) };
 
     fn write(&self, out: &mut Vec<u8>) -> Result<(), AllocError> {
@@ -70,7 +70,7 @@ impl Written for i64 {
     }
 }
 
-impl<'a> Written for &'a str {
+impl<'a> WriteJson for &'a str {
     ghost value = { λ t. string t.now };
 
     fn write(&self, out: &mut Vec<u8>) -> Result<(), AllocError> {
@@ -78,7 +78,7 @@ impl<'a> Written for &'a str {
     }
 }
 
-impl<W: Written> Written for Option<W> {
+impl<W: WriteJson> WriteJson for Option<W> {
     ghost value = { λ o. or_null W.value o };
 
     fn write(&self, out: &mut Vec<u8>) -> Result<(), AllocError> {
@@ -89,7 +89,7 @@ impl<W: Written> Written for Option<W> {
     }
 }
 
-impl<'a, W: Written> Written for &'a [W] {
+impl<'a, W: WriteJson> WriteJson for &'a [W] {
     ghost value = { λ l. array (items_of (map W.value l.now)) };
 
     fn write(&self, out: &mut Vec<u8>) -> Result<(), AllocError> {
@@ -99,7 +99,7 @@ impl<'a, W: Written> Written for &'a [W] {
     }
 }
 
-fn write_each<W: Written>(out: &mut Vec<u8>, values: &[W]) -> Result<(), AllocError>
+fn write_each<W: WriteJson>(out: &mut Vec<u8>, values: &[W]) -> Result<(), AllocError>
     ensures { OnOk result
         (AppendsEach false (map W.value values.now) out.old.items out.new.items) }
 {
@@ -112,7 +112,7 @@ fn write_each<W: Written>(out: &mut Vec<u8>, values: &[W]) -> Result<(), AllocEr
 }
 
 /// Writes an item of a list. After the first there is capacity for the others, where they are about as long.
-fn write_one_of<W: Written>(
+fn write_one_of<W: WriteJson>(
     out: &mut Vec<u8>,
     count: usize,
     later: bool,
@@ -123,13 +123,13 @@ fn write_one_of<W: Written>(
     let before = out.len();
     write_item(out, later, value)?;
     if !later {
-        out.reserve(room_for(count, out.len().saturating_sub(before)))?;
+        out.reserve(capacity_for(count, out.len().saturating_sub(before)))?;
     }
     Ok(())
 }
 
 /// The capacity for the other items of a list, where they are about as long as this one.
-fn room_for(count: usize, len: usize) -> usize
+fn capacity_for(count: usize, len: usize) -> usize
     ensures { result ≤ 2 ^ 26 }
 {
     let others = count.saturating_sub(1);
@@ -147,7 +147,7 @@ pub fn begin_list(out: &mut Vec<u8>) -> Result<(), AllocError>
 
 /// Writes an item of a list, after a comma where it isn't the first.
 #[inline(always)]
-pub fn write_item<W: Written>(out: &mut Vec<u8>, later: bool, value: &W) -> Result<(), AllocError>
+pub fn write_item<W: WriteJson>(out: &mut Vec<u8>, later: bool, value: &W) -> Result<(), AllocError>
     ensures { OnOk result (AppendsItem later (W.value value.now) out.old.items out.new.items) }
 {
     if later {

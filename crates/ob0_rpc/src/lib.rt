@@ -16,7 +16,7 @@ mod values;
 
 pub use clients::Client;
 pub use incoming::{Id, Incoming, RpcFault, read};
-pub use json_text::{Written, begin_list, end_list, write_item};
+pub use json_text::{WriteJson, begin_list, end_list, write_item};
 pub use members::{range_in, text_in};
 pub use notifications::{ClientNotification, notice};
 /// What a notification says, by its short name.

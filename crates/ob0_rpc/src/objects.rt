@@ -3,12 +3,16 @@ ghost use Rattle.std.specs.Prelude.{◌≡◌, ◌++◌, [], ◌∷◌, OnOk};
 ghost use Rattle.serde_json.specs.Data.{member, no_members, object};
 ghost use Rattle.ob0_rpc.specs.Appending.{AppendsMember};
 
-use crate::json_text::{Written, write_piece};
+use crate::json_text::{WriteJson, write_piece};
 use std::alloc::AllocError;
 
 /// Writes the first member of an object, after the bracket that opens it.
 #[inline(always)]
-pub fn first_member<W: Written>(out: &mut Vec<u8>, name: &str, value: &W) -> Result<(), AllocError>
+pub fn first_member<W: WriteJson>(
+    out: &mut Vec<u8>,
+    name: &str,
+    value: &W,
+) -> Result<(), AllocError>
     ensures { OnOk result
         (AppendsMember 123 name.now (W.value value.now) out.old.items out.new.items) }
 {
@@ -20,7 +24,7 @@ pub fn first_member<W: Written>(out: &mut Vec<u8>, name: &str, value: &W) -> Res
 
 /// Writes a further member of an object.
 #[inline(always)]
-pub fn next_member<W: Written>(out: &mut Vec<u8>, name: &str, value: &W) -> Result<(), AllocError>
+pub fn next_member<W: WriteJson>(out: &mut Vec<u8>, name: &str, value: &W) -> Result<(), AllocError>
     ensures { OnOk result
         (AppendsMember 44 name.now (W.value value.now) out.old.items out.new.items) }
 {
@@ -45,7 +49,7 @@ pub struct OneMember<'a, W> {
     pub value: W,
 }
 
-impl<'a, W: Written> Written for OneMember<'a, W> {
+impl<'a, W: WriteJson> WriteJson for OneMember<'a, W> {
     ghost value = { λ e. object (member e.key.now (W.value e.value) no_members) };
 
     fn write(&self, out: &mut Vec<u8>) -> Result<(), AllocError> {

@@ -6,7 +6,7 @@ ghost use Rattle.ob0_rpc.specs.Seen.{id_data, id_or_null};
 ghost use Rattle.ob0_rpc.specs.Writing.{CanBeSent, Writes};
 
 use crate::incoming::Id;
-use crate::json_text::Written;
+use crate::json_text::WriteJson;
 use crate::objects::{end_object, first_member, next_member};
 use std::alloc::{AllocError, Global};
 
@@ -17,7 +17,7 @@ pub struct Response<'a, W> {
     pub result: &'a W,
 }
 
-impl<'a, W: Written> Written for Response<'a, W> {
+impl<'a, W: WriteJson> WriteJson for Response<'a, W> {
     ghost value = { λ r. result_message (id_data r.id.now) (W.value r.result.now) };
 
     fn write(&self, out: &mut Vec<u8>) -> Result<(), AllocError> {
@@ -35,7 +35,7 @@ pub struct ResponseError<'a> {
     pub message: &'a str,
 }
 
-impl<'a> Written for ResponseError<'a> {
+impl<'a> WriteJson for ResponseError<'a> {
     ghost value = { λ e. error_value e.code e.message.now };
 
     fn write(&self, out: &mut Vec<u8>) -> Result<(), AllocError> {
@@ -52,7 +52,7 @@ pub struct ErrorResponse<'a> {
     pub id: Option<&'a Id>,
 }
 
-impl<'a> Written for ErrorResponse<'a> {
+impl<'a> WriteJson for ErrorResponse<'a> {
     ghost value = { λ r. error_message (id_or_null (option_map (λ i. i.now) r.id))
         r.error.code r.error.message.now };
 
@@ -71,7 +71,7 @@ pub struct Notification<'a, W> {
     pub params: &'a W,
 }
 
-impl<'a, W: Written> Written for Notification<'a, W> {
+impl<'a, W: WriteJson> WriteJson for Notification<'a, W> {
     ghost value = { λ n. notification_message n.method.now (W.value n.params.now) };
 
     fn write(&self, out: &mut Vec<u8>) -> Result<(), AllocError> {
@@ -82,7 +82,7 @@ impl<'a, W: Written> Written for Notification<'a, W> {
     }
 }
 
-impl Written for Id {
+impl WriteJson for Id {
     ghost value = { id_data };
 
     fn write(&self, out: &mut Vec<u8>) -> Result<(), AllocError> {
@@ -94,7 +94,7 @@ impl Written for Id {
     }
 }
 
-impl<'a> Written for &'a Id {
+impl<'a> WriteJson for &'a Id {
     ghost value = { λ i. id_data i.now };
 
     fn write(&self, out: &mut Vec<u8>) -> Result<(), AllocError> {
@@ -103,7 +103,7 @@ impl<'a> Written for &'a Id {
 }
 
 /// The text of a message, which reads back as that message where it isn't nested deeper than 127.
-pub fn content_of<W: Written>(alloc: Global, message: &W) -> Result<Vec<u8>, AllocError>
+pub fn content_of<W: WriteJson>(alloc: Global, message: &W) -> Result<Vec<u8>, AllocError>
     ensures { IfOk result
         (λ bytes. depth (W.value message.now) ≤ 127 → Writes (W.value message.now) bytes.items) }
 {
@@ -113,7 +113,7 @@ pub fn content_of<W: Written>(alloc: Global, message: &W) -> Result<Vec<u8>, All
 }
 
 /// The answer to a request, with a value that isn't nested deeper than 126.
-pub fn result_of<W: Written>(alloc: Global, id: &Id, value: &W) -> Result<Vec<u8>, AllocError>
+pub fn result_of<W: WriteJson>(alloc: Global, id: &Id, value: &W) -> Result<Vec<u8>, AllocError>
     ensures { IfOk result (λ bytes. CanBeSent (W.value value.now)
         → Writes (result_message (id_data id.now) (W.value value.now)) bytes.items) }
 {
@@ -136,7 +136,7 @@ pub fn error(
 }
 
 /// A notification, with params that aren't nested deeper than 126.
-pub fn notify<W: Written>(alloc: Global, method: &str, params: &W) -> Result<Vec<u8>, AllocError>
+pub fn notify<W: WriteJson>(alloc: Global, method: &str, params: &W) -> Result<Vec<u8>, AllocError>
     ensures { IfOk result (λ bytes. CanBeSent (W.value params.now)
         → Writes (notification_message method.now (W.value params.now)) bytes.items) }
 {

@@ -8,16 +8,16 @@ ghost use Rattle.serde_json.specs.Written.{compact_text};
 ghost use Rattle.ob0_rpc.specs.Appending.{Appends, IsReadBack};
 ghost use Rattle.ob0_rpc.specs.Shapes.{edit_value, position_value, range_value};
 
-use crate::json_text::{Written, write_escaped, write_piece};
+use crate::json_text::{WriteJson, write_escaped, write_piece};
 use crate::objects::{end_object, first_member, next_member};
 use itoa::write_digits;
 use ob0_text::{Edit, Position, Range};
 use std::alloc::AllocError;
 
-/// No text of a range is longer, with what is put before and after it.
-const ROOM: usize = 176;
+/// The length that a range's text has at most, with what is put before and after it.
+const RANGE_CAPACITY: usize = 176;
 
-impl Written for Position {
+impl WriteJson for Position {
     ghost value = { λ p. position_value p };
 
     fn write(&self, out: &mut Vec<u8>) -> Result<(), AllocError> {
@@ -27,7 +27,7 @@ impl Written for Position {
     }
 }
 
-impl Written for Range {
+impl WriteJson for Range {
     ghost value = { λ r. range_value r.start r.end };
 
     fn write(&self, out: &mut Vec<u8>) -> Result<(), AllocError> {
@@ -35,7 +35,7 @@ impl Written for Range {
     }
 }
 
-impl Written for Edit {
+impl WriteJson for Edit {
     ghost value = { edit_value };
 
     fn write(&self, out: &mut Vec<u8>) -> Result<(), AllocError> {
@@ -51,71 +51,71 @@ fn write_end_of_edit(out: &mut Vec<u8>, start: Position, end: Position) -> Resul
         ++ (codes "\",\"range\":" ++ (compact_text (range_value start end) ++ 125 ∷ []))) }
     ensures reads { IsReadBack (range_value start end) }
 {
-    let mut room = [0; ROOM];
-    let following = piece_before(&mut room, ROOM, b"}");
-    let at_range = range_before(&mut room, following, start, end);
-    let at = piece_before(&mut room, at_range, b"\",\"range\":");
-    write_piece(out, &room[at..])
+    let mut buffer = [0; RANGE_CAPACITY];
+    let following = piece_before(&mut buffer, RANGE_CAPACITY, b"}");
+    let at_range = range_before(&mut buffer, following, start, end);
+    let at = piece_before(&mut buffer, at_range, b"\",\"range\":");
+    write_piece(out, &buffer[at..])
 }
 
 /// Writes a range.
 fn write_range(out: &mut Vec<u8>, start: Position, end: Position) -> Result<(), AllocError>
     ensures { OnOk result (Appends (range_value start end) out.old.items out.new.items) }
 {
-    let mut room = [0; ROOM];
-    let at = range_before(&mut room, ROOM, start, end);
-    write_piece(out, &room[at..])
+    let mut buffer = [0; RANGE_CAPACITY];
+    let at = range_before(&mut buffer, RANGE_CAPACITY, start, end);
+    write_piece(out, &buffer[at..])
 }
 
 /// Puts a range's text before a place, and returns where it begins.
-pub fn range_before(room: &mut [u8], at: usize, start: Position, end: Position) -> usize
-    requires { (160 ≤ at) × (at ≤ length room.old) }
+pub fn range_before(buffer: &mut [u8], at: usize, start: Position, end: Position) -> usize
+    requires { (160 ≤ at) × (at ≤ length buffer.old) }
     ensures within { (at ≤ result + 160) × (result ≤ at) }
-    ensures text { drop result room.new
-        ≡ compact_text (range_value start end) ++ drop at room.old }
+    ensures text { drop result buffer.new
+        ≡ compact_text (range_value start end) ++ drop at buffer.old }
     ensures reads { IsReadBack (range_value start end) }
 {
-    let following_start = piece_before(room, at, b"}");
-    let at_start = position_before(room, following_start, start);
-    let following_end = piece_before(room, at_start, b",\"start\":");
-    let at_end = position_before(room, following_end, end);
-    piece_before(room, at_end, b"{\"end\":")
+    let following_start = piece_before(buffer, at, b"}");
+    let at_start = position_before(buffer, following_start, start);
+    let following_end = piece_before(buffer, at_start, b",\"start\":");
+    let at_end = position_before(buffer, following_end, end);
+    piece_before(buffer, at_end, b"{\"end\":")
 }
 
 /// Puts a position's text before a place, and returns where it begins.
-fn position_before(room: &mut [u8], at: usize, position: Position) -> usize
-    requires { (62 ≤ at) × (at ≤ length room.old) }
+fn position_before(buffer: &mut [u8], at: usize, position: Position) -> usize
+    requires { (62 ≤ at) × (at ≤ length buffer.old) }
     ensures within { (at ≤ result + 62) × (result ≤ at) }
-    ensures text { drop result room.new
-        ≡ compact_text (position_value position) ++ drop at room.old }
+    ensures text { drop result buffer.new
+        ≡ compact_text (position_value position) ++ drop at buffer.old }
     ensures reads { IsReadBack (position_value position) }
 {
-    let following_line = piece_before(room, at, b"}");
-    let at_line = count_before(room, following_line, position.line);
-    let following_character = piece_before(room, at_line, b",\"line\":");
-    let at_character = count_before(room, following_character, position.character);
-    piece_before(room, at_character, b"{\"character\":")
+    let following_line = piece_before(buffer, at, b"}");
+    let at_line = count_before(buffer, following_line, position.line);
+    let following_character = piece_before(buffer, at_line, b",\"line\":");
+    let at_character = count_before(buffer, following_character, position.character);
+    piece_before(buffer, at_character, b"{\"character\":")
 }
 
 /// Puts a whole number's digits before a place.
 #[inline(always)]
-fn count_before(room: &mut [u8], at: usize, count: u64) -> usize
-    requires { (20 ≤ at) × (at ≤ length room.old) }
+fn count_before(buffer: &mut [u8], at: usize, count: u64) -> usize
+    requires { (20 ≤ at) × (at ≤ length buffer.old) }
     ensures within { (at ≤ result + 20) × (result ≤ at) }
-    ensures text { drop result room.new ≡ decimal count ++ drop at room.old }
+    ensures text { drop result buffer.new ≡ decimal count ++ drop at buffer.old }
     ensures fits { count < 2 ^ 64 }
 {
-    write_digits(count, room, at)
+    write_digits(count, buffer, at)
 }
 
 /// Puts a piece of text before a place, and returns where it begins.
 #[inline(always)]
-pub fn piece_before(room: &mut [u8], at: usize, piece: &[u8]) -> usize
-    requires { (length piece.now ≤ at) × (at ≤ length room.old) }
+pub fn piece_before(buffer: &mut [u8], at: usize, piece: &[u8]) -> usize
+    requires { (length piece.now ≤ at) × (at ≤ length buffer.old) }
     ensures start { result + length piece.now ≡ at }
-    ensures text { drop result room.new ≡ piece.now ++ drop at room.old }
+    ensures text { drop result buffer.new ≡ piece.now ++ drop at buffer.old }
 {
     let from = at - piece.len();
-    room[from..at].copy_from_slice(piece);
+    buffer[from..at].copy_from_slice(piece);
     from
 }

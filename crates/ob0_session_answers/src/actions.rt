@@ -80,8 +80,8 @@ impl<'a> ActionsRequest<'a> {
     /// The actions that are offered: inlining here before inlining everywhere.
     fn list(&self, alloc: Global, version: i64, found: &Inlinings) -> Result<Vec<u8>, AllocError>
         ensures { IfOk result (λ bytes. Writes (result_message (id_data self.now.id.now)
-            (actions_value (actions_requested self.now version) found.now.here found.now.everywhere))
-            bytes.items) }
+            (actions_value (actions_requested self.now version)
+            found.now.here found.now.everywhere)) bytes.items) }
     {
         match (&found.here, &found.everywhere) {
             (Some(here), Some(everywhere)) => {

@@ -127,7 +127,8 @@ pub struct DefinitionRequest<'a> {
 
 impl<'a, T: TextStore> DocumentRequest<T> for DefinitionRequest<'a> {
     ghost answers = { λ r _ unit text content.
-        RepliesAboutName unit (id_data r.id.now) (at_seen r.place.now) definition_asked text content };
+        RepliesAboutName unit (id_data r.id.now) (at_seen r.place.now)
+        definition_asked text content };
 
     fn answer(
         &self,
@@ -185,7 +186,8 @@ pub struct PrepareRenameRequest<'a> {
 
 impl<'a, T: TextStore> DocumentRequest<T> for PrepareRenameRequest<'a> {
     ghost answers = { λ r _ unit text content.
-        RepliesAboutName unit (id_data r.id.now) (at_seen r.place.now) renaming_asked text content };
+        RepliesAboutName unit (id_data r.id.now) (at_seen r.place.now)
+        renaming_asked text content };
 
     fn answer(
         &self,

@@ -6,7 +6,7 @@ ghost use Rattle.ob0_rpc.specs.Shapes.{result_message};
 ghost use Rattle.ob0_rpc.specs.Writing.{Writes};
 ghost use Rattle.ob0_session_json.specs.Shapes.{action_provider, capabilities, further_members, last_members, rename_provider, server_capabilities, synchronisation};
 
-use ob0_rpc::{Client, Id, Written, end_object, first_member, next_member, result_of};
+use ob0_rpc::{Client, Id, WriteJson, end_object, first_member, next_member, result_of};
 use std::alloc::{AllocError, Global};
 
 /// The answer to `initialize`.
@@ -24,7 +24,7 @@ pub struct InitializeResult {
     pub capabilities: ServerCapabilities,
 }
 
-impl Written for InitializeResult {
+impl WriteJson for InitializeResult {
     ghost value = { λ r. capabilities r.capabilities.client };
 
     fn write(&self, out: &mut Vec<u8>) -> Result<(), AllocError> {
@@ -39,7 +39,7 @@ pub struct ServerCapabilities {
     pub client: Client,
 }
 
-impl Written for ServerCapabilities {
+impl WriteJson for ServerCapabilities {
     ghost value = { λ c. server_capabilities c.client };
 
     fn write(&self, out: &mut Vec<u8>) -> Result<(), AllocError> {
@@ -85,7 +85,7 @@ impl ServerCapabilities {
 #[derive(Drop)]
 pub struct CodeActionOptions {}
 
-impl Written for CodeActionOptions {
+impl WriteJson for CodeActionOptions {
     ghost value = { λ _. action_provider };
 
     fn write(&self, out: &mut Vec<u8>) -> Result<(), AllocError> {
@@ -101,7 +101,7 @@ pub struct RenameProvider {
     pub prepares: bool,
 }
 
-impl Written for RenameProvider {
+impl WriteJson for RenameProvider {
     ghost value = { λ p. rename_provider p.prepares };
 
     fn write(&self, out: &mut Vec<u8>) -> Result<(), AllocError> {
@@ -118,7 +118,7 @@ impl Written for RenameProvider {
 #[derive(Drop)]
 pub struct TextDocumentSyncOptions {}
 
-impl Written for TextDocumentSyncOptions {
+impl WriteJson for TextDocumentSyncOptions {
     ghost value = { λ _. synchronisation };
 
     fn write(&self, out: &mut Vec<u8>) -> Result<(), AllocError> {

@@ -2,7 +2,7 @@
 ghost use Rattle.ob0_session_json.specs.Made.{action_in, workspace_edit_of};
 ghost use Rattle.ob0_session_json.specs.Shapes.{document_edit, versioned_document};
 
-use ob0_rpc::{Client, OneMember, Written, end_object, first_member, next_member};
+use ob0_rpc::{Client, OneMember, WriteJson, end_object, first_member, next_member};
 use ob0_text::Edit;
 use std::alloc::AllocError;
 
@@ -15,7 +15,7 @@ pub struct WorkspaceEdit<'a> {
     pub edits: &'a [Edit],
 }
 
-impl<'a> Written for WorkspaceEdit<'a> {
+impl<'a> WriteJson for WorkspaceEdit<'a> {
     ghost value = { workspace_edit_of };
 
     fn write(&self, out: &mut Vec<u8>) -> Result<(), AllocError> {
@@ -46,7 +46,7 @@ struct TextDocumentEdit<'a> {
     text_document: VersionedDocument<'a>,
 }
 
-impl<'a> Written for TextDocumentEdit<'a> {
+impl<'a> WriteJson for TextDocumentEdit<'a> {
     ghost value = { λ e.
         document_edit e.text_document.uri.now e.text_document.version e.edits.now };
 
@@ -64,7 +64,7 @@ struct VersionedDocument<'a> {
     version: i64,
 }
 
-impl<'a> Written for VersionedDocument<'a> {
+impl<'a> WriteJson for VersionedDocument<'a> {
     ghost value = { λ d. versioned_document d.uri.now d.version };
 
     fn write(&self, out: &mut Vec<u8>) -> Result<(), AllocError> {
@@ -81,7 +81,7 @@ pub struct CodeAction<'a> {
     pub title: &'a str,
 }
 
-impl<'a> Written for CodeAction<'a> {
+impl<'a> WriteJson for CodeAction<'a> {
     ghost value = { action_in };
 
     fn write(&self, out: &mut Vec<u8>) -> Result<(), AllocError> {

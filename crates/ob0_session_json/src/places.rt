@@ -9,7 +9,7 @@ ghost use Rattle.ob0_session_json.specs.Places.{EndsInUri};
 ghost use Rattle.ob0_session_json.specs.Shapes.{hover_value, location_in, plain_text};
 
 use ob0_rpc::{
-    Written, begin_list, end_list, end_object, first_member, next_member, piece_before,
+    WriteJson, begin_list, end_list, end_object, first_member, next_member, piece_before,
     range_before,
 };
 use ob0_text::Range;
@@ -28,7 +28,7 @@ pub struct Location<'a> {
     pub uri: &'a str,
 }
 
-impl<'a> Written for Location<'a> {
+impl<'a> WriteJson for Location<'a> {
     ghost value = { λ l. location_in l.uri.now l.range };
 
     fn write(&self, out: &mut Vec<u8>) -> Result<(), AllocError> {
@@ -45,7 +45,7 @@ pub struct Locations<'a> {
     pub uri: &'a str,
 }
 
-impl<'a> Written for Locations<'a> {
+impl<'a> WriteJson for Locations<'a> {
     ghost value = { λ l. array (items_of (map (location_in l.uri.now) l.ranges.now)) };
 
     fn write(&self, out: &mut Vec<u8>) -> Result<(), AllocError> {
@@ -105,7 +105,7 @@ pub struct HoverResult<'a> {
     pub range: Range,
 }
 
-impl<'a> Written for HoverResult<'a> {
+impl<'a> WriteJson for HoverResult<'a> {
     ghost value = { λ h. hover_value h.contents.value.now (range_value h.range.start h.range.end) };
 
     fn write(&self, out: &mut Vec<u8>) -> Result<(), AllocError> {
@@ -121,7 +121,7 @@ pub struct MarkupContent<'a> {
     pub value: &'a str,
 }
 
-impl<'a> Written for MarkupContent<'a> {
+impl<'a> WriteJson for MarkupContent<'a> {
     ghost value = { λ m. plain_text m.value.now };
 
     fn write(&self, out: &mut Vec<u8>) -> Result<(), AllocError> {

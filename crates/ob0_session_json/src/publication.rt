@@ -4,7 +4,7 @@ ghost use Rattle.ob0_rpc.specs.Writing.{Writes};
 ghost use Rattle.ob0_session_json.specs.Shapes.{Diagnostic as Reported, diagnostic_value, publication as published_as, publication_params};
 ghost use Rattle.ob0_session_json.specs.Made.{DiagnosticsAre, diagnostic_in};
 
-use ob0_rpc::{Written, end_object, first_member, next_member, notify};
+use ob0_rpc::{WriteJson, end_object, first_member, next_member, notify};
 use ob0_text::Range;
 use std::alloc::{AllocError, Global};
 
@@ -16,7 +16,7 @@ pub struct Diagnostic {
     pub range: Range,
 }
 
-impl Written for Diagnostic {
+impl WriteJson for Diagnostic {
     ghost value = { λ d. diagnostic_value (diagnostic_in d) };
 
     fn write(&self, out: &mut Vec<u8>) -> Result<(), AllocError> {
@@ -36,7 +36,7 @@ pub struct PublishDiagnostics<'a> {
     pub version: Option<i64>,
 }
 
-impl<'a> Written for PublishDiagnostics<'a> {
+impl<'a> WriteJson for PublishDiagnostics<'a> {
     ghost value = { λ p.
         publication_params p.uri.now p.version (map diagnostic_in p.diagnostics.now) };
 

@@ -2,7 +2,7 @@
 use Rattle.std.proofs.Common.{◌≡◌, ◌∙◌, ℕ, ℤ, List, [], ◌∷◌, Option, Vec, Global, option_map, map, sym, subst, ap, refl}
 use Rattle.std.specs.Option.{option_to_list}
 use Rattle.serde_json.specs.Data.{Data}
-use Rattle.ob0_session_server.specs.Answers.{ServerState, Reply, nothing, diagnoses, SaysReply, answers_about, reacts, published, publish_documents, Answers, AnswersGoingOn, AnswersInState}
+use Rattle.ob0_session_server.specs.Answers.{ServerState, Reply, nothing, diagnoses, SaysReply, answers_about, react, published, publish_documents, Answers, AnswersGoingOn, AnswersInState}
 use Rattle.ob0_text.specs.OpenDocuments.{Document, OpenDocuments, document_at}
 use Rattle.ob0_text.specs.declared.position_types.Unit.{Unit}
 use Rattle.ob0_rpc.specs.declared.clients.Client.{Client}
@@ -20,10 +20,10 @@ use Rattle.ob0_session_server.specs.declared.session.Step.{Step}
 use Rattle.ob0_session_server.specs.declared.session.Next.TheVariants.{End}
 
 pub answered : (before : ServerState) (content : List ℕ) (json : Option Data) (m : MessageMeaning) (sent : Option (Vec ℕ Global)) (after : ServerState)
-    → ReadsContent content json → meaning json ≡ m → Reacts (reacts before m) sent after
+    → ReadsContent content json → meaning json ≡ m → Reacts (react before m) sent after
     → AnswersGoingOn before content (option_to_list (option_map (λ v. v.items) sent)) after
 answered before content json m sent after reads means h =
-    let P : MessageMeaning → Type 0 = λ x. Reacts (reacts before x) sent after in
+    let P : MessageMeaning → Type 0 = λ x. Reacts (react before x) sent after in
     (json, reads, subst P (sym means) h)
 
 pub going_on : (phase : Phase) (before : ServerState) (content : List ℕ) (sent : List (List ℕ)) (after : ServerState)

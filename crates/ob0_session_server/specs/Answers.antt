@@ -159,34 +159,34 @@ requests_layout s id uri indent =
     answers_about s id (document_at s.held uri) (λ version. lays_out s.held.unit id indent)
 
 -- what comes of a request of a known method, once its params are read
-abbrev pub calls : ServerState → Data → Result ClientRequest RpcFault → Reaction
-calls s id (Ok (initialize client)) =
+abbrev pub answer_request : ServerState → Data → Result ClientRequest RpcFault → Reaction
+answer_request s id (Ok (initialize client)) =
     record { after = begins client; say = says (result_message id (capabilities client)) }
-calls s id (Ok shutdown) = with_phase ShutDown s (says (result_message id null))
-calls s id (Ok (hover at)) = requests_name s id at hover_asked
-calls s id (Ok (definition at)) = requests_name s id at definition_asked
-calls s id (Ok (references at include)) = requests_name s id at (references_asked include)
-calls s id (Ok (prepare_rename at)) = requests_name s id at renaming_asked
-calls s id (Ok (rename at new)) = requests_rename s id at new
-calls s id (Ok (code_action uri range only)) = requests_actions s id uri range only
-calls s id (Ok (formatting uri indent)) = requests_layout s id uri indent
-calls s id (Err fault) = refuses_fault s id fault
+answer_request s id (Ok shutdown) = with_phase ShutDown s (says (result_message id null))
+answer_request s id (Ok (hover at)) = requests_name s id at hover_asked
+answer_request s id (Ok (definition at)) = requests_name s id at definition_asked
+answer_request s id (Ok (references at include)) = requests_name s id at (references_asked include)
+answer_request s id (Ok (prepare_rename at)) = requests_name s id at renaming_asked
+answer_request s id (Ok (rename at new)) = requests_rename s id at new
+answer_request s id (Ok (code_action uri range only)) = requests_actions s id uri range only
+answer_request s id (Ok (formatting uri indent)) = requests_layout s id uri indent
+answer_request s id (Err fault) = refuses_fault s id fault
 
 -- what comes of a request while the session runs
-abbrev pub reaction_to_call : ServerState → Data → List ℕ → Data → Reaction
-reaction_to_call s id method params = calls s id (request_by_method method params)
+abbrev pub answer_method : ServerState → Data → List ℕ → Data → Reaction
+answer_method s id method params = answer_request s id (request_by_method method params)
 
 -- what comes of a request, by the lifecycle
-abbrev pub reaction_to_request : Phase → ServerState → Data → List ℕ → Data → Reaction
-reaction_to_request Starting s id method params =
-    if bytes_eq method (codes "initialize") then reaction_to_call s id method params
+abbrev pub react_to_request : Phase → ServerState → Data → List ℕ → Data → Reaction
+react_to_request Starting s id method params =
+    if bytes_eq method (codes "initialize") then answer_method s id method params
     else refuses s id (minus 32002) (codes "not initialized")
-reaction_to_request Running s id method params =
+react_to_request Running s id method params =
     if bytes_eq method (codes "initialize")
     then refuses s id (minus 32600) (codes "already initialized")
-    else reaction_to_call s id method params
-reaction_to_request ShutDown s id method params = refuses s id (minus 32600) (codes "shut down")
-reaction_to_request (Ended status) s id method params = stays s nothing
+    else answer_method s id method params
+react_to_request ShutDown s id method params = refuses s id (minus 32600) (codes "shut down")
+react_to_request (Ended status) s id method params = stays s nothing
 
 -- ---- notifications
 
@@ -211,38 +211,41 @@ publish_documents uri held s =
     with_documents held s (published held.unit uri (document_at held uri))
 
 -- what comes of a notification while the session runs
-abbrev pub reaction_to : ServerState → Notification → Reaction
-reaction_to s exits = ends s
-reaction_to s (opens uri version text) = publish_documents uri (opened s.held uri version text) s
-reaction_to s (changes uri version all) = publish_documents uri (changed s.held uri version all) s
+abbrev pub apply_notification : ServerState → Notification → Reaction
+apply_notification s exits = ends s
+apply_notification s (opens uri version text) =
+    publish_documents uri (opened s.held uri version text) s
+apply_notification s (changes uri version all) =
+    publish_documents uri (changed s.held uri version all) s
 -- the close of a held document takes its diagnostics back
-reaction_to s (closes uri) =
+apply_notification s (closes uri) =
     with_documents (closed s.held uri) s
     (if is_some (document_at s.held uri) then says (publication uri None []) else nothing)
-reaction_to s (unreadable (Some uri)) = with_documents (lost s.held uri) s nothing
-reaction_to s (unreadable None) = stays s nothing
-reaction_to s other = stays s nothing
+apply_notification s (unreadable (Some uri)) = with_documents (lost s.held uri) s nothing
+apply_notification s (unreadable None) = stays s nothing
+apply_notification s other = stays s nothing
 
 -- before `initialize` and after `shutdown` only `exit` is heard
-abbrev pub hears : Phase → ServerState → List ℕ → Data → Reaction
-hears Running s method params = reaction_to s (note_of method params)
-hears phase s method params = if bytes_eq method (codes "exit") then ends s else stays s nothing
+abbrev pub react_to_notification : Phase → ServerState → List ℕ → Data → Reaction
+react_to_notification Running s method params = apply_notification s (note_of method params)
+react_to_notification phase s method params =
+    if bytes_eq method (codes "exit") then ends s else stays s nothing
 
 -- ---- messages
 
 -- what comes of a content
-abbrev pub reacts : ServerState → MessageMeaning → Reaction
-reacts s not_json = refuses_fault s null NotJson
-reacts s not_a_message = refuses_fault s null NotAMessage
-reacts s response = stays s nothing
-reacts s (request id method params) = reaction_to_request s.phase s id method params
-reacts s (notice method params) = hears s.phase s method params
+abbrev pub react : ServerState → MessageMeaning → Reaction
+react s not_json = refuses_fault s null NotJson
+react s not_a_message = refuses_fault s null NotAMessage
+react s response = stays s nothing
+react s (request id method params) = react_to_request s.phase s id method params
+react s (notice method params) = react_to_notification s.phase s method params
 
 -- the answers of a server that has not ended
 abbrev pub AnswersGoingOn : ServerState → List ℕ → List (List ℕ) → ServerState → Type 0
 AnswersGoingOn before content sent after =
     (json : Option Data) × ReadsContent content json
-    × (let r = reacts before (meaning json) in (after ≡ r.after) × SaysReply r.say sent)
+    × (let r = react before (meaning json) in (after ≡ r.after) × SaysReply r.say sent)
 
 -- after its end it sends nothing and stays as it is
 abbrev pub AnswersInState : Phase → ServerState → List ℕ → List (List ℕ) → ServerState → Type 0
@@ -263,7 +266,8 @@ pub record AnswersFirst (before : ServerState) (content : List ℕ) (sent : List
   pub follows : Follows between later
   pub all : sent ≡ first ++ later
 
--- The same for contents in turn, and the messages sent for them in that order.
+-- In the one state the server replies to these contents in turn with these messages, in that order, and then it is in
+-- the other state.
 abbrev pub Conversation : ServerState → List (List ℕ) → List (List ℕ) → ServerState → Type 0
 Conversation before [] sent after = (sent ≡ []) × (after ≡ before)
 Conversation before (content ∷ contents) sent after =

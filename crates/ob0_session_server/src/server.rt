@@ -56,7 +56,7 @@ impl<T: TextStore> Model for Server<T> {
 impl<T: TextStore> Server<T> {
     ghost use Rattle.serde_json.specs.View.{view};
     ghost use Rattle.std.specs.Option.{option_to_list};
-    ghost use Rattle.ob0_session_server.specs.Answers.{start, begins, AnswersGoingOn, SaysReply, reaction_to_request, requests_actions, requests_name, requests_rename, reaction_to_call, calls, ends, hears, published, refuses, refuses_fault, reaction_to};
+    ghost use Rattle.ob0_session_server.specs.Answers.{start, begins, AnswersGoingOn, SaysReply, react_to_request, requests_actions, requests_name, requests_rename, answer_method, answer_request, ends, react_to_notification, published, refuses, refuses_fault, apply_notification};
     ghost use Rattle.ob0_rpc.specs.Notifications.{opens, changes, closes, note_of};
     ghost use Rattle.ob0_rpc.specs.Seen.{at_seen, id_or_null, kinds_seen, seen_call, seen_note};
     ghost use Rattle.ob0_session_answers.specs.Questions.{references_asked};
@@ -119,7 +119,10 @@ impl<T: TextStore> Server<T> {
             Ok(Incoming::Request(id, method, params)) => {
                 self.reply_to_request(&id, method.as_str(), &params)
             }
-            Ok(Incoming::Notice(method, params)) => self.hear(method.as_str(), params),
+            Ok(Incoming::Notice(method, params)) => self.react_to_notification(
+                method.as_str(),
+                params,
+            ),
             Ok(Incoming::Ignored) => Ok(None),
             Err(RpcFault::Memory) => Err(AllocError),
             Err(RpcFault::NotJson) => self.refuse_fault(None, RpcFault::NotJson),
@@ -151,7 +154,7 @@ impl<T: TextStore> Server<T> {
         method: &str,
         params: &Value,
     ) -> Result<Option<Vec<u8>>, AllocError>
-        ensures { IfOk result (λ sent. Reacts (reaction_to_request self.old.phase self.old
+        ensures { IfOk result (λ sent. Reacts (react_to_request self.old.phase self.old
             (id_data id.now) method.now (view params.now)) sent self.new) }
     {
         let is_initialize = method == "initialize";
@@ -172,7 +175,7 @@ impl<T: TextStore> Server<T> {
         params: &Value,
     ) -> Result<Option<Vec<u8>>, AllocError>
         ensures { IfOk result (λ sent. Reacts
-            (reaction_to_call self.old (id_data id.now) method.now (view params.now))
+            (answer_method self.old (id_data id.now) method.now (view params.now))
             sent self.new) }
     {
         match request(self.alloc, method, params) {
@@ -188,8 +191,8 @@ impl<T: TextStore> Server<T> {
     }
 
     fn reply_to_call(&mut self, id: &Id, call: ClientRequest) -> Result<Option<Vec<u8>>, AllocError>
-        ensures { IfOk result
-            (λ sent. Reacts (calls self.old (id_data id.now) (Ok (seen_call call))) sent self.new) }
+        ensures { IfOk result (λ sent. Reacts
+            (answer_request self.old (id_data id.now) (Ok (seen_call call))) sent self.new) }
     {
         match call {
             ClientRequest::Initialize(client) => {
@@ -309,9 +312,14 @@ impl<T: TextStore> Server<T> {
         self.documents = AnalysedDocuments::new(self.alloc, documents_for(self.alloc, client));
     }
 
-    fn hear(&mut self, method: &str, params: Value) -> Result<Option<Vec<u8>>, AllocError>
+    fn react_to_notification(
+        &mut self,
+        method: &str,
+        params: Value,
+    ) -> Result<Option<Vec<u8>>, AllocError>
         ensures { IfOk result (λ sent. Reacts
-            (hears self.old.phase self.old method.now (view params)) sent self.new) }
+            (react_to_notification self.old.phase self.old method.now (view params)) sent
+            self.new) }
     {
         if let Phase::Running = self.phase {
             return self.handle_notification(method, params);
@@ -328,7 +336,7 @@ impl<T: TextStore> Server<T> {
         params: Value,
     ) -> Result<Option<Vec<u8>>, AllocError>
         ensures { IfOk result (λ sent. Reacts
-            (reaction_to self.old (note_of method.now (view params))) sent self.new) }
+            (apply_notification self.old (note_of method.now (view params))) sent self.new) }
     {
         match notice(self.alloc, method, params) {
             Ok(note) => self.apply_notification(note),
@@ -356,7 +364,7 @@ impl<T: TextStore> Server<T> {
         note: ClientNotification,
     ) -> Result<Option<Vec<u8>>, AllocError>
         ensures { IfOk result
-            (λ sent. Reacts (reaction_to self.old (seen_note note)) sent self.new) }
+            (λ sent. Reacts (apply_notification self.old (seen_note note)) sent self.new) }
     {
         match note {
             ClientNotification::Exit => {
@@ -386,7 +394,7 @@ impl<T: TextStore> Server<T> {
 
     fn open(&mut self, uri: &str, version: i64, text: String) -> Result<Option<Vec<u8>>, AllocError>
         ensures { IfOk result (λ sent. Reacts
-            (reaction_to self.old (opens uri.now version (chars (string_bytes text)))) sent
+            (apply_notification self.old (opens uri.now version (chars (string_bytes text)))) sent
             self.new) }
     {
         self.documents.did_open(uri, version, text)?;
@@ -399,7 +407,7 @@ impl<T: TextStore> Server<T> {
         version: i64,
         all: Vec<Change>,
     ) -> Result<Option<Vec<u8>>, AllocError>
-        ensures { IfOk result (λ sent. Reacts (reaction_to self.old
+        ensures { IfOk result (λ sent. Reacts (apply_notification self.old
             (changes (string_bytes uri) version (map reported_change all.items))) sent self.new) }
     {
         self.documents.did_change(uri.as_str(), version, all)?;
@@ -408,7 +416,7 @@ impl<T: TextStore> Server<T> {
 
     fn close(&mut self, uri: &str) -> Result<Option<Vec<u8>>, AllocError>
         ensures { IfOk result
-            (λ sent. Reacts (reaction_to self.old (closes uri.now)) sent self.new) }
+            (λ sent. Reacts (apply_notification self.old (closes uri.now)) sent self.new) }
     {
         if !self.documents.did_close(uri) {
             return Ok(None);

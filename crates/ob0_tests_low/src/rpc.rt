@@ -2,7 +2,7 @@
 
 use crate::text::at;
 use ob0_rpc::{
-    Call, Client, Id, Incoming, OneMember, RpcFault, Written, error, notification, notify, read,
+    Call, Client, Id, Incoming, OneMember, RpcFault, WriteJson, error, notification, notify, read,
     request, result, result_of,
 };
 use ob0_text::{Indent, Range};
@@ -245,7 +245,7 @@ fn is_written(written: Result<Vec<u8>, AllocError>, wanted: &str) -> bool {
 }
 
 /// Whether the answer to a request with this id and value is written so.
-fn is_answer<W: Written>(alloc: Global, id: &Id, value: &W, wanted: &str) -> bool {
+fn is_answer<W: WriteJson>(alloc: Global, id: &Id, value: &W, wanted: &str) -> bool {
     is_written(result_of(alloc, id, value), wanted)
 }
 

@@ -2,7 +2,7 @@
 
 use crate::devices::{Count, Counter, Source};
 use ob0_cli::{CommandFault, CommandLine, command};
-use ob0_commands::{Flushed, Watched, check_text, rename_text, run_text};
+use ob0_commands::{TrackedReader, TrackedWriter, check_text, rename_text, run_text};
 use ob0_text::Position;
 use std::alloc::Global;
 use std::process::Abort;
@@ -21,10 +21,10 @@ enum Called {
 fn run_status(
     alloc: Global,
     input: &[u8],
-    out: &mut Flushed<Counter<'_>>,
-    err: &mut Flushed<Counter<'_>>,
+    out: &mut TrackedWriter<Counter<'_>>,
+    err: &mut TrackedWriter<Counter<'_>>,
 ) -> u8 {
-    let mut input = Watched::new(Source {
+    let mut input = TrackedReader::new(Source {
         bytes: input,
         most: 1,
         calls_left: 16,
@@ -35,8 +35,8 @@ fn run_status(
 fn status_of(
     alloc: Global,
     called: Called,
-    out: &mut Flushed<Counter<'_>>,
-    err: &mut Flushed<Counter<'_>>,
+    out: &mut TrackedWriter<Counter<'_>>,
+    err: &mut TrackedWriter<Counter<'_>>,
 ) -> u8 {
     match called {
         Called::Check => check_text(alloc, b"", out, err),
@@ -51,14 +51,14 @@ fn status_of(
 /// The status of a call where `flushes` flushes succeed, and how many bytes are passed on.
 fn outcome_of(alloc: Global, called: Called, flushes: u32) -> (u8, usize) {
     let (mut printed, mut reported) = (Count::new(512, flushes), Count::new(512, 1));
-    let mut out = Flushed::new(Counter {
+    let mut out = TrackedWriter::new(Counter {
         count: &mut printed,
     });
-    let mut err = Flushed::new(Counter {
+    let mut err = TrackedWriter::new(Counter {
         count: &mut reported,
     });
     let status = status_of(alloc, called, &mut out, &mut err);
-    (status, printed.handed_on)
+    (status, printed.passed_on)
 }
 
 /// Whether a call ends with this status and passes on this many bytes.

@@ -26,18 +26,18 @@ impl<'a> Read for Source<'a> {
 #[derive(Clone, Copy)]
 pub struct Count {
     pub written: usize,
-    pub handed_on: usize,
-    pub room: usize,
+    pub passed_on: usize,
+    pub capacity: usize,
     pub flushes_left: u32,
 }
 
 impl Count {
     /// Nothing is written yet.
-    pub fn new(room: usize, flushes_left: u32) -> Count {
+    pub fn new(capacity: usize, flushes_left: u32) -> Count {
         Count {
             written: 0,
-            handed_on: 0,
-            room,
+            passed_on: 0,
+            capacity,
             flushes_left,
         }
     }
@@ -52,11 +52,11 @@ pub struct Counter<'a> {
 
 impl<'a> Write for Counter<'a> {
     fn write(&mut self, buf: &[u8]) -> io::Result<usize> {
-        if self.count.room == 0 {
+        if self.count.capacity == 0 {
             return Err(io::ErrorKind::Other.into());
         }
-        let taken = self.count.room.min(buf.len());
-        self.count.room -= taken;
+        let taken = self.count.capacity.min(buf.len());
+        self.count.capacity -= taken;
         self.count.written = self.count.written.saturating_add(taken);
         Ok(taken)
     }
@@ -66,7 +66,7 @@ impl<'a> Write for Counter<'a> {
             return Err(io::ErrorKind::Other.into());
         }
         self.count.flushes_left -= 1;
-        self.count.handed_on = self.count.written;
+        self.count.passed_on = self.count.written;
         Ok(())
     }
 }

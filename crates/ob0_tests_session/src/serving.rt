@@ -23,26 +23,26 @@ const BAD_HEAD: &[u8] = b"Content-Length: 75\r\n\r\n\
     Content-Length: x\r\n\r\n";
 
 /// How a conversation ends: the first `len` of its bytes are read, in pieces of `given` bytes by `reads` reads at most,
-/// and its writer takes `room` bytes and `flushes` flushes.
+/// and its writer takes `capacity` bytes and `flushes` flushes.
 struct ServeEnd {
     bytes: &'static [u8],
     len: usize,
     given: usize,
     reads: u32,
-    room: usize,
+    capacity: usize,
     flushes: u32,
     result: Result<u8, ServeFault>,
 }
 
-/// `BYTES to LEN, GIVEN a read, READS; ROOM, FLUSHES => RESULT;` for each.
+/// `BYTES to LEN, GIVEN a read, READS; CAPACITY, FLUSHES => RESULT;` for each.
 macro_rules! ends {
-    ($($bytes:ident to $len:expr, $given:expr, $reads:expr; $room:expr, $flushes:expr => $result:expr;)*) => {
+    ($($bytes:ident to $len:expr, $given:expr, $reads:expr; $capacity:expr, $flushes:expr => $result:expr;)*) => {
         &[$(ServeEnd {
             bytes: $bytes,
             len: $len,
             given: $given,
             reads: $reads,
-            room: $room,
+            capacity: $capacity,
             flushes: $flushes,
             result: $result,
         }),*]
@@ -95,7 +95,7 @@ fn broke_by(end: Result<u8, ServeFault>, fault: ServeFault) -> bool {
 
 /// Whether a conversation ends by a write that failed, where only `flushes` flushes succeed.
 fn breaks_off(alloc: Global, end: &ServeEnd, flushes: u32) -> bool {
-    let mut count = Count::new(end.room, flushes);
+    let mut count = Count::new(end.capacity, flushes);
     broke_by(converse(alloc, end, &mut count).result, ServeFault::Write)
 }
 
@@ -109,9 +109,9 @@ fn is_reported(found: Found) -> bool {
 /// Whether a conversation ends as it is to end, with all that was written passed on, where just its number of flushes
 /// succeed.
 fn ends_flushed(alloc: Global, end: &ServeEnd) -> bool {
-    let mut count = Count::new(end.room, end.flushes);
+    let mut count = Count::new(end.capacity, end.flushes);
     let found = converse(alloc, end, &mut count);
-    found.result == end.result && is_reported(found) && count.handed_on == count.written
+    found.result == end.result && is_reported(found) && count.passed_on == count.written
 }
 
 /// Whether a conversation needs each of its flushes.

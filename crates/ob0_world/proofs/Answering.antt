@@ -1,4 +1,4 @@
--- What a session promises, in the words of the two ends.
+-- What a session promises, in the words of client and server.
 -- `served` is the one lemma. A request with edits is an arm of `request_served` that goes through `about_document`,
 -- with a lemma for a text in step (`formatted`, `renamed`, `inlined`). What is answered is stated in the session's own
 -- words (`GivesEdits`, `Refuses` by cases of the ask), so it is passed on as it is. Both asks to inline send the same
@@ -30,7 +30,7 @@ use Rattle.ob0_rpc.specs.declared.clients.Client.{Client}
 use Rattle.ob0_edits.specs.Inlinings.{Offers}
 use Rattle.ob0_session_answers.specs.Actions.{RequestedActions, ListsActions, wants_inlining, actions_offset, actions_value}
 use Rattle.ob0_session_server.specs.Answers as answers_of
-use Rattle.ob0_session_server.specs.Answers.{ServerState, Reply, SaysReply, Sends, Reaction, reacts, reaction_to, hears, reaction_to_call, reaction_to_request as requested_in, calls, answers_about, lays_out, renames, offers_actions, published, Answers, AnswersInState, AnswersGoingOn, says}
+use Rattle.ob0_session_server.specs.Answers.{ServerState, Reply, SaysReply, Sends, Reaction, react, apply_notification, react_to_notification, answer_method, react_to_request as requested_in, answer_request, answers_about, lays_out, renames, offers_actions, published, Answers, AnswersInState, AnswersGoingOn, says}
 use Rattle.ob0_analysis.specs.Diagnosed.{Complaint, IsWellTypedModule, Reports, ReportsFaults, complaint_of}
 use Rattle.ob0_session_answers.specs.Diagnostics.{Diagnoses, diagnostic_of}
 use Rattle.ob0_analysis.specs.Texts.{utf8}
@@ -47,7 +47,7 @@ use Rattle.ob0_world_editor.proofs.Hearing.{understood_as}
 use Rattle.ob0_world_rules.specs.Edited.{Replacement, replacement_of, replacements}
 use Rattle.ob0_world_rules.specs.Asks.{Ask, rename, inline_here, inline_all, format, indent_read}
 use Rattle.ob0_world_rules.specs.Answers.{place_at, AnswersFor, IsAnswer, IsEmptyIfCorrect}
-use Rattle.ob0_world_rules.specs.Ends.{SentAsk, request_numbered, ToServer, notifies, requests, ToEditor, publishes, answers, after_message}
+use Rattle.ob0_world_rules.specs.ClientAndServer.{SentAsk, request_numbered, ToServer, notifies, requests, ToEditor, publishes, answers, after_message}
 use Rattle.ob0_world_rules.specs.Serving.{Publishes, Replies}
 use Rattle.ob0_world_rules.proofs.ModuleTexts.{well_typed_text, well_typed_module}
 use Rattle.ob0_world_rules.proofs.UriLaws.{get_put, uri_itself}
@@ -167,7 +167,7 @@ pub record Served (requested : List SentAsk) (m : ToServer) (before after : Serv
   pub replies : Replies before.held m said (option_to_list (made_first after.held said))
 
 -- the reaction to a notification, and what it saying
-note_served : (requested : List SentAsk) (note : DocumentEvent) (before after : ServerState) (sent : List (List ℕ)) → IsRunning before → HasVersion note → after ≡ (reaction_to before (sent_as note)).after → SaysReply (reaction_to before (sent_as note)).say sent
+note_served : (requested : List SentAsk) (note : DocumentEvent) (before after : ServerState) (sent : List (List ℕ)) → IsRunning before → HasVersion note → after ≡ (apply_notification before (sent_as note)).after → SaysReply (apply_notification before (sent_as note)).say sent
     → Served requested (notifies note) before after sent
 note_served requested (Opened uri version text) before after sent running fits is saying =
     let held : OpenDocuments = opened before.held uri version text in
@@ -192,7 +192,7 @@ note_served requested (Lost uri) before after sent running fits is saying =
 note_served requested (Closed uri) before after sent running fits is saying =
     subst (λ a. Served requested (notifies (Closed uri)) before a sent) (sym is) (go (is_some (document_at before.held uri)) refl saying)
   where
-    go : (b : Bool) → is_some (document_at before.held uri) ≡ b → SaysReply (cond b (says (publication uri None [])) answers_of.nothing) sent → Served requested (notifies (Closed uri)) before (reaction_to before (sent_as (Closed uri))).after sent
+    go : (b : Bool) → is_some (document_at before.held uri) ≡ b → SaysReply (cond b (says (publication uri None [])) answers_of.nothing) sent → Served requested (notifies (Closed uri)) before (apply_notification before (sent_as (Closed uri))).after sent
     go true was saying = record {
       running = running;
       held = refl;
@@ -397,32 +397,32 @@ about_document requested k uri ask say before after sent running of in_step (Som
 
 -- a request of the editor, while the session runs
 request_served : (requested : List SentAsk) (k : ℕ) (uri : List ℕ) (ask : Ask) (params : Data) (before after : ServerState) (sent : List (List ℕ)) → IsRunning before → IsAsk requested k uri ask → request_by_method (method_of ask) params ≡ Ok (call_for uri ask)
-    → after ≡ (reaction_to_call before (number (unsigned k)) (method_of ask) params).after → SaysReply (reaction_to_call before (number (unsigned k)) (method_of ask) params).say sent → Served requested (requests k uri ask) before after sent
+    → after ≡ (answer_method before (number (unsigned k)) (method_of ask) params).after → SaysReply (answer_method before (number (unsigned k)) (method_of ask) params).say sent → Served requested (requests k uri ask) before after sent
 request_served requested k uri (rename position name) params before after sent running of call is saying =
     let id : Data = number (unsigned k) in
     let say : ℤ → List ℕ → Reply = λ version. renames before.held.unit (rename_requested before.client k uri position name version) in
-    let so : reaction_to_call before id (method_of (rename position name)) params ≡ answers_about before id (document_at before.held uri) say = ap (calls before id) call in
+    let so : answer_method before id (method_of (rename position name)) params ≡ answers_about before id (document_at before.held uri) say = ap (answer_request before id) call in
     about_document requested k uri (rename position name) say before after sent running of
     (λ version text. renamed requested k uri position name before.client before.held.unit version text sent running.1 of) (document_at before.held uri) refl
     (is ∙ ap (λ (x : Reaction). x.after) so) (subst (λ (x : Reaction). SaysReply x.say sent) so saying)
 request_served requested k uri (inline_here position) params before after sent running of call is saying =
     let id : Data = number (unsigned k) in
     let say : ℤ → List ℕ → Reply = λ version. offers_actions before.held.unit (actions_requested_at before.client k uri position version) in
-    let so : reaction_to_call before id (method_of (inline_here position)) params ≡ answers_about before id (document_at before.held uri) say = ap (calls before id) call in
+    let so : answer_method before id (method_of (inline_here position)) params ≡ answers_about before id (document_at before.held uri) say = ap (answer_request before id) call in
     about_document requested k uri (inline_here position) say before after sent running of
     (λ version text. inlined Here requested k uri position before.client before.held.unit version text sent running.1 running.2 of) (document_at before.held uri) refl
     (is ∙ ap (λ (x : Reaction). x.after) so) (subst (λ (x : Reaction). SaysReply x.say sent) so saying)
 request_served requested k uri (inline_all position) params before after sent running of call is saying =
     let id : Data = number (unsigned k) in
     let say : ℤ → List ℕ → Reply = λ version. offers_actions before.held.unit (actions_requested_at before.client k uri position version) in
-    let so : reaction_to_call before id (method_of (inline_all position)) params ≡ answers_about before id (document_at before.held uri) say = ap (calls before id) call in
+    let so : answer_method before id (method_of (inline_all position)) params ≡ answers_about before id (document_at before.held uri) say = ap (answer_request before id) call in
     about_document requested k uri (inline_all position) say before after sent running of
     (λ version text. inlined Everywhere requested k uri position before.client before.held.unit version text sent running.1 running.2 of) (document_at before.held uri) refl
     (is ∙ ap (λ (x : Reaction). x.after) so) (subst (λ (x : Reaction). SaysReply x.say sent) so saying)
 request_served requested k uri (format indent) params before after sent running of call is saying =
     let id : Data = number (unsigned k) in
     let say : ℤ → List ℕ → Reply = λ version. lays_out before.held.unit id (indent_read indent) in
-    let so : reaction_to_call before id (method_of (format indent)) params ≡ answers_about before id (document_at before.held uri) say = ap (calls before id) call in
+    let so : answer_method before id (method_of (format indent)) params ≡ answers_about before id (document_at before.held uri) say = ap (answer_request before id) call in
     about_document requested k uri (format indent) say before after sent running of
     (λ version text. formatted requested k uri indent before.held.unit version text sent of) (document_at before.held uri) refl
     (is ∙ ap (λ (x : Reaction). x.after) so) (subst (λ (x : Reaction). SaysReply x.say sent) so saying)
@@ -434,30 +434,30 @@ going_on : (before after : ServerState) (content : List ℕ) (sent : List (List 
 going_on before after content sent running h = subst (λ phase. AnswersInState phase before content sent after) running.0 h
 
 -- what comes of a content with this meaning
-pub reacts_so : (before after : ServerState) (content : List ℕ) (sent : List (List ℕ)) (d : Data) → AnswersGoingOn before content sent after → ReadsContent content (Some d) → (after ≡ (reacts before (meaning_of d)).after) × SaysReply (reacts before (meaning_of d)).say sent
+pub reacts_so : (before after : ServerState) (content : List ℕ) (sent : List (List ℕ)) (d : Data) → AnswersGoingOn before content sent after → ReadsContent content (Some d) → (after ≡ (react before (meaning_of d)).after) × SaysReply (react before (meaning_of d)).say sent
 reacts_so before after content sent d (json, reads, answer) known =
-    subst (λ j. (after ≡ (reacts before (meaning j)).after) × SaysReply (reacts before (meaning j)).say sent) (same_json content json d reads known) answer
+    subst (λ j. (after ≡ (react before (meaning j)).after) × SaysReply (react before (meaning j)).say sent) (same_json content json d reads known) answer
 
 -- a request of this editor is looked at by its method, while the session runs
-begun : (ask : Ask) (s : ServerState) (params : Data) (k : ℕ) → requested_in Running s (number (unsigned k)) (method_of ask) params ≡ reaction_to_call s (number (unsigned k)) (method_of ask) params
+begun : (ask : Ask) (s : ServerState) (params : Data) (k : ℕ) → requested_in Running s (number (unsigned k)) (method_of ask) params ≡ answer_method s (number (unsigned k)) (method_of ask) params
 begun (rename position name) s params k = refl
 begun (inline_here position) s params k = refl
 begun (inline_all position) s params k = refl
 begun (format indent) s params k = refl
 
 pub request_reaction : (k : ℕ) (uri : List ℕ) (ask : Ask) (before after : ServerState) (content : List ℕ) (sent : List (List ℕ)) → IsRunning before → (is : heard_as.IsRequest k uri ask content) → Answers before content sent after
-    → (after ≡ (reaction_to_call before (number (unsigned k)) (method_of ask) is.params).after) × SaysReply (reaction_to_call before (number (unsigned k)) (method_of ask) is.params).say sent
+    → (after ≡ (answer_method before (number (unsigned k)) (method_of ask) is.params).after) × SaysReply (answer_method before (number (unsigned k)) (method_of ask) is.params).say sent
 request_reaction k uri ask before after content sent running is h =
     let answer = reacts_so before after content sent is.json (going_on before after content sent running h) is.reads in
-    let so : reacts before (meaning_of is.json) ≡ reaction_to_call before (number (unsigned k)) (method_of ask) is.params =
-    ap (reacts before) is.means ∙ ap (λ phase. requested_in phase before (number (unsigned k)) (method_of ask) is.params) running.0 ∙ begun ask before is.params k in
+    let so : react before (meaning_of is.json) ≡ answer_method before (number (unsigned k)) (method_of ask) is.params =
+    ap (react before) is.means ∙ ap (λ phase. requested_in phase before (number (unsigned k)) (method_of ask) is.params) running.0 ∙ begun ask before is.params k in
     (answer.0 ∙ ap (λ (x : Reaction). x.after) so, subst (λ (x : Reaction). SaysReply x.say sent) so answer.1)
 
 pub served : (requested : List SentAsk) (m : ToServer) (before after : ServerState) (content : List ℕ) (sent : List (List ℕ)) → IsRunning before → heard_as.SaysToServer requested m content → Answers before content sent after → Served requested m before after sent
 served requested (notifies note) before after content sent running is h =
     let answer = reacts_so before after content sent is.json (going_on before after content sent running h) is.reads in
-    let so : reacts before (meaning_of is.json) ≡ reaction_to before (sent_as note) =
-    ap (reacts before) is.means ∙ ap (λ phase. hears phase before is.method is.params) running.0 ∙ ap (reaction_to before) is.reported in
+    let so : react before (meaning_of is.json) ≡ apply_notification before (sent_as note) =
+    ap (react before) is.means ∙ ap (λ phase. react_to_notification phase before is.method is.params) running.0 ∙ ap (apply_notification before) is.reported in
     note_served requested note before after sent running is.fits (answer.0 ∙ ap (λ (x : Reaction). x.after) so) (subst (λ (x : Reaction). SaysReply x.say sent) so answer.1)
 served requested (requests k uri ask) before after content sent running (is, of) h =
     let reaction = request_reaction k uri ask before after content sent running is h in

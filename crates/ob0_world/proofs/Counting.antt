@@ -9,7 +9,7 @@ use Rattle.ob0_text.specs.OpenDocuments.{TextChange}
 use Rattle.ob0_text.specs.declared.position_types.Unit.{Unit}
 use Rattle.ob0_world_rules.specs.Edited.{whole_text}
 use Rattle.ob0_world_rules.specs.Asks.{Ask}
-use Rattle.ob0_world_rules.specs.Ends.{Open, SentAsk, Editor, open_at, ToServer, ToEditor, publishes, answers, Applied, Ends, new_editor}
+use Rattle.ob0_world_rules.specs.ClientAndServer.{Open, SentAsk, Editor, open_at, ToServer, ToEditor, publishes, answers, Applied, ClientAndServer, new_editor}
 use Rattle.ob0_world_rules.specs.Editing.{Act, opens, rewrites, closes, asks, without_answer, done_by, reads}
 use Rattle.ob0_world_rules.specs.Happens.{Event, does, serve, take_message, after_taking, ServerTakes, Happens}
 use Rattle.ob0_world_rules.proofs.Acts.{edit_of, of_each}
@@ -96,16 +96,16 @@ module _ (n : ℕ) (e : Editor) (within : Within n e) where
   read_within (answers k []) = more n e within
   read_within (answers k (edit ∷ edits)) = let m : Within (n + 1) e = more n e within in record { openings = m.openings; asks = m.asks; versions = m.versions }
 
-module _ (n : ℕ) (w : Ends) (within : Within n w.editor) where
+module _ (n : ℕ) (w : ClientAndServer) (within : Within n w.editor) where
   take_within : (queue : List ToEditor) → Within (n + 1) (after_taking w queue).editor
   take_within [] = more n w.editor within
   take_within (m ∷ rest) = read_within n w.editor within m
 
-  same_editor : (queue : List ToServer) (new : Ends) → ServerTakes w queue new → new.editor ≡ w.editor
-  same_editor [] new h = ap (λ (x : Ends). x.editor) h
-  same_editor (m ∷ rest) new (said, made, may, is) = ap (λ (x : Ends). x.editor) is
+  same_editor : (queue : List ToServer) (new : ClientAndServer) → ServerTakes w queue new → new.editor ≡ w.editor
+  same_editor [] new h = ap (λ (x : ClientAndServer). x.editor) h
+  same_editor (m ∷ rest) new (said, made, may, is) = ap (λ (x : ClientAndServer). x.editor) is
 
-  pub within_step : (event : Event) (new : Ends) → Happens w event new → Within (n + 1) new.editor
-  within_step (does act) new h = subst (λ (x : Ends). Within (n + 1) x.editor) (sym h) (act_within n w.editor within act)
+  pub within_step : (event : Event) (new : ClientAndServer) → Happens w event new → Within (n + 1) new.editor
+  within_step (does act) new h = subst (λ (x : ClientAndServer). Within (n + 1) x.editor) (sym h) (act_within n w.editor within act)
   within_step serve new h = subst (Within (n + 1)) (sym (same_editor w.to_server new h)) (more n w.editor within)
-  within_step take_message new h = subst (λ (x : Ends). Within (n + 1) x.editor) (sym h) (take_within w.to_editor)
+  within_step take_message new h = subst (λ (x : ClientAndServer). Within (n + 1) x.editor) (sym h) (take_within w.to_editor)

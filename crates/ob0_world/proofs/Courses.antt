@@ -14,31 +14,31 @@ use Rattle.ob0_world_editor.specs.Beginning.{client_for}
 use Rattle.ob0_world.specs.declared.events.Event as event
 use Rattle.ob0_world.specs.declared.faults.PlayFault.{PlayFault}
 use Rattle.ob0_world.specs.declared.played.Played as played
-use Rattle.ob0_world_rules.specs.Ends.{Ends, start}
+use Rattle.ob0_world_rules.specs.ClientAndServer.{ClientAndServer, start}
 use Rattle.ob0_world_rules.specs.Happens.{Event, does, serve, take_message, Course}
 use Rattle.ob0_world_rules.specs.Headline.{Headline, WasMadeFor}
 use Rattle.ob0_world_rules.proofs.Interleavings.{in_every_interleaving}
 use Rattle.ob0_world_rules.proofs.MadeFor.{made_for}
 use Rattle.ob0_world_rules.proofs.OneCourse.{one_course}
 use Rattle.ob0_world.specs.Code.{event_of, all_applied, all_made}
-use Rattle.ob0_world.specs.Worlds.{Wire, Both, Begins, TakesFirst, GetsFirst, WritesContent, MovesWire, BothStep, BothCourse, HasCome, HasPassed, Plays, PlaysBefore, SameHistory}
+use Rattle.ob0_world.specs.Worlds.{Wire, Connection, Begins, TakesFirst, GetsFirst, WritesContent, MovesWire, ConnectionStep, ConnectionCourse, HasCome, HasPassed, Plays, PlaysBefore, SameHistory}
 
 -- ---- one event more
 
-both_push : (begin : Both) (events : List Event) (between : Both) (e : Event) (new : Both) → BothCourse begin events between → BothStep between e new → BothCourse begin (events ++ e ∷ []) new
-both_push begin [] between e new is step = (new, subst (λ (x : Both). BothStep x e new) is step, refl)
-both_push begin (first ∷ events) between e new (next, made, rest) step = (next, made, both_push next events between e new rest step)
+connection_push : (begin : Connection) (events : List Event) (between : Connection) (e : Event) (new : Connection) → ConnectionCourse begin events between → ConnectionStep between e new → ConnectionCourse begin (events ++ e ∷ []) new
+connection_push begin [] between e new is step = (new, subst (λ (x : Connection). ConnectionStep x e new) is step, refl)
+connection_push begin (first ∷ events) between e new (next, made, rest) step = (next, made, connection_push next events between e new rest step)
 
-pub course_more : (begin : Both) (events : List event.Event) (i : ℕ) (e : event.Event) (between : Both) (new : Both) → i < length events → e ≡ get_or events i e → BothCourse begin (map event_of (take i events)) between
-    → BothStep between (event_of e) new → BothCourse begin (map event_of (take (i + 1) events)) new
+pub course_more : (begin : Connection) (events : List event.Event) (i : ℕ) (e : event.Event) (between : Connection) (new : Connection) → i < length events → e ≡ get_or events i e → ConnectionCourse begin (map event_of (take i events)) between
+    → ConnectionStep between (event_of e) new → ConnectionCourse begin (map event_of (take (i + 1) events)) new
 course_more begin events i e between new within is course step =
-    subst (λ es. BothCourse begin es new)
+    subst (λ es. ConnectionCourse begin es new)
     (sym (ap (map event_of) (take_more events i e within) ∙ map-append event_of (take i events) (get_or events i e ∷ [])))
-    (both_push begin (map event_of (take i events)) between (event_of (get_or events i e)) new course (subst (λ x. BothStep between (event_of x) new) is step))
+    (connection_push begin (map event_of (take i events)) between (event_of (get_or events i e)) new course (subst (λ x. ConnectionStep between (event_of x) new) is step))
 
-model_course : (begin : Both) (events : List Event) (end : Both) → BothCourse begin events end → Course begin.ends events end.ends
-model_course begin [] end is = ap (λ (w : Both). w.ends) is
-model_course begin (e ∷ events) end (between, step, rest) = (between.ends, step.happens, model_course between events end rest)
+model_course : (begin : Connection) (events : List Event) (end : Connection) → ConnectionCourse begin events end → Course begin.model events end.model
+model_course begin [] end is = ap (λ (w : Connection). w.model) is
+model_course begin (e ∷ events) end (between, step, rest) = (between.model, step.happens, model_course between events end rest)
 
 -- ---- the session's conversation
 
@@ -72,19 +72,19 @@ moved_conversed (does act) old new moves h = writes_conversed old new moves h
 moved_conversed serve old new moves h = takes_conversed old.to_server old new moves h
 moved_conversed take_message old new moves h = gets_conversed old.to_editor old new refl moves h
 
-begins_conversed : (unit : Unit) (w : Both) → Begins unit w → Conversed w.wire
+begins_conversed : (unit : Unit) (w : Connection) → Begins unit w → Conversed w.wire
 unfolding Conversed
 begins_conversed unit w b =
     subst Conversed (sym b.wire)
     (begins (client_for unit), refl, subst (λ x. Conversation server.start (b.content ∷ []) x (begins (client_for unit))) (sym (append-nil b.replies)) (answered_once server.start b.content b.replies (begins (client_for unit)) b.answers))
 
-course_conversed : (begin : Both) (events : List Event) (end : Both) → BothCourse begin events end → Conversed begin.wire → Conversed end.wire
-course_conversed begin [] end is h = subst (λ (w : Both). Conversed w.wire) (sym is) h
+course_conversed : (begin : Connection) (events : List Event) (end : Connection) → ConnectionCourse begin events end → Conversed begin.wire → Conversed end.wire
+course_conversed begin [] end is h = subst (λ (w : Connection). Conversed w.wire) (sym is) h
 course_conversed begin (e ∷ events) end (between, step, rest) h = course_conversed between events end rest (moved_conversed e begin.wire between.wire step.moves h)
 
 -- ---- what has come of it
 
-headline : (unit : Unit) (events : List event.Event) (w : Ends) (p : played.Played) → Course (start unit) (map event_of events) w → HasCome w p → Headline unit (map event_of events) (all_applied p) (all_made p)
+headline : (unit : Unit) (events : List event.Event) (w : ClientAndServer) (p : played.Played) → Course (start unit) (map event_of events) w → HasCome w p → Headline unit (map event_of events) (all_applied p) (all_made p)
 headline unit events w p course come =
     record {
       end = w;
@@ -96,19 +96,19 @@ headline unit events w p course come =
       made_for = subst (All (WasMadeFor unit (map event_of events))) (sym come.1) (made_for unit (map event_of events) w course);
     }
 
-course_begun : (unit : Unit) (begin : Both) (events : List Event) (end : Both) → Begins unit begin → BothCourse begin events end → Course (start unit) events end.ends
-course_begun unit begin events end begun course = subst (λ w. Course w events end.ends) begun.ends (model_course begin events end course)
+course_begun : (unit : Unit) (begin : Connection) (events : List Event) (end : Connection) → Begins unit begin → ConnectionCourse begin events end → Course (start unit) events end.model
+course_begun unit begin events end begun course = subst (λ w. Course w events end.model) begun.model (model_course begin events end course)
 
 conversation_of : (w : Wire) (p : played.Played) → HasPassed w p → Conversed w → (after : ServerState) × Conversation server.start (map (λ v. v.items) p.taken.items) (map (λ v. v.items) p.got.items ++ map (λ v. v.items) p.unread.items) after
 unfolding Conversed
 conversation_of w p passed (after, at, so) =
     (after, subst (λ (x : Wire). Conversation server.start x.taken (x.got ++ x.to_editor) after) (λ i. record w { taken = sym passed.0 i; got = sym passed.1 i; to_editor = sym passed.2 i }) so)
 
-pub plays : (unit : Unit) (events : List event.Event) (begin end : Both) (p : played.Played) → Begins unit begin → BothCourse begin (map event_of events) end → HasCome end.ends p → HasPassed end.wire p → Plays unit events p
+pub plays : (unit : Unit) (events : List event.Event) (begin end : Connection) (p : played.Played) → Begins unit begin → ConnectionCourse begin (map event_of events) end → HasCome end.model p → HasPassed end.wire p → Plays unit events p
 plays unit events begin end p begun course come passed =
     let talked = conversation_of end.wire p passed (course_conversed begin (map event_of events) end course (begins_conversed unit begin begun)) in
     record {
-      headline = headline unit events end.ends p (course_begun unit begin (map event_of events) end begun course) come;
+      headline = headline unit events end.model p (course_begun unit begin (map event_of events) end begun course) come;
       begin = begin;
       begins = begun;
       end = end;
@@ -124,14 +124,14 @@ pub plays_nothing : (unit : Unit) (events : List event.Event) (fault : PlayFault
     → PlaysBefore unit events fault
 plays_nothing unit events fault none applied made taken got unread = inr (record { none = none; headline = headline unit [] (start unit) fault.played refl (applied, made); taken = taken; got = got; unread = unread })
 
-pub come_before : (old new : Both) (p : played.Played) → SameHistory old new → HasCome new.ends p → HasCome old.ends p
+pub come_before : (old new : Connection) (p : played.Played) → SameHistory old new → HasCome new.model p → HasCome old.model p
 come_before old new p same come = (come.0 ∙ same.applied, come.1 ∙ same.made)
 
-pub passed_before : (old new : Both) (p : played.Played) → SameHistory old new → HasPassed new.wire p → HasPassed old.wire p
+pub passed_before : (old new : Connection) (p : played.Played) → SameHistory old new → HasPassed new.wire p → HasPassed old.wire p
 passed_before old new p same passed = (passed.0 ∙ same.taken, passed.1 ∙ same.got, passed.2 ∙ same.unread)
 
 -- memory ran out at the event with this index
-pub plays_before : (unit : Unit) (events : List event.Event) (i : ℕ) (begin w : Both) (fault : PlayFault) → fault.steps ≡ i → i < length events → Begins unit begin → BothCourse begin (map event_of (take i events)) w → HasCome w.ends fault.played → HasPassed w.wire fault.played
+pub plays_before : (unit : Unit) (events : List event.Event) (i : ℕ) (begin w : Connection) (fault : PlayFault) → fault.steps ≡ i → i < length events → Begins unit begin → ConnectionCourse begin (map event_of (take i events)) w → HasCome w.model fault.played → HasPassed w.wire fault.played
     → PlaysBefore unit events fault
 plays_before unit events i begin w fault counted within begun course come passed =
     inl (subst (λ n. (n < length events) × Plays unit (take n events) fault.played) (sym counted) (within, plays unit (take i events) begin w fault.played begun course come passed))

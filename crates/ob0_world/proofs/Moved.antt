@@ -1,4 +1,4 @@
--- What the editor's moves make of both ends.
+-- What the editor's moves make of client and server.
 use Rattle.std.proofs.Common.{◌≡◌, ◌<◌, ◌∙◌, ℕ, Bool, true, false, cond, List, [], ◌∷◌, ◌++◌, length, slice_index_or, Option, Some, None, Result, Ok, Err, refl, sym, ap, subst, arith}
 use Rattle.std.specs.Prelude.{⊤, All, Vec, map, IfOk, OnErr, OnOk, is_some, unwrap_or, option_and_then}
 use Rattle.std.specs.Option.{option_to_list}
@@ -16,7 +16,7 @@ use Rattle.ob0_world_editor.specs.declared.applied.Applying as applying
 use Rattle.ob0_world_editor.proofs.Hearing.{says_heard}
 use Rattle.ob0_world_rules.specs.Edited.{Replacement, after_changes}
 use Rattle.ob0_world_rules.specs.Asks.{Ask}
-use Rattle.ob0_world_rules.specs.Ends.{Open, SentAsk, Editor, open_at, ToServer, ToEditor, publishes, answers, Ends}
+use Rattle.ob0_world_rules.specs.ClientAndServer.{Open, SentAsk, Editor, open_at, ToServer, ToEditor, publishes, answers, ClientAndServer}
 use Rattle.ob0_world_rules.specs.Editing.{Act, open_document, change_document, close_document, ask_about, apply, discard, Done, stays, opens, rewrites, closes, asks, kept_answer, without_answer, done_by, reads}
 use Rattle.ob0_world_rules.specs.Happens.{does, take_message, after_act, after_taking, Happens}
 use Rattle.ob0_world_rules.proofs.Acts.{of_each}
@@ -24,7 +24,7 @@ use Rattle.ob0_world.specs.declared.events.Seen as seen
 use Rattle.ob0_world.specs.declared.played.Made as made
 use Rattle.ob0_world.specs.Seen.{Seen, nothing, applies, drops, if_any, sent_of, act_seen, taken_seen, seen_of, Shows}
 use Rattle.ob0_world.specs.Seen as seen_as
-use Rattle.ob0_world.specs.Queues.{Contents, bytes, all_heard, all_understood, IsHeard, IsUnderstood, Sound, ends_from, wire_from, IsSent, MovesFirst}
+use Rattle.ob0_world.specs.Queues.{Contents, bytes, all_heard, all_understood, IsHeard, IsUnderstood, Sound, model_from, wire_from, IsSent, MovesFirst}
 use Rattle.ob0_world.specs.Worlds.{WritesContent}
 use Rattle.ob0_world.proofs.Waiting.{all_heard_still, all_understood_still, heard_still, understood_same, said_push, said_first}
 
@@ -83,13 +83,13 @@ heard_acted requested (m ∷ more) (Some c) q says =
 
 -- client and server once an act is done
 pub acted : (e new : Editor) (done : Done) (content : Option (Vec ℕ Global)) (q q' r : Contents) (s : SessionState) (ap_list ap_new : List applied.Applied) (md : List made.Made) → Grows e done.editor → Acts done content new → q' ≡ q ++ option_to_list content
-    → map applied_of ap_new ≡ map applied_of ap_list ++ done.applied → Sound e.requested q r s → ends_from new q' s r ap_new md ≡ after_act (ends_from e q s r ap_list md) done
+    → map applied_of ap_new ≡ map applied_of ap_list ++ done.applied → Sound e.requested q r s → model_from new q' s r ap_new md ≡ after_act (model_from e q s r ap_list md) done
 acted e new done content q q' r s ap_list ap_new md grows acts is more sound =
     let (since, grew) = grown e new done grows acts.0 in
     let waits : all_heard new.requested q' ≡ all_heard e.requested q ++ done.sent =
     ap (all_heard new.requested) is ∙ heard_acted new.requested done.sent content q acts.1
     ∙ ap (λ ms. ms ++ done.sent) (ap (λ requested. all_heard requested q) grew ∙ heard_still e.requested since q sound.heard_all) in
-    (λ i. record (ends_from e q s r ap_list md) {
+    (λ i. record (model_from e q s r ap_list md) {
       editor = acts.0 i;
       to_server = waits i;
       to_editor = (ap (λ requested. all_understood requested r) grew ∙ understood_same e.requested since r sound.understood_all) i;
@@ -154,11 +154,11 @@ sent_sound act e new content q q' r s (Ok shown) acts sent none sound = acted_so
 sent_sound act e new content q q' r s (Err x) acts sent none sound =
     subst (λ x. Sound new.requested x r s) (sym none) (grown_sound e new q r s (grown e new (done_by e act) (act_grows e act) acts.0) sound)
 
-pub sent_shows : {X : Type 0} (act : Act) (old : Ends) (e new : Editor) (content : Option (Vec ℕ Global)) (q q' r : Contents) (s : SessionState) (ap_list : List applied.Applied) (md : List made.Made) (result : Result seen.Seen X)
-    → ends_from e q s r ap_list md ≡ old → (done_by e act).applied ≡ [] → act_seen e act ≡ sent_of (done_by e act) → Acts (done_by e act) content new → IfOk result (λ shown. IsSent q content shown q') → Sound e.requested q r s
-    → IfOk result (λ shown. Shows old (does act) (seen_of shown) (ends_from new q' s r ap_list md))
+pub sent_shows : {X : Type 0} (act : Act) (old : ClientAndServer) (e new : Editor) (content : Option (Vec ℕ Global)) (q q' r : Contents) (s : SessionState) (ap_list : List applied.Applied) (md : List made.Made) (result : Result seen.Seen X)
+    → model_from e q s r ap_list md ≡ old → (done_by e act).applied ≡ [] → act_seen e act ≡ sent_of (done_by e act) → Acts (done_by e act) content new → IfOk result (λ shown. IsSent q content shown q') → Sound e.requested q r s
+    → IfOk result (λ shown. Shows old (does act) (seen_of shown) (model_from new q' s r ap_list md))
 sent_shows act old e new content q q' r s ap_list md (Ok shown) was none as_sent acts sent sound =
-    subst (λ (w : Ends). Shows w (does act) (seen_of shown) (ends_from new q' s r ap_list md)) was (
+    subst (λ (w : ClientAndServer). Shows w (does act) (seen_of shown) (model_from new q' s r ap_list md)) was (
       acted e new (done_by e act) content q q' r s ap_list ap_list md (act_grows e act) acts (put q q' content shown sent) (sym (append-nil (map applied_of ap_list)) ∙ ap (λ x. map applied_of ap_list ++ x) (sym none)) sound,
       seen_sent (done_by e act) new.requested q q' content shown acts.1 sent ∙ sym as_sent,
     )
@@ -171,7 +171,7 @@ pub silent_acts : (done : Done) (new : Editor) → IsSilent done new → Acts do
 silent_acts done new (is, nothing_sent, none) = (is, subst (λ ms. SaysSent new.requested ms None) (sym nothing_sent) tt)
 
 pub silent_shows : (act : Act) (e new : Editor) (q r : Contents) (s : SessionState) (ap_list : List applied.Applied) (md : List made.Made) → IsSilent (done_by e act) new → Sound e.requested q r s
-    → Happens (ends_from e q s r ap_list md) (does act) (ends_from new q s r ap_list md)
+    → Happens (model_from e q s r ap_list md) (does act) (model_from new q s r ap_list md)
 silent_shows act e new q r s ap_list md silent sound =
     acted e new (done_by e act) None q q r s ap_list ap_list md (act_grows e act) (silent_acts (done_by e act) new silent) (sym (append-nil q)) (sym (append-nil (map applied_of ap_list)) ∙ ap (λ x. map applied_of ap_list ++ x) (sym silent.2)) sound
 
@@ -206,7 +206,7 @@ made_says e new k a c comes = go (done_by e (apply k)).sent comes.0.1
     go (m ∷ more) says = (m, says.0)
 
 pub made_happens : (e new : Editor) (k : ℕ) (a : applied.Applied) (c : Vec ℕ Global) (q q' r : Contents) (s : SessionState) (ap_list ap_new : List applied.Applied) (md : List made.Made) → ComesOf (done_by e (apply k)) (is_some (kept_answer k e.answers)) (applying.TheVariants.Made a c) new
-    → q' ≡ q ++ c ∷ [] → ap_new ≡ ap_list ++ a ∷ [] → Sound e.requested q r s → Shows (ends_from e q s r ap_list md) (does (apply k)) (applies k) (ends_from new q' s r ap_new md)
+    → q' ≡ q ++ c ∷ [] → ap_new ≡ ap_list ++ a ∷ [] → Sound e.requested q r s → Shows (model_from e q s r ap_list md) (does (apply k)) (applies k) (model_from new q' s r ap_new md)
 made_happens e new k a c q q' r s ap_list ap_new md comes is_q is_ap sound = (
   acted e new (done_by e (apply k)) (Some c) q q' r s ap_list ap_new md (act_grows e (apply k)) comes.0 is_q
       (ap (map applied_of) is_ap ∙ map-append applied_of ap_list (a ∷ []) ∙ ap (λ x. map applied_of ap_list ++ x) (sym comes.1)) sound,
@@ -214,11 +214,11 @@ made_happens e new k a c q q' r s ap_list ap_new md comes is_q is_ap sound = (
 )
 
 pub dropped_happens : (e new : Editor) (k : ℕ) (q r : Contents) (s : SessionState) (ap_list : List applied.Applied) (md : List made.Made) → ComesOf (done_by e (apply k)) (is_some (kept_answer k e.answers)) applying.TheVariants.Dropped new → Sound e.requested q r s
-    → Shows (ends_from e q s r ap_list md) (does (apply k)) (drops k) (ends_from new q s r ap_list md)
+    → Shows (model_from e q s r ap_list md) (does (apply k)) (drops k) (model_from new q s r ap_list md)
 dropped_happens e new k q r s ap_list md comes sound = (silent_shows (apply k) e new q r s ap_list md comes.0 sound, apply_seen_so e new k applying.TheVariants.Dropped comes)
 
 pub not_held_happens : (e new : Editor) (k : ℕ) (q r : Contents) (s : SessionState) (ap_list : List applied.Applied) (md : List made.Made) → ComesOf (done_by e (apply k)) (is_some (kept_answer k e.answers)) applying.TheVariants.NotHeld new → Sound e.requested q r s
-    → Shows (ends_from e q s r ap_list md) (does (apply k)) nothing (ends_from new q s r ap_list md)
+    → Shows (model_from e q s r ap_list md) (does (apply k)) nothing (model_from new q s r ap_list md)
 not_held_happens e new k q r s ap_list md comes sound = (silent_shows (apply k) e new q r s ap_list md comes.0 sound, apply_seen_so e new k applying.TheVariants.NotHeld comes)
 
 -- ---- taking
@@ -233,12 +233,12 @@ read_asks e (answers number edits) = keep_asks e number edits
 
 -- the editor has read the first content that waits for it
 pub taken_happens : (e new : Editor) (q r rest : Contents) (s : SessionState) (ap_list : List applied.Applied) (md : List made.Made) (c : Vec ℕ Global) (m : ToEditor) → r ≡ c ∷ rest → understood e.requested c.items ≡ Some m → new ≡ reads e m
-    → Shows (ends_from e q s r ap_list md) take_message (taken_seen (m ∷ [])) (ends_from new q s rest ap_list md)
+    → Shows (model_from e q s r ap_list md) take_message (taken_seen (m ∷ [])) (model_from new q s rest ap_list md)
 taken_happens e new q r rest s ap_list md c m first means is =
     let waits : all_understood e.requested r ≡ m ∷ all_understood e.requested rest = ap (all_understood e.requested) first ∙ said_first (understood e.requested) c rest m means in
     let same : new.requested ≡ e.requested = ap (λ (x : Editor). x.requested) is ∙ read_asks e m in
-    let w : Ends = ends_from e q s r ap_list md in
-    let after : ends_from new q s rest ap_list md ≡ after_taking w (m ∷ all_understood e.requested rest) =
+    let w : ClientAndServer = model_from e q s r ap_list md in
+    let after : model_from new q s rest ap_list md ≡ after_taking w (m ∷ all_understood e.requested rest) =
     (λ i. record w { editor = is i; to_server = all_heard (same i) q; to_editor = all_understood (same i) rest }) in
     (after ∙ ap (after_taking w) (sym waits), of_message m ∙ ap taken_seen (sym waits))
   where
@@ -286,6 +286,6 @@ maybe_pushed requested q q' r s c true is says sound = subst (λ x. Sound reques
 maybe_pushed requested q q' r s c false is says sound = subst (λ x. Sound requested x r s) (sym is) sound
 
 pub discard_shows : (e new : Editor) (k : ℕ) (q r : Contents) (s : SessionState) (ap_list : List applied.Applied) (md : List made.Made) (held : Bool) → held ≡ is_some (kept_answer k e.answers) → new ≡ without_answer e k → Sound e.requested q r s
-    → Shows (ends_from e q s r ap_list md) (does (discard k)) (cond held (drops k) nothing) (ends_from new q s r ap_list md)
+    → Shows (model_from e q s r ap_list md) (does (discard k)) (cond held (drops k) nothing) (model_from new q s r ap_list md)
 discard_shows e new k q r s ap_list md held is after sound =
     (silent_shows (discard k) e new q r s ap_list md (after, refl, refl) sound, ap (λ b. cond b (drops k) nothing) is)

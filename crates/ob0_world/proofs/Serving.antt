@@ -1,4 +1,4 @@
--- What the server's turn makes of both ends.
+-- What the server's turn makes of client and server.
 use Rattle.std.proofs.Common.{◌≡◌, ◌∙◌, ℕ, ◌+◌, ◌-◌, arith, Bool, List, [], ◌∷◌, ◌++◌, length, Option, Some, None, refl, sym, ap, subst, cond}
 use Rattle.std.specs.Prelude.{All, Vec, map, option_map, option_and_then}
 use Rattle.std.specs.Option.{option_to_list}
@@ -14,14 +14,14 @@ use Rattle.ob0_world_editor.specs.Heard.{heard, SaysToServer}
 use Rattle.ob0_world_editor.specs.Understood.{understood}
 use Rattle.ob0_world_editor.specs.declared.applied.Applied as applied
 use Rattle.ob0_world_editor.proofs.Hearing.{says_heard}
-use Rattle.ob0_world_rules.specs.Ends.{SentAsk, Editor, ToServer, ToEditor, Made, Ends, after_message}
+use Rattle.ob0_world_rules.specs.ClientAndServer.{SentAsk, Editor, ToServer, ToEditor, Made, ClientAndServer, after_message}
 use Rattle.ob0_world_rules.specs.Serving.{Replies}
 use Rattle.ob0_world_rules.specs.Happens.{serve, ServerTakes}
 use Rattle.ob0_world.specs.Seen as seen
 use Rattle.ob0_world.specs.Seen.{served_seen, Shows}
 use Rattle.ob0_world.specs.declared.played.Made as made
 use Rattle.ob0_world.specs.Code.{publication_of}
-use Rattle.ob0_world.specs.Queues.{Contents, bytes, all_heard, all_understood, IsHeard, IsUnderstood, Sound, IsAnswered, IsRunning, IsRunningOrFailed, held_by, ends_from, wire_from, made_first, made_for, made_sent}
+use Rattle.ob0_world.specs.Queues.{Contents, bytes, all_heard, all_understood, IsHeard, IsUnderstood, Sound, IsAnswered, IsRunning, IsRunningOrFailed, held_by, model_from, wire_from, made_first, made_for, made_sent}
 use Rattle.ob0_world.specs.Worlds.{GetsFirst, TakesFirst}
 use Rattle.ob0_world.proofs.Answering.{Served, served}
 use Rattle.ob0_world.proofs.Waiting.{said_append, said_first, all_appended}
@@ -89,9 +89,9 @@ as_list (Some m) p is = ap option_to_list is
 
 pub turn_happens : (e : Editor) (q rest r r' : Contents) (s s' : SessionState) (ap_list : List applied.Applied) (md md' : List made.Made) (content : Vec ℕ Global) (sent : Contents) (held : OpenDocuments) (o : Option made.Made) (n : ℕ)
     → q ≡ content ∷ rest → Turn e q rest s s' content sent → ((st : ServerState) → s' ≡ serving st → held ≡ st.held) → option_map publication_of o ≡ made_sent held e.requested sent → r' ≡ r ++ sent → md' ≡ md ++ option_to_list o → n ≡ length sent
-    → Shows (ends_from e q s r ap_list md) serve (seen.served n) (ends_from e rest s' r' ap_list md')
+    → Shows (model_from e q s r ap_list md) serve (seen.served n) (model_from e rest s' r' ap_list md')
 turn_happens e q rest r r' s s' ap_list md md' content sent held o n first t references is_made grown more count =
-    let w : Ends = ends_from e q s r ap_list md in
+    let w : ClientAndServer = model_from e q s r ap_list md in
     let said : List ToEditor = t.served_so.said in
     let all : all_understood e.requested sent ≡ said = t.served_so.heard.all in
     let understood_all : All (IsUnderstood e.requested) sent = each_understood e.requested sent t.served_so.heard.each in
@@ -104,7 +104,7 @@ turn_happens e q rest r r' s s' ap_list md md' content sent held o n first t ref
     ap (all_heard e.requested) first ∙ said_first (heard e.requested) content rest t.message (says_heard e.requested t.message content.items t.says) in
     let grew : all_understood e.requested r' ≡ all_understood e.requested r ++ said =
     ap (all_understood e.requested) grown ∙ said_append (understood e.requested) r sent ∙ ap (λ x. all_understood e.requested r ++ x) all in
-    let this : ServerTakes w (t.message ∷ all_heard e.requested rest) (ends_from e rest s' r' ap_list md') = (
+    let this : ServerTakes w (t.message ∷ all_heard e.requested rest) (model_from e rest s' r' ap_list md') = (
       said,
       option_to_list (made_first t.after.held said),
       subst (λ h. Replies h t.message said (option_to_list (made_first t.after.held said))) (sym held_before) t.served_so.replies,
@@ -117,7 +117,7 @@ turn_happens e q rest r r' s s' ap_list md md' content sent held o n first t ref
     ) in
     let many : n ≡ length (all_understood e.requested r') - length (all_understood e.requested r) =
     count ∙ sym (length-map sent (λ v. v.items)) ∙ t.served_so.heard.count ∙ sym (ap (λ x. length x - length (all_understood e.requested r)) grew ∙ ap (λ x. x - length (all_understood e.requested r)) (length-append (all_understood e.requested r) said) ∙ less (length (all_understood e.requested r)) (length said)) in (
-      subst (λ x. ServerTakes w x (ends_from e rest s' r' ap_list md')) (sym waits) this,
+      subst (λ x. ServerTakes w x (model_from e rest s' r' ap_list md')) (sym waits) this,
       ap seen.served many ∙ sym (ap (λ x. served_seen x (all_understood e.requested r) (all_understood e.requested r')) waits),
     )
   where

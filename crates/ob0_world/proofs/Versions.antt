@@ -26,7 +26,7 @@ use Rattle.ob0_session_answers.specs.Formatted.{AnswersFormatting}
 use Rattle.ob0_session_answers.specs.Renamed.{RequestedRename, AnswersRenaming}
 use Rattle.ob0_session_json.specs.Shapes.{document_edit, edits_value, workspace_edit, publication}
 use Rattle.ob0_session_server.specs.Answers as answers_of
-use Rattle.ob0_session_server.specs.Answers.{ServerState, Reply, SaysReply, Sends, Reaction, begins, reacts, reaction_to, hears, reaction_to_call, calls, answers_about, lays_out, renames, offers_actions, published, Answers, AnswersInState, AnswersGoingOn, says}
+use Rattle.ob0_session_server.specs.Answers.{ServerState, Reply, SaysReply, Sends, Reaction, begins, react, apply_notification, react_to_notification, answer_method, answer_request, answers_about, lays_out, renames, offers_actions, published, Answers, AnswersInState, AnswersGoingOn, says}
 use Rattle.ob0_session_server.specs.SessionStates.{serving}
 use Rattle.ob0_session_server.specs.Units.{unit_for}
 use Rattle.ob0_world_editor.specs.Beginning.{client_for}
@@ -37,14 +37,14 @@ use Rattle.ob0_world_rules.specs.Answers.{Inlining, Here, Everywhere}
 use Rattle.ob0_world_rules.specs.Asks.{Ask, rename, inline_here, inline_all, format, indent_read}
 use Rattle.ob0_world_rules.specs.Edited.{edited, whole_text}
 use Rattle.ob0_world_rules.specs.Editing.{Act, Done, done_by, rewrites, if_same}
-use Rattle.ob0_world_rules.specs.Ends.{Open, SentAsk, request_numbered, open_at, ToServer, notifies, requests, ToEditor, publishes, answers, Ends, start, after_message}
+use Rattle.ob0_world_rules.specs.ClientAndServer.{Open, SentAsk, request_numbered, open_at, ToServer, notifies, requests, ToEditor, publishes, answers, ClientAndServer, start, after_message}
 use Rattle.ob0_world_rules.specs.Happens.{Event, does, serve, take_message, after_taking, ServerTakes}
 use Rattle.ob0_world_rules.specs.Mirror.{as_open, Mirrors}
 use Rattle.ob0_world_rules.proofs.Acts.{of_each}
 use Rattle.ob0_world_rules.proofs.SameDocument.{numbered_push, slice_get_last}
 use Rattle.ob0_world.specs.Queues.{IsReached, IsRunning}
 use Rattle.ob0_world.specs.Versions.{named_in, named_by_edit, NamesAsked, NamesItsAsk, IsLayout, VersionsAreNamed, VersionsSuffice}
-use Rattle.ob0_world.specs.Worlds.{Wire, Both, Begins, TakesFirst, GetsFirst, AllSay, IsTied, BothStep, BothCourse}
+use Rattle.ob0_world.specs.Worlds.{Wire, Connection, Begins, TakesFirst, GetsFirst, AllSay, IsTied, ConnectionStep, ConnectionCourse}
 use Rattle.ob0_world.proofs.Answering.{reacts_so, request_reaction, served, inlining_at, none_read_back, actions_requested_at}
 use Rattle.ob0_world.proofs.Courses.{same_state}
 use Rattle.ob0_world.proofs.Stepping.{reached_start, reached_more, reached_mirrors}
@@ -88,10 +88,10 @@ names_more requested more contents all =
     (λ content names answer k reads is. let n = names answer k reads is in (n.0, numbered_push requested more k n.0 n.1, n.2))
     contents all
 
-abbrev Keeps : Ends → List (List ℕ) → Done → Type 0
+abbrev Keeps : ClientAndServer → List (List ℕ) → Done → Type 0
 Keeps w contents done = AsksHeld done.editor.requested w.held (w.to_server ++ done.sent) × All (NamesItsAsk done.editor.requested) contents
 
-module _ (w : Ends) (contents : List (List ℕ)) (mirrors : Mirrors w) (asked : AsksHeld w.editor.requested w.held w.to_server) (named : All (NamesItsAsk w.editor.requested) contents) where
+module _ (w : ClientAndServer) (contents : List (List ℕ)) (mirrors : Mirrors w) (asked : AsksHeld w.editor.requested w.held w.to_server) (named : All (NamesItsAsk w.editor.requested) contents) where
   quiet : AsksHeld w.editor.requested w.held (w.to_server ++ [])
   quiet = subst (AsksHeld w.editor.requested w.held) (sym (append-nil w.to_server)) asked
 
@@ -151,7 +151,7 @@ published_names requested unit uri (Some (InStep version text)) sent (ds, diagno
 published_names requested unit uri (Some OutOfStep) sent saying = sent_none requested sent saying
 published_names requested unit uri None sent saying = sent_none requested sent saying
 
-note_names : (requested : List SentAsk) (note : DocumentEvent) (before : ServerState) (sent : List (List ℕ)) → SaysReply (reaction_to before (sent_as note)).say sent → All (NamesItsAsk requested) sent
+note_names : (requested : List SentAsk) (note : DocumentEvent) (before : ServerState) (sent : List (List ℕ)) → SaysReply (apply_notification before (sent_as note)).say sent → All (NamesItsAsk requested) sent
 note_names requested (Opened uri version text) before sent saying =
     published_names requested before.held.unit uri (document_at (opened before.held uri version text) uri) sent saying
 note_names requested (Changed uri version how) before sent saying =
@@ -245,26 +245,26 @@ module _ (requested : List SentAsk) (k : ℕ) (uri : List ℕ) (sent : List (Lis
 
   -- a request about a document that is held, while the session runs
   request_names : (ask : Ask) (of : IsAsk requested k uri ask) (params : Data) (before : ServerState) (text : List ℕ) → IsRunning before → document_at before.held uri ≡ Some (InStep (pos of.sent.version) text) → request_by_method (method_of ask) params ≡ Ok (call_for uri ask)
-      → SaysReply (reaction_to_call before (number (unsigned k)) (method_of ask) params).say sent → All (NamesItsAsk requested) sent
+      → SaysReply (answer_method before (number (unsigned k)) (method_of ask) params).say sent → All (NamesItsAsk requested) sent
   request_names (rename position name) of params before text running holds call saying =
       let id : Data = number (unsigned k) in
       let say : ℤ → List ℕ → Reply = λ version. renames before.held.unit (record { id = id; client = before.client; at = record { uri = uri; position = position }; version = version; new = name }) in
-      let so : reaction_to_call before id (method_of (rename position name)) params ≡ answers_about before id (document_at before.held uri) say = ap (calls before id) call in
+      let so : answer_method before id (method_of (rename position name)) params ≡ answers_about before id (document_at before.held uri) say = ap (answer_request before id) call in
       rename_names position name of before.client before.held.unit text running.1 (subst (λ (x : Reaction). SaysReply x.say sent) (so ∙ ap (λ o. answers_about before id o say) holds) saying)
   request_names (inline_here position) of params before text running holds call saying =
       let id : Data = number (unsigned k) in
       let say : ℤ → List ℕ → Reply = λ version. offers_actions before.held.unit (actions_requested_at before.client k uri position version) in
-      let so : reaction_to_call before id (method_of (inline_here position)) params ≡ answers_about before id (document_at before.held uri) say = ap (calls before id) call in
+      let so : answer_method before id (method_of (inline_here position)) params ≡ answers_about before id (document_at before.held uri) say = ap (answer_request before id) call in
       inline_names Here position of before.client before.held.unit text running.1 (subst (λ (x : Reaction). SaysReply x.say sent) (so ∙ ap (λ o. answers_about before id o say) holds) saying)
   request_names (inline_all position) of params before text running holds call saying =
       let id : Data = number (unsigned k) in
       let say : ℤ → List ℕ → Reply = λ version. offers_actions before.held.unit (actions_requested_at before.client k uri position version) in
-      let so : reaction_to_call before id (method_of (inline_all position)) params ≡ answers_about before id (document_at before.held uri) say = ap (calls before id) call in
+      let so : answer_method before id (method_of (inline_all position)) params ≡ answers_about before id (document_at before.held uri) say = ap (answer_request before id) call in
       inline_names Everywhere position of before.client before.held.unit text running.1 (subst (λ (x : Reaction). SaysReply x.say sent) (so ∙ ap (λ o. answers_about before id o say) holds) saying)
   request_names (format indent) of params before text running holds call saying =
       let id : Data = number (unsigned k) in
       let say : ℤ → List ℕ → Reply = λ version. lays_out before.held.unit id (indent_read indent) in
-      let so : reaction_to_call before id (method_of (format indent)) params ≡ answers_about before id (document_at before.held uri) say = ap (calls before id) call in
+      let so : answer_method before id (method_of (format indent)) params ≡ answers_about before id (document_at before.held uri) say = ap (answer_request before id) call in
       layout_names indent of before.held.unit text (subst (λ (x : Reaction). SaysReply x.say sent) (so ∙ ap (λ o. answers_about before id o say) holds) saying)
 
 -- what is sent for a message
@@ -272,8 +272,8 @@ content_names : (requested : List SentAsk) (m : ToServer) (before after : Server
 content_names requested (notifies note) before after content sent running is h meets =
     let going : AnswersGoingOn before content sent after = subst (λ phase. AnswersInState phase before content sent after) running.0 h in
     let answer = reacts_so before after content sent is.json going is.reads in
-    let so : reacts before (meaning_of is.json) ≡ reaction_to before (sent_as note) =
-    ap (reacts before) is.means ∙ ap (λ phase. hears phase before is.method is.params) running.0 ∙ ap (reaction_to before) is.reported in
+    let so : react before (meaning_of is.json) ≡ apply_notification before (sent_as note) =
+    ap (react before) is.means ∙ ap (λ phase. react_to_notification phase before is.method is.params) running.0 ∙ ap (apply_notification before) is.reported in
     note_names requested note before sent (subst (λ (x : Reaction). SaysReply x.say sent) so answer.1)
 content_names requested (requests k uri ask) before after content sent running (is, of) h (meets, none) =
     let answer = request_reaction k uri ask before after content sent running is h in
@@ -283,29 +283,29 @@ content_names requested (requests k uri ask) before after content sent running (
 
 -- ---- each event
 
-record Known (w : Both) : Type 0 where
-  pub reached : IsReached w.ends
+record Known (w : Connection) : Type 0 where
+  pub reached : IsReached w.model
   pub tied : IsTied w
   pub running : (s : ServerState) → w.wire.session ≡ serving s → IsRunning s
-  pub asks : AsksHeld w.ends.editor.requested w.ends.held w.ends.to_server
-  pub named : All (NamesItsAsk w.ends.editor.requested) w.wire.to_editor
+  pub asks : AsksHeld w.model.editor.requested w.model.held w.model.to_server
+  pub named : All (NamesItsAsk w.model.editor.requested) w.wire.to_editor
 
-abbrev AsksOf : Ends → Type 0
+abbrev AsksOf : ClientAndServer → Type 0
 AsksOf w = AsksHeld w.editor.requested w.held w.to_server
 
-serve_known : (old new : Both) (q : List ToServer) (c : List (List ℕ)) → old.ends.to_server ≡ q → AllSay old.ends.editor.requested q c → ServerTakes old.ends q new.ends → TakesFirst c old.wire new.wire → Known old → IsTied new → IsReached new.ends → Known new
+serve_known : (old new : Connection) (q : List ToServer) (c : List (List ℕ)) → old.model.to_server ≡ q → AllSay old.model.editor.requested q c → ServerTakes old.model q new.model → TakesFirst c old.wire new.wire → Known old → IsTied new → IsReached new.model → Known new
 serve_known old new [] [] waits says_all happens moves k tied reached =
     record {
       reached = reached;
       tied = tied;
       running = λ s is. k.running s (sym (ap (λ (x : Wire). x.session) moves) ∙ is);
       asks = subst AsksOf (sym happens) k.asks;
-      named = subst (λ (x : Ends). All (NamesItsAsk x.editor.requested) new.wire.to_editor) (sym happens) (subst (λ (x : Wire). All (NamesItsAsk old.ends.editor.requested) x.to_editor) (sym moves) k.named);
+      named = subst (λ (x : ClientAndServer). All (NamesItsAsk x.editor.requested) new.wire.to_editor) (sym happens) (subst (λ (x : Wire). All (NamesItsAsk old.model.editor.requested) x.to_editor) (sym moves) k.named);
     }
 serve_known old new (m ∷ rest) (content ∷ contents) waits (says_this, others) (said, made, replies, is_new) (before, after, sent, was, answer, wire_is) k tied reached =
-    let r : List SentAsk = old.ends.editor.requested in
+    let r : List SentAsk = old.model.editor.requested in
     let running : IsRunning before = k.running before was in
-    let see = sees_first r old.ends.held m rest (subst (AsksHeld r old.ends.held) waits k.asks) in
+    let see = sees_first r old.model.held m rest (subst (AsksHeld r old.model.held) waits k.asks) in
     let meets : AsksHeld r before.held (m ∷ []) = subst (λ (held : OpenDocuments). AsksHeld r held (m ∷ [])) (k.tied.documents before was) see.0 in
     let names : All (NamesItsAsk r) sent = content_names r m before after content sent running says_this answer meets in
     record {
@@ -313,14 +313,14 @@ serve_known old new (m ∷ rest) (content ∷ contents) waits (says_this, others
       tied = tied;
       running = λ s is. subst IsRunning (same_state after s new.wire.session (ap (λ (x : Wire). x.session) wire_is) is) (served r m before after content sent running says_this answer).running;
       asks = subst AsksOf (sym is_new) see.1;
-      named = subst (λ (x : Ends). All (NamesItsAsk x.editor.requested) new.wire.to_editor) (sym is_new)
+      named = subst (λ (x : ClientAndServer). All (NamesItsAsk x.editor.requested) new.wire.to_editor) (sym is_new)
           (subst (λ (x : Wire). All (NamesItsAsk r) x.to_editor) (sym wire_is) (All-append (NamesItsAsk r) old.wire.to_editor sent k.named names));
     }
 serve_known old new [] (content ∷ contents) waits says_all happens moves k tied reached = absurd says_all
 serve_known old new (m ∷ rest) [] waits says_all happens moves k tied reached = absurd says_all
 
 -- the editor has taken a message: what it requested and what waits for the server is as it was
-take_keeps : (w : Ends) (queue : List ToEditor) (contents : List (List ℕ)) → AsksOf w → All (NamesItsAsk w.editor.requested) contents → AsksOf (after_taking w queue) × All (NamesItsAsk (after_taking w queue).editor.requested) contents
+take_keeps : (w : ClientAndServer) (queue : List ToEditor) (contents : List (List ℕ)) → AsksOf w → All (NamesItsAsk w.editor.requested) contents → AsksOf (after_taking w queue) × All (NamesItsAsk (after_taking w queue).editor.requested) contents
 take_keeps w [] contents asked named = (asked, named)
 take_keeps w (publishes uri version empty ∷ rest) contents asked named = (asked, named)
 take_keeps w (answers k [] ∷ rest) contents asked named = (asked, named)
@@ -334,30 +334,30 @@ gets_session : (c : List (List ℕ)) (old new : Wire) → GetsFirst c old new �
 gets_session [] old new is = ap (λ (x : Wire). x.session) is
 gets_session (content ∷ rest) old new is = ap (λ (x : Wire). x.session) is
 
-step_known : (old : Both) (event : Event) (new : Both) → Known old → BothStep old event new → Known new
+step_known : (old : Connection) (event : Event) (new : Connection) → Known old → ConnectionStep old event new → Known new
 step_known old (does act) new k step =
-    let keeps : Keeps old.ends old.wire.to_editor (done_by old.ends.editor act) = act_keeps old.ends old.wire.to_editor (reached_mirrors old.ends k.reached) k.asks k.named act in
+    let keeps : Keeps old.model old.wire.to_editor (done_by old.model.editor act) = act_keeps old.model old.wire.to_editor (reached_mirrors old.model k.reached) k.asks k.named act in
     record {
-      reached = reached_more old.ends (does act) new.ends k.reached step.happens;
+      reached = reached_more old.model (does act) new.model k.reached step.happens;
       tied = step.tied;
       running = λ s is. k.running s (sym (ap (λ (x : Wire). x.session) step.moves.1) ∙ is);
       asks = subst AsksOf (sym step.happens) keeps.0;
-      named = subst (λ (x : Ends). All (NamesItsAsk x.editor.requested) new.wire.to_editor) (sym step.happens)
-          (subst (λ (x : Wire). All (NamesItsAsk (done_by old.ends.editor act).editor.requested) x.to_editor) (sym step.moves.1) keeps.1);
+      named = subst (λ (x : ClientAndServer). All (NamesItsAsk x.editor.requested) new.wire.to_editor) (sym step.happens)
+          (subst (λ (x : Wire). All (NamesItsAsk (done_by old.model.editor act).editor.requested) x.to_editor) (sym step.moves.1) keeps.1);
     }
 step_known old serve new k step =
-    serve_known old new old.ends.to_server old.wire.to_server refl k.tied.says step.happens step.moves k step.tied (reached_more old.ends serve new.ends k.reached step.happens)
+    serve_known old new old.model.to_server old.wire.to_server refl k.tied.says step.happens step.moves k step.tied (reached_more old.model serve new.model k.reached step.happens)
 step_known old take_message new k step =
-    let keeps = take_keeps old.ends old.ends.to_editor new.wire.to_editor k.asks (gets_names (NamesItsAsk old.ends.editor.requested) old.wire.to_editor old.wire new.wire refl step.moves k.named) in
+    let keeps = take_keeps old.model old.model.to_editor new.wire.to_editor k.asks (gets_names (NamesItsAsk old.model.editor.requested) old.wire.to_editor old.wire new.wire refl step.moves k.named) in
     record {
-      reached = reached_more old.ends take_message new.ends k.reached step.happens;
+      reached = reached_more old.model take_message new.model k.reached step.happens;
       tied = step.tied;
       running = λ s is. k.running s (sym (gets_session old.wire.to_editor old.wire new.wire step.moves) ∙ is);
       asks = subst AsksOf (sym step.happens) keeps.0;
-      named = subst (λ (x : Ends). All (NamesItsAsk x.editor.requested) new.wire.to_editor) (sym step.happens) keeps.1;
+      named = subst (λ (x : ClientAndServer). All (NamesItsAsk x.editor.requested) new.wire.to_editor) (sym step.happens) keeps.1;
     }
 
-course_known : (begin : Both) (events : List Event) (now : Both) → Known begin → BothCourse begin events now → Known now
+course_known : (begin : Connection) (events : List Event) (now : Connection) → Known begin → ConnectionCourse begin events now → Known now
 course_known begin [] now k is = subst Known (sym is) k
 course_known begin (e ∷ events) now k (between, step, rest) = course_known between events now (step_known begin e between k step) rest
 
@@ -365,12 +365,12 @@ unit_back : (unit : Unit) → unit ≡ unit_for (client_for unit)
 unit_back Utf16 = refl
 unit_back Utf8 = refl
 
-begin_known : (unit : Unit) (begin : Both) → Begins unit begin → Known begin
-begin_known unit begin b = subst Known (λ i. record { ends = sym b.ends i; wire = sym b.wire i }) first
+begin_known : (unit : Unit) (begin : Connection) → Begins unit begin → Known begin
+begin_known unit begin b = subst Known (λ i. record { model = sym b.model i; wire = sym b.wire i }) first
   where
-    this : Both
+    this : Connection
     this = record {
-      ends = start unit;
+      model = start unit;
       wire = record { session = serving (begins (client_for unit)); taken = b.content ∷ []; to_server = []; got = b.replies; to_editor = [] };
     }
 

@@ -8,7 +8,7 @@ use Rattle.ob0_world_editor.specs.Code.{ask_of, applied_of}
 use Rattle.ob0_world.specs.declared.events.Event as event
 use Rattle.ob0_world.specs.declared.played.Made as made
 use Rattle.ob0_world.specs.declared.played.Played as played
-use Rattle.ob0_world_rules.specs.Ends.{Applied, Made}
+use Rattle.ob0_world_rules.specs.ClientAndServer.{Applied, Made}
 use Rattle.ob0_world_rules.specs.Editing.{open_document, change_document, close_document, ask_about, apply, discard}
 use Rattle.ob0_world_rules.specs.Happens.{Event, does, serve, take_message}
 

@@ -19,14 +19,14 @@ use Rattle.ob0_world_editor.specs.Heard.{heard, SaysToServer}
 use Rattle.ob0_world_editor.specs.Understood.{understood}
 use Rattle.ob0_world_editor.specs.Code.{applied_of}
 use Rattle.ob0_world_editor.specs.declared.applied.Applied as applied
-use Rattle.ob0_world_rules.specs.Ends.{Open, SentAsk, Editor, open_at, ToServer, ToEditor, publishes, answers, Made, Ends, start}
+use Rattle.ob0_world_rules.specs.ClientAndServer.{Open, SentAsk, Editor, open_at, ToServer, ToEditor, publishes, answers, Made, ClientAndServer, start}
 use Rattle.ob0_world_rules.specs.Happens.{Event, Course}
 use Rattle.ob0_world.specs.declared.events.Seen as seen
 use Rattle.ob0_world.specs.declared.played.Made as made
 pub use Rattle.ob0_world.specs.Code.{bytes}
 use Rattle.ob0_world.specs.Code.{publication_of}
 use Rattle.ob0_world.specs.Seen.{nothing, sent, seen_of}
-use Rattle.ob0_world.specs.Worlds.{Wire, Both}
+use Rattle.ob0_world.specs.Worlds.{Wire, Connection}
 
 -- contents that wait in a queue
 abbrev pub Contents : Type 0
@@ -107,14 +107,14 @@ pub record Sound (requested : List SentAsk) (to_server to_editor : Contents)
   pub running : IsRunningOrFailed session
 
 -- client and server, from what the code stores of them
-abbrev pub ends_from : Editor
+abbrev pub model_from : Editor
     → Contents
     → SessionState
     → Contents
     → List applied.Applied
     → List made.Made
-    → Ends
-ends_from e to_server session to_editor applied made =
+    → ClientAndServer
+model_from e to_server session to_editor applied made =
     record {
       editor = e;
       to_server = all_heard e.requested to_server;
@@ -136,7 +136,7 @@ wire_from session taken to_server got to_editor =
     }
 
 -- client and server from what the code keeps
-abbrev pub both_from : Editor
+abbrev pub connection_from : Editor
     → Contents
     → SessionState
     → Contents
@@ -144,10 +144,10 @@ abbrev pub both_from : Editor
     → List made.Made
     → Contents
     → Contents
-    → Both
-both_from e to_server session to_editor applied made taken got =
+    → Connection
+connection_from e to_server session to_editor applied made taken got =
     record {
-      ends = ends_from e to_server session to_editor applied made;
+      model = model_from e to_server session to_editor applied made;
       wire = wire_from session taken to_server got to_editor;
     }
 
@@ -160,7 +160,7 @@ pub record Within (n : ℕ) (e : Editor) : Type 0 where
   pub versions : (uri : List ℕ) (d : Open) → open_at e uri ≡ Some d → d.version ≤ n
 
 -- some events lead from the beginning to this
-abbrev pub IsReached : Ends → Type 0
+abbrev pub IsReached : ClientAndServer → Type 0
 IsReached w = (unit : Unit) × (events : List Event) × Course (start unit) events w
 
 -- ---- the steps of the server's event

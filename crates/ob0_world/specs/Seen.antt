@@ -3,7 +3,7 @@
 use Rattle.std.specs.Prelude.{◌≡◌, ℕ, ◌-◌, List, [], ◌∷◌, Bool, length, is_some, string_bytes, if◌then◌else◌}
 use Rattle.ob0_world.specs.declared.events.Seen as seen
 use Rattle.ob0_world_editor.specs.Moves.{has_edits}
-use Rattle.ob0_world_rules.specs.Ends.{Editor, ToServer, ToEditor, publishes, answers, Ends}
+use Rattle.ob0_world_rules.specs.ClientAndServer.{Editor, ToServer, ToEditor, publishes, answers, ClientAndServer}
 use Rattle.ob0_world_rules.specs.Editing.{Act, open_document, change_document, close_document, ask_about, apply, discard, Done, done_by, kept_answer}
 use Rattle.ob0_world_rules.specs.Happens.{Event, does, serve, take_message, Happens}
 
@@ -52,13 +52,13 @@ taken_seen (publishes uri version empty ∷ rest) = published uri empty
 taken_seen (answers k edits ∷ rest) = answered k (has_edits edits)
 
 -- what is seen of an event that leads from one state to another
-abbrev pub event_seen : Ends → Event → Ends → Seen
+abbrev pub event_seen : ClientAndServer → Event → ClientAndServer → Seen
 event_seen old (does act) new = act_seen old.editor act
 event_seen old serve new = served_seen old.to_server old.to_editor new.to_editor
 event_seen old take_message new = taken_seen old.to_editor
 
 -- the event happens, and this is seen of it
-abbrev pub Shows : Ends → Event → Seen → Ends → Type 0
+abbrev pub Shows : ClientAndServer → Event → Seen → ClientAndServer → Type 0
 Shows old event seen new = Happens old event new × (seen ≡ event_seen old event new)
 
 -- what is seen, of the code

@@ -13,9 +13,9 @@ use Rattle.ob0_world_editor.specs.Understood.{titled_action, edits_for}
 use Rattle.ob0_world_rules.specs.Asks.{Ask, rename, inline_here, inline_all, format}
 use Rattle.ob0_world_rules.specs.Edited.{Replacement, edited, whole_text}
 use Rattle.ob0_world_rules.specs.Editing.{Done, rewrites, applies}
-use Rattle.ob0_world_rules.specs.Ends.{Open, SentAsk, Editor, request_numbered, open_at}
+use Rattle.ob0_world_rules.specs.ClientAndServer.{Open, SentAsk, Editor, request_numbered, open_at}
 use Rattle.ob0_world_rules.specs.Happens.{Event}
-use Rattle.ob0_world.specs.Worlds.{Both, Begins, BothCourse}
+use Rattle.ob0_world.specs.Worlds.{Connection, Begins, ConnectionCourse}
 
 -- ---- what an answer names
 
@@ -78,10 +78,10 @@ NamesItsAsk requested content =
 -- waited.
 abbrev pub VersionsAreNamed : Type 0
 VersionsAreNamed =
-    (unit : Unit) (begin : Both) (events : List Event) (now : Both)
+    (unit : Unit) (begin : Connection) (events : List Event) (now : Connection)
     → Begins unit begin
-    → BothCourse begin events now
-    → All (NamesItsAsk now.ends.editor.requested) now.wire.to_editor
+    → ConnectionCourse begin events now
+    → All (NamesItsAsk now.model.editor.requested) now.wire.to_editor
 
 -- ---- a client that goes by them
 

@@ -10,7 +10,7 @@ use Rattle.ob0_session_server.specs.SessionStates.{SessionState, serving}
 use Rattle.ob0_world_editor.specs.Beginning.{client_for, initialize_message}
 use Rattle.ob0_world_editor.specs.Heard.{SaysToServer}
 use Rattle.ob0_world_editor.specs.Understood.{understood}
-use Rattle.ob0_world_rules.specs.Ends.{SentAsk, ToServer, Ends, start}
+use Rattle.ob0_world_rules.specs.ClientAndServer.{SentAsk, ToServer, ClientAndServer, start}
 use Rattle.ob0_world_rules.specs.Happens.{Event, does, serve, take_message, Happens}
 use Rattle.ob0_world_rules.specs.Headline.{Headline}
 use Rattle.ob0_world.specs.Code.{event_of, bytes, all_applied, all_made}
@@ -34,17 +34,17 @@ pub record Wire : Type 0 where
   pub to_editor : List (List ℕ)
 
 -- client and server as the model has them, and what passes between them
-pub record Both : Type 0 where
-  pub ends : Ends
+pub record Connection : Type 0 where
+  pub model : ClientAndServer
   pub wire : Wire
 
 -- Nothing was done yet, except that the editor has initialized a new session, and got its answer.
-pub record Begins (unit : Unit) (w : Both) : Type 0 where
+pub record Begins (unit : Unit) (w : Connection) : Type 0 where
   pub content : List ℕ
   pub replies : List (List ℕ)
   pub initializes : ReadsContent content (Some (initialize_message unit))
   pub answers : Answers server.start content replies (begins (client_for unit))
-  pub ends : w.ends ≡ start unit
+  pub model : w.model ≡ start unit
   pub wire : w.wire
       ≡ record {
         session = serving (begins (client_for unit));
@@ -98,28 +98,28 @@ AllSay requested (m ∷ messages) [] = ⊥
 
 -- The messages are those that the contents say, in both directions, and the server's documents are
 -- those of the session.
-pub record IsTied (w : Both) : Type 0 where
-  pub says : AllSay w.ends.editor.requested w.ends.to_server w.wire.to_server
-  pub means : map (understood w.ends.editor.requested) w.wire.to_editor
-      ≡ map Some w.ends.to_editor
-  pub documents : (s : ServerState) → w.wire.session ≡ serving s → w.ends.held ≡ s.held
+pub record IsTied (w : Connection) : Type 0 where
+  pub says : AllSay w.model.editor.requested w.model.to_server w.wire.to_server
+  pub means : map (understood w.model.editor.requested) w.wire.to_editor
+      ≡ map Some w.model.to_editor
+  pub documents : (s : ServerState) → w.wire.session ≡ serving s → w.model.held ≡ s.held
 
 -- One event: what the model says of it happens, and the session and the contents do the same.
-pub record BothStep (old : Both) (event : Event) (new : Both) : Type 0 where
-  pub happens : Happens old.ends event new.ends
+pub record ConnectionStep (old : Connection) (event : Event) (new : Connection) : Type 0 where
+  pub happens : Happens old.model event new.model
   pub moves : MovesWire event old.wire new.wire
   pub tied : IsTied new
 
 -- these events, one after another, lead from the one to the other
-abbrev pub BothCourse : Both → List Event → Both → Type 0
-BothCourse old [] new = new ≡ old
-BothCourse old (event ∷ events) new =
-    (between : Both) × BothStep old event between × BothCourse between events new
+abbrev pub ConnectionCourse : Connection → List Event → Connection → Type 0
+ConnectionCourse old [] new = new ≡ old
+ConnectionCourse old (event ∷ events) new =
+    (between : Connection) × ConnectionStep old event between × ConnectionCourse between events new
 
 -- ---- lists of events
 
 -- this is what has come of the events
-abbrev pub HasCome : Ends → played.Played → Type 0
+abbrev pub HasCome : ClientAndServer → played.Played → Type 0
 HasCome w p = (all_applied p ≡ w.applied) × (all_made p ≡ w.made)
 
 -- these are the contents that passed, and those that wait for the editor
@@ -134,17 +134,17 @@ HasPassed w p =
 -- these.
 pub record Plays (unit : Unit) (events : List event.Event) (p : played.Played) : Type 0 where
   pub headline : Headline unit (map event_of events) (all_applied p) (all_made p)
-  pub begin : Both
+  pub begin : Connection
   pub begins : Begins unit begin
-  pub end : Both
-  pub course : BothCourse begin (map event_of events) end
-  pub come : HasCome end.ends p
+  pub end : Connection
+  pub course : ConnectionCourse begin (map event_of events) end
+  pub come : HasCome end.model p
   pub passed : HasPassed end.wire p
   pub after : ServerState
   pub conversation : Conversation server.start (bytes p.taken.items)
       (bytes p.got.items ++ bytes p.unread.items) after
 
--- An allocation failed before a session had begun: nothing was made, and nothing has passed.
+-- Nothing was played: no event is counted, nothing was made, and nothing has passed.
 pub record PlaysNothing (unit : Unit) (fault : PlayFault) : Type 0 where
   pub none : fault.steps ≡ 0
   pub headline : Headline unit [] (all_applied fault.played) (all_made fault.played)
@@ -152,8 +152,8 @@ pub record PlaysNothing (unit : Unit) (fault : PlayFault) : Type 0 where
   pub got : fault.played.got.items ≡ []
   pub unread : fault.played.unread.items ≡ []
 
--- An allocation failed at an event: all that `Plays` says holds of the events before it, which the
--- fault counts. Or one failed before a session had begun.
+-- Fewer than all events were played, as many as the fault counts: all that `Plays` says holds of
+-- these first ones. Or nothing was played.
 abbrev pub PlaysBefore : Unit → List event.Event → PlayFault → Type 0
 PlaysBefore unit events fault =
     ((fault.steps < length events) × Plays unit (take fault.steps events) fault.played)
@@ -163,22 +163,22 @@ PlaysBefore unit events fault =
 
 -- client and server with the session, the steps that were made, and whether it has ended
 pub record World : Type 0 where
-  pub both : Both
+  pub connection : Connection
   -- how many steps were made
   pub steps : ℕ
-  -- whether an allocation failed
+  -- whether a step has failed
   pub ended : Bool
 
 -- a world in which nothing has happened
 pub record IsNew (unit : Unit) (w : World) : Type 0 where
-  pub begins : Begins unit w.both
+  pub begins : Begins unit w.connection
   pub none : w.steps ≡ 0
   pub goes_on : w.ended ≡ false
 
 -- the step is made and counted
 pub record MakesStep (old : World) (event : Event) (seen : Seen) (new : World) : Type 0 where
-  pub made : BothStep old.both event new.both
-  pub shown : seen ≡ event_seen old.both.ends event new.both.ends
+  pub made : ConnectionStep old.connection event new.connection
+  pub shown : seen ≡ event_seen old.connection.model event new.connection.model
   pub counted : new.steps ≡ old.steps + 1
   pub goes_on : new.ended ≡ false
 
@@ -191,19 +191,19 @@ StepsFrom true old event seen new = ⊥
 abbrev pub WorldSteps : World → Event → Seen → World → Type 0
 WorldSteps old event seen new = StepsFrom old.ended old event seen new
 
--- An allocation failed: what has come of the events before remains, and what has passed
-pub record SameHistory (old new : Both) : Type 0 where
-  pub applied : new.ends.applied ≡ old.ends.applied
-  pub made : new.ends.made ≡ old.ends.made
+-- what has come of the events before remains, and what has passed
+pub record SameHistory (old new : Connection) : Type 0 where
+  pub applied : new.model.applied ≡ old.model.applied
+  pub made : new.model.made ≡ old.model.made
   pub taken : new.wire.taken ≡ old.wire.taken
   pub got : new.wire.got ≡ old.wire.got
   pub unread : new.wire.to_editor ≡ old.wire.to_editor
 
--- A step whose allocation fails isn't made and not counted, and ends the world: what has come so
--- far stays. A world that has ended says so at each step, and stays as it is.
+-- A step that returns `Memory` isn't counted, and ends the world: what has come so far stays, and
+-- what has passed. A world that has ended says so at each step, and stays as it is.
 abbrev pub FailsFrom : Bool → World → WorldFault → World → Type 0
 FailsFrom false old Memory new =
-    SameHistory old.both new.both × (new.steps ≡ old.steps) × (new.ended ≡ true)
+    SameHistory old.connection new.connection × (new.steps ≡ old.steps) × (new.ended ≡ true)
 FailsFrom false old Ended new = ⊥
 FailsFrom true old Memory new = ⊥
 FailsFrom true old Ended new = new ≡ old

@@ -2,7 +2,7 @@
 //! in whatever order they come, each edit that the editor applies keeps the run of the module.
 #![tactic(auto)]
 
-mod ends;
+mod connection;
 mod events;
 mod faults;
 pub mod laws;

@@ -1,12 +1,12 @@
 //! Client and server, and whole lists of events.
 //!
-//! The model of `Ends` is `Both`: the messages and documents of both, and the `Wire`: the session, and all contents,
-//! those that were taken and those that wait, in each direction. So `MovesWire` speaks of the session's own step and of
-//! what each event does to the contents, and `IsTied` joins the two views (`Ends::is_tied` is called for its contract
-//! alone). The promise of a step is by cases of the world before it (`WorldSteps`, `WorldFails`). `Plays` has the
-//! headline and, beside it, the course of both (`BothCourse`) from a begun session on (`Begins`), with the contents
-//! that passed returned by the code: so a body without a session would have to return the contents of a conversation
-//! all the same.
+//! The model of a `Connection` has the client and server of the rules (`ClientAndServer`: documents and messages), and
+//! the `Wire`: the session, and all contents, those that were taken and those that wait, in each direction. So
+//! `MovesWire` speaks of the session's own step and of what each event does to the contents, and `IsTied` joins the two
+//! views (`Connection::contents_say_messages` is called for its contract alone). The promise of a step is by cases of
+//! the world before it (`WorldSteps`, `WorldFails`). `Plays` has the headline and, beside it, the connection's course
+//! (`ConnectionCourse`) from a begun session on (`Begins`), with the contents that passed returned by the code: so a
+//! body without a session would have to return the contents of a conversation all the same.
 ghost use Rattle.std.specs.Prelude.{◌≡◌, ◌<◌, ◌-◌, ◌^◌, [], length, IfOk, OnOk, IfErr};
 ghost use Rattle.ob0_text.specs.declared.position_types.Unit.TheVariants.{Utf16};
 ghost use Rattle.ob0_world_rules.specs.Headline.{Holds};
@@ -16,7 +16,7 @@ ghost use Rattle.ob0_world.specs.Seen.{seen_of};
 ghost use Rattle.ob0_world.specs.Worlds.{HasCome, HasPassed, IsNew, Plays, PlaysBefore, WorldSteps, WorldFails};
 ghost use Rattle.ob0_world.specs.declared.faults.WorldFault.TheVariants.{Memory};
 
-use crate::ends::Ends;
+use crate::connection::Connection;
 use crate::events::{Event, Seen};
 use crate::faults::{PlayFault, WorldFault};
 use crate::played::Played;
@@ -28,7 +28,7 @@ use std::marker::Model;
 /// An editor, the server and a queue in each direction.
 #[derive(Drop)]
 pub struct World<T: TextStore> {
-    ends: Ends<T>,
+    connection: Connection<T>,
     steps: u64,
     has_ended: bool,
 }
@@ -45,10 +45,11 @@ impl<T: TextStore> Model for World<T> {
 
     ghost coded = { Prim.hlevel (codes, documents_code, open_documents_code) };
 
-    ghost view = { λ w. record { both = w.ends; steps = w.steps; ended = w.has_ended } };
+    ghost view = { λ w.
+        record { connection = w.connection; steps = w.steps; ended = w.has_ended } };
 
     ghost invariant = { λ w. w.has_ended ≡ false
-        → Within w.steps w.ends.ends.editor × IsReached w.ends.ends };
+        → Within w.steps w.connection.model.editor × IsReached w.connection.model };
 }
 
 impl<T: TextStore> World<T> {
@@ -61,14 +62,14 @@ impl<T: TextStore> World<T> {
         World::new_in(alloc, Unit::Utf16)
     }
 
-    /// The same, with positions in this unit.
+    /// A new world, with positions in this unit: no document is open and no message waits.
     pub fn new_in(alloc: Global, unit: Unit) -> Result<World<T>, WorldFault>
         ensures start { IfOk result (IsNew unit) }
         ensures err { IfErr result (λ fault. fault ≡ Memory) }
     {
-        match Ends::new(alloc, unit) {
-            Ok(ends) => Ok(World {
-                ends,
+        match Connection::new(alloc, unit) {
+            Ok(connection) => Ok(World {
+                connection,
                 steps: 0,
                 has_ended: false,
             }),
@@ -89,16 +90,16 @@ impl<T: TextStore> World<T> {
         requires few { self.old.steps < 2 ^ 63 - 1 }
         ensures ok { IfOk result
             (λ seen. WorldSteps self.old (event_of event.now) (seen_of seen) self.new) }
-        ensures holds { OnOk result (Holds self.new.both.ends) }
-        ensures mirror { OnOk result (Mirrors self.new.both.ends) }
+        ensures holds { OnOk result (Holds self.new.connection.model) }
+        ensures mirror { OnOk result (Mirrors self.new.connection.model) }
         ensures err { IfErr result (λ fault. WorldFails self.old fault self.new) }
     {
         if self.has_ended {
             return Err(WorldFault::Ended);
         }
-        match self.ends.make(event) {
+        match self.connection.make(event) {
             Ok(seen) => {
-                self.ends.is_tied();
+                self.connection.contents_say_messages();
                 self.steps += 1;
                 Ok(seen)
             }
@@ -112,10 +113,10 @@ impl<T: TextStore> World<T> {
     /// The edits that were applied and the publications that were made, up to the last step that was made; and the
     /// contents that passed.
     pub fn into_played(self) -> Played
-        ensures come { HasCome self.both.ends result }
-        ensures passed { HasPassed self.both.wire result }
+        ensures come { HasCome self.connection.model result }
+        ensures passed { HasPassed self.connection.wire result }
     {
-        self.ends.into_played()
+        self.connection.into_played()
     }
 
     /// Plays a list of events from the beginning, with positions in UTF-16 units.

@@ -2,7 +2,7 @@
 use Rattle.std.proofs.Common.{◌≡◌, ◌∙◌, ℕ, Option, Some, None, List, [], ◌∷◌, ◌++◌, refl, sym, subst}
 use Rattle.serde_json.specs.Data.{Data}
 use Rattle.ob0_rpc.specs.Messages.{ReadsContent, meaning}
-use Rattle.ob0_session_server.specs.Answers.{ServerState, SaysReply, reacts, AnswersInState, AnswersGoingOn, Conversation}
+use Rattle.ob0_session_server.specs.Answers.{ServerState, SaysReply, react, AnswersInState, AnswersGoingOn, Conversation}
 use Rattle.ob0_session_server.specs.declared.server.Phase.{Phase}
 use Rattle.ob0_session_server.specs.declared.server.Phase.TheVariants.{Starting, Running, ShutDown, Ended}
 use Rattle.ob0_world_determined.specs.Determined.{OneAnswer, OneConversation, OneReply}
@@ -22,8 +22,8 @@ module _ (says : OneReply) where
   going_on_one : (before : ServerState) (content : List ℕ) (sent more : Contents) (after other : ServerState) → AnswersGoingOn before content sent after → AnswersGoingOn before content more other → (sent ≡ more) × (after ≡ other)
   going_on_one before content sent more after other (json, reads, h) (another, reads_too, k) =
       let same : json ≡ another = one_json content json another reads reads_too in
-      let there = subst (λ j. (other ≡ (reacts before (meaning j)).after) × SaysReply (reacts before (meaning j)).say more) (sym same) k in
-      (says (reacts before (meaning json)).say sent more h.1 there.1, h.0 ∙ sym there.0)
+      let there = subst (λ j. (other ≡ (react before (meaning j)).after) × SaysReply (react before (meaning j)).say more) (sym same) k in
+      (says (react before (meaning json)).say sent more h.1 there.1, h.0 ∙ sym there.0)
 
   in_phase_one : (phase : Phase) (before : ServerState) (content : List ℕ) (sent more : Contents) (after other : ServerState) → AnswersInState phase before content sent after → AnswersInState phase before content more other → (sent ≡ more) × (after ≡ other)
   in_phase_one (Ended status) before content sent more after other h k = (h.0 ∙ sym k.0, h.1 ∙ sym k.1)

@@ -62,7 +62,7 @@ MayServe result taken put =
     (reader_failed : Bool) × (writer_failed : Bool)
     × Serves result taken put ⊤ ⊤ reader_failed writer_failed ⊤
 
--- neither an allocation nor the writer failed
+-- it is neither `Memory` nor `Write`
 abbrev pub IsWritten : Result ℕ ServeFault → Type 0
 IsWritten result = (result ≢ Err Memory) × (result ≢ Err Write)
 
@@ -86,9 +86,9 @@ IsDecided (Err TooManyReads) taken put = ⊥
 IsDecided (Err Write) taken put = ⊥
 IsDecided (Err Memory) taken put = ⊥
 
--- What is written for the first bytes of an input begins what is written for more of it, unless an
--- allocation or the writer fails in the call for more. It is all of that for the same bytes, and
--- after an `exit` or a bad head, unless either fails in the one call.
+-- What is written for the first bytes of an input begins what is written for more of it, unless
+-- the call for more returns `Memory` or `Write`. It is all of that for the same bytes, and after an
+-- `exit` or a bad head, unless the one call returns either.
 abbrev pub OneOutput : Type 0
 OneOutput =
     (taken more put all : List ℕ) (result end : Result ℕ ServeFault) → IsWritten end
@@ -96,8 +96,8 @@ OneOutput =
     → (unwritten : List ℕ) × (all ≡ put ++ unwritten)
     × (IsWritten result → IsDecided result taken put ⊎ (more ≡ []) → unwritten ≡ [])
 
--- And the result is the same for the same bytes, and after an `exit` or a bad head, unless an
--- allocation or a device fails or there are too many reads.
+-- And the result is the same for the same bytes, and after an `exit` or a bad head, unless one of
+-- the two is `Read`, `TooManyReads`, `Write` or `Memory`.
 abbrev pub OneResult : Type 0
 OneResult =
     (taken more put all : List ℕ) (result end : Result ℕ ServeFault)
@@ -114,7 +114,7 @@ AListFits =
 -- ---- a conversation, as bytes
 
 -- For the frames of what a session took in a conversation `serve` writes the frames of what it
--- sent, unless an allocation or the writer fails.
+-- sent, unless `serve` returns `Memory` or `Write`.
 abbrev pub ConversationIsServed : Type 0
 ConversationIsServed =
     (taken sent : List (List ℕ)) (after : ServerState)

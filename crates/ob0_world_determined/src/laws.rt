@@ -42,9 +42,9 @@ pub fn one_conversation()
     one_answer();
 }
 
-/// What `serve` writes for the first bytes of an input begins what it writes for more of it, unless an allocation or
-/// the writer fails in the call for more. It is all of that for the same bytes, and after an `exit` or a bad head,
-/// unless either fails in the one call: so how an input is cut into pieces makes no difference.
+/// What `serve` writes for the first bytes of an input begins what it writes for more of it, unless the call for more
+/// returns `Memory` or `Write`. It is all of that for the same bytes, and after an `exit` or a bad head, unless the one
+/// call returns either: so how an input is cut into pieces makes no difference.
 pub fn one_output()
     ensures { OneOutput }
 {
@@ -53,7 +53,7 @@ pub fn one_output()
 }
 
 /// What `serve` returns is the same for the same bytes, and after an `exit` or a bad head for more of the input, unless
-/// an allocation or a device fails, or it has read too many pieces.
+/// one of the two is `Read`, `TooManyReads`, `Write` or `Memory`.
 pub fn one_result()
     ensures { OneResult }
 {
@@ -67,7 +67,7 @@ pub fn a_list_fits()
 {}
 
 /// Fed with the frames of what a session took in a conversation, `serve` writes the frames of what the session sent,
-/// unless an allocation or the writer fails.
+/// unless it returns `Memory` or `Write`.
 pub fn a_conversation_is_served()
     ensures { ConversationIsServed }
 {

@@ -12,7 +12,7 @@ use Rattle.std.specs.BTreeMap.{BTreeMap, is_at}
 use Rattle.std.specs.BTreeMap as tree
 use Rattle.std.specs.FinMap as map_of
 use Rattle.std.proofs.lemmas.Map.Text.{btree_map_updates_text, is_eq-slice_cmp}
-use Rattle.ob0_world_rules.specs.Ends.{EditorDocuments}
+use Rattle.ob0_world_rules.specs.ClientAndServer.{EditorDocuments}
 use Rattle.ob0_world_editor.specs.declared.documents.Open as stored
 use Rattle.ob0_world_editor.specs.Entries.{open_document, editor_documents}
 

@@ -7,7 +7,7 @@ use Rattle.serde_json.specs.Data.{Data}
 use Rattle.serde_json.specs.Read.{read}
 use Rattle.ob0_text.specs.OpenDocuments.{DocumentEvent, Opened, Changed, Lost, Closed}
 use Rattle.ob0_rpc.specs.Messages.{ReadsContent, meaning_of}
-use Rattle.ob0_world_rules.specs.Ends.{SentAsk, ToServer, notifies, requests}
+use Rattle.ob0_world_rules.specs.ClientAndServer.{SentAsk, ToServer, notifies, requests}
 use Rattle.ob0_world_editor.specs.Heard.{heard, message_read, notification_read, sent_as, SaysToServer}
 use Rattle.ob0_world_editor.specs.Understood.{understood, value_understood}
 

@@ -9,7 +9,7 @@ use Rattle.ob0_world_editor.specs.declared.reading.Message as message
 use Rattle.ob0_world_editor.specs.declared.applied.Applied as applied
 use Rattle.ob0_world_rules.specs.Edited.{replacements}
 use Rattle.ob0_world_rules.specs.Asks.{Ask, rename, inline_here, inline_all, format}
-use Rattle.ob0_world_rules.specs.Ends.{SentAsk, Answer, Applied, ToEditor, publishes, answers}
+use Rattle.ob0_world_rules.specs.ClientAndServer.{SentAsk, Answer, Applied, ToEditor, publishes, answers}
 
 -- an ask of the code
 abbrev pub ask_of : ask.Ask → Ask

@@ -5,7 +5,7 @@ use Rattle.std.specs.Str.{chars}
 use Rattle.std.specs.FinMap as map_of
 use Rattle.std.specs.Coded.{Coded, code_by, coded×, coded_ℕ, coded_list}
 use Rattle.ob0_world_editor.specs.declared.documents.Open as stored
-use Rattle.ob0_world_rules.specs.Ends.{Open, EditorDocuments}
+use Rattle.ob0_world_rules.specs.ClientAndServer.{Open, EditorDocuments}
 
 -- an open document of the code
 abbrev pub open_document : stored.Open → Open

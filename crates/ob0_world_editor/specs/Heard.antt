@@ -11,7 +11,7 @@ use Rattle.ob0_rpc.specs.Requesting.{request_by_method}
 use Rattle.ob0_rpc.specs.Messages.{ReadsContent, MessageMeaning, not_json, not_a_message, response, request, notice, meaning_of}
 use Rattle.ob0_rpc.specs.Notifications.{Notification, exits, opens, changes, closes, unreadable, other, note_of}
 use Rattle.ob0_world_rules.specs.Asks.{Ask, rename, inline_here, inline_all, format, indent_read}
-use Rattle.ob0_world_rules.specs.Ends.{SentAsk, request_numbered, ToServer, notifies, requests}
+use Rattle.ob0_world_rules.specs.ClientAndServer.{SentAsk, request_numbered, ToServer, notifies, requests}
 use Rattle.ob0_world_editor.specs.Shapes.{method_of, empty_at}
 
 -- ---- as a function: the message in a content, where an ask is known by its number

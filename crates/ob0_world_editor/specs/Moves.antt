@@ -6,7 +6,7 @@ use Rattle.std.specs.FinMap as map_of
 use Rattle.std.specs.declared.alloc.Global.{Global}
 use Rattle.ob0_text.specs.OpenDocuments.{Changed}
 use Rattle.ob0_world_rules.specs.Edited.{Replacement, whole_text}
-use Rattle.ob0_world_rules.specs.Ends.{Open, SentAsk, Applied, Editor, open_at, ToServer, notifies}
+use Rattle.ob0_world_rules.specs.ClientAndServer.{Open, SentAsk, Applied, Editor, open_at, ToServer, notifies}
 use Rattle.ob0_world_rules.specs.Editing.{Done, rewrites, kept_answer, all_but}
 use Rattle.ob0_world_editor.specs.Code.{answer_of, applied_of}
 use Rattle.ob0_world_rules.specs.Edited.{replacements}

@@ -10,7 +10,7 @@ use Rattle.ob0_text.specs.declared.position_types.Range.{Range}
 use Rattle.ob0_rpc.specs.Members.{text_member, range_member}
 use Rattle.ob0_world_rules.specs.Edited.{Replacement}
 use Rattle.ob0_world_rules.specs.Asks.{Ask, rename, inline_here, inline_all, format}
-use Rattle.ob0_world_rules.specs.Ends.{SentAsk, request_numbered, ToEditor, publishes, answers}
+use Rattle.ob0_world_rules.specs.ClientAndServer.{SentAsk, request_numbered, ToEditor, publishes, answers}
 use Rattle.ob0_world_editor.specs.Heard.{request_number}
 
 -- ---- publications

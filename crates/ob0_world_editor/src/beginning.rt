@@ -6,7 +6,7 @@ ghost use Rattle.ob0_world_editor.specs.Beginning.{capabilities_for, initialize_
 
 use crate::objects::{three_members, two_members};
 use crate::params::Request;
-use ob0_rpc::{OneMember, Written, content_of};
+use ob0_rpc::{OneMember, WriteJson, content_of};
 use ob0_text::Unit;
 use std::alloc::{AllocError, Global};
 
@@ -30,7 +30,7 @@ struct ClientCapabilities {
     unit: Unit,
 }
 
-impl Written for ClientCapabilities {
+impl WriteJson for ClientCapabilities {
     ghost value = { λ c. object (capabilities_for c.unit) };
 
     fn write(&self, out: &mut Vec<u8>) -> Result<(), AllocError> {
@@ -76,7 +76,7 @@ impl Written for ClientCapabilities {
 #[derive(Drop)]
 struct Nothing {}
 
-impl Written for Nothing {
+impl WriteJson for Nothing {
     ghost value = { λ _. object no_members };
 
     fn write(&self, out: &mut Vec<u8>) -> Result<(), AllocError> {

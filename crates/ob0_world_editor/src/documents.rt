@@ -45,7 +45,7 @@ pub struct OpenDocuments {
 }
 
 impl Model for OpenDocuments {
-    ghost use Rattle.ob0_world_rules.specs.Ends.{EditorDocuments};
+    ghost use Rattle.ob0_world_rules.specs.ClientAndServer.{EditorDocuments};
     ghost use Rattle.ob0_world_editor.specs.Entries.{editor_documents, open_documents_code};
 
     ghost Value = { EditorDocuments };

@@ -7,7 +7,7 @@
 ghost use Rattle.std.specs.Prelude.{◌≡◌, IfOk, OnOk, OnErr, map, option_map, is_some, ◌<◌, ◌-◌, ◌^◌, string_bytes};
 ghost use Rattle.std.specs.Str.{chars};
 ghost use Rattle.ob0_text.specs.OpenDocuments.{reported_change};
-ghost use Rattle.ob0_world_rules.specs.Ends.{answers, new_editor};
+ghost use Rattle.ob0_world_rules.specs.ClientAndServer.{answers, new_editor};
 ghost use Rattle.ob0_world_rules.specs.Editing as acts;
 ghost use Rattle.ob0_world_rules.specs.Editing.{change_document, close_document, ask_about, apply, applies, done_by, kept_answer, reads, without_answer};
 ghost use Rattle.ob0_world_editor.specs.Code.{ask_of, message_of, requested_of};
@@ -64,7 +64,7 @@ pub struct Editor {
 impl Model for Editor {
     ghost use Rattle.std.specs.Prelude.{map};
     ghost use Rattle.std.specs.Coded.{codes};
-    ghost use Rattle.ob0_world_rules.specs.Ends.{Editor};
+    ghost use Rattle.ob0_world_rules.specs.ClientAndServer.{Editor};
     ghost use Rattle.ob0_world_editor.specs.Code.{requested_of, answer_of};
     ghost use Rattle.ob0_world_editor.specs.Entries.{open_documents_code};
 
@@ -200,7 +200,7 @@ impl Editor {
             (is_some (kept_answer k self.old.answers)) applying self.new) }
         ensures err { OnErr result (self.new ≡ without_answer self.old k) }
     {
-        let Some(edits) = self.drop_document(k) else {
+        let Some(edits) = self.take_answer(k) else {
             return Ok(Applying::NotHeld);
         };
         let rewritten = self.rewrite(k, edits.as_slice());
@@ -216,10 +216,10 @@ impl Editor {
         ensures held { result ≡ is_some (kept_answer k self.old.answers) }
         ensures after { self.new ≡ without_answer self.old k }
     {
-        self.drop_document(k).is_some()
+        self.take_answer(k).is_some()
     }
 
-    fn drop_document(&mut self, k: u64) -> Option<Vec<Edit>>
+    fn take_answer(&mut self, k: u64) -> Option<Vec<Edit>>
         ensures edits { option_map (λ v. replacements v.items) result
             ≡ kept_answer k self.old.answers }
         ensures after { self.new ≡ without_answer self.old k }

@@ -7,11 +7,11 @@ ghost use Rattle.std.specs.Prelude.{OnOk};
 ghost use Rattle.serde_json.specs.Data.{member, no_members};
 ghost use Rattle.ob0_rpc.specs.Appending.{AppendsMembers};
 
-use ob0_rpc::{Written, end_object, first_member, next_member};
+use ob0_rpc::{WriteJson, end_object, first_member, next_member};
 use std::alloc::AllocError;
 
 /// Writes an object of two members.
-pub fn two_members<A: Written, B: Written>(
+pub fn two_members<A: WriteJson, B: WriteJson>(
     out: &mut Vec<u8>,
     name: &str,
     value: &A,
@@ -28,7 +28,7 @@ pub fn two_members<A: Written, B: Written>(
 }
 
 /// Writes an object of three members.
-pub fn three_members<A: Written, B: Written, C: Written>(
+pub fn three_members<A: WriteJson, B: WriteJson, C: WriteJson>(
     out: &mut Vec<u8>,
     name: &str,
     value: &A,

@@ -8,7 +8,7 @@ ghost use Rattle.ob0_world_editor.specs.Shapes.{actions_params, change_object, c
 
 use crate::objects::{three_members, two_members};
 use ob0_rpc::{
-    OneMember, Written, begin_list, end_list, end_object, first_member, next_member, write_item,
+    OneMember, WriteJson, begin_list, end_list, end_object, first_member, next_member, write_item,
 };
 use ob0_text::{Change, Indent, Position, Range};
 use std::alloc::AllocError;
@@ -21,7 +21,7 @@ pub struct Request<'a, I, P> {
     pub params: &'a P,
 }
 
-impl<'a, I: Written, P: Written> Written for Request<'a, I, P> {
+impl<'a, I: WriteJson, P: WriteJson> WriteJson for Request<'a, I, P> {
     ghost value = { λ r. object (member (codes "id") (I.value r.id)
         (member (codes "jsonrpc") json_rpc
         (member (codes "method") (text_data r.method.now)
@@ -42,7 +42,7 @@ pub struct DocumentId<'a> {
     pub uri: &'a str,
 }
 
-impl<'a> Written for DocumentId<'a> {
+impl<'a> WriteJson for DocumentId<'a> {
     ghost value = { λ d. document_value d.uri.now };
 
     fn write(&self, out: &mut Vec<u8>) -> Result<(), AllocError> {
@@ -58,7 +58,7 @@ pub struct DocumentVersion<'a> {
     pub version: u64,
 }
 
-impl<'a> Written for DocumentVersion<'a> {
+impl<'a> WriteJson for DocumentVersion<'a> {
     ghost value = { λ d. versioned_value d.uri.now d.version };
 
     fn write(&self, out: &mut Vec<u8>) -> Result<(), AllocError> {
@@ -74,7 +74,7 @@ pub struct OpenedDocument<'a> {
     pub text: &'a str,
 }
 
-impl<'a> Written for OpenedDocument<'a> {
+impl<'a> WriteJson for OpenedDocument<'a> {
     ghost value = { λ d. opened_value d.uri.now d.version d.text.now };
 
     fn write(&self, out: &mut Vec<u8>) -> Result<(), AllocError> {
@@ -93,7 +93,7 @@ pub struct ContentChange<'a> {
     pub text: &'a str,
 }
 
-impl<'a> Written for ContentChange<'a> {
+impl<'a> WriteJson for ContentChange<'a> {
     ghost value = { λ c. change_object c.range c.text.now };
 
     fn write(&self, out: &mut Vec<u8>) -> Result<(), AllocError> {
@@ -113,7 +113,7 @@ pub struct ContentChanges<'a> {
     pub changes: &'a [Change],
 }
 
-impl<'a> Written for ContentChanges<'a> {
+impl<'a> WriteJson for ContentChanges<'a> {
     ghost value = { λ c. array (items_of (map change_value c.changes.now)) };
 
     fn write(&self, out: &mut Vec<u8>) -> Result<(), AllocError> {
@@ -144,7 +144,7 @@ pub struct DidChangeParams<'a, C> {
     pub document: DocumentVersion<'a>,
 }
 
-impl<'a, C: Written> Written for DidChangeParams<'a, C> {
+impl<'a, C: WriteJson> WriteJson for DidChangeParams<'a, C> {
     ghost value = { λ p. object (member (codes "contentChanges") (C.value p.changes)
         (member (codes "textDocument") (versioned_value p.document.uri.now p.document.version)
         no_members)) };
@@ -168,7 +168,7 @@ pub struct RenameParams<'a> {
     pub document: DocumentId<'a>,
 }
 
-impl<'a> Written for RenameParams<'a> {
+impl<'a> WriteJson for RenameParams<'a> {
     ghost value = { λ p. rename_params p.document.uri.now p.position p.new_name.now };
 
     fn write(&self, out: &mut Vec<u8>) -> Result<(), AllocError> {
@@ -191,7 +191,7 @@ pub struct CodeActionParams<'a> {
     pub document: DocumentId<'a>,
 }
 
-impl<'a> Written for CodeActionParams<'a> {
+impl<'a> WriteJson for CodeActionParams<'a> {
     ghost value = { λ p. actions_params p.document.uri.now p.position };
 
     fn write(&self, out: &mut Vec<u8>) -> Result<(), AllocError> {
@@ -223,7 +223,7 @@ pub struct FormattingOptions {
     pub tab_size: u64,
 }
 
-impl Written for FormattingOptions {
+impl WriteJson for FormattingOptions {
     ghost value = { λ o. options_by o.insert_spaces o.tab_size };
 
     fn write(&self, out: &mut Vec<u8>) -> Result<(), AllocError> {
@@ -262,7 +262,7 @@ pub struct FormattingParams<'a> {
     pub document: DocumentId<'a>,
 }
 
-impl<'a> Written for FormattingParams<'a> {
+impl<'a> WriteJson for FormattingParams<'a> {
     ghost value = { λ p. object
         (member (codes "options") (options_by p.options.insert_spaces p.options.tab_size)
         (member (codes "textDocument") (document_value p.document.uri.now) no_members)) };

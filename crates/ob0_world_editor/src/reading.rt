@@ -7,7 +7,7 @@ ghost use Rattle.ob0_world_editor.specs.Code.{message_of, ask_of, requested_of};
 ghost use Rattle.ob0_world_rules.specs.Edited.{replacement_of, replacements};
 ghost use Rattle.ob0_world_editor.specs.Heard.{request_number};
 ghost use Rattle.ob0_world_editor.specs.Understood.{understood, value_understood, publication_understood, answer_understood, has_none, edit_in, edits_in, workspace_items, is_titled, titled_action, action_items, items_for as items_of_answer, edits_for};
-ghost use Rattle.ob0_world_rules.specs.Ends.{request_numbered};
+ghost use Rattle.ob0_world_rules.specs.ClientAndServer.{request_numbered};
 
 use crate::asks::Ask;
 use crate::editor::SentAsk;

@@ -14,7 +14,7 @@ use crate::params::{
     CodeActionParams, ContentChange, ContentChanges, DidChangeParams, DocumentId, DocumentVersion,
     FormattingOptions, FormattingParams, OpenedDocument, RenameParams, Request,
 };
-use ob0_rpc::{OneMember, Written, content_of, notify};
+use ob0_rpc::{OneMember, WriteJson, content_of, notify};
 use ob0_text::Change;
 use std::alloc::{AllocError, Global};
 
@@ -112,7 +112,7 @@ pub fn request(alloc: Global, number: u64, uri: &str, ask: &Ask) -> Result<Vec<u
     }
 }
 
-fn send<P: Written>(
+fn send<P: WriteJson>(
     alloc: Global,
     number: u64,
     method: &str,

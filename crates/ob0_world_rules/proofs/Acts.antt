@@ -5,7 +5,7 @@ use Rattle.std.proofs.lemmas.Option.{same_Some, none-some}
 use Rattle.ob0_text.specs.OpenDocuments.{TextChange}
 use Rattle.ob0_world_rules.specs.Edited.{Replacement, edited, whole_text, after_changes}
 use Rattle.ob0_world_rules.specs.Asks.{Ask}
-use Rattle.ob0_world_rules.specs.Ends.{Open, SentAsk, Editor, request_numbered, open_at, Applied}
+use Rattle.ob0_world_rules.specs.ClientAndServer.{Open, SentAsk, Editor, request_numbered, open_at, Applied}
 use Rattle.ob0_world_rules.specs.Editing.{Act, open_document, change_document, close_document, ask_about, apply, discard, Done, stays, opens, rewrites, closes, asks, kept_answer, without_answer, if_same, applies, done_by}
 use Rattle.ob0_world_rules.proofs.SameDocument.{Same, same_from}
 

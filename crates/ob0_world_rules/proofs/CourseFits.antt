@@ -8,7 +8,7 @@ use Rattle.ob0_text.specs.OpenDocuments.{OpenDocuments, Document, InStep, OutOfS
 use Rattle.ob0_world_rules.specs.Edited.{Replacement, after_changes}
 use Rattle.ob0_world_rules.specs.Asks.{Ask}
 use Rattle.ob0_world_rules.specs.Answers.{IsAnswer, IsEmptyIfCorrect}
-use Rattle.ob0_world_rules.specs.Ends.{Open, Editor, open_at, ToServer, notifies, requests, ToEditor, publishes, answers, Made, Ends, start, after_message}
+use Rattle.ob0_world_rules.specs.ClientAndServer.{Open, Editor, open_at, ToServer, notifies, requests, ToEditor, publishes, answers, Made, ClientAndServer, start, after_message}
 use Rattle.ob0_world_rules.specs.Editing.{Act, open_document, change_document, close_document, ask_about, apply, discard, Done, stays, opens, rewrites, closes, asks, kept_answer, without_answer, applies, done_by}
 use Rattle.ob0_world_rules.specs.Serving.{Publishes, Replies}
 use Rattle.ob0_world_rules.specs.Happens.{Event, does, serve, take_message, after_act, after_taking, ServerTakes, Happens, Course}
@@ -92,7 +92,7 @@ reply_fits held (requests k uri ask) h none =
 
 -- ---- events
 
-serve_fits : (w : Ends) (queue : List ToServer) → w.to_server ≡ queue → All CanBeReplied w.to_server → ((new : Ends) → ServerTakes w queue new → All CanBeReplied new.to_server → ⊥) → ⊥
+serve_fits : (w : ClientAndServer) (queue : List ToServer) → w.to_server ≡ queue → All CanBeReplied w.to_server → ((new : ClientAndServer) → ServerTakes w queue new → All CanBeReplied new.to_server → ⊥) → ⊥
 serve_fits w [] is waiting none = none w refl waiting
 serve_fits w (m ∷ rest) is waiting none =
     let all : All CanBeReplied (m ∷ rest) = subst (All CanBeReplied) is waiting in
@@ -101,17 +101,17 @@ serve_fits w (m ∷ rest) is waiting none =
     (record w { to_server = rest; held = after_message w.held m; to_editor = w.to_editor ++ said; made = w.made ++ made })
     (said, made, replies, refl) (All-tail CanBeReplied m rest all))
 
-taken : (w : Ends) (queue : List ToEditor) → All CanBeReplied w.to_server → All CanBeReplied (after_taking w queue).to_server
+taken : (w : ClientAndServer) (queue : List ToEditor) → All CanBeReplied w.to_server → All CanBeReplied (after_taking w queue).to_server
 taken w [] waiting = waiting
 taken w (m ∷ rest) waiting = waiting
 
-event_fits : (e : Event) (w : Ends) → IsAnswerable e → All CanBeReplied w.to_server → ((new : Ends) → Happens w e new → All CanBeReplied new.to_server → ⊥) → ⊥
+event_fits : (e : Event) (w : ClientAndServer) → IsAnswerable e → All CanBeReplied w.to_server → ((new : ClientAndServer) → Happens w e new → All CanBeReplied new.to_server → ⊥) → ⊥
 event_fits (does act) w h waiting none =
     none (after_act w (done_by w.editor act)) refl (All-append CanBeReplied w.to_server (done_by w.editor act).sent waiting (act_sends w.editor act h))
 event_fits serve w h waiting none = serve_fits w w.to_server refl waiting none
 event_fits take_message w h waiting none = none (after_taking w w.to_editor) refl (taken w w.to_editor waiting)
 
-fits : (events : List Event) (w : Ends) → All IsAnswerable events → All CanBeReplied w.to_server → ((end : Ends) → Course w events end → ⊥) → ⊥
+fits : (events : List Event) (w : ClientAndServer) → All IsAnswerable events → All CanBeReplied w.to_server → ((end : ClientAndServer) → Course w events end → ⊥) → ⊥
 fits [] w all waiting none = none w refl
 fits (e ∷ events) w all waiting none =
     event_fits e w (All-head IsAnswerable e events all) waiting

@@ -1,4 +1,4 @@
--- Each event keeps what the two ends keep, and so does every list of events.
+-- Each event keeps what client and server keep, and so does every list of events.
 use Rattle.std.proofs.Common.{◌≡◌, ◌∙◌, ℕ, suc, ◌+◌, ◌≤◌, Bool, true, false, cond, List, [], ◌∷◌, ◌++◌, length, refl, sym, ap, subst, arith, inl, inr}
 use Rattle.std.specs.Prelude.{ℤ, pos, fold, All, Option, Some, None, is_some, option_map, ◌==◌}
 use Rattle.std.specs.Str.{bytes_eq}
@@ -15,7 +15,7 @@ use Rattle.ob0_world_rules.specs.Language.{WellTypedText, SameRun}
 use Rattle.ob0_world_rules.specs.Edited.{Replacement, edited, whole_text, after_changes}
 use Rattle.ob0_world_rules.specs.Asks.{Ask}
 use Rattle.ob0_world_rules.specs.Answers.{IsAnswer}
-use Rattle.ob0_world_rules.specs.Ends.{Open, SentAsk, Answer, Editor, request_numbered, open_at, ToServer, notifies, requests, ToEditor, publishes, answers, Applied, Made, Ends, start, after_message}
+use Rattle.ob0_world_rules.specs.ClientAndServer.{Open, SentAsk, Answer, Editor, request_numbered, open_at, ToServer, notifies, requests, ToEditor, publishes, answers, Applied, Made, ClientAndServer, start, after_message}
 use Rattle.ob0_world_rules.specs.Editing.{Act, stays, opens, rewrites, closes, asks, kept_answer, all_but, without_answer, done_by}
 use Rattle.ob0_world_rules.specs.Serving.{Publishes, RepliesToNotification, Replies}
 use Rattle.ob0_world_rules.specs.Happens.{Event, does, serve, take_message, after_act, after_taking, ServerTakes, Happens, Course}
@@ -32,7 +32,7 @@ use Rattle.ob0_world_rules.proofs.Keeping.{Fits, AnswerFits, HeldFits, AsksSee, 
 -- ---- the editor's events
 
 module _ (unit : Unit) where
-  open_kept : (w : Ends) (uri text : List ℕ) → Kept unit w → Kept unit (after_act w (opens w.editor uri text))
+  open_kept : (w : ClientAndServer) (uri text : List ℕ) → Kept unit w → Kept unit (after_act w (opens w.editor uri text))
   open_kept w uri text kept =
       let d : Open = record { version = 1; text = text; opening = w.editor.openings + 1 } in
       acts_kept unit w (opens w.editor uri text) kept (later_open w.editor uri d refl)
@@ -41,13 +41,13 @@ module _ (unit : Unit) where
       (λ was. let known : x.opening ≤ w.editor.openings = kept.openings q x was in omega arith))
       refl refl (put_mirrors w uri d kept.mirror) tt (All-nil KeepsTheRun)
 
-  close_kept : (w : Ends) (uri : List ℕ) → Kept unit w → Kept unit (after_act w (closes w.editor uri))
+  close_kept : (w : ClientAndServer) (uri : List ℕ) → Kept unit w → Kept unit (after_act w (closes w.editor uri))
   close_kept w uri kept =
       acts_kept unit w (closes w.editor uri) kept (later_close w.editor uri)
       (λ q x at. kept.openings q x (left w.editor.documents uri q x at))
       refl refl (remove_mirrors w uri kept.mirror) tt (All-nil KeepsTheRun)
 
-  ask_kept : (w : Ends) (uri : List ℕ) (ask : Ask) (d : Open) → open_at w.editor uri ≡ Some d → Kept unit w → Kept unit (after_act w (asks w.editor uri ask d))
+  ask_kept : (w : ClientAndServer) (uri : List ℕ) (ask : Ask) (d : Open) → open_at w.editor uri ≡ Some d → Kept unit w → Kept unit (after_act w (asks w.editor uri ask d))
   ask_kept w uri ask d is kept =
       let a : SentAsk = record { ask = ask; uri = uri; opening = d.opening; version = d.version } in
       let e : Editor = record w.editor { requested = w.editor.requested ++ a ∷ [] } in
@@ -65,12 +65,12 @@ module _ (unit : Unit) where
       kept.openings refl refl kept.mirror (known, tt) (All-nil KeepsTheRun)
 
   -- nothing is sent
-  still_kept : (w : Ends) → Kept unit w → Kept unit (after_act w (stays w.editor))
+  still_kept : (w : ClientAndServer) → Kept unit w → Kept unit (after_act w (stays w.editor))
   still_kept w kept =
       acts_kept unit w (stays w.editor) kept (later_answers w.editor w.editor.answers) kept.openings refl refl kept.mirror tt (All-nil KeepsTheRun)
 
   -- a message that the editor has taken is no more in the queue
-  rest_kept : (w : Ends) (rest : List ToEditor) → Kept unit w → All (AnswerFits unit w.editor) rest → Kept unit (record w { to_editor = rest })
+  rest_kept : (w : ClientAndServer) (rest : List ToEditor) → Kept unit w → All (AnswerFits unit w.editor) rest → Kept unit (record w { to_editor = rest })
   rest_kept w rest kept fit =
       record { counts = kept.counts; holds = kept.holds; mirror = kept.mirror; openings = kept.openings; requested = kept.requested; answered = fit; answers_held = kept.answers_held; applied = kept.applied; made = kept.made }
 
@@ -82,7 +82,7 @@ module _ (unit : Unit) where
       go d (inl none) = absurd (cc)
       go d (inr keep) = keep
 
-  take_kept : (w : Ends) (queue : List ToEditor) → Kept unit w → All (AnswerFits unit w.editor) queue → Kept unit (after_taking w queue)
+  take_kept : (w : ClientAndServer) (queue : List ToEditor) → Kept unit w → All (AnswerFits unit w.editor) queue → Kept unit (after_taking w queue)
   take_kept w [] kept fit = kept
   take_kept w (publishes uri version empty ∷ rest) kept fit = rest_kept w rest kept (All-tail (AnswerFits unit w.editor) (publishes uri version empty) rest fit)
   take_kept w (answers k [] ∷ rest) kept fit = rest_kept w rest kept (All-tail (AnswerFits unit w.editor) (answers k []) rest fit)
@@ -103,7 +103,7 @@ module _ (unit : Unit) where
       go true later = All-tail P a rest all
       go false later = All-cons P a (all_but k rest) (All-head P a rest all) later
 
-  without_kept : (w : Ends) (k : ℕ) → Kept unit w → Kept unit (record w { editor = without_answer w.editor k })
+  without_kept : (w : ClientAndServer) (k : ℕ) → Kept unit w → Kept unit (record w { editor = without_answer w.editor k })
   without_kept w k kept =
       answers_kept unit w (all_but k w.editor.answers) w.to_editor kept (All-all_but (HeldFits unit w.editor) k w.editor.answers kept.answers_held) kept.answered
 
@@ -112,7 +112,7 @@ module _ (unit : Unit) where
   whole u old text = refl
 
   -- the edits of an answer are made of the document of its request
-  made_kept : (w : Ends) (k : ℕ) (edits : List Replacement) (a : SentAsk) (d : Open) (text : List ℕ) → Kept unit w → kept_answer k w.editor.answers ≡ Some edits → request_numbered w.editor.requested k ≡ Some a → Same w.editor a d
+  made_kept : (w : ClientAndServer) (k : ℕ) (edits : List Replacement) (a : SentAsk) (d : Open) (text : List ℕ) → Kept unit w → kept_answer k w.editor.answers ≡ Some edits → request_numbered w.editor.requested k ≡ Some a → Same w.editor a d
       → edited w.editor.unit d.text edits ≡ Some text → Kept unit (after_act w (rewrites (without_answer w.editor k) a.uri d text (whole_text text ∷ []) (edit_of a.uri d text ∷ [])))
   made_kept w k edits a d text kept held numbered same makes =
       let known : Known w.editor k (λ d. EditsPreserveRun unit d.text edits) = held_known unit w.editor k w.editor.answers edits held kept.answers_held in
@@ -123,7 +123,7 @@ module _ (unit : Unit) where
       rewrites_kept unit (record w { editor = without_answer w.editor k }) a.uri d (whole_text text ∷ []) text (edit_of a.uri d text ∷ []) (without_kept w k kept) same.at (whole w.editor.unit d.text text)
       (All-push KeepsTheRun [] (edit_of a.uri d text) (All-nil KeepsTheRun) keeps)
 
-  act_kept : (w : Ends) → Kept unit w → (act : Act) → Kept unit (after_act w (done_by w.editor act))
+  act_kept : (w : ClientAndServer) → Kept unit w → (act : Act) → Kept unit (after_act w (done_by w.editor act))
   act_kept w kept =
       of_each w.editor (λ done. Kept unit (after_act w done))
       (record {
@@ -282,7 +282,7 @@ module _ (unit : Unit) where
         now = quiet.now;
       }
 
-  abbrev Both : Ends → Type 0
+  abbrev Both : ClientAndServer → Type 0
   Both w = Kept unit w × AreLatest w.held w.made
 
   -- the first message, and those after it
@@ -290,7 +290,7 @@ module _ (unit : Unit) where
   sees_first e held (notifies note) rest h = (tt, h)
   sees_first e held (requests k uri ask) rest h = ((h.0, tt), h.1)
 
-  serve_kept : (w : Ends) (queue : List ToServer) (new : Ends) → w.to_server ≡ queue → Both w → ServerTakes w queue new → Both new
+  serve_kept : (w : ClientAndServer) (queue : List ToServer) (new : ClientAndServer) → w.to_server ≡ queue → Both w → ServerTakes w queue new → Both new
   serve_kept w [] new is both h = subst Both (sym h) both
   serve_kept w (m ∷ rest) new is (kept, now) (said, more, may, is_new) =
       let see : Meets w.editor w.held m × AsksSee w.editor (after_message w.held m) rest = sees_first w.editor w.held m rest (subst (AsksSee w.editor w.held) is kept.requested) in
@@ -313,18 +313,18 @@ module _ (unit : Unit) where
   -- ---- all events
 
   -- the server is as it was
-  take_unmoved : (w : Ends) (queue : List ToEditor) → ((after_taking w queue).held ≡ w.held) × ((after_taking w queue).made ≡ w.made)
+  take_unmoved : (w : ClientAndServer) (queue : List ToEditor) → ((after_taking w queue).held ≡ w.held) × ((after_taking w queue).made ≡ w.made)
   take_unmoved w [] = (refl, refl)
   take_unmoved w (m ∷ rest) = (refl, refl)
 
-  event_kept : (w : Ends) (event : Event) (new : Ends) → Both w → Happens w event new → Both new
+  event_kept : (w : ClientAndServer) (event : Event) (new : ClientAndServer) → Both w → Happens w event new → Both new
   event_kept w (does act) new (kept, now) h = subst Both (sym h) (act_kept w kept act, now)
   event_kept w serve new both h = serve_kept w w.to_server new refl both h
   event_kept w take_message new (kept, now) h =
       let still = take_unmoved w w.to_editor in
       subst Both (sym h) (take_kept w w.to_editor kept kept.answered, subst (λ made. AreLatest (after_taking w w.to_editor).held made) (sym still.1) (subst (λ held. AreLatest held w.made) (sym still.0) now))
 
-  run_kept : (events : List Event) (w new : Ends) → Both w → Course w events new → Both new
+  run_kept : (events : List Event) (w new : ClientAndServer) → Both w → Course w events new → Both new
   run_kept [] w new both h = subst Both (sym h) both
   run_kept (event ∷ events) w new both (between, happens, run) = run_kept events between new (event_kept w event between both happens) run
 
@@ -347,15 +347,15 @@ module _ (unit : Unit) where
     λ uri version text at. nothing_at uri (InStep version text) (IsMadeFor version text None) at,
   )
 
-  up_to_date : (w : Ends) → Both w → w.to_server ≡ [] → AreUpToDate w.editor w.made
+  up_to_date : (w : ClientAndServer) → Both w → w.to_server ≡ [] → AreUpToDate w.editor w.made
   up_to_date w (kept, now) nothing_waits uri d at =
       let held : document_at w.held uri ≡ Some (as_open d) = subst (λ q. document_at (fold after_message w.held q) uri ≡ Some (as_open d)) nothing_waits (kept.mirror uri ∙ ap (option_map as_open) at) in
       now uri (pos d.version) d.text held
 
-pub in_every_interleaving : (unit : Unit) (events : List Event) (w : Ends) → Course (start unit) events w → Holds w
+pub in_every_interleaving : (unit : Unit) (events : List Event) (w : ClientAndServer) → Course (start unit) events w → Holds w
 in_every_interleaving unit events w run =
     let both : Both unit w = run_kept unit events (start unit) w (start_kept unit) run in
     record { applied = both.0.applied; made = both.0.made; latest_made = up_to_date unit w both }
 
-pub server_mirrors : (unit : Unit) (events : List Event) (w : Ends) → Course (start unit) events w → Mirrors w
+pub server_mirrors : (unit : Unit) (events : List Event) (w : ClientAndServer) → Course (start unit) events w → Mirrors w
 server_mirrors unit events w run = (run_kept unit events (start unit) w (start_kept unit) run).0.mirror

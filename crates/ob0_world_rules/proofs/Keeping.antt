@@ -1,4 +1,4 @@
--- What the two ends keep, whatever happens.
+-- What client and server keep, whatever happens.
 use Rattle.std.proofs.Common.{◌≡◌, ◌∙◌, ℕ, ◌+◌, ◌≤◌, Bool, true, false, cond, List, [], ◌∷◌, ◌++◌, refl, sym, ap, subst}
 use Rattle.std.specs.Prelude.{◌⊎◌, ⊤, pos, fold, All, Some, None, option_map, ◌==◌}
 use Rattle.std.specs.Str.{bytes_eq}
@@ -11,7 +11,7 @@ use Rattle.ob0_text.specs.declared.position_types.Unit.{Unit}
 use Rattle.ob0_text.specs.OpenDocuments.{OpenDocuments, document, DocumentEvent, Opened, Changed, Lost, Closed, TextChange, after_event, changed_document, document_at}
 use Rattle.ob0_text.proofs.EntryLaws.{updated-some}
 use Rattle.ob0_world_rules.specs.Edited.{Replacement, after_changes}
-use Rattle.ob0_world_rules.specs.Ends.{Open, Answer, Editor, open_at, ToServer, notifies, requests, ToEditor, publishes, answers, Applied, Ends, after_message}
+use Rattle.ob0_world_rules.specs.ClientAndServer.{Open, Answer, Editor, open_at, ToServer, notifies, requests, ToEditor, publishes, answers, Applied, ClientAndServer, after_message}
 use Rattle.ob0_world_rules.specs.Editing.{Done, kept_answer, rewrites}
 use Rattle.ob0_world_rules.specs.Happens.{after_act}
 use Rattle.ob0_world_rules.specs.Mirror.{will_have, as_open, Mirrors}
@@ -42,8 +42,8 @@ AsksSee e held (requests k uri ask ∷ rest) = Known e k (λ d. document_at held
 abbrev pub KnowsOpenings : Editor → Type 0
 KnowsOpenings e = (uri : List ℕ) (d : Open) → open_at e uri ≡ Some d → d.opening ≤ e.openings
 
-pub record Kept (unit : Unit) (w : Ends) : Type 0 where
-  -- both ends count positions in this unit
+pub record Kept (unit : Unit) (w : ClientAndServer) : Type 0 where
+  -- client and server count positions in this unit
   pub counts : w.editor.unit ≡ unit
   pub holds : w.held.unit ≡ unit
   pub mirror : Mirrors w
@@ -96,7 +96,7 @@ asks_append e held (requests n uri ask ∷ rest) more h k = (h.0, asks_append e 
 
 -- ---- the editor acts
 
-pub acts_kept : (unit : Unit) (w : Ends) (done : Done) → Kept unit w → Later w.editor done.editor → KnowsOpenings done.editor → done.editor.unit ≡ w.editor.unit → done.editor.answers ≡ w.editor.answers
+pub acts_kept : (unit : Unit) (w : ClientAndServer) (done : Done) → Kept unit w → Later w.editor done.editor → KnowsOpenings done.editor → done.editor.unit ≡ w.editor.unit → done.editor.answers ≡ w.editor.answers
     → ((uri : List ℕ) → document_at (fold after_message (will_have w) done.sent) uri ≡ option_map as_open (open_at done.editor uri)) → AsksSee done.editor (will_have w) done.sent → All KeepsTheRun done.applied → Kept unit (after_act w done)
 acts_kept unit w done kept later openings same_unit same mirror see keeps =
     record {
@@ -111,19 +111,19 @@ acts_kept unit w done kept later openings same_unit same mirror see keeps =
       made = kept.made;
     }
 
--- a document is put in at both ends
-put_mirror : (w : Ends) (uri : List ℕ) (d : Open) → Mirrors w → (q : List ℕ)
+-- a document is put in at client and server
+put_mirror : (w : ClientAndServer) (uri : List ℕ) (d : Open) → Mirrors w → (q : List ℕ)
     → map_of.get (map_of.insert (will_have w).by_uri uri (as_open d)) q ≡ option_map as_open (map_of.get (map_of.insert w.editor.documents uri d) q)
 put_mirror w uri d mirror q =
     get_put (will_have w).by_uri uri (as_open d) q ∙ ap (cond (bytes_eq q uri) (Some (as_open d))) (mirror q)
     ∙ sym (mapped_choice as_open (bytes_eq q uri) (Some d) (map_of.get w.editor.documents q))
     ∙ ap (option_map as_open) (sym (get_put w.editor.documents uri d q))
 
-pub put_mirrors : (w : Ends) (uri : List ℕ) (d : Open) → Mirrors w → (q : List ℕ)
+pub put_mirrors : (w : ClientAndServer) (uri : List ℕ) (d : Open) → Mirrors w → (q : List ℕ)
     → map_of.get (map_of.insert (will_have w).by_uri uri (as_open d)) q ≡ option_map as_open (map_of.get (map_of.insert w.editor.documents uri d) q)
 put_mirrors w uri d mirror q = put_mirror w uri d mirror q
 
-pub remove_mirrors : (w : Ends) (uri : List ℕ) → Mirrors w → (q : List ℕ)
+pub remove_mirrors : (w : ClientAndServer) (uri : List ℕ) → Mirrors w → (q : List ℕ)
     → map_of.get (map_of.remove (will_have w).by_uri uri) q ≡ option_map as_open (map_of.get (map_of.remove w.editor.documents uri) q)
 remove_mirrors w uri mirror q =
     get_removed (will_have w).by_uri uri q ∙ ap (cond (bytes_eq q uri) None) (mirror q)
@@ -131,7 +131,7 @@ remove_mirrors w uri mirror q =
     ∙ ap (option_map as_open) (sym (get_removed w.editor.documents uri q))
 
 -- a document that gets a new text is changed so at the server
-change_mirrors : (w : Ends) (uri : List ℕ) (d new : Open) (how : List TextChange) → Mirrors w → (will_have w).unit ≡ w.editor.unit → open_at w.editor uri ≡ Some d
+change_mirrors : (w : ClientAndServer) (uri : List ℕ) (d new : Open) (how : List TextChange) → Mirrors w → (will_have w).unit ≡ w.editor.unit → open_at w.editor uri ≡ Some d
     → after_changes w.editor.unit (Some d.text) how ≡ Some new.text → (q : List ℕ)
     → document_at (after_event (will_have w) (Changed uri (pos new.version) how)) q ≡ option_map as_open (map_of.get (map_of.insert w.editor.documents uri new) q)
 change_mirrors w uri d new how mirror same_unit was_open is q =
@@ -140,7 +140,7 @@ change_mirrors w uri d new how mirror same_unit was_open is q =
     ∙ ap (λ text. map_of.get (map_of.insert (will_have w).by_uri uri (document (pos new.version) text)) q) (ap (λ u. after_changes u (Some d.text) how) same_unit ∙ is)
     ∙ put_mirror w uri new mirror q
 
-pub rewrites_kept : (unit : Unit) (w : Ends) (uri : List ℕ) (d : Open) (how : List TextChange) (text : List ℕ) (applied : List Applied) → Kept unit w → open_at w.editor uri ≡ Some d
+pub rewrites_kept : (unit : Unit) (w : ClientAndServer) (uri : List ℕ) (d : Open) (how : List TextChange) (text : List ℕ) (applied : List Applied) → Kept unit w → open_at w.editor uri ≡ Some d
     → after_changes w.editor.unit (Some d.text) how ≡ Some text → All KeepsTheRun applied → Kept unit (after_act w (rewrites w.editor uri d text how applied))
 rewrites_kept unit w uri d how text applied kept was_open is keeps =
     let new : Open = record d { version = d.version + 1; text = text } in
@@ -153,7 +153,7 @@ rewrites_kept unit w uri d how text applied kept was_open is keeps =
 -- ---- answers in the editor
 
 -- the editor holds other answers, and takes them from the queue
-pub answers_kept : (unit : Unit) (w : Ends) (list : List Answer) (queue : List ToEditor) → Kept unit w → All (HeldFits unit w.editor) list → All (AnswerFits unit w.editor) queue
+pub answers_kept : (unit : Unit) (w : ClientAndServer) (list : List Answer) (queue : List ToEditor) → Kept unit w → All (HeldFits unit w.editor) list → All (AnswerFits unit w.editor) queue
     → Kept unit (record w { editor = record w.editor { answers = list }; to_editor = queue })
 answers_kept unit w list queue kept held fit =
     let e : Editor = record w.editor { answers = list } in

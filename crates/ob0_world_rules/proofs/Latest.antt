@@ -3,7 +3,7 @@ use Rattle.std.proofs.Common.{◌≡◌, ℕ, ℤ, cond, List, [], ◌∷◌, �
 use Rattle.std.specs.Prelude.{Option, Some, None, MatchOption}
 use Rattle.std.specs.Str.{bytes_eq}
 use Rattle.std.proofs.lemmas.List.Sums.{fold-append}
-use Rattle.ob0_world_rules.specs.Ends.{Made}
+use Rattle.ob0_world_rules.specs.ClientAndServer.{Made}
 use Rattle.ob0_world_rules.specs.Headline.{last_publication}
 
 -- there is one, and it was made for this version and this text

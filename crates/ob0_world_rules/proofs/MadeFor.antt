@@ -9,7 +9,7 @@ use Rattle.std.proofs.lemmas.List.Elements.{All-nil, All-push, All-append, All-w
 use Rattle.std.proofs.lemmas.List.Sums.{fold-append}
 use Rattle.ob0_text.specs.declared.position_types.Unit.{Unit}
 use Rattle.ob0_text.specs.OpenDocuments.{OpenDocuments, Document, InStep, OutOfStep, DocumentEvent, Opened, Changed, Lost, Closed, after_event, document_at}
-use Rattle.ob0_world_rules.specs.Ends.{Open, Editor, open_at, ToServer, notifies, requests, ToEditor, publishes, answers, Made, Ends, start, after_message}
+use Rattle.ob0_world_rules.specs.ClientAndServer.{Open, Editor, open_at, ToServer, notifies, requests, ToEditor, publishes, answers, Made, ClientAndServer, start, after_message}
 use Rattle.ob0_world_rules.specs.Editing.{Act, Done, done_by}
 use Rattle.ob0_world_rules.specs.Serving.{Publishes, RepliesToNotification, Replies}
 use Rattle.ob0_world_rules.specs.Happens.{Event, does, serve, take_message, after_act, after_taking, ServerTakes, Happens, Course}
@@ -19,7 +19,7 @@ use Rattle.ob0_world_rules.proofs.Acts.{of_each}
 use Rattle.ob0_world_rules.proofs.Interleavings.{server_mirrors}
 
 -- one event more at the end
-pub course_push : (w : Ends) (events : List Event) (between : Ends) (e : Event) (new : Ends) → Course w events between → Happens between e new → Course w (events ++ e ∷ []) new
+pub course_push : (w : ClientAndServer) (events : List Event) (between : ClientAndServer) (e : Event) (new : ClientAndServer) → Course w events between → Happens between e new → Course w (events ++ e ∷ []) new
 course_push w [] between e new run happens = (new, subst (λ x. Happens x e new) run happens, refl)
 course_push w (x ∷ events) between e new (mid, first, rest) happens = (mid, first, course_push mid events between e new rest happens)
 
@@ -87,7 +87,7 @@ module _ (unit : Unit) where
   made_more events more made all = All-weaker (WasMadeFor unit events) (WasMadeFor unit (events ++ more)) (was_open_more events more) made all
 
   -- once it has taken what waits for it the server holds what the editor has
-  at_last : (events : List Event) (w : Ends) → Course (start unit) events w → WereOpenIn events (will_have w)
+  at_last : (events : List Event) (w : ClientAndServer) → Course (start unit) events w → WereOpenIn events (will_have w)
   at_last events w run uri version text at = go (open_at w.editor uri) refl
     where
       mirror : document_at (will_have w) uri ≡ option_map as_open (open_at w.editor uri)
@@ -109,7 +109,7 @@ module _ (unit : Unit) where
             text_is = same_text (pos d.version) version d.text text both;
           }
 
-  record WereOpen (events : List Event) (w : Ends) : Type 0 where
+  record WereOpen (events : List Event) (w : ClientAndServer) : Type 0 where
     pub reached : Course (start unit) events w
     pub held : WereOpenBy events w.held w.to_server
     pub made : All (WasMadeFor unit events) w.made
@@ -138,16 +138,16 @@ module _ (unit : Unit) where
       let now : WereOpenIn events (after_message (fold after_message held queue) m) = subst (WereOpenIn events) (fold-append after_message held queue (m ∷ rest) ∙ ap (fold after_message (after_message (fold after_message held queue) m)) one) last in
       subst (λ x. WereOpenBy events held (queue ++ m ∷ x)) (sym one) (by_push events held queue m were now)
 
-  act_open : (events : List Event) (e : Event) (w : Ends) (act : Act) → WereOpen events w → Course (start unit) (events ++ e ∷ []) (after_act w (done_by w.editor act)) → WereOpen (events ++ e ∷ []) (after_act w (done_by w.editor act))
+  act_open : (events : List Event) (e : Event) (w : ClientAndServer) (act : Act) → WereOpen events w → Course (start unit) (events ++ e ∷ []) (after_act w (done_by w.editor act)) → WereOpen (events ++ e ∷ []) (after_act w (done_by w.editor act))
   act_open events e w act was run =
-      let new : Ends = after_act w (done_by w.editor act) in
+      let new : ClientAndServer = after_act w (done_by w.editor act) in
       record {
         reached = run;
         held = by_sent (events ++ e ∷ []) w.held w.to_server (done_by w.editor act).sent (act_sends_one w.editor act) (by_more events (e ∷ []) w.held w.to_server was.held) (at_last (events ++ e ∷ []) new run);
         made = made_more events (e ∷ []) w.made was.made;
       }
 
-  takes_open : (events : List Event) (e : Event) (w : Ends) (queue : List ToEditor) → WereOpen events w → Course (start unit) (events ++ e ∷ []) (after_taking w queue) → WereOpen (events ++ e ∷ []) (after_taking w queue)
+  takes_open : (events : List Event) (e : Event) (w : ClientAndServer) (queue : List ToEditor) → WereOpen events w → Course (start unit) (events ++ e ∷ []) (after_taking w queue) → WereOpen (events ++ e ∷ []) (after_taking w queue)
   takes_open events e w [] was run =
       record { reached = run; held = by_more events (e ∷ []) w.held w.to_server was.held; made = made_more events (e ∷ []) w.made was.made }
   takes_open events e w (m ∷ rest) was run =
@@ -175,7 +175,7 @@ module _ (unit : Unit) where
   sent_open events held (notifies note) said made were h = note_open events held note said made were h
   sent_open events held (requests k uri ask) said made were (edits, answer, is_said, none) = subst (All (WasMadeFor unit events)) (sym none) (All-nil (WasMadeFor unit events))
 
-  serve_open : (events : List Event) (e : Event) (w : Ends) (queue : List ToServer) (new : Ends) → w.to_server ≡ queue → WereOpen events w → Course (start unit) (events ++ e ∷ []) new → ServerTakes w queue new → WereOpen (events ++ e ∷ []) new
+  serve_open : (events : List Event) (e : Event) (w : ClientAndServer) (queue : List ToServer) (new : ClientAndServer) → w.to_server ≡ queue → WereOpen events w → Course (start unit) (events ++ e ∷ []) new → ServerTakes w queue new → WereOpen (events ++ e ∷ []) new
   serve_open events e w [] new is was run h =
       let still : Course (start unit) (events ++ e ∷ []) w = subst (Course (start unit) (events ++ e ∷ [])) h run in
       subst (WereOpen (events ++ e ∷ [])) (sym h) (record { reached = still; held = by_more events (e ∷ []) w.held w.to_server was.held; made = made_more events (e ∷ []) w.made was.made })
@@ -192,21 +192,21 @@ module _ (unit : Unit) where
   -- ---- every event
 
   -- from what an event leaves to what is equal to it
-  left : (events : List Event) (e : Event) (after new : Ends) → (Course (start unit) (events ++ e ∷ []) after → WereOpen (events ++ e ∷ []) after) → Course (start unit) (events ++ e ∷ []) new → new ≡ after → WereOpen (events ++ e ∷ []) new
+  left : (events : List Event) (e : Event) (after new : ClientAndServer) → (Course (start unit) (events ++ e ∷ []) after → WereOpen (events ++ e ∷ []) after) → Course (start unit) (events ++ e ∷ []) new → new ≡ after → WereOpen (events ++ e ∷ []) new
   left events e after new so run is = subst (WereOpen (events ++ e ∷ [])) (sym is) (so (subst (Course (start unit) (events ++ e ∷ [])) is run))
 
-  event_open : (events : List Event) (w : Ends) (e : Event) (new : Ends) → WereOpen events w → Happens w e new → Course (start unit) (events ++ e ∷ []) new → WereOpen (events ++ e ∷ []) new
+  event_open : (events : List Event) (w : ClientAndServer) (e : Event) (new : ClientAndServer) → WereOpen events w → Happens w e new → Course (start unit) (events ++ e ∷ []) new → WereOpen (events ++ e ∷ []) new
   event_open events w (does act) new was h run = left events (does act) (after_act w (done_by w.editor act)) new (act_open events (does act) w act was) run h
   event_open events w serve new was h run = serve_open events serve w w.to_server new refl was run h
   event_open events w take_message new was h run = left events take_message (after_taking w w.to_editor) new (takes_open events take_message w w.to_editor was) run h
 
-  run_open : (more events : List Event) (w new : Ends) → WereOpen events w → Course w more new → WereOpen (events ++ more) new
+  run_open : (more events : List Event) (w new : ClientAndServer) → WereOpen events w → Course w more new → WereOpen (events ++ more) new
   run_open [] events w new was is = subst (λ x. WereOpen (events ++ []) x) (sym is) (subst (λ es. WereOpen es w) (sym (append-nil events)) was)
   run_open (e ∷ more) events w new was (between, happens, run) =
       subst (λ es. WereOpen es new) (append_assoc events (e ∷ []) more)
       (run_open more (events ++ e ∷ []) between new (event_open events w e between was happens (course_push (start unit) events w e between was.reached happens)) run)
 
-pub made_for : (unit : Unit) (events : List Event) (w : Ends) → Course (start unit) events w → All (WasMadeFor unit events) w.made
+pub made_for : (unit : Unit) (events : List Event) (w : ClientAndServer) → Course (start unit) events w → All (WasMadeFor unit events) w.made
 made_for unit events w run =
     let first : WereOpen unit [] (start unit) = record { reached = refl; held = at_last unit [] (start unit) refl; made = All-nil (WasMadeFor unit []) } in
     (run_open unit events [] (start unit) w first run).made

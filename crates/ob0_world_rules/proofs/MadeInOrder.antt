@@ -10,7 +10,7 @@ use Rattle.std.proofs.lemmas.List.{map-append}
 use Rattle.std.proofs.lemmas.List.Sums.{fold_push}
 use Rattle.ob0_text.specs.declared.position_types.Unit.{Unit}
 use Rattle.ob0_text.specs.OpenDocuments.{OpenDocuments, TextChange, Opened, Changed, Lost, Closed, after_event, document_at}
-use Rattle.ob0_world_rules.specs.Ends.{Open, EditorDocuments, SentAsk, Editor, request_numbered, open_at, ToServer, notifies, requests, ToEditor, publishes, answers, Made, Ends, start, after_message}
+use Rattle.ob0_world_rules.specs.ClientAndServer.{Open, EditorDocuments, SentAsk, Editor, request_numbered, open_at, ToServer, notifies, requests, ToEditor, publishes, answers, Made, ClientAndServer, start, after_message}
 use Rattle.ob0_world_rules.specs.Edited.{Replacement, edited, after_changes}
 use Rattle.ob0_world_rules.specs.Asks.{Ask}
 use Rattle.ob0_world_rules.specs.Editing.{Act, Done, done_by}
@@ -26,17 +26,17 @@ use Rattle.ob0_world_rules.proofs.OneCourse.{one_course}
 
 -- ---- what is announced in a course with this end
 
-abbrev Announcing : Ends → List Event → List Announced → Ends → Type 0
+abbrev Announcing : ClientAndServer → List Event → List Announced → ClientAndServer → Type 0
 Announcing w [] announced end = (announced ≡ []) × (end ≡ w)
 Announcing w (event ∷ events) announced end =
-    (between : Ends) × (later : List Announced) × Happens w event between × Announcing between events later end × (announced ≡ announced_at_event w event ++ later)
+    (between : ClientAndServer) × (later : List Announced) × Happens w event between × Announcing between events later end × (announced ≡ announced_at_event w event ++ later)
 
-are_announced : (events : List Event) (w : Ends) (announced : List Announced) (end : Ends) → Announcing w events announced end → AreAnnounced w events announced
+are_announced : (events : List Event) (w : ClientAndServer) (announced : List Announced) (end : ClientAndServer) → Announcing w events announced end → AreAnnounced w events announced
 are_announced [] w announced end h = h.0
 are_announced (event ∷ events) w announced end (between, later, happens, rest, is) = (between, later, happens, are_announced events between later end rest, is)
 
 -- one event more at the end
-announcing_push : (events : List Event) (w : Ends) (announced : List Announced) (between : Ends) (e : Event) (new : Ends) → Announcing w events announced between → Happens between e new
+announcing_push : (events : List Event) (w : ClientAndServer) (announced : List Announced) (between : ClientAndServer) (e : Event) (new : ClientAndServer) → Announcing w events announced between → Happens between e new
     → Announcing w (events ++ e ∷ []) (announced ++ announced_at_event between e) new
 announcing_push [] w announced between e new h happens =
     let from_w : Happens w e new = subst (λ x. Happens x e new) h.1 happens in
@@ -156,7 +156,7 @@ message_made held (requests number uri ask) said made now (edits, answer, is_sai
 -- ---- every event
 
 -- These are announced of now, after those that publications were made for and those that wait: so it is after the event.
-record Next (announced waiting now : List Announced) (new : Ends) : Type 0 where
+record Next (announced waiting now : List Announced) (new : ClientAndServer) : Type 0 where
   pub done : List Announced
   pub awaits : List Announced
   pub parts : (announced ++ waiting) ++ now ≡ done ++ awaits
@@ -165,10 +165,10 @@ record Next (announced waiting now : List Announced) (new : Ends) : Type 0 where
 
 module _ (announced waiting : List Announced) where
   -- nothing is announced, and the queue and the publications stay
-  stays : (w : Ends) → AreMadeOf w.made announced → Pending w.held w.to_server waiting → Next announced waiting [] w
+  stays : (w : ClientAndServer) → AreMadeOf w.made announced → Pending w.held w.to_server waiting → Next announced waiting [] w
   stays w made_of pending = record { done = announced; awaits = waiting; parts = append-nil (announced ++ waiting); made_of = made_of; pending = pending }
 
-  act_next : (w : Ends) (act : Act) → AreMadeOf w.made announced → Pending w.held w.to_server waiting → Mirrors (after_act w (done_by w.editor act)) → Next announced waiting (announced_at_event w (does act)) (after_act w (done_by w.editor act))
+  act_next : (w : ClientAndServer) (act : Act) → AreMadeOf w.made announced → Pending w.held w.to_server waiting → Mirrors (after_act w (done_by w.editor act)) → Next announced waiting (announced_at_event w (does act)) (after_act w (done_by w.editor act))
   act_next w act made_of pending mirror =
       let done : Done = done_by w.editor act in
       record {
@@ -179,11 +179,11 @@ module _ (announced waiting : List Announced) where
         pending = pending_act w.held w.to_server done.sent done.editor waiting pending (act_names w.editor act) mirror;
       }
 
-  takes_next : (w : Ends) (queue : List ToEditor) → AreMadeOf w.made announced → Pending w.held w.to_server waiting → Next announced waiting [] (after_taking w queue)
+  takes_next : (w : ClientAndServer) (queue : List ToEditor) → AreMadeOf w.made announced → Pending w.held w.to_server waiting → Next announced waiting [] (after_taking w queue)
   takes_next w [] made_of pending = stays w made_of pending
   takes_next w (m ∷ rest) made_of pending = stays (after_taking w (m ∷ rest)) made_of pending
 
-  serve_next : (w : Ends) (queue : List ToServer) (new : Ends) → AreMadeOf w.made announced → Pending w.held queue waiting → w.to_server ≡ queue → ServerTakes w queue new → Next announced waiting [] new
+  serve_next : (w : ClientAndServer) (queue : List ToServer) (new : ClientAndServer) → AreMadeOf w.made announced → Pending w.held queue waiting → w.to_server ≡ queue → ServerTakes w queue new → Next announced waiting [] new
   serve_next w [] new made_of pending is h =
       subst (Next announced waiting []) (sym h) (stays w made_of (subst (λ q. Pending w.held q waiting) (sym is) pending))
   serve_next w (m ∷ rest) new made_of (now, later, parts, awaits, following) is (said, made, may, is_new) =
@@ -196,7 +196,7 @@ module _ (announced waiting : List Announced) where
         pending = following;
       })
 
-  event_next : (w : Ends) (e : Event) (new : Ends) → AreMadeOf w.made announced → Pending w.held w.to_server waiting → Mirrors new → Happens w e new → Next announced waiting (announced_at_event w e) new
+  event_next : (w : ClientAndServer) (e : Event) (new : ClientAndServer) → AreMadeOf w.made announced → Pending w.held w.to_server waiting → Mirrors new → Happens w e new → Next announced waiting (announced_at_event w e) new
   event_next w (does act) new made_of pending mirror h =
       subst (Next announced waiting (announced_at_event w (does act))) (sym h) (act_next w act made_of pending (subst Mirrors h mirror))
   event_next w serve new made_of pending mirror h = serve_next w w.to_server new made_of pending refl h
@@ -204,7 +204,7 @@ module _ (announced waiting : List Announced) where
 
 -- ---- every run
 
-record InOrder (unit : Unit) (events : List Event) (w : Ends) : Type 0 where
+record InOrder (unit : Unit) (events : List Event) (w : ClientAndServer) : Type 0 where
   pub reached : Course (start unit) events w
   pub announced : List Announced
   pub waiting : List Announced
@@ -212,7 +212,7 @@ record InOrder (unit : Unit) (events : List Event) (w : Ends) : Type 0 where
   pub made_of : AreMadeOf w.made announced
   pub pending : Pending w.held w.to_server waiting
 
-event_in_order : (unit : Unit) (events : List Event) (w : Ends) (e : Event) (new : Ends) → InOrder unit events w → Happens w e new → InOrder unit (events ++ e ∷ []) new
+event_in_order : (unit : Unit) (events : List Event) (w : ClientAndServer) (e : Event) (new : ClientAndServer) → InOrder unit events w → Happens w e new → InOrder unit (events ++ e ∷ []) new
 event_in_order unit events w e new was happens =
     let reached : Course (start unit) (events ++ e ∷ []) new = course_push (start unit) events w e new was.reached happens in
     let next : Next was.announced was.waiting (announced_at_event w e) new = event_next was.announced was.waiting w e new was.made_of was.pending (server_mirrors unit (events ++ e ∷ []) new reached) happens in
@@ -225,13 +225,13 @@ event_in_order unit events w e new was happens =
       pending = next.pending;
     }
 
-run_in_order : (unit : Unit) (more events : List Event) (w new : Ends) → InOrder unit events w → Course w more new → InOrder unit (events ++ more) new
+run_in_order : (unit : Unit) (more events : List Event) (w new : ClientAndServer) → InOrder unit events w → Course w more new → InOrder unit (events ++ more) new
 run_in_order unit [] events w new was is = subst (λ x. InOrder unit (events ++ []) x) (sym is) (subst (λ es. InOrder unit es w) (sym (append-nil events)) was)
 run_in_order unit (e ∷ more) events w new was (between, happens, run) =
     subst (λ es. InOrder unit es new) (append_assoc events (e ∷ []) more)
     (run_in_order unit more (events ++ e ∷ []) between new (event_in_order unit events w e between was happens) run)
 
-pub made_in_order : (unit : Unit) (events : List Event) (w : Ends) → Course (start unit) events w → AreMadeInOrder unit events w.made
+pub made_in_order : (unit : Unit) (events : List Event) (w : ClientAndServer) → Course (start unit) events w → AreMadeInOrder unit events w.made
 made_in_order unit events w run =
     let first : InOrder unit [] (start unit) = record { reached = refl; announced = []; waiting = []; announcing = (refl, refl); made_of = tt; pending = refl } in
     let last : InOrder unit events w = run_in_order unit events [] (start unit) w first run in
@@ -240,5 +240,5 @@ made_in_order unit events w run =
       waiting = last.waiting;
       all = are_announced events (start unit) (last.announced ++ last.waiting) w last.announcing;
       made_of = last.made_of;
-      still_wait = λ end other. pending_named w.held w.to_server last.waiting last.pending ∙ ap (λ (x : Ends). named_in x.to_server) (one_course (start unit) events w end run other);
+      still_wait = λ end other. pending_named w.held w.to_server last.waiting last.pending ∙ ap (λ (x : ClientAndServer). named_in x.to_server) (one_course (start unit) events w end run other);
     }

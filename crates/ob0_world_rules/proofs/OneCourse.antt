@@ -7,7 +7,7 @@ use Rattle.ob0_world_rules.specs.Language.{WellTypedText}
 use Rattle.ob0_world_rules.specs.Edited.{Replacement}
 use Rattle.ob0_world_rules.specs.Asks.{Ask}
 use Rattle.ob0_world_rules.specs.Answers.{IsAnswer}
-use Rattle.ob0_world_rules.specs.Ends.{ToServer, notifies, requests, ToEditor, publishes, answers, Made, Ends, after_message}
+use Rattle.ob0_world_rules.specs.ClientAndServer.{ToServer, notifies, requests, ToEditor, publishes, answers, Made, ClientAndServer, after_message}
 use Rattle.ob0_world_rules.specs.Serving.{Publishes, RepliesToNotification, Replies}
 use Rattle.ob0_world_rules.specs.Happens.{Event, does, serve, take_message, ServerTakes, Happens, Course}
 use Rattle.ob0_world_rules.proofs.OneAnswer.{answers_are_one}
@@ -45,18 +45,18 @@ sends_one held (requests number uri ask) said also made more (given, h, is_said,
     let same : given ≡ other = answers_one held.unit (document_at held uri) ask given other h k in
     (is_said ∙ ap (λ edits. answers number edits ∷ []) same ∙ sym is_also, is_made ∙ sym is_more)
 
-serves_one : (w : Ends) (queue : List ToServer) (new other : Ends) → ServerTakes w queue new → ServerTakes w queue other → new ≡ other
+serves_one : (w : ClientAndServer) (queue : List ToServer) (new other : ClientAndServer) → ServerTakes w queue new → ServerTakes w queue other → new ≡ other
 serves_one w [] new other h k = h ∙ sym k
 serves_one w (m ∷ rest) new other (said, made, replies, is) (also, more, replies_too, is_too) =
     let both : (said ≡ also) × (made ≡ more) = sends_one w.held m said also made more replies replies_too in
     is ∙ (λ i. record w { to_server = rest; held = after_message w.held m; to_editor = w.to_editor ++ both.0 i; made = w.made ++ both.1 i }) ∙ sym is_too
 
-pub one_step : (w : Ends) (event : Event) (new other : Ends) → Happens w event new → Happens w event other → new ≡ other
+pub one_step : (w : ClientAndServer) (event : Event) (new other : ClientAndServer) → Happens w event new → Happens w event other → new ≡ other
 one_step w (does act) new other h k = h ∙ sym k
 one_step w serve new other h k = serves_one w w.to_server new other h k
 one_step w take_message new other h k = h ∙ sym k
 
-pub one_course : (w : Ends) (events : List Event) (end other : Ends) → Course w events end → Course w events other → end ≡ other
+pub one_course : (w : ClientAndServer) (events : List Event) (end other : ClientAndServer) → Course w events end → Course w events other → end ≡ other
 one_course w [] end other h k = h ∙ sym k
 one_course w (event ∷ events) end other (between, happens, course) (middle, happens_too, course_too) =
     let same : between ≡ middle = one_step w event between middle happens happens_too in

@@ -6,7 +6,7 @@ use Rattle.std.specs.Str.{bytes_eq}
 use Rattle.std.specs.FinMap as map_of
 use Rattle.std.proofs.lemmas.Bool.{eqb-true, and_parts}
 use Rattle.std.proofs.lemmas.Option.{cond_some, same_Some, none-some}
-use Rattle.ob0_world_rules.specs.Ends.{Open, EditorDocuments, SentAsk, Answer, Editor, request_numbered, open_at}
+use Rattle.ob0_world_rules.specs.ClientAndServer.{Open, EditorDocuments, SentAsk, Answer, Editor, request_numbered, open_at}
 use Rattle.ob0_world_rules.specs.Editing.{if_same}
 use Rattle.ob0_world_rules.proofs.UriLaws.{get_put, get_removed, same_uri}
 

@@ -6,7 +6,7 @@ use Rattle.ob0_text.specs.OpenDocuments.{TextChange, Opened, Changed, Closed}
 use Rattle.ob0_language_types.specs.Typing.{◌>>=◌}
 use Rattle.ob0_world_rules.specs.Edited.{Replacement, edited, whole_text, after_changes}
 use Rattle.ob0_world_rules.specs.Asks.{Ask}
-use Rattle.ob0_world_rules.specs.Ends.{Open, SentAsk, Answer, Editor, request_numbered, open_at, ToServer, notifies, requests, ToEditor, publishes, answers, Applied}
+use Rattle.ob0_world_rules.specs.ClientAndServer.{Open, SentAsk, Answer, Editor, request_numbered, open_at, ToServer, notifies, requests, ToEditor, publishes, answers, Applied}
 
 -- what the editor may do
 pub data Act : Type 0 where
@@ -89,7 +89,7 @@ applies e k edits = do
   Some (rewrites e a.uri d text (whole_text text ∷ []) (made ∷ []))
 
 -- What an act leaves. A document that is open isn't opened, and one that isn't is neither changed,
--- closed nor asked about; an answer is dropped, applied or not.
+-- closed nor asked about; an answer is no longer kept, applied or not.
 abbrev pub done_by : Editor → Act → Done
 done_by e (open_document uri text) =
     if is_some (open_at e uri) then stays e else opens e uri text

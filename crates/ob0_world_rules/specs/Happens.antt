@@ -1,7 +1,7 @@
 -- What may happen at client and server, and what it leaves.
 -- Rule: LSP 3.17: a model of client and server.
 use Rattle.std.specs.Prelude.{◌≡◌, List, [], ◌∷◌, ◌++◌}
-use Rattle.ob0_world_rules.specs.Ends.{ToServer, ToEditor, Made, Ends, after_message}
+use Rattle.ob0_world_rules.specs.ClientAndServer.{ToServer, ToEditor, Made, ClientAndServer, after_message}
 use Rattle.ob0_world_rules.specs.Editing.{Act, Done, done_by, reads}
 use Rattle.ob0_world_rules.specs.Serving.{Replies}
 
@@ -15,7 +15,7 @@ pub data Event : Type 0 where
   take_message : Event
 
 -- what an act of the editor leaves
-abbrev pub after_act : Ends → Done → Ends
+abbrev pub after_act : ClientAndServer → Done → ClientAndServer
 after_act w done =
     record w {
       editor = done.editor;
@@ -24,7 +24,7 @@ after_act w done =
     }
 
 -- the server takes the first message that waits for it, and sends what it replies
-abbrev pub ServerTakes : Ends → List ToServer → Ends → Type 0
+abbrev pub ServerTakes : ClientAndServer → List ToServer → ClientAndServer → Type 0
 ServerTakes w [] new = new ≡ w
 ServerTakes w (message ∷ rest) new =
     (said : List ToEditor)
@@ -39,19 +39,19 @@ ServerTakes w (message ∷ rest) new =
     })
 
 -- the editor takes the first message that waits for it
-abbrev pub after_taking : Ends → List ToEditor → Ends
+abbrev pub after_taking : ClientAndServer → List ToEditor → ClientAndServer
 after_taking w [] = w
 after_taking w (message ∷ rest) =
     record w { editor = reads w.editor message; to_editor = rest }
 
 -- at w this event happens, and leaves `new`
-abbrev pub Happens : Ends → Event → Ends → Type 0
+abbrev pub Happens : ClientAndServer → Event → ClientAndServer → Type 0
 Happens w (does act) new = new ≡ after_act w (done_by w.editor act)
 Happens w serve new = ServerTakes w w.to_server new
 Happens w take_message new = new ≡ after_taking w w.to_editor
 
 -- these events, one after another, lead from one state to the other
-abbrev pub Course : Ends → List Event → Ends → Type 0
+abbrev pub Course : ClientAndServer → List Event → ClientAndServer → Type 0
 Course w [] new = new ≡ w
 Course w (event ∷ events) new =
-    (between : Ends) × Happens w event between × Course between events new
+    (between : ClientAndServer) × Happens w event between × Course between events new

@@ -5,7 +5,7 @@ use Rattle.std.specs.Str.{bytes_eq}
 use Rattle.ob0_text.specs.declared.position_types.Unit.{Unit}
 use Rattle.ob0_world_rules.specs.Language.{WellTypedText, SameRun}
 use Rattle.ob0_world_rules.specs.Answers.{IsEmptyIfCorrect}
-use Rattle.ob0_world_rules.specs.Ends.{Open, Editor, open_at, Applied, Made, Ends, start}
+use Rattle.ob0_world_rules.specs.ClientAndServer.{Open, Editor, open_at, Applied, Made, ClientAndServer, start}
 use Rattle.ob0_world_rules.specs.Happens.{Event, Course}
 
 -- ---- an applied edit
@@ -28,7 +28,7 @@ pub record WasMadeFor (unit : Unit) (events : List Event) (m : Made) : Type 0 wh
   pub before : List Event
   pub following : List Event
   pub parts : events ≡ before ++ following
-  pub moment : Ends
+  pub moment : ClientAndServer
   pub reached : Course (start unit) before moment
   pub document : Open
   pub is_open : open_at moment.editor m.uri ≡ Some document
@@ -52,7 +52,7 @@ AreUpToDate e made =
 -- ---- the headline
 
 -- What holds of each state that events lead to.
-pub record Holds (w : Ends) : Type 0 where
+pub record Holds (w : ClientAndServer) : Type 0 where
   -- each applied edit keeps the run
   pub applied : All KeepsTheRun w.applied
   -- diagnostics are empty exactly when the text that they were made for is a well-typed module
@@ -65,10 +65,10 @@ pub record Holds (w : Ends) : Type 0 where
 -- publications made, in this order.
 pub record Headline (unit : Unit) (events : List Event) (applied : List Applied)
     (made : List Made) : Type 0 where
-  pub end : Ends
+  pub end : ClientAndServer
   -- the events lead to this end, and to no other
   pub course : Course (start unit) events end
-  pub only : (other : Ends) → Course (start unit) events other → other ≡ end
+  pub only : (other : ClientAndServer) → Course (start unit) events other → other ≡ end
   pub applied_are : applied ≡ end.applied
   pub made_are : made ≡ end.made
   pub holds : Holds end

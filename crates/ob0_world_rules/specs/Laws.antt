@@ -10,7 +10,7 @@ use Rattle.ob0_world_rules.specs.Language.{IsModuleText, WellTypedText, SameRun}
 use Rattle.ob0_world_rules.specs.Edited.{Replacement, replacements, edited}
 use Rattle.ob0_world_rules.specs.Asks.{Ask}
 use Rattle.ob0_world_rules.specs.Answers.{GivesEdits, AnswersFor}
-use Rattle.ob0_world_rules.specs.Ends.{Ends, start}
+use Rattle.ob0_world_rules.specs.ClientAndServer.{ClientAndServer, start}
 use Rattle.ob0_world_rules.specs.Editing.{open_document, change_document, close_document, ask_about, apply, discard}
 use Rattle.ob0_world_rules.specs.Happens.{Event, does, serve, take_message, Course, Happens}
 use Rattle.ob0_world_rules.specs.Headline.{Holds, WasMadeFor}
@@ -54,7 +54,7 @@ AnswersAreOne =
 -- an event does one thing: what it leaves is determined
 abbrev pub OneStep : Type 0
 OneStep =
-    (w : Ends) (event : Event) (new other : Ends)
+    (w : ClientAndServer) (event : Event) (new other : ClientAndServer)
     → Happens w event new
     → Happens w event other
     → new ≡ other
@@ -62,7 +62,7 @@ OneStep =
 -- two courses of one list of events have one end: documents, queues, edits applied and publications
 abbrev pub OneCourse : Type 0
 OneCourse =
-    (w : Ends) (events : List Event) (end other : Ends)
+    (w : ClientAndServer) (events : List Event) (end other : ClientAndServer)
     → Course w events end
     → Course w events other
     → end ≡ other
@@ -90,21 +90,21 @@ abbrev pub ACourseFits : Type 0
 ACourseFits =
     (unit : Unit) (events : List Event)
     → All IsAnswerable events
-    → ¬ ((end : Ends) → ¬ Course (start unit) events end)
+    → ¬ ((end : ClientAndServer) → ¬ Course (start unit) events end)
 
 -- what every list of events leaves has what is said of every interleaving
 abbrev pub InEveryInterleaving : Type 0
 InEveryInterleaving =
-    (unit : Unit) (events : List Event) (w : Ends) → Course (start unit) events w → Holds w
+    (u : Unit) (events : List Event) (w : ClientAndServer) → Course (start u) events w → Holds w
 
 -- and the server's documents, once it has taken all messages that wait for it, are the editor's
 abbrev pub ServerMirrors : Type 0
 ServerMirrors =
-    (unit : Unit) (events : List Event) (w : Ends) → Course (start unit) events w → Mirrors w
+    (u : Unit) (events : List Event) (w : ClientAndServer) → Course (start u) events w → Mirrors w
 
 -- each publication was made for a text that the editor had
 abbrev pub MadeForTheEditor : Type 0
 MadeForTheEditor =
-    (unit : Unit) (events : List Event) (end : Ends)
+    (unit : Unit) (events : List Event) (end : ClientAndServer)
     → Course (start unit) events end
     → All (WasMadeFor unit events) end.made

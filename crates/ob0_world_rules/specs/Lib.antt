@@ -7,6 +7,6 @@ pub mod Laws
 pub mod MadeInOrder
 pub mod Edited
 pub mod Asks
-pub mod Ends
+pub mod ClientAndServer
 pub mod Editing
 pub mod Mirror

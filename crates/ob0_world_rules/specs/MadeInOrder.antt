@@ -5,7 +5,7 @@ use Rattle.std.specs.Prelude.{◌≡◌, ⊤, ℕ, ℤ, pos, List, [], ◌∷◌
 use Rattle.std.specs.List.{flat_map}
 use Rattle.ob0_text.specs.declared.position_types.Unit.{Unit}
 use Rattle.ob0_text.specs.OpenDocuments.{Opened, Changed, Lost, Closed}
-use Rattle.ob0_world_rules.specs.Ends.{Open, Editor, open_at, ToServer, notifies, requests, Made, Ends, start}
+use Rattle.ob0_world_rules.specs.ClientAndServer.{Open, Editor, open_at, ToServer, notifies, requests, Made, ClientAndServer, start}
 use Rattle.ob0_world_rules.specs.Editing.{Done, done_by}
 use Rattle.ob0_world_rules.specs.Happens.{Event, does, serve, take_message, Happens, Course}
 
@@ -34,17 +34,17 @@ abbrev pub announced_in : Editor → List ToServer → List Announced
 announced_in e messages = flat_map (announced_by e) messages
 
 -- the documents that are announced as this event happens
-abbrev pub announced_at_event : Ends → Event → List Announced
+abbrev pub announced_at_event : ClientAndServer → Event → List Announced
 announced_at_event w (does act) =
     let done : Done = done_by w.editor act in announced_in done.editor done.sent
 announced_at_event w serve = []
 announced_at_event w take_message = []
 
 -- in the course of these events exactly these documents are announced, in this order
-abbrev pub AreAnnounced : Ends → List Event → List Announced → Type 0
+abbrev pub AreAnnounced : ClientAndServer → List Event → List Announced → Type 0
 AreAnnounced w [] announced = announced ≡ []
 AreAnnounced w (event ∷ events) announced =
-    (between : Ends)
+    (between : ClientAndServer)
     × (later : List Announced)
     × Happens w event between
     × AreAnnounced between events later
@@ -88,7 +88,7 @@ pub record AreMadeInOrder (unit : Unit) (events : List Event) (made : List Made)
   pub waiting : List Announced
   pub all : AreAnnounced (start unit) events (announced ++ waiting)
   pub made_of : AreMadeOf made announced
-  pub still_wait : (end : Ends)
+  pub still_wait : (end : ClientAndServer)
       → Course (start unit) events end
       → map versioned_uri waiting ≡ named_in end.to_server
 
@@ -97,6 +97,6 @@ pub record AreMadeInOrder (unit : Unit) (events : List Event) (made : List Made)
 -- publications are made for the announced documents, in their order
 abbrev pub MadeInOrder : Type 0
 MadeInOrder =
-    (unit : Unit) (events : List Event) (end : Ends)
+    (unit : Unit) (events : List Event) (end : ClientAndServer)
     → Course (start unit) events end
     → AreMadeInOrder unit events end.made

@@ -2,10 +2,10 @@
 -- Rule: none; a law of the model of client and server.
 use Rattle.std.specs.Prelude.{◌≡◌, ℕ, pos, List, option_map, fold}
 use Rattle.ob0_text.specs.OpenDocuments.{OpenDocuments, Document, InStep, document_at}
-use Rattle.ob0_world_rules.specs.Ends.{Open, open_at, Ends, after_message}
+use Rattle.ob0_world_rules.specs.ClientAndServer.{Open, open_at, ClientAndServer, after_message}
 
 -- the server's documents, once it has taken what waits for it
-abbrev pub will_have : Ends → OpenDocuments
+abbrev pub will_have : ClientAndServer → OpenDocuments
 will_have w = fold after_message w.held w.to_server
 
 -- a document of the editor, as the server has it
@@ -14,6 +14,6 @@ as_open d = InStep (pos d.version) d.text
 
 -- The mirror: the server's documents, after the messages that wait for it,
 -- are the editor's documents.
-abbrev pub Mirrors : Ends → Type 0
+abbrev pub Mirrors : ClientAndServer → Type 0
 Mirrors w =
     (uri : List ℕ) → document_at (will_have w) uri ≡ option_map as_open (open_at w.editor uri)

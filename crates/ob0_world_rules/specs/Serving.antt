@@ -5,7 +5,7 @@ use Rattle.std.specs.Prelude.{◌≡◌, ℕ, List, [], ◌∷◌, Bool, true, O
 use Rattle.ob0_text.specs.OpenDocuments.{OpenDocuments, Document, InStep, OutOfStep, DocumentEvent, Opened, Changed, Lost, Closed, document_at, after_event}
 use Rattle.ob0_world_rules.specs.Edited.{Replacement}
 use Rattle.ob0_world_rules.specs.Answers.{IsAnswer, IsEmptyIfCorrect}
-use Rattle.ob0_world_rules.specs.Ends.{ToServer, notifies, requests, ToEditor, publishes, answers, Made}
+use Rattle.ob0_world_rules.specs.ClientAndServer.{ToServer, notifies, requests, ToEditor, publishes, answers, Made}
 
 -- diagnostics are published of a document in step, with its version
 abbrev pub Publishes : List ℕ → Option Document → List ToEditor → List Made → Type 0

@@ -1,6 +1,6 @@
 use Rattle.std.proofs.Common.{◌∙◌, ℕ, List, Option, inl, refl, ap, subst, arith}
 use Rattle.std.proofs.lemmas.Result.{IfOk-weaker}
-use Rattle.ob0_commands.specs.Outputs.{IsHandedOn}
+use Rattle.ob0_commands.specs.Outputs.{IsFlushedOrUnchanged}
 use Rattle.ob0_commands.specs.Renamed.{PrintsNoName, PrintsRenamed}
 use Rattle.ob0_commands.specs.Said.{Says}
 use Rattle.ob0_commands.proofs.renaming.rename_file.Goals as goal
@@ -30,7 +30,7 @@ returns-clause-ends g c =
       other = λ one. (
         subst (λ (t : List ℕ). PrintsNoName t c.args.position c.args.new.now before (g.O.Write.contents after) said) here.0
             (subst (λ (b : Option (List ℕ)). PrintsNoName c.in-Some.text.now c.args.position c.args.new.now b (g.O.Write.contents after) said) (ap g.O.Write.contents here.1) (h.other one).0),
-        subst (λ out. IsHandedOn (g.O.Output.is_flushed after) out after) here.1 (h.other one).1,
+        subst (λ out. IsFlushedOrUnchanged (g.O.Output.is_flushed after) out after) here.1 (h.other one).1,
       );
       both = (c.in_ok-text.ensures.readable, h.both ∙ c.in_ok-text.ensures.unfailed);
     }) c.rename_in_text.ensures.ends

@@ -7,8 +7,8 @@ use Rattle.ob0_rpc.proofs.ranges.write_end_of_edit.Goals as goal
 
 pub returns-clause-text : goal.returns-clause-text
 returns-clause-text c =
-    let room = c.piece_before-at.new.room in
+    let buffer = c.piece_before-at.new.buffer in
     let at = c.piece_before-at.result in
-    let whole = take_all (176 - at) (drop at room) (omega (arith, length-drop at room)) in
+    let whole = take_all (176 - at) (drop at buffer) (omega (arith, length-drop at buffer)) in
     let range = c.range_before-at_range.ensures.text ∙ ap (λ t. compact_text (range_value c.args.start c.args.end) ++ t) c.piece_before-following.ensures.text in
     on_ok_weaker c.write_piece.result (λ is. is ∙ ap (λ t. c.args.out.now.items ++ t) (whole ∙ c.piece_before-at.ensures.text ∙ ap (λ t. codes "\",\"range\":" ++ t) range)) c.write_piece.ensures

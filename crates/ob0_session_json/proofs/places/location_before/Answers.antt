@@ -9,4 +9,4 @@ returns-clause-kept c =
     let head = codes ",{\"range\":" in
     let range = compact_text (range_value c.args.range.start c.args.range.end) in
     let is = c.piece_before.ensures.text ∙ ap (λ t. head ++ t) c.range_before-at.ensures.text ∙ sym (append_assoc head range (drop 192 c.args.buffer.now)) in
-    kept c.args.buffer.now c.piece_before.new.room (head ++ range) c.piece_before.result (omega arith) (omega arith) (omega arith) is
+    kept c.args.buffer.now c.piece_before.new.buffer (head ++ range) c.piece_before.result (omega arith) (omega arith) (omega arith) is

@@ -14,8 +14,8 @@ returns-in-Ok-Request g c =
 pub returns-in-Ok-Notice : goal.returns-in-Ok-Notice
 returns-in-Ok-Notice g c =
     let read = c.in-Ok-Notice.ensures in
-    IfOk-weaker c.hear.result _ _ (λ sent h.
-    answered c.args.self.now c.args.content.now (Some read.0) (seen c.in-Ok-Notice.field-0) sent c.hear.new.self read.1 read.2 (rw (c.in-Ok-Notice.field-0-is, ← c.as_str-in-Ok-Notice.ensures.value) h)) c.hear.ensures
+    IfOk-weaker c.react_to_notification.result _ _ (λ sent h.
+    answered c.args.self.now c.args.content.now (Some read.0) (seen c.in-Ok-Notice.field-0) sent c.react_to_notification.new.self read.1 read.2 (rw (c.in-Ok-Notice.field-0-is, ← c.as_str-in-Ok-Notice.ensures.value) h)) c.react_to_notification.ensures
 
 pub returns-in-Ok-Ignored : goal.returns-in-Ok-Ignored
 returns-in-Ok-Ignored g c =

@@ -1,7 +1,7 @@
 use Rattle.std.proofs.Common.{◌∙◌, ◌+◌, map, refl, ap, subst}
 use Rattle.std.proofs.lemmas.List.{take_all}
 use Rattle.ob0_world.specs.Code.{event_of}
-use Rattle.ob0_world.specs.Worlds.{BothCourse}
+use Rattle.ob0_world.specs.Worlds.{ConnectionCourse}
 use Rattle.ob0_world.proofs.world.World.play_in.Goals as goal
 use Rattle.ob0_world.proofs.Courses.{plays, plays_nothing, plays_before, course_more, come_before, passed_before}
 use Rattle.ob0_world.proofs.Stepping.{step_made, step_failed}
@@ -13,14 +13,14 @@ returns-in-Err-clause-err g c =
     plays_nothing c.args.unit c.args.events.now (record { played = c.nothing_played.result; steps = 0 }) refl none.applied none.made none.taken none.got none.unread
 
 pub loop-event-init : goal.loop-event-init
-loop-event-init g c = (c.in-Ok.world.both, c.in-Ok.ensures.start.begins, refl, c.in-Ok.ensures.start.none, c.in-Ok.ensures.start.goes_on)
+loop-event-init g c = (c.in-Ok.world.connection, c.in-Ok.ensures.start.begins, refl, c.in-Ok.ensures.start.none, c.in-Ok.ensures.start.goes_on)
 
 -- memory ran out at an event: what had come of those before is returned
 pub returns-in-Err-step-clause-err : goal.returns-in-Err-step-clause-err
 returns-in-Err-step-clause-err g c =
     let i = c.loop-event.invariant in
     let failed = step_failed _ _ _ i.4 c.in-Err-step.ensures.err in
-    plays_before c.args.unit c.args.events.now c.loop-event.event-index i.0 c.loop-event.world.both (record { played = c.into_played.result; steps = c.steps-steps.result }) (c.steps-steps.ensures ∙ failed.1 ∙ i.3)
+    plays_before c.args.unit c.args.events.now c.loop-event.event-index i.0 c.loop-event.world.connection (record { played = c.into_played.result; steps = c.steps-steps.result }) (c.steps-steps.ensures ∙ failed.1 ∙ i.3)
     c.loop-event-test.true i.1 i.2 (come_before _ _ c.into_played.result failed.0 c.into_played.ensures.come) (passed_before _ _ c.into_played.result failed.0 c.into_played.ensures.passed)
 
 pub loop-event-preserved : goal.loop-event-preserved
@@ -32,6 +32,6 @@ loop-event-preserved g c =
 pub returns-clause-ok : goal.returns-clause-ok
 returns-clause-ok g c =
     let i = c.loop-event.invariant in
-    plays c.args.unit c.args.events.now i.0 c.loop-event.world.both c.into_played-2.result i.1
-    (subst (λ events. BothCourse i.0 (map event_of events) c.loop-event.world.both) (take_all c.loop-event.event-index c.args.events.now c.loop-event-test.false) i.2)
+    plays c.args.unit c.args.events.now i.0 c.loop-event.world.connection c.into_played-2.result i.1
+    (subst (λ events. ConnectionCourse i.0 (map event_of events) c.loop-event.world.connection) (take_all c.loop-event.event-index c.args.events.now c.loop-event-test.false) i.2)
     c.into_played-2.ensures.come c.into_played-2.ensures.passed

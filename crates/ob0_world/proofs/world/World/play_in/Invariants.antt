@@ -1,13 +1,13 @@
 use Rattle.std.proofs.Common.{◌≡◌, false, take, map}
 use Rattle.ob0_world.specs.Code.{event_of}
-use Rattle.ob0_world.specs.Worlds.{Both, Begins, BothCourse}
+use Rattle.ob0_world.specs.Worlds.{Connection, Begins, ConnectionCourse}
 use Rattle.ob0_world.proofs.world.World.play_in.Given as goal
 
 -- the world is what the events so far have made of its beginning
 abbrev pub invariant-loop-event : goal.invariant-loop-event
 invariant-loop-event g l =
-    (begin : Both)
+    (begin : Connection)
     × Begins l.fn.unit begin
-    × BothCourse begin (map event_of (take l.event-index l.events)) l.world.both
+    × ConnectionCourse begin (map event_of (take l.event-index l.events)) l.world.connection
     × (l.world.steps ≡ l.event-index)
     × (l.world.ended ≡ false)

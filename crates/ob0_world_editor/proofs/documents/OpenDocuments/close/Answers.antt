@@ -1,6 +1,6 @@
 use Rattle.std.proofs.Common.{◌∙◌, ap}
 use Rattle.std.specs.FinMap as map_of
-use Rattle.ob0_world_rules.specs.Ends.{EditorDocuments}
+use Rattle.ob0_world_rules.specs.ClientAndServer.{EditorDocuments}
 use Rattle.ob0_world_editor.proofs.EntryLaws.{documents-remove}
 use Rattle.ob0_world_editor.proofs.documents.OpenDocuments.close.Goals as goal
 

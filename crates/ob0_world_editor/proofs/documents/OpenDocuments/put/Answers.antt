@@ -1,7 +1,7 @@
 use Rattle.std.proofs.Common.{◌∙◌, ap}
 use Rattle.std.specs.Prelude.{string_bytes}
 use Rattle.std.specs.FinMap as map_of
-use Rattle.ob0_world_rules.specs.Ends.{EditorDocuments}
+use Rattle.ob0_world_rules.specs.ClientAndServer.{EditorDocuments}
 use Rattle.ob0_world_editor.specs.Entries.{open_document}
 use Rattle.ob0_world_editor.proofs.EntryLaws.{documents-insert, documents-unchanged}
 use Rattle.ob0_world_editor.proofs.documents.OpenDocuments.put.Goals as goal

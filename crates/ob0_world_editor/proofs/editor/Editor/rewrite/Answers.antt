@@ -1,5 +1,5 @@
 use Rattle.std.proofs.Common.{◌≡◌, ◌∙◌, ap, sym, Some}
-use Rattle.ob0_world_rules.specs.Ends.{Editor, open_at}
+use Rattle.ob0_world_rules.specs.ClientAndServer.{Editor, open_at}
 use Rattle.ob0_world_editor.specs.Entries.{open_document}
 use Rattle.ob0_world_editor.proofs.editor.Editor.rewrite.Goals as goal
 

@@ -1,0 +1,17 @@
+use Rattle.std.proofs.Common.{◌≡◌, Option, Some, None, option_map, codes, refl, subst}
+use Rattle.std.proofs.lemmas.Result.{on_ok_weaker}
+use Rattle.serde_json.specs.Data.{Data}
+use Rattle.ob0_rpc.specs.Appending.{AppendsMember, or_null}
+use Rattle.ob0_rpc.specs.Seen.{id_data, id_or_null}
+use Rattle.ob0_rpc.specs.declared.incoming.Id.{Id}
+use Rattle.ob0_rpc.proofs.Appending.{object_of}
+use Rattle.ob0_rpc.proofs.outgoing.ErrorResponseWriteJson.write.Goals as goal
+
+same_id : {A : Type 0} (of : A → Id) (o : Option A) → or_null (λ a. id_data (of a)) o ≡ id_or_null (option_map of o)
+same_id of (Some a) = refl
+same_id of None = refl
+
+pub returns : goal.returns
+returns c =
+    let id = subst (λ (d : Data). AppendsMember 44 (codes "id") d c.first_member.new.out.items c.next_member.new.out.items) (same_id (λ i. i.now) c.args.self.now.id) c.in_ok-next_member.ensures in
+    on_ok_weaker c.end_object.result (λ is. object_of _ _ _ _ _ refl refl (_, c.in_ok-first_member.ensures, (_, id, (_, c.in_ok-next_member-2.ensures, is)))) c.end_object.ensures

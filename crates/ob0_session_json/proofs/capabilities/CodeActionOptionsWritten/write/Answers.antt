@@ -1,9 +1,0 @@
-use Rattle.std.proofs.Common.{refl}
-use Rattle.std.proofs.lemmas.Result.{on_ok_weaker}
-use Rattle.ob0_rpc.proofs.Appending.{object_of}
-use Rattle.ob0_session_json.proofs.capabilities.CodeActionOptionsWritten.write.Goals as goal
-
-pub returns : goal.returns
-returns c =
-    let first = rw c.as_slice.ensures at c.in_ok-first_member.ensures in
-    on_ok_weaker c.end_object.result (λ is. object_of _ _ _ _ _ refl refl (_, first, is)) c.end_object.ensures

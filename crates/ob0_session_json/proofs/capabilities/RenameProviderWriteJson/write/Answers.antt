@@ -1,0 +1,7 @@
+use Rattle.std.proofs.Common.{refl}
+use Rattle.std.proofs.lemmas.Result.{on_ok_weaker}
+use Rattle.ob0_rpc.proofs.Appending.{object_of}
+use Rattle.ob0_session_json.proofs.capabilities.RenameProviderWriteJson.write.Goals as goal
+
+pub returns-in_ok-first_member : goal.returns-in_ok-first_member
+returns-in_ok-first_member c = rw c.if-self.true (on_ok_weaker c.end_object.result (λ is. object_of _ _ _ _ _ refl refl (_, c.in_ok-first_member.ensures, is)) c.end_object.ensures)

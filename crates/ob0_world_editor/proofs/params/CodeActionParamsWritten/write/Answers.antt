@@ -1,9 +1,0 @@
-use Rattle.std.proofs.Common.{refl}
-use Rattle.std.proofs.lemmas.Result.{on_ok_weaker}
-use Rattle.ob0_rpc.proofs.Appending.{object_of}
-use Rattle.ob0_world_editor.proofs.params.CodeActionParamsWritten.write.Goals as goal
-
-pub returns : goal.returns
-returns c =
-    let members = rw c.as_slice.ensures at c.three_members.ensures in
-    on_ok_weaker c.three_members.result (object_of _ _ _ _ _ refl refl) members

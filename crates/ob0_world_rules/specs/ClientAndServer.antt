@@ -1,0 +1,120 @@
+-- Client and server, and the messages between them.
+-- Rule: LSP 3.17: a model of client and server.
+use Rattle.std.specs.Prelude.{ℕ, zero, suc, ℤ, List, [], Bool, Option, None, slice_get}
+use Rattle.std.specs.Ordering.{nat_cmp}
+use Rattle.std.specs.Cmp.Lexicographic.{slice_cmp}
+use Rattle.std.specs.FinMap as map_of
+use Rattle.ob0_text.specs.declared.position_types.Unit.{Unit}
+use Rattle.ob0_text.specs.OpenDocuments.{OpenDocuments, DocumentEvent, after_event, none_open}
+use Rattle.ob0_world_rules.specs.Edited.{Replacement}
+use Rattle.ob0_world_rules.specs.Asks.{Ask}
+
+-- ---- the editor
+
+-- a document that is open in the editor; no two openings have one number
+pub record Open : Type 0 where
+  pub version : ℕ
+  pub text : List ℕ
+  pub opening : ℕ
+
+-- open documents by the bytes of their uris
+abbrev pub EditorDocuments : Type 0
+EditorDocuments = map_of.FinMap (slice_cmp nat_cmp) Open
+
+-- a request that was sent: what is requested, the document,
+-- and its opening and version at that time
+pub record SentAsk : Type 0 where
+  pub ask : Ask
+  pub uri : List ℕ
+  pub opening : ℕ
+  pub version : ℕ
+
+-- an answer that the editor has
+pub record Answer : Type 0 where
+  pub number : ℕ
+  pub edits : List Replacement
+
+-- an editor: its documents, what it requested, and the answers that it has
+pub record Editor : Type 0 where
+  -- what positions are counted in
+  pub unit : Unit
+  pub documents : EditorDocuments
+  -- how many documents were opened so far
+  pub openings : ℕ
+  -- the asks that were sent; the first has number 1
+  pub requested : List SentAsk
+  pub answers : List Answer
+
+-- an editor with no open document
+abbrev pub new_editor : Unit → Editor
+new_editor unit =
+    record { unit = unit; documents = map_of.empty; openings = 0; requested = []; answers = [] }
+
+-- the request of this number, counted from 1
+abbrev pub request_numbered : List SentAsk → ℕ → Option SentAsk
+request_numbered requested zero = None
+request_numbered requested (suc k) = slice_get requested k
+
+-- the open document of this uri
+abbrev pub open_at : Editor → List ℕ → Option Open
+open_at e uri = map_of.get e.documents uri
+
+-- ---- the queues
+
+-- a message to the server
+pub data ToServer : Type 0 where
+  notifies : DocumentEvent → ToServer
+  -- the request's number, the uri and what is requested
+  requests : ℕ → List ℕ → Ask → ToServer
+
+-- a message to the editor
+pub data ToEditor : Type 0 where
+  -- the uri, the version, and whether no diagnostic is in the list;
+  -- a close sends a list without version
+  publishes : List ℕ → Option ℤ → Bool → ToEditor
+  -- the ask's number and the edits; a refusal has none
+  answers : ℕ → List Replacement → ToEditor
+
+-- ---- what has come of the events so far
+
+-- an edit that the editor applied
+pub record Applied : Type 0 where
+  pub uri : List ℕ
+  pub before : List ℕ
+  pub after : List ℕ
+
+-- a publication with a version, the text that it was made for, and whether no diagnostic was in it
+pub record Made : Type 0 where
+  pub uri : List ℕ
+  pub version : ℤ
+  pub text : List ℕ
+  pub empty : Bool
+
+-- ---- the whole
+
+-- client and server: the editor, the server's documents, the two queues, and what has come of it
+pub record ClientAndServer : Type 0 where
+  pub editor : Editor
+  pub to_server : List ToServer
+  -- the documents that are open in the server
+  pub held : OpenDocuments
+  pub to_editor : List ToEditor
+  pub applied : List Applied
+  pub made : List Made
+
+-- nothing was opened yet, and both count positions in this unit
+abbrev pub start : Unit → ClientAndServer
+start unit =
+    record {
+      editor = new_editor unit;
+      to_server = [];
+      held = none_open unit;
+      to_editor = [];
+      applied = [];
+      made = [];
+    }
+
+-- the server's documents once it has taken a message
+abbrev pub after_message : OpenDocuments → ToServer → OpenDocuments
+after_message held (notifies note) = after_event held note
+after_message held (requests number uri ask) = held
