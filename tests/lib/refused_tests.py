@@ -55,7 +55,6 @@ def plays_exactly(crate: str) -> str:
     ones, others = refusals(crate, PLAYED), refusals(crate, STEPPED)
     whole = others[-1]
     same(ones[-1], whole, "what is played where nothing is refused")
-    # (the first test plays what it has played once more)
     for number, (one, other) in enumerate(itertools.zip_longest(ones, others, fillvalue=whole), 1):
         same(one, other, f"what was played with allocation {number} refused")
     holds(len({it[0][0] for it in others}) > whole[0][0] // 2, "hardly any event was refused")

@@ -3,12 +3,12 @@
 ghost use Rattle.std.specs.Prelude.{⊤};
 
 use crate::declarations::{push_bound, push_capture, push_type};
-use crate::edits::push_edited;
-use crate::names::{push_lines, push_name};
+use crate::edits::{push_edited, rename_or_faults};
+use crate::names::{push_all_shown, push_name};
 use crate::runs::push_run;
 use ob0_analysis::{Analysis, Diagnosis, Question, ask};
 use ob0_scan::Span;
-use ob0_text::Indent;
+use ob0_text::{Indent, Position};
 use ob0_types::WellTyped;
 use std::alloc::{AllocError, Global};
 
@@ -25,7 +25,7 @@ pub enum Asked {
     Bound(usize, &'static str),
     /// What is said of the name at a byte.
     NameAt(usize),
-    /// What is shown of all names, a line for each.
+    /// What is shown of each name, with a bar after it.
     Shown,
     /// What a run on an input outputs, and how it ends: with how many open calls, and turns of a loop.
     Run(&'static [i32], u32, u32),
@@ -39,13 +39,39 @@ pub enum Asked {
 /// A text, what is asked of it, and the answer, or what is wrong with the text.
 pub type Row = (&'static str, Asked, &'static str);
 
-/// A table: `TEXT, ASKED => ANSWER;` for each row, or pairs `TEXT => ANSWER;`.
+/// A table: `TEXT, ASKED => ANSWER;` for each row, or `TEXT => FAULTS;`.
 macro_rules! rows {
     ($($text:expr, $asked:expr => $wanted:expr;)*) => { &[$(($text, $asked, $wanted)),*] };
-    ($($text:expr => $wanted:expr;)*) => { &[$(($text, $wanted)),*] };
+    ($($text:expr => $wanted:expr;)*) => { &[$(($text, Faults, $wanted)),*] };
 }
 
 pub(crate) use rows;
+
+/// How a table is gone over.
+#[derive(Clone, Copy, PartialEq, Eq)]
+pub enum Walk {
+    Asking,
+    /// Where an allocation may fail.
+    Refused,
+    /// Each row is a renaming, by way of the analysis.
+    RenamingInAnalysis,
+}
+
+// Texts of several tables.
+
+pub const BLOCKS: &str =
+    "MODULE M;\nVAR Q: INTEGER;\nPROCEDURE A;\nPROCEDURE P; BEGIN Q := 7 END P;\n\
+    PROCEDURE R; BEGIN Write(2) END R;\nBEGIN P; R END A;\nBEGIN A; Write(Q) END M.";
+
+pub const RECURSIVE: &str =
+    "MODULE M;\nPROCEDURE F(n: INTEGER);\nBEGIN IF n > 0 THEN Write(n); F(n - 1) END END F;\nBEGIN F(2) END M.";
+
+pub const FIELDS: &str =
+    "MODULE M;\nTYPE R = RECORD a, b: INTEGER END;\nVAR r: R; s: RECORD a: INTEGER END; a: INTEGER;\n\
+    BEGIN r.a := 1; s.a := 2; a := r.a + s.a; Write(a) END M.";
+
+pub const COUNTING: &str =
+    "MODULE M;\nVAR n: INTEGER;\nBEGIN Read(n); REPEAT Write(n); n := n - 1 UNTIL n <= 0 END M.";
 
 impl Question for Asked {
     type Answer = String;
@@ -71,7 +97,7 @@ fn push_answer(
         Asked::Free(declaration, new) => push_capture(alloc, out, module, declaration, new),
         Asked::Bound(declaration, new) => push_bound(alloc, out, module, declaration, new),
         Asked::NameAt(offset) => push_name(alloc, out, module, offset),
-        Asked::Shown => push_lines(alloc, out, module),
+        Asked::Shown => push_all_shown(alloc, out, module),
         Asked::Run(input, calls, turns) => push_run(alloc, out, module, input, calls, turns),
         edit => push_edited(alloc, out, module, edit),
     }
@@ -79,27 +105,30 @@ fn push_answer(
 
 /// What is answered to a text. (What owns an analysis is expensive to prove, at each of its steps: so it only passes it
 /// on.)
-fn answer_for_text(alloc: Global, text: &str, asked: &Asked) -> Result<String, AllocError> {
-    let analysis = Analysis::of(alloc, text)?;
-    answer_or_faults(alloc, &analysis, asked)
+fn answer_for_row(alloc: Global, row: &Row, walk: Walk) -> Result<String, AllocError> {
+    let analysis = Analysis::of(alloc, row.0)?;
+    answer_or_faults(alloc, &analysis, &row.1, walk)
 }
 
 fn answer_or_faults(
     alloc: Global,
     analysis: &Analysis,
     asked: &Asked,
+    walk: Walk,
 ) -> Result<String, AllocError> {
+    if walk == Walk::RenamingInAnalysis {
+        return rename_or_faults(alloc, analysis, *asked);
+    }
     match ask(alloc, analysis, asked)? {
         Some(answer) => Ok(answer),
         None => faults_of(alloc, analysis),
     }
 }
 
-/// Whether this is what is answered to a text; where an allocation fails, whether it may.
-pub fn is_said(alloc: Global, text: &str, asked: &Asked, wanted: &str, may_fail: bool) -> bool {
-    match answer_for_text(alloc, text, asked) {
-        Ok(found) => found.as_str() == wanted,
-        Err(_refused) => may_fail,
+fn is_said(alloc: Global, row: &Row, walk: Walk) -> bool {
+    match answer_for_row(alloc, row, walk) {
+        Ok(found) => found.as_str() == row.2,
+        Err(_refused) => walk == Walk::Refused,
     }
 }
 
@@ -107,15 +136,18 @@ pub fn is_said(alloc: Global, text: &str, asked: &Asked, wanted: &str, may_fail:
 pub fn first_wrong(
     alloc: Global,
     rows: &'static [Row],
-    may_fail: bool,
+    walk: Walk,
 ) -> (&'static str, &'static str) {
     for row in rows {
-        let (text, asked, wanted) = *row;
-        if !is_said(alloc, text, &asked, wanted, may_fail) {
-            return (text, wanted);
+        if !is_said(alloc, row, walk) {
+            return (row.0, row.2);
         }
     }
     ("", "")
+}
+
+pub fn at(line: u64, character: u64) -> Position {
+    Position { line, character }
 }
 
 /// What is wrong with an analysed text.

@@ -1,8 +1,8 @@
 //! The types of declarations, and where another name for one isn't free.
 
 use crate::asking::Asked::{Bound, Free, TypeOf};
-use crate::asking::{Row, first_wrong, push_number, push_span, rows};
-use ob0_refs::captures;
+use crate::asking::{Row, Walk, first_wrong, push_number, push_span, rows};
+use ob0_refs::{Capture, captures};
 use ob0_scope::resolve_renamed;
 use ob0_types::{Shape, WellTyped};
 use ob0_types_table::{ArrayShape, Parts, RecordShape};
@@ -54,27 +54,6 @@ fn push_record(out: &mut String, record: &RecordShape) -> Result<(), AllocError>
     write!(out, "RECORD {ordinal} with {fields}")
 }
 
-const TYPES: &str =
-    "MODULE M; CONST c = 3; TYPE R = RECORD a, b: INTEGER END; VAR v: ARRAY c OF ARRAY 2 OF R; t: BOOLEAN; \
-    PROCEDURE P; END P; END M.";
-
-static TYPE_ROWS: &[Row] = rows![
-    TYPES, TypeOf(0) => "INTEGER";
-    TYPES, TypeOf(4) => "none";
-    TYPES, TypeOf(7) => "INTEGER";
-    TYPES, TypeOf(8) => "RECORD 0 with 2";
-    TYPES, TypeOf(9) => "ARRAY 1 3 OF ARRAY 2 2 OF RECORD 0 with 2";
-    TYPES, TypeOf(10) => "BOOLEAN";
-    TYPES, TypeOf(11) => "none";
-    TYPES, TypeOf(12) => "none";
-];
-
-#[test]
-fn types_of_declarations_are_known(rt: HostRuntime) {
-    let (text, wanted) = first_wrong(rt.alloc(), TYPE_ROWS, false);
-    assert!(rt; text.is_empty(), "{wanted}");
-}
-
 /// Adds where another name for what has an ordinal isn't free.
 pub fn push_capture(
     alloc: Global,
@@ -85,25 +64,8 @@ pub fn push_capture(
 ) -> Result<(), AllocError> {
     match captures(alloc, module.resolved(), declaration, new)? {
         None => out.push_str("free"),
-        Some(capture) => push_span(out, "", capture.span),
+        Some(Capture { span }) => push_span(out, "", span),
     }
-}
-
-const NAMES: &str =
-    "MODULE M;\nVAR x: INTEGER; y: INTEGER;\nPROCEDURE P; VAR z: INTEGER; BEGIN z := x END P;\nBEGIN P END M.";
-
-static NAME_ROWS: &[Row] = rows![
-    NAMES, Free(7, "y") => "14-15";
-    NAMES, Free(7, "z") => "78-79";
-    NAMES, Free(7, "w") => "free";
-    NAMES, Free(10, "x") => "78-79";
-    NAMES, Free(10, "y") => "free";
-];
-
-#[test]
-fn captures_are_found(rt: HostRuntime) {
-    let (text, wanted) = first_wrong(rt.alloc(), NAME_ROWS, false);
-    assert!(rt; text.is_empty(), "{wanted}");
 }
 
 /// Adds what the occurrences are bound to where what has an ordinal has another name.
@@ -120,19 +82,35 @@ pub fn push_bound(
 
 fn push_ordinals(out: &mut String, ordinals: &[Option<usize>]) -> Result<(), AllocError> {
     for ordinal in ordinals {
-        push_ordinal(out, *ordinal)?;
+        match ordinal {
+            Some(ordinal) => push_number(out, " ", *ordinal)?,
+            None => out.push_str(" none")?,
+        }
     }
     Ok(())
 }
 
-fn push_ordinal(out: &mut String, ordinal: Option<usize>) -> Result<(), AllocError> {
-    match ordinal {
-        Some(ordinal) => push_number(out, " ", ordinal),
-        None => out.push_str(" none"),
-    }
-}
+const TYPES: &str =
+    "MODULE M; CONST c = 3; TYPE R = RECORD a, b: INTEGER END; VAR v: ARRAY c OF ARRAY 2 OF R; t: BOOLEAN; \
+    PROCEDURE P; END P; END M.";
 
-static RENAMED_ROWS: &[Row] = rows![
+const NAMES: &str =
+    "MODULE M;\nVAR x: INTEGER; y: INTEGER;\nPROCEDURE P; VAR z: INTEGER; BEGIN z := x END P;\nBEGIN P END M.";
+
+static ROWS: &[Row] = rows![
+    TYPES, TypeOf(0) => "INTEGER";
+    TYPES, TypeOf(4) => "none";
+    TYPES, TypeOf(7) => "INTEGER";
+    TYPES, TypeOf(8) => "RECORD 0 with 2";
+    TYPES, TypeOf(9) => "ARRAY 1 3 OF ARRAY 2 2 OF RECORD 0 with 2";
+    TYPES, TypeOf(10) => "BOOLEAN";
+    TYPES, TypeOf(11) => "none";
+    TYPES, TypeOf(12) => "none";
+    NAMES, Free(7, "y") => "14-15";
+    NAMES, Free(7, "z") => "78-79";
+    NAMES, Free(7, "w") => "free";
+    NAMES, Free(10, "x") => "78-79";
+    NAMES, Free(10, "y") => "free";
     NAMES, Bound(7, "w") => " 0 0 0 10 7 9";
     NAMES, Bound(7, "z") => " 0 0 0 10 10 9";
     NAMES, Bound(10, "x") => " 0 0 0 10 10 9";
@@ -140,7 +118,7 @@ static RENAMED_ROWS: &[Row] = rows![
 ];
 
 #[test]
-fn occurrences_are_bound_with_another_name(rt: HostRuntime) {
-    let (text, wanted) = first_wrong(rt.alloc(), RENAMED_ROWS, false);
-    assert!(rt; text.is_empty(), "{wanted}");
+fn types_and_captures_of_declarations_are_known(rt: HostRuntime) {
+    let (text, wanted) = first_wrong(rt.alloc(), ROWS, Walk::Asking);
+    assert!(rt; text.is_empty(), "{wanted} in {text}");
 }

@@ -4,13 +4,15 @@ ghost use Rattle.std.specs.Prelude.{◌≡◌};
 ghost use Rattle.std.specs.Str.{chars};
 
 use crate::asking::Asked::{self, InlineAll, InlineHere, LayOut, Rename};
-use crate::asking::{Row, faults_of, first_wrong, is_said, rows};
+use crate::asking::{
+    BLOCKS, COUNTING, FIELDS, RECURSIVE, Row, Walk, at, faults_of, first_wrong, rows,
+};
 use ob0_analysis::Analysis;
 use ob0_edits::rename_in;
 use ob0_inline::{inline_all, inline_here};
 use ob0_layout::format;
 use ob0_rename::rename;
-use ob0_text::{Edit, EditRefusal, Indent, PatchFault, Position, TextStore, Whole, patch};
+use ob0_text::{Edit, EditRefusal, Indent, PatchFault, TextStore, Whole, patch};
 use ob0_types::WellTyped;
 use std::alloc::{AllocError, Global};
 use std::process::Abort;
@@ -37,15 +39,9 @@ fn edits_of<T: TextStore>(
     requires { T.content store.now ≡ chars «module».now.module_read.source.text }
 {
     match asked {
-        Rename(line, character, new) => {
-            rename(alloc, store, module, Position { line, character }, new)
-        }
-        InlineHere(line, character) => {
-            inline_here(alloc, store, module, Position { line, character })
-        }
-        InlineAll(line, character) => {
-            inline_all(alloc, store, module, Position { line, character })
-        }
+        Rename(line, character, new) => rename(alloc, store, module, at(line, character), new),
+        InlineHere(line, character) => inline_here(alloc, store, module, at(line, character)),
+        InlineAll(line, character) => inline_all(alloc, store, module, at(line, character)),
         LayOut(indent) => format(alloc, store, module.resolved().module(), indent),
         _ => Ok(Vec::new(alloc)),
     }
@@ -67,19 +63,25 @@ fn apply_or_refuse(
     }
 }
 
+/// What a renaming makes of an analysed text, or what is wrong with it.
+pub fn rename_or_faults(
+    alloc: Global,
+    analysis: &Analysis,
+    asked: Asked,
+) -> Result<String, AllocError> {
+    let Rename(line, character, new) = asked else {
+        return Ok(String::new(alloc));
+    };
+    let store = Whole::from_str(alloc, analysis.text())?;
+    match rename_in(alloc, &store, analysis, at(line, character), new)? {
+        Some(edits) => apply_or_refuse(alloc, &store, edits),
+        None => faults_of(alloc, analysis),
+    }
+}
+
 const NESTED: &str =
     "MODULE M;\nVAR x: INTEGER;\nPROCEDURE P;\nVAR y: INTEGER;\nBEGIN y := 1; x := y END P;\n\
     BEGIN P; Write(x) END M.";
-
-const BLOCKS: &str = "MODULE M;\nVAR Q: INTEGER;\nPROCEDURE A;\nPROCEDURE P; BEGIN Q := 7 END P;\n\
-    PROCEDURE R; BEGIN Write(2) END R;\nBEGIN P; R END A;\nBEGIN A; Write(Q) END M.";
-
-const RECURSIVE: &str =
-    "MODULE M;\nPROCEDURE F(n: INTEGER);\nBEGIN IF n > 0 THEN Write(n); F(n - 1) END END F;\nBEGIN F(2) END M.";
-
-const FIELDS: &str =
-    "MODULE M;\nTYPE R = RECORD a, b: INTEGER END;\nVAR r: R; s: RECORD a: INTEGER END; a: INTEGER;\n\
-    BEGIN r.a := 1; s.a := 2; a := r.a + s.a; Write(a) END M.";
 
 const PARTS: &str = "MODULE M;\nTYPE P = RECORD x, y: INTEGER END;\n\
     VAR q: ARRAY 2 OF RECORD x: P; n: RECORD x: INTEGER END END;\n\
@@ -115,8 +117,7 @@ static RENAMED: &[Row] = rows![
         "MODULE M;\nTYPE R = RECORD a, b: INTEGER END;\nVAR r: R; s: RECORD a: INTEGER END; b: INTEGER;\n\
         BEGIN r.a := 1; s.a := 2; b := r.a + s.a; Write(b) END M.";
     FIELDS, Rename(3, 8, "INTEGER") =>
-        "MODULE M;\nTYPE R = RECORD INTEGER, b: INTEGER END;\n\
-        VAR r: R; s: RECORD a: INTEGER END; a: INTEGER;\n\
+        "MODULE M;\nTYPE R = RECORD INTEGER, b: INTEGER END;\nVAR r: R; s: RECORD a: INTEGER END; a: INTEGER;\n\
         BEGIN r.INTEGER := 1; s.a := 2; a := r.INTEGER + s.a; Write(a) END M.";
     FIELDS, Rename(3, 18, "b") =>
         "MODULE M;\nTYPE R = RECORD a, b: INTEGER END;\nVAR r: R; s: RECORD b: INTEGER END; a: INTEGER;\n\
@@ -131,13 +132,11 @@ static RENAMED: &[Row] = rows![
         BEGIN q[0].y.x := 1; q[q[0].y.x].n.x := 2; q[1].y.y := 3 END M.";
     LOCAL, Rename(6, 20, "b") => "Duplicate 4:16-4:17";
     LOCAL, Rename(7, 8, "b") =>
-        "MODULE M;\nTYPE R = RECORD b: INTEGER END;\nVAR r: R;\n\
-        PROCEDURE P(VAR r: R; s: RECORD a: INTEGER END);\nTYPE R = RECORD b, a: INTEGER END;\nVAR t: R;\n\
-        BEGIN r.b := s.a; t.a := t.b END P;\nBEGIN r.b := 1 END M.";
+        "MODULE M;\nTYPE R = RECORD b: INTEGER END;\nVAR r: R;\nPROCEDURE P(VAR r: R; s: RECORD a: INTEGER END);\n\
+        TYPE R = RECORD b, a: INTEGER END;\nVAR t: R;\nBEGIN r.b := s.a; t.a := t.b END P;\nBEGIN r.b := 1 END M.";
     LOCAL, Rename(6, 15, "b") =>
-        "MODULE M;\nTYPE R = RECORD a: INTEGER END;\nVAR r: R;\n\
-        PROCEDURE P(VAR r: R; s: RECORD b: INTEGER END);\nTYPE R = RECORD b, a: INTEGER END;\nVAR t: R;\n\
-        BEGIN r.a := s.b; t.a := t.b END P;\nBEGIN r.a := 1 END M.";
+        "MODULE M;\nTYPE R = RECORD a: INTEGER END;\nVAR r: R;\nPROCEDURE P(VAR r: R; s: RECORD b: INTEGER END);\n\
+        TYPE R = RECORD b, a: INTEGER END;\nVAR t: R;\nBEGIN r.a := s.b; t.a := t.b END P;\nBEGIN r.a := 1 END M.";
 ];
 
 fn rename_rows() -> &'static [Row] {
@@ -146,59 +145,14 @@ fn rename_rows() -> &'static [Row] {
 
 #[test]
 fn a_well_typed_module_is_renamed_alike(rt: HostRuntime) {
-    let (text, wanted) = first_wrong(rt.alloc(), rename_rows(), false);
+    let (text, wanted) = first_wrong(rt.alloc(), rename_rows(), Walk::Asking);
     assert!(rt; text.is_empty(), "{wanted} in {text}");
-}
-
-fn rename_text(
-    alloc: Global,
-    text: &str,
-    place: Position,
-    new: &str,
-) -> Result<String, AllocError> {
-    let analysis = Analysis::of(alloc, text)?;
-    rename_or_faults(alloc, &analysis, place, new)
-}
-
-fn rename_or_faults(
-    alloc: Global,
-    analysis: &Analysis,
-    place: Position,
-    new: &str,
-) -> Result<String, AllocError> {
-    let store = Whole::from_str(alloc, analysis.text())?;
-    match rename_in(alloc, &store, analysis, place, new)? {
-        Some(edits) => apply_or_refuse(alloc, &store, edits),
-        None => faults_of(alloc, analysis),
-    }
-}
-
-/// Whether a row of a renaming is answered alike by way of the analysis.
-fn is_renamed(alloc: Global, row: &Row) -> bool {
-    let (text, asked, wanted) = *row;
-    let Rename(line, character, new) = asked else {
-        return false;
-    };
-    match rename_text(alloc, text, Position { line, character }, new) {
-        Ok(found) => found.as_str() == wanted,
-        Err(_refused) => false,
-    }
-}
-
-/// The wanted answer of the first row that is renamed otherwise.
-fn first_misnamed(alloc: Global) -> Option<&'static str> {
-    for row in rename_rows() {
-        if !is_renamed(alloc, row) {
-            return Some(row.2);
-        }
-    }
-    None
 }
 
 #[test]
 fn names_and_fields_are_renamed(rt: HostRuntime) {
-    let wrong = first_misnamed(rt.alloc());
-    assert!(rt; wrong.is_none(), "{wrong:?}");
+    let (text, wanted) = first_wrong(rt.alloc(), rename_rows(), Walk::RenamingInAnalysis);
+    assert!(rt; text.is_empty(), "{wanted} in {text}");
 }
 
 const LEAST: &str =
@@ -221,8 +175,7 @@ const DEEP: &str = "MODULE M; CONST c = -1; VAR x: INTEGER; BEGIN x := \
 
 static INLINED: &[Row] = rows![
     LEAST, InlineHere(3, 15) =>
-        "MODULE M;\nCONST c = -2147483647 - 1;\nVAR x: INTEGER;\n\
-        BEGIN x := 0 + (-2147483647 - 1); Write(x) END M.";
+        "MODULE M;\nCONST c = -2147483647 - 1;\nVAR x: INTEGER;\nBEGIN x := 0 + (-2147483647 - 1); Write(x) END M.";
     LEAST, InlineHere(1, 6) => "NoName";
     LEAST, InlineHere(3, 6) => "NoName";
     LEAST, InlineAll(1, 6) =>
@@ -255,91 +208,46 @@ static INLINED: &[Row] = rows![
 
 #[test]
 fn constants_are_inlined(rt: HostRuntime) {
-    let (text, wanted) = first_wrong(rt.alloc(), INLINED, false);
+    let (text, wanted) = first_wrong(rt.alloc(), INLINED, Walk::Asking);
     assert!(rt; text.is_empty(), "{wanted} in {text}");
 }
 
 const TWO: Indent = Indent::Spaces(2);
 
-static LAID_OUT: &[Row] = rows![
-    "MODULE M;VAR x:INTEGER;BEGIN x:=-1;IF x<0 THEN Write(x)(* a (* b *) c *)END;WriteLn END M.(* end *)",
-        LayOut(TWO) => "\
-MODULE M;
-VAR
-  x: INTEGER;
-BEGIN
-  x := -1;
-  IF x < 0 THEN
-    Write(x) (* a (* b *) c *)
-  END;
-  WriteLn
-END M. (* end *)
-";
-    " \r\n(* 😀 *)(* two *)\r\nMODULE M;VAR x:INTEGER;\r(* own line *)BEGIN x := (\r (* inside\r\n\
-        *) 1) (* behind *) ;\n\n(* before END *)END M.\n\n (* last *)", LayOut(TWO) =>
-        "(* 😀 *) (* two *)\nMODULE M;\nVAR\n  x: INTEGER;\n(* own line *)\nBEGIN\n  x := (\n  (* inside\r\n\
-        *) 1) (* behind *) ;\n(* before END *)\nEND M.\n(* last *)\n";
-    "MODULE M;CONST a=1;b=-a;TYPE T=RECORD x,y:INTEGER END;PROCEDURE P(VAR t:T;n:INTEGER);BEGIN \
-        t.x:=-n+t.y;WHILE ~(n=0)DO P(t,n-1)END END P;END M.", LayOut(Indent::Tab) =>
-        "MODULE M;\nCONST\n\ta = 1;\n\tb = -a;\nTYPE\n\tT = RECORD x, y: INTEGER END;\n\
-        \tPROCEDURE P(VAR t: T; n: INTEGER);\n\tBEGIN\n\t\tt.x := -n + t.y;\n\t\tWHILE ~(n = 0) DO\n\
-        \t\t\tP(t, n - 1)\n\t\tEND\n\tEND P;\nEND M.\n";
-    "MODULE M; BEGIN ; WriteLn; END M.", LayOut(TWO) => "MODULE M;\nBEGIN;\n  WriteLn;\nEND M.\n";
-    "MODULE M;\nVAR n: INTEGER;\nBEGIN Read(n); REPEAT Write(n); n := n - 1 UNTIL n <= 0 END M.",
-        LayOut(TWO) => "\
-MODULE M;
-VAR
-  n: INTEGER;
-BEGIN
-  Read(n);
-  REPEAT
-    Write(n);
-    n := n - 1
-  UNTIL n <= 0
-END M.
-";
-    "MODULE M;VAR a:ARRAY 2 OF INTEGER;PROCEDURE A;PROCEDURE B();END B;BEGIN IF a[0]=1 THEN \
-        B() ELSIF a [1]=2 THEN ELSE B;WHILE TRUE DO END END END A;BEGIN A END M.", LayOut(TWO) => "\
-MODULE M;
-VAR
-  a: ARRAY 2 OF INTEGER;
-  PROCEDURE A;
-    PROCEDURE B();
-    END B;
-  BEGIN
-    IF a[0] = 1 THEN
-      B()
-    ELSIF a[1] = 2 THEN
-    ELSE
-      B;
-      WHILE TRUE DO
-      END
-    END
-  END A;
-BEGIN
-  A
-END M.
-";
+/// Texts, how they are laid out, and what comes of it, which stays as it is: `TEXT, INDENT => LAID OUT;`.
+macro_rules! layouts {
+    ($($text:expr, $indent:expr => $wanted:expr;)*) => {
+        &[$(($text, LayOut($indent), $wanted), ($wanted, LayOut($indent), $wanted)),*]
+    };
+}
+
+static LAID_OUT: &[Row] = layouts![
+    "MODULE M;VAR x:INTEGER;BEGIN x:=-1;IF x<0 THEN Write(x)(* a (* b *) c *)END;WriteLn END M.(* end *)", TWO =>
+        "MODULE M;\nVAR\n  x: INTEGER;\nBEGIN\n  x := -1;\n  IF x < 0 THEN\n    Write(x) (* a (* b *) c *)\n  END;\
+        \n  WriteLn\nEND M. (* end *)\n";
+    " \r\n(* 😀 *)(* two *)\r\nMODULE M;VAR x:INTEGER;\r(* own line *)BEGIN x := (\r (* inside\r\
+        \n*) 1) (* behind *) ;\n\n(* before END *)END M.\n\n (* last *)", TWO =>
+        "(* 😀 *) (* two *)\nMODULE M;\nVAR\n  x: INTEGER;\n(* own line *)\nBEGIN\n  x := (\n  (* inside\r\
+        \n*) 1) (* behind *) ;\n(* before END *)\nEND M.\n(* last *)\n";
+    "MODULE M;CONST a=1;b=-a;TYPE T=RECORD x,y:INTEGER END;PROCEDURE P(VAR t:T;n:INTEGER);BEGIN t.x:=-n+t.y;WHILE \
+        ~(n=0)DO P(t,n-1)END END P;END M.", Indent::Tab =>
+        "MODULE M;\nCONST\n\ta = 1;\n\tb = -a;\nTYPE\n\tT = RECORD x, y: INTEGER END;\
+        \n\tPROCEDURE P(VAR t: T; n: INTEGER);\n\tBEGIN\n\t\tt.x := -n + t.y;\n\t\tWHILE ~(n = 0) DO\
+        \n\t\t\tP(t, n - 1)\n\t\tEND\n\tEND P;\nEND M.\n";
+    "MODULE M; BEGIN ; WriteLn; END M.", TWO =>
+        "MODULE M;\nBEGIN;\n  WriteLn;\nEND M.\n";
+    COUNTING, TWO =>
+        "MODULE M;\nVAR\n  n: INTEGER;\nBEGIN\n  Read(n);\n  REPEAT\n    Write(n);\n    n := n - 1\n  UNTIL n <= 0\
+        \nEND M.\n";
+    "MODULE M;VAR a:ARRAY 2 OF INTEGER;PROCEDURE A;PROCEDURE B();END B;BEGIN IF a[0]=1 THEN B() ELSIF a [1]=2 THEN \
+        ELSE B;WHILE TRUE DO END END END A;BEGIN A END M.", TWO =>
+        "MODULE M;\nVAR\n  a: ARRAY 2 OF INTEGER;\n  PROCEDURE A;\n    PROCEDURE B();\n    END B;\n  BEGIN\
+        \n    IF a[0] = 1 THEN\n      B()\n    ELSIF a[1] = 2 THEN\n    ELSE\n      B;\n      WHILE TRUE DO\
+        \n      END\n    END\n  END A;\nBEGIN\n  A\nEND M.\n";
 ];
-
-/// What is laid out once stays as it is.
-fn is_laid_out_once(alloc: Global, row: &Row) -> bool {
-    let (text, asked, wanted) = *row;
-    is_said(alloc, text, &asked, wanted, false) && is_said(alloc, wanted, &asked, wanted, false)
-}
-
-/// The first text that is laid out otherwise.
-fn first_mislaid(alloc: Global) -> Option<&'static str> {
-    for row in LAID_OUT {
-        if !is_laid_out_once(alloc, row) {
-            return Some(row.0);
-        }
-    }
-    None
-}
 
 #[test]
 fn texts_are_laid_out_once(rt: HostRuntime) {
-    let wrong = first_mislaid(rt.alloc());
-    assert!(rt; wrong.is_none(), "{wrong:?}");
+    let (text, wanted) = first_wrong(rt.alloc(), LAID_OUT, Walk::Asking);
+    assert!(rt; text.is_empty(), "{wanted} of {text}");
 }

@@ -1,12 +1,13 @@
 //! Faults of worked texts: code, start and end of each, in the order of their places.
 
 use crate::asking::Asked::Faults;
-use crate::asking::{faults_of, is_said, rows};
+use crate::asking::{Row, Walk, at, faults_of, first_wrong, rows};
 use ob0_analysis::Analysis;
+use ob0_text::{Range, TextStore, Whole};
 use std::alloc::{AllocError, Global};
 use std::process::Abort;
 
-static ROWS: &[(&str, &str)] = rows![
+static ROWS: &[Row] = rows![
     "MODULE M; END M." => "";
     "MODULE M; VAR n: INTEGER; BEGIN Read(n); REPEAT Write(n); n := n - 1 UNTIL n <= 0 END M." => "";
     // Lexemes.
@@ -76,89 +77,61 @@ static ROWS: &[(&str, &str)] = rows![
         "Undeclared 52-53; Duplicate 55-56; WrongKind 108-109; TypeMismatch 141-142; ";
 ];
 
-/// Whether this is what is wrong with a text.
-fn has_faults(alloc: Global, text: &str, wanted: &str) -> bool {
-    is_said(alloc, text, &Faults, wanted, false)
-}
-
-/// The first text whose faults are others.
-fn first_misreported(alloc: Global) -> Option<&'static str> {
-    for row in ROWS {
-        if !has_faults(alloc, row.0, row.1) {
-            return Some(row.0);
-        }
-    }
-    None
-}
-
 #[test]
 fn the_faults_of_worked_texts_are_reported(rt: HostRuntime) {
-    let wrong = first_misreported(rt.alloc());
-    assert!(rt; wrong.is_none(), "{wrong:?}");
+    let (text, wanted) = first_wrong(rt.alloc(), ROWS, Walk::Asking);
+    assert!(rt; text.is_empty(), "{wanted} of {text}");
 }
 
-/// Texts that are changed where no identifier is, and where one is.
-static CHANGES: &[(&str, &str)] = rows![
+/// `TEXT, START, END, NEW;` for each.
+macro_rules! changes {
+    ($($text:expr, $start:expr, $end:expr, $new:expr;)*) => { &[$(($text, $start, $end, $new)),*] };
+}
+
+const TWO_VARIABLES: &str = "MODULE M; VAR x, y: INTEGER; BEGIN x := y END M.";
+
+const ONE_PROCEDURE: &str =
+    "MODULE M; VAR x, y: INTEGER; PROCEDURE P; BEGIN x := y END P; BEGIN P; z := x END M.";
+
+const RECORDS: &str =
+    "MODULE M; TYPE T = RECORD f, g: INTEGER END; VAR t: T; PROCEDURE P(a, b: T); BEGIN a := b; a.f := t.g END P; \
+    BEGIN P(t, t); z := t END M.";
+
+/// Texts of one line that are changed where no identifier is, and where one is: from a place to another, with what comes
+/// there.
+static CHANGES: &[(&str, u64, u64, &str)] = changes![
     // A number that the types depend on.
-    "MODULE M; CONST n = 2; VAR a: ARRAY n OF INTEGER; BEGIN a[n - 1] := 1; a[2] := n END M." =>
-        "MODULE M; CONST n = 20; VAR a: ARRAY n OF INTEGER; BEGIN a[n - 1] := 1; a[2] := n END M.";
+    "MODULE M; CONST n = 2; VAR a: ARRAY n OF INTEGER; BEGIN a[n - 1] := 1; a[2] := n END M.", 20, 21, "20";
     // A number before a name that nothing declares, and before one that is declared twice.
-    "MODULE M; CONST n = 2; VAR x, x: INTEGER; BEGIN y := n END M." =>
-        "MODULE M; CONST n = 234; VAR x, x: INTEGER; BEGIN y := n END M.";
+    "MODULE M; CONST n = 2; VAR x, x: INTEGER; BEGIN y := n END M.", 20, 21, "234";
     // White space beside a name.
-    "MODULE M; VAR x: INTEGER; BEGIN x := TRUE END M." => "MODULE M; VAR x : INTEGER; BEGIN x := TRUE END M.";
+    "MODULE M; VAR x: INTEGER; BEGIN x := TRUE END M.", 15, 15, " ";
     // A name, by another and by one that is declared already.
-    "MODULE M; VAR x, y: INTEGER; BEGIN x := y END M." => "MODULE M; VAR x, z: INTEGER; BEGIN x := y END M.";
-    "MODULE M; VAR x, y: INTEGER; BEGIN x := y END M." => "MODULE M; VAR x, x: INTEGER; BEGIN x := y END M.";
+    TWO_VARIABLES, 17, 18, "z";
+    TWO_VARIABLES, 17, 18, "x";
     // A statement more in a procedure before another one, and half a statement.
-    "MODULE M; VAR x: INTEGER; PROCEDURE P; BEGIN x := 1 END P; PROCEDURE Q; BEGIN P; y := 1 END Q; BEGIN Q END M."
-        =>
-        "MODULE M; VAR x: INTEGER; PROCEDURE P; BEGIN x := 1; x := TRUE END P; PROCEDURE Q; BEGIN P; \
-        y := 1 END Q; BEGIN Q END M.";
-    "MODULE M; VAR x: INTEGER; PROCEDURE P; BEGIN x := z END P; PROCEDURE Q; BEGIN P; y := 1 END Q; BEGIN Q END M."
-        =>
-        "MODULE M; VAR x: INTEGER; PROCEDURE P; BEGIN x := z END P; PROCEDURE Q; BEGIN P; y := END Q; BEGIN \
-        Q END M.";
+    "MODULE M; VAR x: INTEGER; PROCEDURE P; BEGIN x := 1 END P; PROCEDURE Q; BEGIN P; y := 1 END Q; BEGIN Q END M.",
+        51, 51, "; x := TRUE";
+    "MODULE M; VAR x: INTEGER; PROCEDURE P; BEGIN x := z END P; PROCEDURE Q; BEGIN P; y := 1 END Q; BEGIN Q END M.", 86, 88, "";
     // A name in the body of a procedure in another one: a local one, a parameter, one of a block around it, one that is
     // declared after it, its own, and one that nothing declares; with names at fault before it, in it and after it.
-    "MODULE M; VAR x, u: INTEGER; PROCEDURE P(a: INTEGER); VAR y: BOOLEAN; PROCEDURE Q(x: BOOLEAN); BEGIN \
-        x := y END Q; PROCEDURE R; BEGIN q := 1 END R; BEGIN x := a END P; BEGIN P(x); v := u END M." =>
-        "MODULE M; VAR x, u: INTEGER; PROCEDURE P(a: INTEGER); VAR y: BOOLEAN; PROCEDURE Q(x: BOOLEAN); BEGIN \
-        x := R END Q; PROCEDURE R; BEGIN q := 1 END R; BEGIN x := a END P; BEGIN P(x); v := u END M.";
-    "MODULE M; VAR x, u: INTEGER; PROCEDURE P(a: INTEGER); VAR y: BOOLEAN; PROCEDURE Q(x: BOOLEAN); BEGIN \
-        x := y END Q; PROCEDURE R; BEGIN R END R; BEGIN x := a END P; BEGIN P(x); v := u END M." =>
-        "MODULE M; VAR x, u: INTEGER; PROCEDURE P(a: INTEGER); VAR y: BOOLEAN; PROCEDURE Q(x: BOOLEAN); BEGIN \
-        x := y END Q; PROCEDURE R; BEGIN Q END R; BEGIN x := a END P; BEGIN P(x); v := u END M.";
-    "MODULE M; VAR x, u: INTEGER; PROCEDURE P(a: INTEGER); VAR y: BOOLEAN; PROCEDURE Q; BEGIN u := x; \
-        u := y END Q; BEGIN x := a; w := w END P; PROCEDURE S; BEGIN w := 1 END S; BEGIN P(x); v := u END M." =>
-        "MODULE M; VAR x, u: INTEGER; PROCEDURE P(a: INTEGER); VAR y: BOOLEAN; PROCEDURE Q; BEGIN u := x; \
-        u := y END Q; BEGIN x := a; w := u END P; PROCEDURE S; BEGIN w := 1 END S; BEGIN P(x); v := u END M.";
-    "MODULE M; VAR x: INTEGER; PROCEDURE P; VAR x: BOOLEAN; BEGIN x := TRUE END P; BEGIN x := 1; Write(x) END M." =>
-        "MODULE M; VAR x: INTEGER; PROCEDURE P; VAR x: BOOLEAN; BEGIN x := TRUE END P; BEGIN x := 1; \
-        Write(y) END M.";
+    "MODULE M; VAR x, u: INTEGER; PROCEDURE P(a: INTEGER); VAR y: BOOLEAN; PROCEDURE Q(x: BOOLEAN); BEGIN x := y \
+        END Q; PROCEDURE R; BEGIN q := 1 END R; BEGIN x := a END P; BEGIN P(x); v := u END M.", 106, 107, "R";
+    "MODULE M; VAR x, u: INTEGER; PROCEDURE P(a: INTEGER); VAR y: BOOLEAN; PROCEDURE Q(x: BOOLEAN); BEGIN x := y \
+        END Q; PROCEDURE R; BEGIN R END R; BEGIN x := a END P; BEGIN P(x); v := u END M.", 134, 135, "Q";
+    "MODULE M; VAR x, u: INTEGER; PROCEDURE P(a: INTEGER); VAR y: BOOLEAN; PROCEDURE Q; BEGIN u := x; u := y END Q; \
+        BEGIN x := a; w := w END P; PROCEDURE S; BEGIN w := 1 END S; BEGIN P(x); v := u END M.", 130, 131, "u";
+    "MODULE M; VAR x: INTEGER; PROCEDURE P; VAR x: BOOLEAN; BEGIN x := TRUE END P; BEGIN x := 1; Write(x) END M.", 98, 99, "y";
     // The first name of a body, a number before it, the last name, and two changes at once.
-    "MODULE M; VAR x, y: INTEGER; PROCEDURE P; BEGIN IF 1 < x THEN y := x END END P; BEGIN P; z := x END M." =>
-        "MODULE M; VAR x, y: INTEGER; PROCEDURE P; BEGIN IF 2 < q THEN y := x END END P; BEGIN P; z := x END M.";
-    "MODULE M; VAR x, y: INTEGER; PROCEDURE P; BEGIN x := y END P; BEGIN P; z := x END M." =>
-        "MODULE M; VAR x, y: INTEGER; PROCEDURE P; BEGIN q := r END P; BEGIN P; z := x END M.";
+    "MODULE M; VAR x, y: INTEGER; PROCEDURE P; BEGIN IF 1 < x THEN y := x END END P; BEGIN P; z := x END M.", 51, 56, "2 < q";
+    ONE_PROCEDURE, 48, 54, "q := r";
     // A closing name, and that name with the last one of its body.
-    "MODULE M; VAR x, y: INTEGER; PROCEDURE P; BEGIN x := y END P; BEGIN P; z := x END M." =>
-        "MODULE M; VAR x, y: INTEGER; PROCEDURE P; BEGIN x := y END Q; BEGIN P; z := x END M.";
-    "MODULE M; VAR x, y: INTEGER; PROCEDURE P; BEGIN x := y END P; BEGIN P; z := x END M." =>
-        "MODULE M; VAR x, y: INTEGER; PROCEDURE P; BEGIN x := q END Q; BEGIN P; z := x END M.";
+    ONE_PROCEDURE, 59, 60, "Q";
+    ONE_PROCEDURE, 53, 60, "q END Q";
     // A parameter, a field where it is written and where it is selected, and a type.
-    "MODULE M; TYPE T = RECORD f, g: INTEGER END; VAR t: T; PROCEDURE P(a, b: T); BEGIN a := b; \
-        a.f := t.g END P; BEGIN P(t, t); z := t END M." =>
-        "MODULE M; TYPE T = RECORD f, g: INTEGER END; VAR t: T; PROCEDURE P(a, a: T); BEGIN a := b; \
-        a.f := t.g END P; BEGIN P(t, t); z := t END M.";
-    "MODULE M; TYPE T = RECORD f, g: INTEGER END; VAR t: T; PROCEDURE P(a, b: T); BEGIN a := b; \
-        a.f := t.g END P; BEGIN P(t, t); z := t END M." =>
-        "MODULE M; TYPE T = RECORD f, f: INTEGER END; VAR t: T; PROCEDURE P(a, b: T); BEGIN a := b; \
-        a.f := t.g END P; BEGIN P(t, t); z := t END M.";
-    "MODULE M; TYPE T = RECORD f, g: INTEGER END; VAR t: T; PROCEDURE P(a, b: T); BEGIN a := b; \
-        a.f := t.g END P; BEGIN P(t, t); z := t END M." =>
-        "MODULE M; TYPE T = RECORD f, g: INTEGER END; VAR t: T; PROCEDURE P(a, b: T); BEGIN a := b; \
-        a.f := t.h END P; BEGIN P(t, t); z := t END M.";
+    RECORDS, 70, 71, "a";
+    RECORDS, 29, 30, "f";
+    RECORDS, 100, 101, "h";
 ];
 
 /// What is wrong with a text, by an analysis that is made from that of the text before.
@@ -167,19 +140,32 @@ fn faults_after(alloc: Global, old: &str, new: &str) -> Result<String, AllocErro
     faults_of(alloc, &analysis)
 }
 
-/// Whether a changed text has the faults that an analysis of it from nothing finds.
-fn is_as_new(alloc: Global, old: &str, new: &str) -> bool {
-    match faults_after(alloc, old, new) {
-        Ok(found) => has_faults(alloc, new, found.as_str()),
-        Err(_refused) => false,
-    }
+fn faults_from_nothing(alloc: Global, text: &str) -> Result<String, AllocError> {
+    let analysis = Analysis::of(alloc, text)?;
+    faults_of(alloc, &analysis)
 }
 
-/// The first text that has other faults after the change, to it or back from it.
-fn first_unlike_new(alloc: Global) -> Option<&'static str> {
-    for row in CHANGES {
-        if !is_as_new(alloc, row.0, row.1) || !is_as_new(alloc, row.1, row.0) {
-            return Some(row.1);
+/// Whether a changed text has the faults that an analysis of it from nothing finds.
+fn is_as_new(alloc: Global, old: &str, new: &str) -> Result<bool, AllocError> {
+    let found = faults_after(alloc, old, new)?;
+    let wanted = faults_from_nothing(alloc, new)?;
+    Ok(found.as_str() == wanted.as_str())
+}
+
+/// The same where a text is changed, and back.
+fn are_as_new(alloc: Global, row: &(&str, u64, u64, &str)) -> Result<bool, AllocError> {
+    let (text, start, end, new) = *row;
+    let mut store = Whole::from_str(alloc, text)?;
+    let (start, end) = (at(0, start), at(0, end));
+    store.replace(Range { start, end }, new)?;
+    Ok(is_as_new(alloc, text, store.as_str())? && is_as_new(alloc, store.as_str(), text)?)
+}
+
+/// The number of the first change after which a text has other faults.
+fn first_unlike_new(alloc: Global, changes: &[(&str, u64, u64, &str)]) -> Option<usize> {
+    for i in 0..changes.len() {
+        if are_as_new(alloc, &changes[i]) != Ok(true) {
+            return Some(i);
         }
     }
     None
@@ -187,6 +173,6 @@ fn first_unlike_new(alloc: Global) -> Option<&'static str> {
 
 #[test]
 fn a_changed_text_has_the_faults_of_a_new_one(rt: HostRuntime) {
-    let wrong = first_unlike_new(rt.alloc());
-    assert!(rt; wrong.is_none(), "{wrong:?}");
+    let number = first_unlike_new(rt.alloc(), CHANGES);
+    assert!(rt; number.is_none(), "change {number:?}");
 }

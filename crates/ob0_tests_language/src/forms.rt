@@ -23,24 +23,21 @@ const ONE_FACTOR: &str =
 const OPERATIONS: &str =
     "MODULE M; VAR x: INTEGER; BEGIN x := -x; x := +1; x := (x) * 2; x := a[i].b + 1; x := ~b & c; x := x = 1; x := (x) # y; x := a.b < 3; x := -(x) END M.";
 
-fn is_factor(e: &Expression) -> bool {
-    match e {
-        Expression::Factor(_) => true,
-        Expression::Compound(_) => false,
-    }
-}
-
-fn assigns(s: &Statement, factor: bool) -> bool {
+/// Whether a statement assigns a value of the small form.
+fn assigns_factor(s: &Statement) -> Option<bool> {
     match s {
-        Statement::Assign(a) => is_factor(&a.value) == factor,
-        _ => false,
+        Statement::Assign(a) => match &a.value {
+            Expression::Factor(_) => Some(true),
+            Expression::Compound(_) => Some(false),
+        },
+        _ => None,
     }
 }
 
-/// Whether statements are this many assignments, all of a value of this form.
+/// Whether statements are this many assignments, all of a value of the small form or none.
 fn are_assignments(statements: &[Statement], count: usize, factor: bool) -> bool {
     for s in statements {
-        if !assigns(s, factor) {
+        if assigns_factor(s) != Some(factor) {
             return false;
         }
     }
@@ -61,7 +58,7 @@ fn are_parsed(alloc: Global, tokens: &Tokens, count: usize, factor: bool) -> boo
     }
 }
 
-/// Whether the body of a text has this many assignments, all of a value of this form.
+/// Whether the body of a text has this many assignments, all of a value of the small form or none.
 fn all_assign(alloc: Global, text: &str, count: usize, factor: bool) -> bool {
     match scan(alloc, text) {
         Ok(tokens) => are_parsed(alloc, &tokens, count, factor),
@@ -69,21 +66,8 @@ fn all_assign(alloc: Global, text: &str, count: usize, factor: bool) -> bool {
     }
 }
 
-/// Texts with their count of assignments, a form (whether it is the small one), and whether all values have it.
-static FORMS: &[(&str, usize, bool, bool)] = &[
-    (ONE_FACTOR, 7, true, true),
-    (ONE_FACTOR, 7, false, false),
-    (OPERATIONS, 9, false, true),
-    (OPERATIONS, 9, true, false),
-];
-
 #[test]
 fn one_factor_alone_has_the_small_form(rt: HostRuntime) {
-    for row in FORMS {
-        let (text, count, factor, wanted) = *row;
-        assert!(rt;
-            all_assign(rt.alloc(), text, count, factor) == wanted,
-            "{text}"
-        );
-    }
+    assert!(rt; all_assign(rt.alloc(), ONE_FACTOR, 7, true));
+    assert!(rt; all_assign(rt.alloc(), OPERATIONS, 9, false));
 }

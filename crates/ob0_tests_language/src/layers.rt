@@ -16,25 +16,18 @@ const TEXT: &str =
     "MODULE M; CONST c = 3; VAR x: INTEGER; BEGIN x := c; IF x = c THEN Write(x) END END M.";
 
 /// The ordinals of the declarations of INTEGER, x, c, x, c, Write and x.
-static BOUND: &[Option<usize>] = &[
-    Some(0),
-    Some(8),
-    Some(7),
-    Some(8),
-    Some(7),
-    Some(5),
-    Some(8),
-    None,
-];
+static BOUND: &[usize] = &[0, 8, 7, 8, 7, 5, 8];
 
 /// Whether the names of the module are bound to their declarations.
 fn is_bound(names: &Resolved<'_>) -> bool {
     for occurrence in 0..BOUND.len() {
-        if names.declaration_of(occurrence) != BOUND[occurrence] {
+        if names.declaration_of(occurrence) != Some(BOUND[occurrence]) {
             return false;
         }
     }
-    names.faults().is_empty() && names.tokens().text() == names.module().tokens().text()
+    names.declaration_of(BOUND.len()) == None
+        && names.faults().is_empty()
+        && names.tokens().text() == names.module().tokens().text()
 }
 
 /// Whether the module's constant has its value, and its variable alone has a type.
@@ -82,9 +75,8 @@ fn is_shaped(alloc: Global, module: &Module<'_>, nesting: u32, count: usize) -> 
 fn is_parsed(alloc: Global, tokens: &Tokens) -> bool {
     match parse(alloc, tokens) {
         Ok(module) => is_shaped(alloc, &module, 1, 11) && is_resolved(alloc, &module),
-        Err(ParseRefusal::Syntax { .. }) => false,
-        Err(ParseRefusal::TooDeep { .. }) => false,
-        Err(ParseRefusal::Memory) => false,
+        Err(ParseRefusal::Syntax { .. } | ParseRefusal::TooDeep { .. } | ParseRefusal::Memory) =>
+            false,
     }
 }
 

@@ -1,8 +1,8 @@
 //! What is answered of the names of worked modules, and what is shown of them.
 
 use crate::asking::Asked::{NameAt, Shown};
-use crate::asking::{Row, first_wrong, push_number, push_span, rows};
-use ob0_refs::{Hover, Of, at, definition, hover, references};
+use crate::asking::{FIELDS, RECURSIVE, Row, Walk, first_wrong, push_number, push_span, rows};
+use ob0_refs::{At, Hover, Of, at, definition, hover, references};
 use ob0_scan::Span;
 use ob0_types::WellTyped;
 use std::alloc::{AllocError, Global};
@@ -15,13 +15,15 @@ pub fn push_name(
     module: &WellTyped<'_>,
     offset: usize,
 ) -> Result<(), AllocError> {
-    let Some(found) = at(module, offset) else {
+    let Some(At { span, of }) = at(module, offset) else {
         return Ok(());
     };
-    push_of(out, found.of)?;
-    push_declared(out, module, offset)?;
+    push_of(out, of)?;
+    if let Some(declared) = definition(module, offset) {
+        push_span(out, " from ", declared)?;
+    }
     push_named(alloc, out, module, offset)?;
-    push_shown(alloc, out, module, offset, found.span)
+    push_shown(alloc, out, module, offset, span)
 }
 
 fn push_of(out: &mut String, of: Of) -> Result<(), AllocError> {
@@ -29,18 +31,6 @@ fn push_of(out: &mut String, of: Of) -> Result<(), AllocError> {
         Of::Declared(ordinal) => push_number(out, "", ordinal),
         Of::Predeclared => out.push_str("predeclared"),
         Of::Field { ordinal, index } => write!(out, "{ordinal}.{index}"),
-    }
-}
-
-/// Adds where a name is declared.
-fn push_declared(
-    out: &mut String,
-    module: &WellTyped<'_>,
-    offset: usize,
-) -> Result<(), AllocError> {
-    match definition(module, offset) {
-        Some(declared) => push_span(out, " from ", declared),
-        None => Ok(()),
     }
 }
 
@@ -86,13 +76,6 @@ fn push_hover(out: &mut String, shown: &Hover, name: Span) -> Result<(), AllocEr
     out.push_str(shown.text.as_str())
 }
 
-const RECURSIVE: &str =
-    "MODULE M;\nPROCEDURE F(n: INTEGER);\nBEGIN IF n > 0 THEN Write(n); F(n - 1) END END F;\nBEGIN F(2) END M.";
-
-const FIELDS: &str =
-    "MODULE M;\nTYPE R = RECORD a, b: INTEGER END;\nVAR r: R; s: RECORD a: INTEGER END; a: INTEGER;\n\
-    BEGIN r.a := 1; s.a := 2; a := r.a + s.a; Write(a) END M.";
-
 static ROWS: &[Row] = rows![
     RECURSIVE, NameAt(20) => "7 from 20-21, at 65-66 82-83 91-92, shown at 20-21: PROCEDURE F(n: INTEGER)";
     RECURSIVE, NameAt(21) => "7 from 20-21, at 65-66 82-83 91-92, shown at 20-21: PROCEDURE F(n: INTEGER)";
@@ -112,20 +95,20 @@ static ROWS: &[Row] = rows![
 
 #[test]
 fn names_and_fields_are_found(rt: HostRuntime) {
-    let (text, wanted) = first_wrong(rt.alloc(), ROWS, false);
+    let (text, wanted) = first_wrong(rt.alloc(), ROWS, Walk::Asking);
     assert!(rt; text.is_empty(), "{wanted} in {text}");
 }
 
-/// Adds a line for each identifier that something is shown of.
-pub fn push_lines(
+/// Adds what is shown of each identifier that something is shown of.
+pub fn push_all_shown(
     alloc: Global,
-    lines: &mut String,
+    out: &mut String,
     module: &WellTyped<'_>,
 ) -> Result<(), AllocError> {
     let mut end = 0;
     for token in module.resolved().tokens().tokens() {
         let span = token.span;
-        if span.start != end && push_line(alloc, lines, module, span)? {
+        if span.start != end && push_if_shown(alloc, out, module, span)? {
             end = span.end;
         }
     }
@@ -133,19 +116,17 @@ pub fn push_lines(
 }
 
 /// Adds what is shown of the name at a place, and says whether something is.
-fn push_line(
+fn push_if_shown(
     alloc: Global,
-    lines: &mut String,
+    out: &mut String,
     module: &WellTyped<'_>,
     span: Span,
 ) -> Result<bool, AllocError> {
     match hover(alloc, module, span.start as usize)? {
         Some(shown) => {
-            let text = shown.text.as_str();
-            match writeln!(lines, "{text}") {
-                Ok(()) => Ok(true),
-                Err(AllocError) => Err(AllocError),
-            }
+            out.push_str(shown.text.as_str())?;
+            out.push_str(" | ")?;
+            Ok(true)
         }
         None => Ok(false),
     }
@@ -156,45 +137,21 @@ const KINDS: &str =
     VAR a: ARRAY 3 OF A; r: R; PROCEDURE P(a, b: A; VAR c: BOOLEAN); VAR r: INTEGER; BEGIN r := 1; \
     c := a[0].x END P; PROCEDURE Q; BEGIN r.x := on; P(a[0], a[c + 3], r.x) END Q; BEGIN Q END M.";
 
-const KINDS_SHOWN: &str = "CONST c = -3
-CONST on = TRUE
-predeclared TRUE
-TYPE R = RECORD with 2 fields
-FIELD x: BOOLEAN
-FIELD y: BOOLEAN
-predeclared BOOLEAN
-TYPE A = ARRAY 2 OF RECORD with 2 fields
-TYPE R = RECORD with 2 fields
-VAR a: ARRAY 3 OF ARRAY 2 OF RECORD with 2 fields
-TYPE A = ARRAY 2 OF RECORD with 2 fields
-VAR r: RECORD with 2 fields
-TYPE R = RECORD with 2 fields
-PROCEDURE P(a: ARRAY 2 OF RECORD with 2 fields; b: ARRAY 2 OF RECORD with 2 fields; VAR c: BOOLEAN)
-VAR a: ARRAY 2 OF RECORD with 2 fields
-VAR b: ARRAY 2 OF RECORD with 2 fields
-TYPE A = ARRAY 2 OF RECORD with 2 fields
-VAR c: BOOLEAN
-predeclared BOOLEAN
-VAR r: INTEGER
-predeclared INTEGER
-VAR r: INTEGER
-VAR c: BOOLEAN
-VAR a: ARRAY 2 OF RECORD with 2 fields
-FIELD x: BOOLEAN
-PROCEDURE P(a: ARRAY 2 OF RECORD with 2 fields; b: ARRAY 2 OF RECORD with 2 fields; VAR c: BOOLEAN)
-PROCEDURE Q()
-VAR r: RECORD with 2 fields
-FIELD x: BOOLEAN
-CONST on = TRUE
-PROCEDURE P(a: ARRAY 2 OF RECORD with 2 fields; b: ARRAY 2 OF RECORD with 2 fields; VAR c: BOOLEAN)
-VAR a: ARRAY 3 OF ARRAY 2 OF RECORD with 2 fields
-VAR a: ARRAY 3 OF ARRAY 2 OF RECORD with 2 fields
-CONST c = -3
-VAR r: RECORD with 2 fields
-FIELD x: BOOLEAN
-PROCEDURE Q()
-PROCEDURE Q()
-";
+const KINDS_SHOWN: &str =
+    "CONST c = -3 | CONST on = TRUE | predeclared TRUE | TYPE R = RECORD with 2 fields | FIELD x: BOOLEAN | \
+    FIELD y: BOOLEAN | predeclared BOOLEAN | TYPE A = ARRAY 2 OF RECORD with 2 fields | \
+    TYPE R = RECORD with 2 fields | VAR a: ARRAY 3 OF ARRAY 2 OF RECORD with 2 fields | \
+    TYPE A = ARRAY 2 OF RECORD with 2 fields | VAR r: RECORD with 2 fields | TYPE R = RECORD with 2 fields | \
+    PROCEDURE P(a: ARRAY 2 OF RECORD with 2 fields; b: ARRAY 2 OF RECORD with 2 fields; VAR c: BOOLEAN) | \
+    VAR a: ARRAY 2 OF RECORD with 2 fields | VAR b: ARRAY 2 OF RECORD with 2 fields | \
+    TYPE A = ARRAY 2 OF RECORD with 2 fields | VAR c: BOOLEAN | predeclared BOOLEAN | VAR r: INTEGER | \
+    predeclared INTEGER | VAR r: INTEGER | VAR c: BOOLEAN | VAR a: ARRAY 2 OF RECORD with 2 fields | \
+    FIELD x: BOOLEAN | \
+    PROCEDURE P(a: ARRAY 2 OF RECORD with 2 fields; b: ARRAY 2 OF RECORD with 2 fields; VAR c: BOOLEAN) | \
+    PROCEDURE Q() | VAR r: RECORD with 2 fields | FIELD x: BOOLEAN | CONST on = TRUE | \
+    PROCEDURE P(a: ARRAY 2 OF RECORD with 2 fields; b: ARRAY 2 OF RECORD with 2 fields; VAR c: BOOLEAN) | \
+    VAR a: ARRAY 3 OF ARRAY 2 OF RECORD with 2 fields | VAR a: ARRAY 3 OF ARRAY 2 OF RECORD with 2 fields | \
+    CONST c = -3 | VAR r: RECORD with 2 fields | FIELD x: BOOLEAN | PROCEDURE Q() | PROCEDURE Q() | ";
 
 // Records within arrays, records and parameters, and a type that is declared again.
 const PARTS: &str =
@@ -202,30 +159,15 @@ const PARTS: &str =
     y, z: RECORD x: INTEGER END END); TYPE A = INTEGER; VAR v: RECORD x: A END; BEGIN p.y.x := v.x END P; \
     END M.";
 
-const PARTS_SHOWN: &str = "TYPE A = ARRAY 2 OF RECORD with 1 fields
-FIELD x: BOOLEAN
-predeclared BOOLEAN
-PROCEDURE P(VAR p: RECORD with 3 fields; VAR q: RECORD with 3 fields)
-VAR p: RECORD with 3 fields
-VAR q: RECORD with 3 fields
-FIELD x: ARRAY 2 OF RECORD with 1 fields
-TYPE A = ARRAY 2 OF RECORD with 1 fields
-FIELD y: RECORD with 1 fields
-FIELD z: RECORD with 1 fields
-FIELD x: INTEGER
-predeclared INTEGER
-TYPE A = INTEGER
-predeclared INTEGER
-VAR v: RECORD with 1 fields
-FIELD x: INTEGER
-TYPE A = INTEGER
-VAR p: RECORD with 3 fields
-FIELD y: RECORD with 1 fields
-FIELD x: INTEGER
-VAR v: RECORD with 1 fields
-FIELD x: INTEGER
-PROCEDURE P(VAR p: RECORD with 3 fields; VAR q: RECORD with 3 fields)
-";
+const PARTS_SHOWN: &str =
+    "TYPE A = ARRAY 2 OF RECORD with 1 fields | FIELD x: BOOLEAN | predeclared BOOLEAN | \
+    PROCEDURE P(VAR p: RECORD with 3 fields; VAR q: RECORD with 3 fields) | VAR p: RECORD with 3 fields | \
+    VAR q: RECORD with 3 fields | FIELD x: ARRAY 2 OF RECORD with 1 fields | \
+    TYPE A = ARRAY 2 OF RECORD with 1 fields | FIELD y: RECORD with 1 fields | FIELD z: RECORD with 1 fields | \
+    FIELD x: INTEGER | predeclared INTEGER | TYPE A = INTEGER | predeclared INTEGER | VAR v: RECORD with 1 fields | \
+    FIELD x: INTEGER | TYPE A = INTEGER | VAR p: RECORD with 3 fields | FIELD y: RECORD with 1 fields | \
+    FIELD x: INTEGER | VAR v: RECORD with 1 fields | FIELD x: INTEGER | \
+    PROCEDURE P(VAR p: RECORD with 3 fields; VAR q: RECORD with 3 fields) | ";
 
 static SHOWN: &[Row] = rows![
     KINDS, Shown => KINDS_SHOWN;
@@ -238,13 +180,13 @@ fn shown_rows() -> &'static [Row] {
 
 #[test]
 fn each_kind_of_name_is_shown(rt: HostRuntime) {
-    let (text, _) = first_wrong(rt.alloc(), shown_rows(), false);
+    let (text, _) = first_wrong(rt.alloc(), shown_rows(), Walk::Asking);
     assert!(rt; text.is_empty(), "{text}");
 }
 
 // `make faults` runs this with each allocation refused in turn.
 #[test]
 fn a_refused_allocation_changes_no_answer(rt: HostRuntime) {
-    let (text, _) = first_wrong(rt.alloc(), shown_rows(), true);
+    let (text, _) = first_wrong(rt.alloc(), shown_rows(), Walk::Refused);
     assert!(rt; text.is_empty(), "{text}");
 }

@@ -1,7 +1,7 @@
 //! What worked modules output, and how they end.
 
 use crate::asking::Asked::Run;
-use crate::asking::{Row, first_wrong, rows};
+use crate::asking::{BLOCKS, COUNTING, RECURSIVE, Row, Walk, first_wrong, rows};
 use ob0_run::{End, Item, run};
 use ob0_types::WellTyped;
 use std::alloc::{AllocError, Global};
@@ -47,18 +47,8 @@ fn name_of(end: End) -> &'static str {
     }
 }
 
-const SHADOWED: &str =
-    "MODULE M;\nVAR Q: INTEGER;\nPROCEDURE A;\nPROCEDURE P; BEGIN Q := 7 END P;\n\
-    PROCEDURE R; BEGIN Write(2) END R;\nBEGIN P; R END A;\nBEGIN A; Write(Q) END M.";
-
-const RECURSIVE: &str =
-    "MODULE M;\nPROCEDURE F(n: INTEGER);\nBEGIN IF n > 0 THEN Write(n); F(n - 1) END END F;\nBEGIN F(2) END M.";
-
 const WHILE: &str = "MODULE M;\nVAR n: INTEGER;\nPROCEDURE P; BEGIN Write(n) END P;\n\
     BEGIN Read(n); WHILE n > 0 DO n := n - 1; WriteLn END; P END M.";
-
-const REPEAT: &str =
-    "MODULE M;\nVAR n: INTEGER;\nBEGIN Read(n); REPEAT Write(n); n := n - 1 UNTIL n <= 0 END M.";
 
 const ALIASES: &str = "MODULE M;\nVAR a: ARRAY 2 OF INTEGER; i: INTEGER;\n\
     PROCEDURE S(VAR p: INTEGER; q: INTEGER; VAR r: INTEGER);\n\
@@ -128,8 +118,8 @@ static ROWS: &[Row] = rows![
     "MODULE M; BEGIN Write(-(-2147483647 - 1)) END M.", Run(&[], 0, 0) => "; Overflow";
     "MODULE M;\nVAR x: INTEGER;\nPROCEDURE P;\nVAR y: INTEGER;\nBEGIN y := 1; x := y END P;\n\
         BEGIN P; Write(x) END M.", Run(&[], 1, 0) => " 1; Done";
-    SHADOWED, Run(&[], 64, 0) => " 2 7; Done";
-    SHADOWED, Run(&[], 1, 0) => "; CallBound";
+    BLOCKS, Run(&[], 64, 0) => " 2 7; Done";
+    BLOCKS, Run(&[], 1, 0) => "; CallBound";
     RECURSIVE, Run(&[], 3, 0) => " 2 1; Done";
     RECURSIVE, Run(&[], 2, 0) => " 2 1; CallBound";
     "MODULE M; PROCEDURE P; BEGIN Write(1) END P; BEGIN P; P; P END M.", Run(&[], 1, 0) => " 1 1 1; Done";
@@ -142,10 +132,10 @@ static ROWS: &[Row] = rows![
     WHILE, Run(&[7], 0, 3) => "///; TurnBound";
     WHILE, Run(&[2], 0, 3) => "//; CallBound";
     WHILE, Run(&[2], 1, 3) => "// 0; Done";
-    REPEAT, Run(&[0], 0, 0) => " 0; Done";
-    REPEAT, Run(&[2], 0, 0) => " 2; TurnBound";
-    REPEAT, Run(&[2], 0, 1) => " 2; TurnBound";
-    REPEAT, Run(&[2], 0, 2) => " 2 1; Done";
+    COUNTING, Run(&[0], 0, 0) => " 0; Done";
+    COUNTING, Run(&[2], 0, 0) => " 2; TurnBound";
+    COUNTING, Run(&[2], 0, 1) => " 2; TurnBound";
+    COUNTING, Run(&[2], 0, 2) => " 2 1; Done";
     ALIASES, Run(&[], 1, 0) => " 0 10 0 1 20; Index";
     ALIASES, Run(&[], 0, 0) => "; CallBound";
     ACTIVATIONS, Run(&[], 4, 0) => " 0 2 4; Done";
@@ -172,13 +162,13 @@ fn run_rows() -> &'static [Row] {
 
 #[test]
 fn worked_modules_are_run(rt: HostRuntime) {
-    let (text, wanted) = first_wrong(rt.alloc(), run_rows(), false);
+    let (text, wanted) = first_wrong(rt.alloc(), run_rows(), Walk::Asking);
     assert!(rt; text.is_empty(), "{wanted} of {text}");
 }
 
 // `make faults` runs this with each allocation refused in turn.
 #[test]
 fn a_refused_allocation_changes_no_run(rt: HostRuntime) {
-    let (text, wanted) = first_wrong(rt.alloc(), run_rows(), true);
+    let (text, wanted) = first_wrong(rt.alloc(), run_rows(), Walk::Refused);
     assert!(rt; text.is_empty(), "{wanted} of {text}");
 }

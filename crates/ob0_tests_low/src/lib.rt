@@ -2,27 +2,27 @@
 //! with ample memory, and allocations that fail.
 #![tactic(auto)]
 
-/// A table: `TEXT => WANTED;` for each row, or `FIRST, SECOND => WANTED;`.
+/// A table: `ROW;` for each, or pairs `ASKED => WANTED;`.
 #[cfg(test)]
 macro_rules! rows {
-    ($($first:expr, $second:expr => $wanted:expr;)*) => { &[$(($first, $second, $wanted)),*] };
-    ($($text:expr => $wanted:expr;)*) => { &[$(($text, $wanted)),*] };
+    ($($asked:expr => $wanted:expr;)*) => { &[$(($asked, $wanted)),*] };
+    ($($row:expr;)*) => { &[$($row),*] };
 }
 
+#[cfg(test)]
+mod cases;
+#[cfg(test)]
+mod documents;
 #[cfg(test)]
 mod frame;
 #[cfg(test)]
 mod lines;
-#[cfg(test)]
-mod refused;
 #[cfg(test)]
 mod rescan;
 #[cfg(test)]
 mod rpc;
 #[cfg(test)]
 mod scan;
-#[cfg(test)]
-mod surface;
 #[cfg(test)]
 mod text;
 #[cfg(test)]

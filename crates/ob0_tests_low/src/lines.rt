@@ -1,157 +1,161 @@
 //! Stores of lines beside whole texts: each change of short texts, and long lines.
 
+use crate::cases::{Case, first_wrong};
+use crate::lines::Row::{Changed, Cut, Long};
 use crate::text::{at, range_of};
 use ob0_text::{Lines, Range, TextStore, Unit, Whole};
 use std::alloc::{AllocError, Global};
 use std::process::Abort;
 
-static TEXTS: &[&str] = &[
-    "",
-    "\r",
-    "\r\n",
-    "a\r\nb\rc\nd",
-    "\r\r\n\n\r",
-    "x\n\né\r\n😀y\n",
-    "one line alone",
-    "\r\n\r\n",
-];
-
-static PUT: &[&str] = &["", "\n", "\r", "\r\n", "é", "\n\r", "a\rb"];
-
-/// Whether two stores have the same lines, of which there are fewer than 16.
-fn have_same_lines(a: &Lines, b: &Lines) -> bool {
-    for k in 0..16 {
-        if a.line(k) != b.line(k) {
-            return false;
-        }
-    }
-    a.as_str() == b.as_str()
+enum Row {
+    /// A short text in which changes are made.
+    Changed(&'static str),
+    /// A text of long lines: of ASCII alone, with other characters far in, or with a tab.
+    Long(&'static str),
+    /// A text, and its lines with their endings.
+    Cut(&'static str, &'static [&'static str]),
 }
 
-/// Whether two stores have the same places, up to a line and a character.
-fn have_same_places(a: &Lines, b: &Whole, lines: u64, characters: u64) -> bool {
-    for line in 0..lines {
-        for character in 0..characters {
-            let place = at(line, character);
-            if a.offset(place) != b.offset(place) {
+static CHANGED: &[Row] = rows![
+    Changed("");
+    Changed("\r");
+    Changed("\r\n");
+    Changed("a\r\nb\rc\nd");
+    Changed("\r\r\n\n\r");
+    Changed("x\n\né\r\n😀y\n");
+    Changed("one line alone");
+    Changed("\r\n\r\n");
+];
+
+static KEPT: &[Row] = rows![
+    Long("x := 0123456789 + 0123456789 + 0123456789 + 0123456789 + 0123456789 + 0123456789 + 0123456789 \
+        + 0123456789 + 0123456789;\r\ny");
+    Long("(* 0123456789 0123456789 0123456789 0123456789 0123456789 0123456789 0123456789 😀 0123456789 \
+        0123456789 é 0123456789 *)\ry\n");
+    Long("\n\t0123456789 0123456789 0123456789 0123456789 0123456789 012345678\n\
+        0123456789 0123456789 0123456789 0123456789 0123456789");
+    Cut("a\r\nb\nd", &["a\r\n", "b\n", "d"]);
+    Cut("a\r\n😀b\rc\n", &["a\r\n", "😀b\r", "c\n", ""]);
+    Cut("", &[""]);
+];
+
+/// The two stores of a text.
+#[derive(Drop)]
+struct Stores {
+    lines: Lines,
+    whole: Whole,
+}
+
+fn stores_of(alloc: Global, text: &str, unit: Unit) -> Result<Stores, AllocError> {
+    let lines = Lines::from_str_in(alloc, text, unit)?;
+    let whole = Whole::from_str_in(alloc, text, unit)?;
+    Ok(Stores { lines, whole })
+}
+
+impl Stores {
+    /// Whether they have the same text, and the same places up to a line and a character.
+    fn are_alike(&self, lines: u64, characters: u64) -> bool {
+        for line in 0..lines {
+            for character in 0..characters {
+                let place = at(line, character);
+                if self.lines.offset(place) != self.whole.offset(place) {
+                    return false;
+                }
+            }
+        }
+        for offset in 0..20 {
+            if self.lines.position(offset) != self.whole.position(offset) {
                 return false;
             }
         }
+        self.lines.as_str() == self.whole.as_str()
     }
-    for offset in 0..20 {
-        if a.position(offset) != b.position(offset) {
-            return false;
+
+    fn replace(&mut self, range: Range, new: &str) -> Result<(), AllocError> {
+        self.lines.replace(range, new)?;
+        self.whole.replace(range, new)
+    }
+
+    /// Whether a change gives the same text in both, and replaces the same bytes.
+    fn change(&mut self, line: u64, column: u64) -> Result<bool, AllocError> {
+        let range = range_of((line, column), (line, column.saturating_add(2)));
+        let bytes = self.lines.replace_at(range, "é-")?;
+        let others = self.whole.replace_at(range, "é-")?;
+        Ok(bytes == others && self.lines.as_str() == self.whole.as_str())
+    }
+
+    /// Whether they stay alike while the lines are changed at these columns.
+    fn change_lines(&mut self, columns: &[u64]) -> Result<bool, AllocError> {
+        for line in 0..3 {
+            for column in columns {
+                if !self.change(line, *column)? {
+                    return Ok(false);
+                }
+            }
         }
+        Ok(true)
     }
-    a.as_str() == b.as_str()
 }
 
-/// A store of a text in which a range gives way to another text.
-fn replace_range<T: TextStore>(
+/// Whether a store has the lines of one that is made again of its text; there are fewer than 16.
+fn is_as_new(alloc: Global, lines: &Lines, unit: Unit) -> Result<bool, AllocError> {
+    let again = Lines::from_str_in(alloc, lines.as_str(), unit)?;
+    for k in 0..16 {
+        if lines.line(k) != again.line(k) {
+            return Ok(false);
+        }
+    }
+    Ok(lines.as_str() == again.as_str())
+}
+
+/// Whether one change leaves the same text and places in both stores, with the lines of a store made again.
+fn agree(
     alloc: Global,
     text: &str,
     unit: Unit,
     range: Range,
     new: &str,
-) -> Result<T, AllocError> {
-    let mut store = T::from_str_in(alloc, text, unit)?;
-    store.replace(range, new)?;
-    Ok(store)
-}
-
-/// Whether a store has the lines of one that is made again of its text.
-fn is_as_new(alloc: Global, lines: &Lines, unit: Unit) -> bool {
-    match Lines::from_str_in(alloc, lines.as_str(), unit) {
-        Ok(again) => have_same_lines(lines, &again),
-        Err(_refused) => false,
-    }
-}
-
-/// Whether one change leaves the same text and places in both stores, with the lines of a store made again.
-fn agree(alloc: Global, text: &str, unit: Unit, range: Range, new: &str) -> bool {
-    let Ok(lines) = replace_range::<Lines>(alloc, text, unit, range, new) else {
-        return false;
-    };
-    if !is_as_new(alloc, &lines, unit) {
-        return false;
-    }
-    match replace_range::<Whole>(alloc, text, unit, range, new) {
-        Ok(whole) => have_same_places(&lines, &whole, 10, 8),
-        Err(_refused) => false,
-    }
+) -> Result<bool, AllocError> {
+    let mut stores = stores_of(alloc, text, unit)?;
+    stores.replace(range, new)?;
+    Ok(is_as_new(alloc, &stores.lines, unit)? && stores.are_alike(10, 8))
 }
 
 /// Whether they agree after a change that begins in a line and ends some lines further, in one unit, and after one
 /// that begins and ends in the line, in the other.
-fn agree_from(alloc: Global, text: &str, new: &str, line: u64, further: u64) -> bool {
-    let range = range_of((line, 1), (line.saturating_add(further), further));
-    if !agree(alloc, text, Unit::Utf16, range, new) {
-        return false;
-    }
-    let range = range_of((line, 0), (line, further));
-    agree(alloc, text, Unit::Utf8, range, new)
+fn agree_from(
+    alloc: Global,
+    text: &str,
+    new: &str,
+    line: u64,
+    further: u64,
+) -> Result<bool, AllocError> {
+    let wide = range_of((line, 1), (line.saturating_add(further), further));
+    let narrow = range_of((line, 0), (line, further));
+    Ok(agree(alloc, text, Unit::Utf16, wide, new)? && agree(alloc, text, Unit::Utf8, narrow, new)?)
 }
 
 /// Whether they agree after each change that begins in one of the first lines and ends there or in one of the next two.
-fn agree_after_changes(alloc: Global, text: &str, new: &str) -> bool {
+fn agree_after_changes(alloc: Global, text: &str, new: &str) -> Result<bool, AllocError> {
     for line in 0..4 {
         for further in 0..3 {
-            if !agree_from(alloc, text, new, line, further) {
-                return false;
+            if !agree_from(alloc, text, new, line, further)? {
+                return Ok(false);
             }
         }
     }
-    true
+    Ok(true)
 }
 
-fn agree_after_each(alloc: Global, text: &str) -> bool {
+static PUT: &[&str] = &["", "\n", "\r", "\r\n", "é", "\n\r", "a\rb"];
+
+fn agree_after_each(alloc: Global, text: &str) -> Result<bool, AllocError> {
     for new in PUT {
-        if !agree_after_changes(alloc, text, new) {
-            return false;
+        if !agree_after_changes(alloc, text, new)? {
+            return Ok(false);
         }
     }
-    true
-}
-
-#[test]
-fn lines_are_mended_around_a_change(rt: HostRuntime) {
-    for text in TEXTS {
-        assert!(rt; agree_after_each(rt.alloc(), text), "{text:?}");
-    }
-}
-
-/// Long lines: of ASCII alone, with other characters far in, and with a tab.
-static LONG: &[&str] = &[
-    "x := 0123456789 + 0123456789 + 0123456789 + 0123456789 + 0123456789 + 0123456789 + 0123456789 \
-    + 0123456789 + 0123456789;\r\n\
-    y",
-    "(* 0123456789 0123456789 0123456789 0123456789 0123456789 0123456789 0123456789 😀 0123456789 \
-    0123456789 é 0123456789 *)\ry\n",
-    "\n\
-    \t0123456789 0123456789 0123456789 0123456789 0123456789 012345678\n\
-    0123456789 0123456789 0123456789 0123456789 0123456789",
-];
-
-/// Whether the two stores of a text are alike far in its lines.
-fn are_alike_far_in(alloc: Global, text: &str, unit: Unit) -> bool {
-    let Ok(lines) = Lines::from_str_in(alloc, text, unit) else {
-        return false;
-    };
-    match Whole::from_str_in(alloc, text, unit) {
-        Ok(whole) => have_same_places(&lines, &whole, 4, 160),
-        Err(_refused) => false,
-    }
-}
-
-fn are_alike_in_units(alloc: Global, text: &str) -> bool {
-    are_alike_far_in(alloc, text, Unit::Utf16) && are_alike_far_in(alloc, text, Unit::Utf8)
-}
-
-#[test]
-fn places_are_counted_alike_in_long_lines(rt: HostRuntime) {
-    for text in LONG {
-        assert!(rt; are_alike_in_units(rt.alloc(), text), "{text:?}");
-    }
+    Ok(true)
 }
 
 /// Columns at which lines are changed one after the other: onward, back, to and fro.
@@ -161,66 +165,18 @@ static COLUMNS: &[&[u64]] = &[
     &[10, 120, 60, 64, 128, 1, 90, 89],
 ];
 
-/// Whether a change gives the same text in both stores, and replaces the same bytes.
-fn change_both(
-    lines: &mut Lines,
-    whole: &mut Whole,
-    line: u64,
-    column: u64,
-) -> Result<bool, AllocError> {
-    let range = range_of((line, column), (line, column.saturating_add(2)));
-    let bytes = lines.replace_at(range, "é-")?;
-    let others = whole.replace_at(range, "é-")?;
-    Ok(bytes == others && lines.as_str() == whole.as_str())
-}
-
-/// Whether both stores stay alike while the lines are changed at these columns.
-fn stay_alike(lines: &mut Lines, whole: &mut Whole, columns: &[u64]) -> Result<bool, AllocError> {
-    for line in 0..3 {
-        for column in columns {
-            if !change_both(lines, whole, line, *column)? {
-                return Ok(false);
-            }
+/// Whether the stores of a text are alike far in its lines, and stay so while these are changed at all columns.
+fn are_alike_far_in(alloc: Global, text: &str, unit: Unit) -> Result<bool, AllocError> {
+    if !stores_of(alloc, text, unit)?.are_alike(4, 160) {
+        return Ok(false);
+    }
+    for columns in COLUMNS {
+        if !stores_of(alloc, text, unit)?.change_lines(columns)? {
+            return Ok(false);
         }
     }
     Ok(true)
 }
-
-fn are_changed_alike(alloc: Global, text: &str, unit: Unit, columns: &[u64]) -> bool {
-    let Ok(mut lines) = Lines::from_str_in(alloc, text, unit) else {
-        return false;
-    };
-    let Ok(mut whole) = Whole::from_str_in(alloc, text, unit) else {
-        return false;
-    };
-    stay_alike(&mut lines, &mut whole, columns) == Ok(true)
-}
-
-/// Whether a text is changed alike in both stores, at all columns and in both units.
-fn is_changed_alike(alloc: Global, text: &str) -> bool {
-    for columns in COLUMNS {
-        if !are_changed_alike(alloc, text, Unit::Utf16, columns)
-            || !are_changed_alike(alloc, text, Unit::Utf8, columns)
-        {
-            return false;
-        }
-    }
-    true
-}
-
-#[test]
-fn long_lines_are_changed_in_any_order(rt: HostRuntime) {
-    for text in LONG {
-        assert!(rt; is_changed_alike(rt.alloc(), text), "{text:?}");
-    }
-}
-
-/// Texts, and their lines with the endings.
-static LINES: &[(&str, &[&str])] = &[
-    ("a\r\nb\nd", &["a\r\n", "b\n", "d"]),
-    ("a\r\n😀b\rc\n", &["a\r\n", "😀b\r", "c\n", ""]),
-    ("", &[""]),
-];
 
 /// Whether a store has just these lines.
 fn has_lines(lines: &Lines, wanted: &[&str]) -> bool {
@@ -232,16 +188,27 @@ fn has_lines(lines: &Lines, wanted: &[&str]) -> bool {
     lines.line(wanted.len()).is_none()
 }
 
-fn is_cut_into(alloc: Global, text: &str, wanted: &[&str]) -> bool {
-    match Lines::from_str(alloc, text) {
-        Ok(lines) => has_lines(&lines, wanted),
-        Err(_refused) => false,
+impl Case for Row {
+    fn holds(&self, alloc: Global) -> Result<bool, AllocError> {
+        match self {
+            Changed(text) => agree_after_each(alloc, text),
+            Long(text) => Ok(
+                are_alike_far_in(alloc, text, Unit::Utf16)?
+                    && are_alike_far_in(alloc, text, Unit::Utf8)?,
+            ),
+            Cut(text, wanted) => Ok(has_lines(&Lines::from_str(alloc, text)?, wanted)),
+        }
     }
 }
 
 #[test]
-fn lines_have_their_endings(rt: HostRuntime) {
-    for row in LINES {
-        assert!(rt; is_cut_into(rt.alloc(), row.0, row.1), "{:?}", row.0);
-    }
+fn lines_are_mended_around_a_change(rt: HostRuntime) {
+    let wrong = first_wrong(rt.alloc(), CHANGED);
+    assert!(rt; wrong.is_none(), "row {wrong:?}");
+}
+
+#[test]
+fn lines_are_those_of_the_whole_text(rt: HostRuntime) {
+    let wrong = first_wrong(rt.alloc(), KEPT);
+    assert!(rt; wrong.is_none(), "row {wrong:?}");
 }

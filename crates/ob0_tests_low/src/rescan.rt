@@ -4,6 +4,9 @@
 ghost use Rattle.std.specs.Prelude.{◌≡◌, ◌++◌, IfOk, string_bytes};
 ghost use Rattle.ob0_scan.specs.Reused.{IsReplaced};
 
+use crate::cases::{Case, first_wrong};
+use crate::rescan::Outcome::{Different, Read, Refused, Unscanned};
+use crate::rescan::Row::{Long, Short};
 use ob0_scan::laws::middle_is_replaced;
 use ob0_scan::{
     NotRescanned, Rescan, RescanInPlace, ScanRefusal, Tokens, rescan, rescan_in_place, scan,
@@ -13,7 +16,7 @@ use std::process::Abort;
 
 /// What comes of scanning a changed text again, beside a scan of it from nothing.
 #[derive(Clone, Copy, PartialEq, Eq)]
-enum RescanOutcome {
+enum Outcome {
     /// Both give the same: how many tokens and comments are read again, and whether the tokens stay of the same kinds.
     Read(usize, bool),
     /// Both refuse it for the same faults.
@@ -21,6 +24,15 @@ enum RescanOutcome {
     /// The text before the change has faults.
     Unscanned,
     Different,
+}
+
+/// A text of four parts: what is in front of the change, what gives way, what comes in its place, and what follows.
+type Parts = (&'static str, &'static str, &'static str, &'static str);
+
+enum Row {
+    Short(Parts, Outcome),
+    /// With 5,000 statements before it, and as many after it.
+    Long(Parts, Outcome),
 }
 
 fn join_texts(
@@ -42,57 +54,36 @@ fn are_same(a: &Tokens, b: &Tokens) -> bool {
     a.text() == b.text() && a.tokens() == b.tokens() && a.comments() == b.comments()
 }
 
-/// What is found again, and what from nothing, of which the tokens stay alike or not.
-fn compare(
-    again: &Result<Rescan, ScanRefusal>,
+/// What comes of a scan in place, beside one from nothing. A text with faults gives back the tokens of the one before.
+fn outcome_in_place(
+    placed: &Result<RescanInPlace, NotRescanned>,
     scanned: &Result<Tokens, ScanRefusal>,
-    alike: bool,
-) -> RescanOutcome {
-    match again {
-        Ok(found) => match scanned {
-            Ok(tokens) if are_same(&found.tokens, tokens) => RescanOutcome::Read(found.read, alike),
-            _ => RescanOutcome::Different,
-        },
-        Err(refusal) => match scanned {
-            Err(other) if refuse_alike(refusal, other) => RescanOutcome::Refused,
-            _ => RescanOutcome::Different,
-        },
-    }
-}
-
-/// Whether both refuse a text, for the same faults.
-fn refuse_alike(a: &ScanRefusal, b: &ScanRefusal) -> bool {
-    match a {
-        ScanRefusal::Faults(faults) => match b {
-            ScanRefusal::Faults(others) => faults.as_slice() == others.as_slice(),
-            ScanRefusal::Memory => false,
-        },
-        ScanRefusal::Memory => false,
-    }
-}
-
-/// What is found again in place. A text with faults gives back the tokens of the one before.
-fn in_place(
-    found: Result<RescanInPlace, NotRescanned>,
     old_text: &str,
-) -> Result<Rescan, ScanRefusal> {
-    match found {
-        Ok(found) => Ok(found.rescan),
-        Err(NotRescanned::Faults(faults, old)) => {
-            if old.text() == old_text {
-                Err(ScanRefusal::Faults(faults))
-            } else {
-                Err(ScanRefusal::Memory)
-            }
+) -> Outcome {
+    match (placed, scanned) {
+        (Ok(found), Ok(tokens)) if are_same(&found.rescan.tokens, tokens) => {
+            Read(found.rescan.read, found.alike)
         }
-        Err(NotRescanned::Memory) => Err(ScanRefusal::Memory),
+        (Err(NotRescanned::Faults(faults, old)), Err(ScanRefusal::Faults(others)))
+            if old.text() == old_text && faults.as_slice() == others.as_slice() => { Refused }
+        _ => Different,
     }
 }
 
-fn is_alike(found: &Result<RescanInPlace, NotRescanned>) -> bool {
-    match found {
-        Ok(found) => found.alike,
-        Err(_refusal) => false,
+/// Whether this comes of a scan beside the old tokens too.
+fn has_outcome(
+    found: &Result<Rescan, ScanRefusal>,
+    scanned: &Result<Tokens, ScanRefusal>,
+    outcome: Outcome,
+) -> bool {
+    match (found, scanned, outcome) {
+        (Ok(found), Ok(tokens), Read(count, _)) => {
+            count == found.read && are_same(&found.tokens, tokens)
+        }
+        (Err(ScanRefusal::Faults(faults)), Err(ScanRefusal::Faults(others)), Refused) => {
+            faults.as_slice() == others.as_slice()
+        }
+        _ => false,
     }
 }
 
@@ -111,29 +102,26 @@ fn rescan_both(
     old_text: &str,
     text: &str,
     range: ChangedRange,
-) -> RescanOutcome
+) -> Outcome
     requires { IsReplaced old.text text.now range.from range.removed range.added }
 {
     let (from, removed, added) = (range.from, range.removed, range.added);
     let beside = rescan(alloc, &old, text, from, removed, added);
     let placed = rescan_in_place(alloc, old, text, from, removed, added);
-    let alike = is_alike(&placed);
-    compare_both(alloc, text, &beside, &in_place(placed, old_text), alike)
+    compare(&beside, &placed, &scan(alloc, text), old_text)
 }
 
-fn compare_both(
-    alloc: Global,
-    text: &str,
+fn compare(
     beside: &Result<Rescan, ScanRefusal>,
-    placed: &Result<Rescan, ScanRefusal>,
-    alike: bool,
-) -> RescanOutcome {
-    let scanned = scan(alloc, text);
-    let outcome = compare(beside, &scanned, alike);
-    if compare(placed, &scanned, alike) == outcome {
+    placed: &Result<RescanInPlace, NotRescanned>,
+    scanned: &Result<Tokens, ScanRefusal>,
+    old_text: &str,
+) -> Outcome {
+    let outcome = outcome_in_place(placed, scanned, old_text);
+    if has_outcome(beside, scanned, outcome) {
         outcome
     } else {
-        RescanOutcome::Different
+        Different
     }
 }
 
@@ -144,7 +132,7 @@ fn change(
     middle: &str,
     other: &str,
     following: &str,
-) -> Result<RescanOutcome, AllocError> {
+) -> Result<Outcome, AllocError> {
     middle_is_replaced();
     let old_text = join_texts(alloc, front, middle, following)?;
     let text = join_texts(alloc, front, other, following)?;
@@ -155,130 +143,73 @@ fn change(
     };
     match scan(alloc, old_text.as_str()) {
         Ok(old) => Ok(rescan_both(alloc, old, old_text.as_str(), text.as_str(), range)),
-        Err(_refusal) => Ok(RescanOutcome::Unscanned),
+        Err(_refusal) => Ok(Unscanned),
     }
 }
 
-/// The outcome of a change, `Different` where an allocation fails.
-fn outcome_of(
-    alloc: Global,
-    front: &str,
-    middle: &str,
-    other: &str,
-    following: &str,
-) -> RescanOutcome {
-    match change(alloc, front, middle, other, following) {
-        Ok(outcome) => outcome,
-        Err(AllocError) => RescanOutcome::Different,
-    }
-}
-
-/// 5,000 statements.
-fn statements(alloc: Global) -> Result<String, AllocError> {
-    let mut text = String::new(alloc);
+fn push_statements(text: &mut String) -> Result<(), AllocError> {
     for _i in 0..5000 {
         text.push_str("x := 1;\n  ")?;
     }
-    Ok(text)
+    Ok(())
 }
 
-/// What comes of another text in place of the digit between these statements and as many more.
-fn change_between(
-    alloc: Global,
-    statements: &str,
-    other: &str,
-) -> Result<RescanOutcome, AllocError> {
-    let front = join_texts(
-        alloc,
-        "MODULE M; VAR x: INTEGER; BEGIN ",
-        statements,
-        "x := ",
-    )?;
-    let following = join_texts(alloc, "; ", statements, "END M.")?;
-    change(alloc, front.as_str(), "1", other, following.as_str())
+/// What comes of a change between these statements and as many more.
+fn change_between(alloc: Global, statements: &str, parts: &Parts) -> Result<Outcome, AllocError> {
+    let (front, middle, other, following) = *parts;
+    let front = join_texts(alloc, "MODULE M; VAR x: INTEGER; BEGIN ", statements, front)?;
+    let following = join_texts(alloc, following, statements, "END M.")?;
+    change(alloc, front.as_str(), middle, other, following.as_str())
 }
 
-/// Whether at most `most` tokens and comments are read again where another text comes in place of the digit between
-/// 5,000 statements and 5,000 more.
-fn is_little_read(alloc: Global, other: &str, most: usize) -> bool {
-    let Ok(statements) = statements(alloc) else {
-        return false;
-    };
-    match change_between(alloc, statements.as_str(), other) {
-        Ok(RescanOutcome::Read(count, _alike)) => count <= most,
-        _ => false,
-    }
+fn change_long(alloc: Global, parts: &Parts) -> Result<Outcome, AllocError> {
+    let mut statements = String::new(alloc);
+    push_statements(&mut statements)?;
+    change_between(alloc, statements.as_str(), parts)
 }
 
-/// What comes in place of the digit, and how many tokens and comments are read again at most.
-static IN_THE_MIDDLE: &[(&str, usize)] = &[("2", 8), ("(* one *) 1", 8), ("1 + 1", 8), ("", 8)];
+/// Little is read again in a long text.
+static LONG: &[Row] = rows![
+    Long(("x := ", "1", "2", "; "), Read(1, true));
+    Long(("x := ", "1", "(* one *) 1", "; "), Read(2, true));
+    Long(("x := ", "1", "1 + 1", "; "), Read(3, false));
+    Long(("x := ", "1", "", "; "), Read(0, false));
+];
 
-/// The first text for which too much is read.
-fn first_much_read(alloc: Global) -> Option<&'static str> {
-    for row in IN_THE_MIDDLE {
-        if !is_little_read(alloc, row.0, row.1) {
-            return Some(row.0);
+static SHORT: &[Row] = rows![
+    // A comment is opened in front.
+    Short(("", "", "(*", "MODULE M; END M."), Refused);
+    Short(("", "", "(*", "x *)"), Read(1, false));
+    Short(("", "", "(*", "$"), Unscanned);
+    // Tokens stay of the same kinds, or don't.
+    Short(("x := ", "1", "21", " + y"), Read(1, true));
+    Short(("x := ", "1", "(* one *) 1", " + y"), Read(2, true));
+    Short(("x := ", "1", "z", " + y"), Read(1, false));
+    Short(("x := ", "1", "1 + 1", " + y"), Read(3, false));
+    Short(("x := ", "1", "", " + y"), Read(0, false));
+];
+
+impl Case for Row {
+    fn holds(&self, alloc: Global) -> Result<bool, AllocError> {
+        match self {
+            Long(parts, outcome) => Ok(change_long(alloc, parts)? == *outcome),
+            Short((front, middle, other, following), outcome) => {
+                Ok(change(alloc, front, middle, other, following)? == *outcome)
+            }
         }
     }
-    None
 }
 
 #[test]
 fn little_is_read_again_in_a_long_text(rt: HostRuntime) {
-    let wrong = first_much_read(rt.alloc());
-    assert!(rt; wrong.is_none(), "{wrong:?}");
-}
-
-/// Texts before which `(*` is put, and what comes of it.
-static OPENED: &[(&str, RescanOutcome)] = &[
-    ("MODULE M; END M.", RescanOutcome::Refused),
-    ("x *)", RescanOutcome::Read(1, false)),
-    ("$", RescanOutcome::Unscanned),
-];
-
-#[test]
-fn a_comment_is_opened_in_front(rt: HostRuntime) {
-    for row in OPENED {
-        assert!(rt;
-            outcome_of(rt.alloc(), "", "", "(*", row.0) == row.1,
-            "{}",
-            row.0
-        );
-    }
-}
-
-/// Whether the tokens of `x := 1 + y` are read again where `other` comes in place of the number, and stay of the same
-/// kinds or don't, as is wanted.
-fn is_alike_with(alloc: Global, other: &str, wanted: bool) -> bool {
-    match outcome_of(alloc, "x := ", "1", other, " + y") {
-        RescanOutcome::Read(_count, alike) => alike == wanted,
-        _ => false,
-    }
-}
-
-/// Texts in place of a number, and whether the tokens stay of the same kinds.
-static ALIKE: &[(&str, bool)] = &[
-    ("21", true),
-    ("(* one *) 1", true),
-    ("z", false),
-    ("1 + 1", false),
-    ("", false),
-];
-
-/// The first text with which the tokens are alike and shouldn't be, or the other way round.
-fn first_unlike(alloc: Global) -> Option<&'static str> {
-    for row in ALIKE {
-        if !is_alike_with(alloc, row.0, row.1) {
-            return Some(row.0);
-        }
-    }
-    None
+    let wrong = first_wrong(rt.alloc(), LONG);
+    assert!(rt; wrong.is_none(), "row {wrong:?}");
 }
 
 #[test]
-fn tokens_are_alike_where_their_kinds_stay(rt: HostRuntime) {
-    let wrong = first_unlike(rt.alloc());
-    assert!(rt; wrong.is_none(), "{wrong:?}");
+fn a_changed_text_is_read_as_from_nothing(rt: HostRuntime) {
+    let wrong = first_wrong(rt.alloc(), SHORT);
+    assert!(rt; wrong.is_none(), "row {wrong:?}");
 }
 
 /// A row of numbers that look random.
@@ -318,30 +249,30 @@ fn random_text(alloc: Global, numbers: &mut Numbers, most: usize) -> Result<Stri
     Ok(text)
 }
 
-/// How many pieces four texts have, at most.
-static MOST: &[usize] = &[6, 3, 3, 6];
-
-fn random_texts(alloc: Global, numbers: &mut Numbers) -> Result<Vec<String>, AllocError> {
+/// Random texts of at most this many pieces each.
+fn random_texts(
+    alloc: Global,
+    numbers: &mut Numbers,
+    most: &[usize],
+) -> Result<Vec<String>, AllocError> {
     let mut texts = Vec::new(alloc);
-    for most in MOST {
-        texts.push(random_text(alloc, numbers, *most)?)?;
+    for count in most {
+        texts.push(random_text(alloc, numbers, *count)?)?;
     }
     Ok(texts)
 }
 
-fn random_change(alloc: Global, numbers: &mut Numbers) -> RescanOutcome {
-    let Ok(texts) = random_texts(alloc, numbers) else {
-        return RescanOutcome::Different;
-    };
+fn random_change(alloc: Global, numbers: &mut Numbers) -> Result<Outcome, AllocError> {
+    let texts = random_texts(alloc, numbers, &[6, 3, 3, 6])?;
     match texts.as_slice() {
-        [front, middle, other, following] => outcome_of(
+        [front, middle, other, following] => change(
             alloc,
             front.as_str(),
             middle.as_str(),
             other.as_str(),
             following.as_str(),
         ),
-        _ => RescanOutcome::Different,
+        _ => Ok(Different),
     }
 }
 
@@ -352,10 +283,10 @@ fn are_random_changes_read(alloc: Global) -> bool {
     let mut refused: usize = 0;
     for _i in 0..10000 {
         match random_change(alloc, &mut numbers) {
-            RescanOutcome::Read(_count, _alike) => read = read.saturating_add(1),
-            RescanOutcome::Refused => refused = refused.saturating_add(1),
-            RescanOutcome::Unscanned => {}
-            RescanOutcome::Different => return false,
+            Ok(Read(_count, _alike)) => read = read.saturating_add(1),
+            Ok(Refused) => refused = refused.saturating_add(1),
+            Ok(Unscanned) => {}
+            _ => return false,
         }
     }
     read >= 3000 && refused >= 500

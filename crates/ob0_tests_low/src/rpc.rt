@@ -1,36 +1,140 @@
 //! Messages from outside: what they mean, and which contents aren't messages; and the bytes of answers.
 
+use crate::cases::{Case, first_wrong};
+use crate::rpc::Asked::{Content, Notification, Request, Sent};
+use crate::rpc::Message::*;
 use crate::text::at;
 use ob0_rpc::{
-    Call, Client, Id, Incoming, OneMember, RpcFault, WriteJson, error, notification, notify, read,
-    request, result, result_of,
+    Call, Client, Id, Incoming, Note, OneMember, RpcFault, error, notice, notification, notify,
+    read, request, result, result_of,
 };
 use ob0_text::{Indent, Range};
 use serde_json::{Value, json};
 use std::alloc::{AllocError, Global};
 use std::process::Abort;
 
-/// Whether a request has the greatest id, and params that are null.
-fn is_greatest(id: &Id, params: &Value) -> bool {
-    match id {
-        Id::Unsigned(number) => *number == u64::MAX && matches!(params, Value::Null),
-        Id::Signed(_number) => false,
-        Id::Text(_text) => false,
-    }
+/// A content, or a method with its params, and what is said of it in a word; or a message, and its content.
+#[derive(Clone, Copy)]
+enum Asked {
+    Content(&'static str),
+    Request(&'static str, &'static str),
+    Notification(&'static str, &'static str),
+    Sent(Message),
 }
 
-/// In a word what a message is.
-fn word_of_message(message: &Incoming) -> &'static str {
-    match message {
-        Incoming::Request(id, _method, params) => if is_greatest(id, params) {
-            "greatest request"
-        } else {
-            "request"
-        },
-        Incoming::Notice(_method, _params) => "notice",
-        Incoming::Ignored => "ignored",
-    }
+/// What is sent: mostly an answer to a request with this value.
+#[derive(Clone, Copy)]
+enum Message {
+    Nothing,
+    Refusal(RpcFault),
+    NoteOfNothing,
+    LargestRange,
+    OneRange,
+    LargestNumber,
+    LeastNumber,
+    Text,
+    Truths,
+    Member,
+    /// A value with members of each kind but a fraction.
+    EachKind,
+    NoteOfEachKind,
 }
+
+type Row = (Asked, &'static str);
+
+const PLACE: &str = r#"{"position":{"character":2,"line":1},"textDocument":{"uri":"u"}}"#;
+
+static ROWS: &[Row] = rows![
+    Content("") => "not JSON";
+    Content("{") => "not JSON";
+    Content("[]") => "not a message";
+    Content("{}") => "not a message";
+    Content(r#"{"method":null}"#) => "not a message";
+    Content(r#"{"id":null,"method":"m"}"#) => "not a message";
+    Content(r#"{"id":1.5,"method":"m"}"#) => "not a message";
+    Content(r#"{"id":-0,"method":"m"}"#) => "not a message";
+    Content(r#"{"id":1e2,"method":"m"}"#) => "not a message";
+    Content(r#"{"id":18446744073709551616,"method":"m"}"#) => "not a message";
+    Content(r#"{"id":18446744073709551615,"method":"m"}"#) => "greatest request";
+    Content(r#"{"id":"","method":"m"}"#) => "request";
+    Content(r#"{"method":"m","params":[]}"#) => "notice";
+    Content(r#"{"error":{},"id":1}"#) => "ignored";
+    Request("initialize", "null") => "bad params";
+    Request("initialize", "{}") => "of a client that can nothing";
+    Request("initialize", r#"{"capabilities":7}"#) => "of a client that can nothing";
+    Request("initialize",
+        "{\"capabilities\":{\"general\":{\"positionEncodings\":[\"utf-32\"]},\"textDocument\":{\"codeAction\":{\
+        \"codeActionLiteralSupport\":true},\"rename\":{\"prepareSupport\":1}}}}") => "of a client that can nothing";
+    Request("initialize",
+        "{\"capabilities\":{\"general\":{\"positionEncodings\":[null,\"utf-8\"]},\"textDocument\":{\
+        \"codeAction\":{\"codeActionLiteralSupport\":{}},\"rename\":{\"prepareSupport\":true}},\"workspace\":{\
+        \"workspaceEdit\":{\"documentChanges\":true}}}}") => "of a client that can everything";
+    Request("shutdown", "null") => "shutdown";
+    Request("exit", "{}") => "unknown method";
+    Request("textDocument/hover", PLACE) => "hover";
+    Request("textDocument/definition", PLACE) => "definition";
+    Request("textDocument/prepareRename", PLACE) => "prepare a rename";
+    Request("textDocument/hover", "{}") => "bad params";
+    Request("textDocument/hover", r#"{"position":{"character":1.0,"line":0},"textDocument":{"uri":"u"}}"#) => "bad params";
+    Request("textDocument/hover", r#"{"position":{"character":0,"line":-1},"textDocument":{"uri":"u"}}"#) => "bad params";
+    Request("textDocument/hover", r#"{"position":{"character":-0,"line":0},"textDocument":{"uri":"u"}}"#) => "bad params";
+    Request("textDocument/hover",
+        "{\"position\":{\"character\":0,\"line\":18446744073709551616},\"textDocument\":{\"uri\":\"u\"}}") => "bad params";
+    Request("textDocument/references",
+        "{\"context\":{\"includeDeclaration\":true},\"position\":{\"character\":0,\
+        \"line\":18446744073709551615},\"textDocument\":{\"uri\":\"u\"}}") => "references and the declaration";
+    Request("textDocument/references", PLACE) => "bad params";
+    Request("textDocument/rename",
+        r#"{"newName":"x","position":{"character":0,"line":0},"textDocument":{"uri":"u"}}"#) => "rename";
+    Request("textDocument/rename", PLACE) => "bad params";
+    Request("textDocument/codeAction",
+        "{\"range\":{\"end\":{\"character\":0,\"line\":0},\"start\":{\"character\":0,\"line\":0}},\
+        \"textDocument\":{\"uri\":\"u\"}}") => "bad params";
+    Request("textDocument/codeAction",
+        "{\"context\":{\"only\":[null]},\"range\":{\"end\":{\"character\":0,\"line\":0},\"start\":{\
+        \"character\":0,\"line\":0}},\"textDocument\":{\"uri\":\"u\"}}") => "bad params";
+    Request("textDocument/codeAction",
+        "{\"context\":{\"only\":null},\"range\":{\"end\":{\"character\":0,\"line\":0},\"start\":{\
+        \"character\":0,\"line\":0}},\"textDocument\":{\"uri\":\"u\"}}") => "actions";
+    Request("textDocument/codeAction",
+        "{\"context\":{\"only\":[\"\",\"refactor\"]},\"range\":{\"end\":{\"character\":0,\"line\":0},\
+        \"start\":{\"character\":0,\"line\":0}},\"textDocument\":{\"uri\":\"u\"}}") => "actions of two kinds";
+    Request("textDocument/formatting",
+        r#"{"options":{"insertSpaces":true,"tabSize":0},"textDocument":{"uri":"u"}}"#) => "layout by 1";
+    Request("textDocument/formatting",
+        r#"{"options":{"insertSpaces":true,"tabSize":4},"textDocument":{"uri":"u"}}"#) => "layout by 4";
+    Request("textDocument/formatting",
+        r#"{"options":{"insertSpaces":true,"tabSize":18446744073709551615},"textDocument":{"uri":"u"}}"#) => "layout by 16";
+    Request("textDocument/formatting",
+        r#"{"options":{"insertSpaces":false,"tabSize":4},"textDocument":{"uri":"u"}}"#) => "layout by tabs";
+    Request("textDocument/formatting",
+        r#"{"options":{"insertSpaces":true,"tabSize":-1},"textDocument":{"uri":"u"}}"#) => "bad params";
+    Notification("textDocument/didClose", r#"{"textDocument":{"uri":"u"}}"#) => "close";
+    Notification("textDocument/didChange", r#"{"textDocument":{"uri":"u"}}"#) => "unreadable, of a document";
+    Notification("textDocument/didOpen", "{}") => "unreadable";
+    Notification("$/cancelRequest", "null") => "other";
+    Sent(Nothing) => r#"{"id":-7,"jsonrpc":"2.0","result":null}"#;
+    Sent(Refusal(RpcFault::NotJson)) => r#"{"error":{"code":-32700,"message":"not JSON"},"id":null,"jsonrpc":"2.0"}"#;
+    Sent(Refusal(RpcFault::NotAMessage)) =>
+        r#"{"error":{"code":-32600,"message":"not a message"},"id":null,"jsonrpc":"2.0"}"#;
+    Sent(Refusal(RpcFault::UnknownMethod)) =>
+        r#"{"error":{"code":-32601,"message":"unknown method"},"id":null,"jsonrpc":"2.0"}"#;
+    Sent(Refusal(RpcFault::BadParams)) => r#"{"error":{"code":-32602,"message":"bad params"},"id":null,"jsonrpc":"2.0"}"#;
+    Sent(Refusal(RpcFault::Memory)) => r#"{"error":{"code":-32603,"message":"out of memory"},"id":null,"jsonrpc":"2.0"}"#;
+    Sent(NoteOfNothing) => r#"{"jsonrpc":"2.0","method":"m","params":null}"#;
+    Sent(LargestRange) =>
+        "{\"id\":1,\"jsonrpc\":\"2.0\",\"result\":{\"end\":{\"character\":18446744073709551615,\
+        \"line\":18446744073709551615},\"start\":{\"character\":18446744073709551615,\"line\":18446744073709551615}}}";
+    Sent(OneRange) =>
+        r#"{"id":1,"jsonrpc":"2.0","result":{"end":{"character":12345,"line":10},"start":{"character":9,"line":0}}}"#;
+    Sent(LargestNumber) => r#"{"id":0,"jsonrpc":"2.0","result":18446744073709551615}"#;
+    Sent(LeastNumber) => r#"{"id":18446744073709551615,"jsonrpc":"2.0","result":-9223372036854775808}"#;
+    Sent(Text) => r#"{"id":-7,"jsonrpc":"2.0","result":"a\"\n\u0001"}"#;
+    Sent(Truths) => r#"{"id":0,"jsonrpc":"2.0","result":[true,false]}"#;
+    Sent(Member) => r#"{"id":0,"jsonrpc":"2.0","result":{"a b":{"character":2,"line":1}}}"#;
+    Sent(EachKind) => r#"{"id":5,"jsonrpc":"2.0","result":{"a":{"c":"\"\n"},"b":[true,null,-1]}}"#;
+    Sent(NoteOfEachKind) => r#"{"jsonrpc":"2.0","method":"m","params":{"a":{"c":"\"\n"},"b":[true,null,-1]}}"#;
+];
 
 /// In a word what a content is.
 fn kind_of(alloc: Global, content: &str) -> &'static str {
@@ -40,51 +144,26 @@ fn kind_of(alloc: Global, content: &str) -> &'static str {
     }
 }
 
-static CONTENTS: &[(&str, &str)] = rows![
-    "" => "not JSON";
-    "{" => "not JSON";
-    "[]" => "not a message";
-    "{}" => "not a message";
-    r#"{"method":null}"# => "not a message";
-    r#"{"id":null,"method":"m"}"# => "not a message";
-    r#"{"id":1.5,"method":"m"}"# => "not a message";
-    r#"{"id":-0,"method":"m"}"# => "not a message";
-    r#"{"id":1e2,"method":"m"}"# => "not a message";
-    r#"{"id":18446744073709551616,"method":"m"}"# => "not a message";
-    r#"{"id":18446744073709551615,"method":"m"}"# => "greatest request";
-    r#"{"id":"","method":"m"}"# => "request";
-    r#"{"method":"m","params":[]}"# => "notice";
-    r#"{"error":{},"id":1}"# => "ignored";
-];
-
-#[test]
-fn contents_are_distinguished(rt: HostRuntime) {
-    for row in CONTENTS {
-        assert!(rt; kind_of(rt.alloc(), row.0) == row.1, "{}", row.0);
+fn word_of_message(message: &Incoming) -> &'static str {
+    match message {
+        Incoming::Request(Id::Unsigned(u64::MAX), _method, Value::Null) => "greatest request",
+        Incoming::Request(_id, _method, _params) => "request",
+        Incoming::Notice(_method, _params) => "notice",
+        Incoming::Ignored => "ignored",
     }
 }
 
-const NOTHING: Client = Client {
-    counts_utf8: false,
-    prepares_renames: false,
-    takes_literal_actions: false,
-    takes_document_changes: false,
-};
-
-const EVERYTHING: Client = Client {
-    counts_utf8: true,
-    prepares_renames: true,
-    takes_literal_actions: true,
-    takes_document_changes: true,
-};
-
 fn said_of(client: Client) -> &'static str {
-    if client == NOTHING {
-        "of a client that can nothing"
-    } else if client == EVERYTHING {
-        "of a client that can everything"
-    } else {
-        "of a client that can something"
+    let Client {
+        counts_utf8: utf8,
+        prepares_renames: renames,
+        takes_literal_actions: actions,
+        takes_document_changes: changes,
+    } = client;
+    match (utf8, renames, actions, changes) {
+        (false, false, false, false) => "of a client that can nothing",
+        (true, true, true, true) => "of a client that can everything",
+        _ => "of a client that can something",
     }
 }
 
@@ -98,6 +177,14 @@ fn said_by(indent: Indent) -> &'static str {
     }
 }
 
+fn said_of_kinds(only: &Option<Vec<String>>) -> &'static str {
+    match only {
+        None => "actions",
+        Some(kinds) if kinds.len() == 2 => "actions of two kinds",
+        Some(_kinds) => "actions of other kinds",
+    }
+}
+
 /// A request, in a word.
 fn word_of(call: &Call) -> &'static str {
     match call {
@@ -106,35 +193,14 @@ fn word_of(call: &Call) -> &'static str {
         Call::Hover(_place) => "hover",
         Call::Definition(_place) => "definition",
         Call::References {
-            place: _place,
             include_declaration,
-        } => {
-            if *include_declaration {
-                "references and the declaration"
-            } else {
-                "references"
-            }
-        }
+            ..
+        } if *include_declaration => "references and the declaration",
+        Call::References { .. } => "references",
         Call::PrepareRename(_place) => "prepare a rename",
-        Call::Rename {
-            place: _place,
-            new_name: _name,
-        } => "rename",
-        Call::CodeAction {
-            uri: _uri,
-            range: _range,
-            only,
-        } => match only {
-            None => "actions",
-            Some(kinds) => {
-                if kinds.len() == 2 {
-                    "actions of two kinds"
-                } else {
-                    "actions of other kinds"
-                }
-            }
-        },
-        Call::Formatting { uri: _uri, indent } => said_by(*indent),
+        Call::Rename { .. } => "rename",
+        Call::CodeAction { only, .. } => said_of_kinds(only),
+        Call::Formatting { indent, .. } => said_by(*indent),
     }
 }
 
@@ -145,207 +211,86 @@ fn word_requested(alloc: Global, method: &str, params: &Value) -> &'static str {
     }
 }
 
-/// What a message requests, in a word.
-fn method_word(alloc: Global, method: &str, params: &str) -> &'static str {
+/// In a word what a notification says.
+fn word_of_note(note: &Note) -> &'static str {
+    match note {
+        Note::Unreadable { uri: None } => "unreadable",
+        Note::Unreadable { uri: Some(_uri) } => "unreadable, of a document",
+        Note::Other => "other",
+        Note::Exit => "exit",
+        Note::Open { .. } => "open",
+        Note::Change { .. } => "change",
+        Note::Close { .. } => "close",
+    }
+}
+
+fn word_noticed(alloc: Global, method: &str, params: Value) -> &'static str {
+    match notice(alloc, method, params) {
+        Ok(note) => word_of_note(&note),
+        Err(fault) => fault.text(),
+    }
+}
+
+fn is_noticed(alloc: Global, method: &str, params: &str, wanted: &str) -> bool {
     match Value::from_str(alloc, params) {
-        Ok(params) => word_requested(alloc, method, &params),
-        Err(_fault) => "no value",
+        Ok(params) => word_noticed(alloc, method, params) == wanted,
+        Err(_fault) => false,
     }
 }
 
-const PLACE: &str = r#"{"position":{"character":2,"line":1},"textDocument":{"uri":"u"}}"#;
-
-static REQUESTS: &[(&str, &str, &str)] = rows![
-    "initialize", "null" => "bad params";
-    "initialize", "{}" => "of a client that can nothing";
-    "initialize", r#"{"capabilities":7}"# => "of a client that can nothing";
-    "initialize",
-        "{\"capabilities\":{\"general\":{\"positionEncodings\":[\"utf-32\"]},\"textDocument\":{\"codeAction\":{\
-        \"codeActionLiteralSupport\":true},\"rename\":{\"prepareSupport\":1}}}}"
-        => "of a client that can nothing";
-    "initialize",
-        "{\"capabilities\":{\"general\":{\"positionEncodings\":[null,\"utf-8\"]},\"textDocument\":{\
-        \"codeAction\":{\"codeActionLiteralSupport\":{}},\"rename\":{\"prepareSupport\":true}},\"workspace\":{\
-        \"workspaceEdit\":{\"documentChanges\":true}}}}"
-        => "of a client that can everything";
-    "shutdown", "null" => "shutdown";
-    "exit", "{}" => "unknown method";
-    "textDocument/hover", PLACE => "hover";
-    "textDocument/definition", PLACE => "definition";
-    "textDocument/prepareRename", PLACE => "prepare a rename";
-    "textDocument/hover", "{}" => "bad params";
-    "textDocument/hover",
-        r#"{"position":{"character":1.0,"line":0},"textDocument":{"uri":"u"}}"# => "bad params";
-    "textDocument/hover",
-        r#"{"position":{"character":0,"line":-1},"textDocument":{"uri":"u"}}"# => "bad params";
-    "textDocument/hover",
-        r#"{"position":{"character":-0,"line":0},"textDocument":{"uri":"u"}}"# => "bad params";
-    "textDocument/hover",
-        "{\"position\":{\"character\":0,\"line\":18446744073709551616},\"textDocument\":{\"uri\":\"u\"}}"
-        => "bad params";
-    "textDocument/references",
-        "{\"context\":{\"includeDeclaration\":true},\"position\":{\"character\":0,\
-        \"line\":18446744073709551615},\"textDocument\":{\"uri\":\"u\"}}"
-        => "references and the declaration";
-    "textDocument/references", PLACE => "bad params";
-    "textDocument/rename",
-        r#"{"newName":"x","position":{"character":0,"line":0},"textDocument":{"uri":"u"}}"# => "rename";
-    "textDocument/rename", PLACE => "bad params";
-    "textDocument/codeAction",
-        "{\"range\":{\"end\":{\"character\":0,\"line\":0},\"start\":{\"character\":0,\"line\":0}},\
-        \"textDocument\":{\"uri\":\"u\"}}"
-        => "bad params";
-    "textDocument/codeAction",
-        "{\"context\":{\"only\":[null]},\"range\":{\"end\":{\"character\":0,\"line\":0},\"start\":{\
-        \"character\":0,\"line\":0}},\"textDocument\":{\"uri\":\"u\"}}"
-        => "bad params";
-    "textDocument/codeAction",
-        "{\"context\":{\"only\":null},\"range\":{\"end\":{\"character\":0,\"line\":0},\"start\":{\
-        \"character\":0,\"line\":0}},\"textDocument\":{\"uri\":\"u\"}}"
-        => "actions";
-    "textDocument/codeAction",
-        "{\"context\":{\"only\":[\"\",\"refactor\"]},\"range\":{\"end\":{\"character\":0,\"line\":0},\
-        \"start\":{\"character\":0,\"line\":0}},\"textDocument\":{\"uri\":\"u\"}}"
-        => "actions of two kinds";
-    "textDocument/formatting",
-        r#"{"options":{"insertSpaces":true,"tabSize":0},"textDocument":{"uri":"u"}}"# => "layout by 1";
-    "textDocument/formatting",
-        r#"{"options":{"insertSpaces":true,"tabSize":4},"textDocument":{"uri":"u"}}"# => "layout by 4";
-    "textDocument/formatting",
-        "{\"options\":{\"insertSpaces\":true,\"tabSize\":18446744073709551615},\"textDocument\":{\
-        \"uri\":\"u\"}}"
-        => "layout by 16";
-    "textDocument/formatting",
-        r#"{"options":{"insertSpaces":false,"tabSize":4},"textDocument":{"uri":"u"}}"# => "layout by tabs";
-    "textDocument/formatting",
-        r#"{"options":{"insertSpaces":true,"tabSize":-1},"textDocument":{"uri":"u"}}"# => "bad params";
-];
-
-/// The params of the first request that is taken for another.
-fn first_mistaken(alloc: Global) -> Option<&'static str> {
-    for row in REQUESTS {
-        if method_word(alloc, row.0, row.1) != row.2 {
-            return Some(row.1);
-        }
-    }
-    None
-}
-
-#[test]
-fn requests_are_distinguished(rt: HostRuntime) {
-    let wrong = first_mistaken(rt.alloc());
-    assert!(rt; wrong.is_none(), "{wrong:?}");
-}
-
-fn is_written(written: Result<Vec<u8>, AllocError>, wanted: &str) -> bool {
-    match written {
-        Ok(written) => written.as_slice() == wanted.as_bytes(),
-        Err(_refused) => false,
+fn is_requested(alloc: Global, method: &str, params: &str, wanted: &str) -> bool {
+    match Value::from_str(alloc, params) {
+        Ok(params) => word_requested(alloc, method, &params) == wanted,
+        Err(_fault) => false,
     }
 }
 
-/// Whether the answer to a request with this id and value is written so.
-fn is_answer<W: WriteJson>(alloc: Global, id: &Id, value: &W, wanted: &str) -> bool {
-    is_written(result_of(alloc, id, value), wanted)
-}
-
-fn is_error(alloc: Global, fault: RpcFault, wanted: &str) -> bool {
-    is_written(error(alloc, None, fault.code(), fault.text()), wanted)
-}
-
-fn is_note(alloc: Global, method: &str, wanted: &str) -> bool {
-    is_written(notify(alloc, method, &()), wanted)
-}
-
-/// A value with members of each kind but a fraction, if there is memory for it.
 fn value_of_each_kind(alloc: Global) -> Result<Value, AllocError> {
     json!(in alloc; {"b": [true, null, -1], "a": {"c": "\"\n"}})
 }
 
-/// Whether the answer to a request, and a notification, with this value are written so.
-fn are_written_with_a_value(alloc: Global, answer: &str, note: &str) -> bool {
-    let Ok(value) = value_of_each_kind(alloc) else {
-        return false;
-    };
-    let Ok(params) = value_of_each_kind(alloc) else {
-        return false;
-    };
-    is_written(result(alloc, &Id::Unsigned(5), value), answer)
-        && is_written(notification(alloc, "m", params), note)
+fn range_written(alloc: Global, start: (u64, u64), end: (u64, u64)) -> Result<Vec<u8>, AllocError> {
+    let (start, end) = (at(start.0, start.1), at(end.0, end.1));
+    result_of(alloc, &Id::Signed(1), &Range { start, end })
+}
+
+fn member_written(alloc: Global) -> Result<Vec<u8>, AllocError> {
+    let (key, value) = ("a b", Some(at(1, 2)));
+    result_of(alloc, &Id::Signed(0), &OneMember { key, value })
+}
+
+/// The content of a message.
+fn written(alloc: Global, message: Message) -> Result<Vec<u8>, AllocError> {
+    const MOST: (u64, u64) = (u64::MAX, u64::MAX);
+    match message {
+        Nothing => result_of(alloc, &Id::Signed(-7), &()),
+        Refusal(fault) => error(alloc, None, fault.code(), fault.text()),
+        NoteOfNothing => notify(alloc, "m", &()),
+        LargestRange => range_written(alloc, MOST, MOST),
+        OneRange => range_written(alloc, (0, 9), (10, 12345)),
+        LargestNumber => result_of(alloc, &Id::Unsigned(0), &u64::MAX),
+        LeastNumber => result_of(alloc, &Id::Unsigned(u64::MAX), &i64::MIN),
+        Text => result_of(alloc, &Id::Signed(-7), &"a\"\n\u{1}"),
+        Truths => result_of(alloc, &Id::Signed(0), &[true, false].as_slice()),
+        Member => member_written(alloc),
+        EachKind => result(alloc, &Id::Unsigned(5), value_of_each_kind(alloc)?),
+        NoteOfEachKind => notification(alloc, "m", value_of_each_kind(alloc)?),
+    }
+}
+
+impl Case for Row {
+    fn holds(&self, alloc: Global) -> Result<bool, AllocError> {
+        match self.0 {
+            Content(content) => Ok(kind_of(alloc, content) == self.1),
+            Request(method, params) => Ok(is_requested(alloc, method, params, self.1)),
+            Notification(method, params) => Ok(is_noticed(alloc, method, params, self.1)),
+            Sent(message) => Ok(written(alloc, message)?.as_slice() == self.1.as_bytes()),
+        }
+    }
 }
 
 #[test]
-fn values_are_written(rt: HostRuntime) {
-    let answer = r#"{"id":5,"jsonrpc":"2.0","result":{"a":{"c":"\"\n"},"b":[true,null,-1]}}"#;
-    let note = r#"{"jsonrpc":"2.0","method":"m","params":{"a":{"c":"\"\n"},"b":[true,null,-1]}}"#;
-    assert!(rt; are_written_with_a_value(rt.alloc(), answer, note));
-}
-
-fn are_answers_written(alloc: Global) -> bool {
-    let nothing = r#"{"id":-7,"jsonrpc":"2.0","result":null}"#;
-    let no_json = r#"{"error":{"code":-32700,"message":"not JSON"},"id":null,"jsonrpc":"2.0"}"#;
-    let note = r#"{"jsonrpc":"2.0","method":"m","params":null}"#;
-    is_answer(alloc, &Id::Signed(-7), &(), nothing)
-        && is_error(alloc, RpcFault::NotJson, no_json)
-        && is_note(alloc, "m", note)
-}
-
-#[test]
-fn answers_are_written(rt: HostRuntime) {
-    assert!(rt; are_answers_written(rt.alloc()));
-}
-
-const LARGEST: &str =
-    "{\"id\":1,\"jsonrpc\":\"2.0\",\"result\":{\"end\":{\"character\":18446744073709551615,\
-    \"line\":18446744073709551615},\"start\":{\"character\":18446744073709551615,\"line\":18446744073709551615}}}";
-
-fn are_ranges_written(alloc: Global) -> bool {
-    let most = at(u64::MAX, u64::MAX);
-    let largest = Range {
-        start: most,
-        end: most,
-    };
-    let range = Range {
-        start: at(0, 9),
-        end: at(10, 12345),
-    };
-    let wanted =
-        r#"{"id":1,"jsonrpc":"2.0","result":{"end":{"character":12345,"line":10},"start":{"character":9,"line":0}}}"#;
-    is_answer(alloc, &Id::Signed(1), &range, wanted)
-        && is_answer(alloc, &Id::Signed(1), &largest, LARGEST)
-}
-
-#[test]
-fn ranges_are_written_as_text(rt: HostRuntime) {
-    assert!(rt; are_ranges_written(rt.alloc()));
-}
-
-fn are_numbers_written(alloc: Global) -> bool {
-    let most = r#"{"id":0,"jsonrpc":"2.0","result":18446744073709551615}"#;
-    let least = r#"{"id":18446744073709551615,"jsonrpc":"2.0","result":-9223372036854775808}"#;
-    is_answer(alloc, &Id::Unsigned(0), &u64::MAX, most)
-        && is_answer(alloc, &Id::Unsigned(u64::MAX), &i64::MIN, least)
-}
-
-#[test]
-fn numbers_are_written_as_text(rt: HostRuntime) {
-    assert!(rt; are_numbers_written(rt.alloc()));
-}
-
-fn are_others_written(alloc: Global) -> bool {
-    let text = r#"{"id":-7,"jsonrpc":"2.0","result":"a\"\n\u0001"}"#;
-    let truths = r#"{"id":0,"jsonrpc":"2.0","result":[true,false]}"#;
-    let entry = r#"{"id":0,"jsonrpc":"2.0","result":{"a b":{"character":2,"line":1}}}"#;
-    let member = OneMember {
-        key: "a b",
-        value: Some(at(1, 2)),
-    };
-    is_answer(alloc, &Id::Signed(-7), &"a\"\n\u{1}", text)
-        && is_answer(alloc, &Id::Signed(0), &[true, false].as_slice(), truths)
-        && is_answer(alloc, &Id::Signed(0), &member, entry)
-}
-
-#[test]
-fn values_are_written_as_text(rt: HostRuntime) {
-    assert!(rt; are_others_written(rt.alloc()));
+fn messages_are_read_and_written(rt: HostRuntime) {
+    let wrong = first_wrong(rt.alloc(), ROWS);
+    assert!(rt; wrong.is_none(), "row {wrong:?}");
 }

@@ -1,74 +1,61 @@
 //! Worked rows of numbers and truth values.
 
+use crate::cases::{Case, first_wrong};
+use crate::values::Reckoned::{Add, Multiply, Negate, Relate, SignOf};
+use ob0_language_values::Scalar::{Number, Truth};
 use ob0_language_values::scalar::{add, apply_sign, multiply, negate, relate};
 use ob0_language_values::{OperatorFault, Scalar};
-use ob0_tree::{AddOperator, MultiplyOperator, Relation, Sign};
+use ob0_tree::AddOperator::{self, Or, Subtract};
+use ob0_tree::MultiplyOperator::{self, Divide, Modulo};
+use ob0_tree::{Relation, Sign};
+use std::alloc::{AllocError, Global};
 use std::process::Abort;
 
-fn number(number: i32) -> Scalar {
-    Scalar::Number(number)
+/// An operator with its operands.
+#[derive(Clone, Copy)]
+enum Reckoned {
+    Multiply(MultiplyOperator, i32, i32),
+    Add(AddOperator, Scalar, Scalar),
+    Relate(Relation, Scalar, Scalar),
+    SignOf(Sign, i32),
+    Negate(Scalar),
 }
 
-const DIVIDE: MultiplyOperator = MultiplyOperator::Divide;
+type Row = (Reckoned, Result<Scalar, OperatorFault>);
 
-const MODULO: MultiplyOperator = MultiplyOperator::Modulo;
-
-static PRODUCTS: &[(MultiplyOperator, i32, i32, Result<Scalar, OperatorFault>)] = &[
-    (DIVIDE, -7, 3, Ok(Scalar::Number(-3))),
-    (MODULO, -7, 3, Ok(Scalar::Number(2))),
-    (MODULO, 1, 0, Err(OperatorFault::Divisor)),
-    (DIVIDE, 1, -7, Err(OperatorFault::Divisor)),
+static ROWS: &[Row] = rows![
+    Multiply(Divide, -7, 3) => Ok(Number(-3));
+    Multiply(Modulo, -7, 3) => Ok(Number(2));
+    Multiply(Modulo, 1, 0) => Err(OperatorFault::Divisor);
+    Multiply(Divide, 1, -7) => Err(OperatorFault::Divisor);
+    Add(AddOperator::Add, Number(i32::MAX), Number(1)) => Err(OperatorFault::Overflow);
+    Add(Subtract, Number(i32::MIN), Number(1)) => Err(OperatorFault::Overflow);
+    Add(Subtract, Number(-2147483647), Number(1)) => Ok(Number(i32::MIN));
+    Add(Or, Truth(false), Truth(true)) => Ok(Truth(true));
+    SignOf(Sign::Minus, i32::MIN) => Err(OperatorFault::Overflow);
+    Negate(Truth(true)) => Ok(Truth(false));
+    Relate(Relation::NotEqual, Truth(true), Truth(false)) => Ok(Truth(true));
+    Relate(Relation::Less, Truth(true), Truth(false)) => Err(OperatorFault::Operand);
 ];
 
-const ADD: AddOperator = AddOperator::Add;
-
-const SUBTRACT: AddOperator = AddOperator::Subtract;
-
-static SUMS: &[(AddOperator, i32, i32, Result<Scalar, OperatorFault>)] = &[
-    (ADD, i32::MAX, 1, Err(OperatorFault::Overflow)),
-    (SUBTRACT, i32::MIN, 1, Err(OperatorFault::Overflow)),
-    (SUBTRACT, -2147483647, 1, Ok(Scalar::Number(i32::MIN))),
-];
-
-const YES: Scalar = Scalar::Truth(true);
-
-const NO: Scalar = Scalar::Truth(false);
-
-fn are_products_known() -> bool {
-    for row in PRODUCTS {
-        let (operator, left, right, wanted) = *row;
-        if multiply(operator, number(left), number(right)) != wanted {
-            return false;
-        }
+fn reckon(reckoned: Reckoned) -> Result<Scalar, OperatorFault> {
+    match reckoned {
+        Multiply(operator, left, right) => multiply(operator, Number(left), Number(right)),
+        Add(operator, left, right) => add(operator, left, right),
+        Relate(relation, left, right) => relate(relation, left, right),
+        SignOf(sign, number) => apply_sign(Some(sign), Number(number)),
+        Negate(truth) => negate(truth),
     }
-    true
 }
 
-fn are_sums_known() -> bool {
-    for row in SUMS {
-        let (operator, left, right, wanted) = *row;
-        if add(operator, number(left), number(right)) != wanted {
-            return false;
-        }
+impl Case for Row {
+    fn holds(&self, _alloc: Global) -> Result<bool, AllocError> {
+        Ok(reckon(self.0) == self.1)
     }
-    true
-}
-
-fn is_negated() -> bool {
-    apply_sign(Some(Sign::Minus), number(i32::MIN)) == Err(OperatorFault::Overflow)
-        && negate(YES) == Ok(NO)
-}
-
-fn are_related() -> bool {
-    add(AddOperator::Or, NO, YES) == Ok(YES)
-        && relate(Relation::NotEqual, YES, NO) == Ok(YES)
-        && relate(Relation::Less, YES, NO) == Err(OperatorFault::Operand)
 }
 
 #[test]
 fn numbers_and_truth_values_are_reckoned_with(rt: HostRuntime) {
-    assert!(rt; are_products_known());
-    assert!(rt; are_sums_known());
-    assert!(rt; is_negated());
-    assert!(rt; are_related());
+    let wrong = first_wrong(rt.alloc(), ROWS);
+    assert!(rt; wrong.is_none(), "row {wrong:?}");
 }

@@ -61,79 +61,65 @@ fn outcome_of(alloc: Global, called: Called, flushes: u32) -> (u8, usize) {
     (status, printed.passed_on)
 }
 
-/// Whether a call ends with this status and passes on this many bytes.
-fn ends(alloc: Global, called: Called, flushes: u32, status: u8, printed: usize) -> bool {
-    let (found, count) = outcome_of(alloc, called, flushes);
-    found == status && count == printed
-}
+/// Calls, how many flushes succeed, the status, and how many bytes are passed on.
+static CALLS: &[(Called, u32, (u8, usize))] = &[
+    (
+        Called::Check,
+        1,
+        (1, "0:0: Syntax: expected MODULE\n".len()),
+    ),
+    (Called::Check, 0, (4, 0)),
+    (Called::Run(b"-17"), 1, (0, " -17".len())),
+    (Called::Run(b""), 1, (1, 0)),
+    (Called::Run(b"x"), 1, (4, 0)),
+    (Called::Rename(14), 1, (0, READS.len() + 6)),
+    (Called::Rename(0), 1, (1, 0)),
+];
 
-fn flushes(alloc: Global) -> bool {
-    let printed = "0:0: Syntax: expected MODULE\n".len();
-    ends(alloc, Called::Check, 1, 1, printed) && ends(alloc, Called::Check, 0, 4, 0)
+/// The number of the first call that ends otherwise.
+fn first_astray(alloc: Global, calls: &[(Called, u32, (u8, usize))]) -> Option<usize> {
+    for i in 0..calls.len() {
+        if outcome_of(alloc, calls[i].0, calls[i].1) != calls[i].2 {
+            return Some(i);
+        }
+    }
+    None
 }
 
 #[test]
-fn what_is_printed_is_flushed(rt: HostRuntime) {
-    assert!(rt; flushes(rt.alloc()));
-}
-
-fn runs(alloc: Global) -> bool {
-    ends(alloc, Called::Run(b"-17"), 1, 0, " -17".len())
-        && ends(alloc, Called::Run(b""), 1, 1, 0)
-        && ends(alloc, Called::Run(b"x"), 1, 4, 0)
-}
-
-fn renames(alloc: Global) -> bool {
-    let printed = READS.len().saturating_add(6);
-    ends(alloc, Called::Rename(14), 1, 0, printed) && ends(alloc, Called::Rename(0), 1, 1, 0)
-}
-
-#[test]
-fn a_module_is_run_and_renamed(rt: HostRuntime) {
-    assert!(rt; runs(rt.alloc()));
-    assert!(rt; renames(rt.alloc()));
-}
-
-fn is_run_of_m(file: &str, calls: u32, turns: u32) -> bool {
-    file == "m" && calls == 64 && turns == 100_000
+fn commands_print_what_they_flush(rt: HostRuntime) {
+    let number = first_astray(rt.alloc(), CALLS);
+    assert!(rt; number.is_none(), "call {number:?}");
 }
 
 /// What a command line requests, in a word.
 fn word_of(line: &CommandLine<'_>) -> &'static str {
     match line {
         CommandLine::Serve => "serve",
-        CommandLine::Check { file: _file } => "another",
-        CommandLine::Run { file, calls, turns } => if is_run_of_m(file, *calls, *turns) {
-            "run m"
-        } else {
-            "another"
-        },
-        CommandLine::Rename {
-            file: _file,
-            position: _position,
-            name: _name,
-        } => "another",
+        CommandLine::Check { .. } => "check",
+        CommandLine::Run {
+            file: "m",
+            calls: 64,
+            turns: 100_000,
+        } => "run m",
+        CommandLine::Run { .. } => "another run",
+        CommandLine::Rename { .. } => "rename",
     }
 }
 
 fn line_of(alloc: Global, words: &[&str]) -> &'static str {
     match command(alloc, words) {
         Ok(line) => word_of(&line),
-        Err(fault) => word_of_fault(&fault),
-    }
-}
-
-fn word_of_fault(fault: &CommandFault) -> &'static str {
-    match fault {
-        CommandFault::Refused(_error) => "refused",
-        CommandFault::Memory => "out of memory",
+        Err(CommandFault::Refused(_error)) => "refused",
+        Err(CommandFault::Memory) => "out of memory",
     }
 }
 
 static LINES: &[(&[&str], &str)] = &[
     (&["ob0", "serve"], "serve"),
     (&["ob0", "run", "m"], "run m"),
-    (&["ob0", "check", "m"], "another"),
+    (&["ob0", "check", "m"], "check"),
+    (&["ob0", "rename", "m", "0", "7", "x"], "rename"),
     (&["ob0", "serve", "m"], "refused"),
 ];
 

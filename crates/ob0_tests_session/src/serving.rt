@@ -1,21 +1,18 @@
 //! Conversations over devices that fail, and a writer that passes on what it is given only where it is flushed.
 
 use crate::devices::{Count, Counter, Source};
-use ob0_session::{DeviceFault, Noted, ServeFault, serve};
+use ob0_session::{DeviceFault, Noted, ServeFault, serve, status_of};
 use std::alloc::Global;
 use std::process::Abort;
 
 /// The first conversation.
 const INPUT: &[u8] = b"Content-Length: 75\r\n\r\n\
     {\"id\":1,\"jsonrpc\":\"2.0\",\"method\":\"initialize\",\"params\":{\"capabilities\":{}}}\
-    Content-Length: 171\r\n\r\n\
-    {\"jsonrpc\":\"2.0\",\"method\":\"textDocument/didOpen\",\
+    Content-Length: 171\r\n\r\n{\"jsonrpc\":\"2.0\",\"method\":\"textDocument/didOpen\",\
     \"params\":{\"textDocument\":{\"languageId\":\"oberon-0\",\
     \"text\":\"MODULE M; BEGIN WriteLn END M.\",\"uri\":\"file:///m\",\"version\":1}}}\
-    Content-Length: 44\r\n\r\n\
-    {\"id\":2,\"jsonrpc\":\"2.0\",\"method\":\"shutdown\"}\
-    Content-Length: 33\r\n\r\n\
-    {\"jsonrpc\":\"2.0\",\"method\":\"exit\"}";
+    Content-Length: 44\r\n\r\n{\"id\":2,\"jsonrpc\":\"2.0\",\"method\":\"shutdown\"}\
+    Content-Length: 33\r\n\r\n{\"jsonrpc\":\"2.0\",\"method\":\"exit\"}";
 
 /// The first message, and a head that is bad.
 const BAD_HEAD: &[u8] = b"Content-Length: 75\r\n\r\n\
@@ -37,15 +34,8 @@ struct ServeEnd {
 /// `BYTES to LEN, GIVEN a read, READS; CAPACITY, FLUSHES => RESULT;` for each.
 macro_rules! ends {
     ($($bytes:ident to $len:expr, $given:expr, $reads:expr; $capacity:expr, $flushes:expr => $result:expr;)*) => {
-        &[$(ServeEnd {
-            bytes: $bytes,
-            len: $len,
-            given: $given,
-            reads: $reads,
-            capacity: $capacity,
-            flushes: $flushes,
-            result: $result,
-        }),*]
+        &[$(ServeEnd { bytes: $bytes, len: $len, given: $given, reads: $reads, capacity: $capacity, flushes: $flushes,
+            result: $result }),*]
     };
 }
 
@@ -86,67 +76,48 @@ fn converse(alloc: Global, end: &ServeEnd, count: &mut Count) -> Found {
     }
 }
 
-fn broke_by(end: Result<u8, ServeFault>, fault: ServeFault) -> bool {
-    match end {
-        Ok(_status) => false,
-        Err(found) => found == fault,
-    }
-}
-
-/// Whether a conversation ends by a write that failed, where only `flushes` flushes succeed.
-fn breaks_off(alloc: Global, end: &ServeEnd, flushes: u32) -> bool {
-    let mut count = Count::new(end.capacity, flushes);
-    broke_by(converse(alloc, end, &mut count).result, ServeFault::Write)
-}
-
 /// Whether the devices know afterwards that all was flushed and which of them failed.
 fn is_reported(found: Found) -> bool {
-    found.read_failed == broke_by(found.result, ServeFault::Read)
-        && found.write_failed == broke_by(found.result, ServeFault::Write)
+    found.read_failed == (found.result == Err(ServeFault::Read))
+        && found.write_failed == (found.result == Err(ServeFault::Write))
         && found.flushed
 }
 
-/// Whether a conversation ends as it is to end, with all that was written passed on, where just its number of flushes
-/// succeed.
-fn ends_flushed(alloc: Global, end: &ServeEnd) -> bool {
-    let mut count = Count::new(end.capacity, end.flushes);
+/// Whether a conversation ends as it is to end where this many flushes succeed: by a write that failed where one is
+/// lacking, and else with all that was written passed on.
+fn ends_flushed(alloc: Global, end: &ServeEnd, flushes: u32) -> bool {
+    let mut count = Count::new(end.capacity, flushes);
     let found = converse(alloc, end, &mut count);
+    if flushes < end.flushes {
+        return found.result == Err(ServeFault::Write);
+    }
     found.result == end.result && is_reported(found) && count.passed_on == count.written
 }
 
 /// Whether a conversation needs each of its flushes.
 fn needs_each_flush(alloc: Global, end: &ServeEnd) -> bool {
     for flushes in 0..end.flushes {
-        if !breaks_off(alloc, end, flushes) {
+        if !ends_flushed(alloc, end, flushes) {
             return false;
         }
     }
-    ends_flushed(alloc, end)
+    ends_flushed(alloc, end, end.flushes)
 }
 
-/// The number of conversations before the first that goes otherwise.
-fn count_well(alloc: Global) -> usize {
-    let mut count: usize = 0;
-    for end in ENDS {
-        if !needs_each_flush(alloc, end) {
-            return count;
+/// The number of the first conversation that goes otherwise.
+fn first_astray(alloc: Global, ends: &[ServeEnd]) -> Option<usize> {
+    for i in 0..ends.len() {
+        if !needs_each_flush(alloc, &ends[i]) {
+            return Some(i);
         }
-        count = count.saturating_add(1);
     }
-    count
+    None
 }
 
 #[test]
 fn each_piece_is_flushed_at_its_end(rt: HostRuntime) {
-    let count = count_well(rt.alloc());
-    assert!(rt; count == ENDS.len(), "conversation {count}");
-}
-
-fn is_one(count: Result<usize, DeviceFault>) -> bool {
-    match count {
-        Ok(count) => count == 1,
-        Err(_fault) => false,
-    }
+    let number = first_astray(rt.alloc(), ENDS);
+    assert!(rt; number.is_none(), "conversation {number:?}");
 }
 
 /// Whether a reader is passed on as it is, and its failure is kept.
@@ -157,20 +128,36 @@ fn is_reader_noted() -> bool {
         calls_left: 1,
     });
     let mut piece = [0; 4];
-    let is_read = is_one(reader.read(&mut piece)) && piece[0] == b'a' && !reader.failed();
-    is_read && reader.read(&mut piece).is_err() && reader.failed()
+    let is_read = reader.read(&mut piece) == Ok(1) && piece[0] == b'a' && !reader.failed();
+    is_read && reader.read(&mut piece) == Err(DeviceFault) && reader.failed()
 }
 
 /// The same of a writer.
 fn is_writer_noted() -> bool {
     let mut count = Count::new(1, 1);
     let mut writer = Noted::new(Counter { count: &mut count });
-    let is_written = is_one(writer.write(b"ab")) && writer.flush().is_ok() && !writer.failed();
-    is_written && writer.write(b"b").is_err() && writer.failed()
+    let is_written = writer.write(b"ab") == Ok(1) && writer.flush().is_ok() && !writer.failed();
+    is_written && writer.write(b"b") == Err(DeviceFault) && writer.failed()
 }
 
 #[test]
 fn a_device_that_failed_is_noted(rt: HostRuntime) {
-    assert!(rt; is_reader_noted());
-    assert!(rt; is_writer_noted());
+    assert!(rt; is_reader_noted() && is_writer_noted());
+}
+
+/// Why a conversation breaks off, and the status of the program then.
+static STATUSES: &[(ServeFault, u8)] = &[
+    (ServeFault::BadHead, 3),
+    (ServeFault::Truncated, 3),
+    (ServeFault::Read, 4),
+    (ServeFault::Write, 4),
+    (ServeFault::TooManyReads, 4),
+    (ServeFault::Memory, 5),
+];
+
+#[test]
+fn each_fault_has_its_status(rt: HostRuntime) {
+    for row in STATUSES {
+        assert!(rt; status_of(row.0) == row.1, "{:?}", row.0);
+    }
 }

@@ -2,7 +2,7 @@
 
 use crate::acts::Act::*;
 use crate::acts::Sight::*;
-use crate::acts::{Act, Edited, Publication, Sight, Story};
+use crate::acts::{Act, Sight, Story};
 use ob0_text::Unit::{Utf8, Utf16};
 
 const COUNTS: &str = "MODULE M;\nVAR n: INTEGER;\nPROCEDURE P; BEGIN Write(n) END P;\n\
@@ -11,40 +11,17 @@ const COUNTS: &str = "MODULE M;\nVAR n: INTEGER;\nPROCEDURE P; BEGIN Write(n) EN
 const RENAMED: &str = "MODULE M;\nVAR k: INTEGER;\nPROCEDURE P; BEGIN Write(k) END P;\n\
     BEGIN Read(k); WHILE k > 0 DO k := k - 1; WriteLn END; P END M.\n";
 
-const LAID_OUT: &str = "\
-MODULE M;
-VAR
-  n: INTEGER;
-  PROCEDURE P;
-  BEGIN
-    Write(n)
-  END P;
-BEGIN
-  Read(n);
-  WHILE n > 0 DO
-    n := n - 1;
-    WriteLn
-  END;
-  P
-END M.
-";
+const LAID_OUT: &str =
+    "MODULE M;\nVAR\n  n: INTEGER;\n  PROCEDURE P;\n  BEGIN\n    Write(n)\n  END P;\n\
+    BEGIN\n  Read(n);\n  WHILE n > 0 DO\n    n := n - 1;\n    WriteLn\n  END;\n  P\nEND M.\n";
 
 /// Nothing is laid out here, and there are comments.
 const CROWDED: &str =
     "MODULE M;VAR x:INTEGER;BEGIN x:=-1;IF x<0 THEN Write(x)(* a (* b *) c *)END;WriteLn END M.(* end *)";
 
-const CROWDED_LAID_OUT: &str = "\
-MODULE M;
-VAR
-  x: INTEGER;
-BEGIN
-  x := -1;
-  IF x < 0 THEN
-    Write(x) (* a (* b *) c *)
-  END;
-  WriteLn
-END M. (* end *)
-";
+const CROWDED_LAID_OUT: &str =
+    "MODULE M;\nVAR\n  x: INTEGER;\nBEGIN\n  x := -1;\n  IF x < 0 THEN\n    \
+    Write(x) (* a (* b *) c *)\n  END;\n  WriteLn\nEND M. (* end *)\n";
 
 /// No module: the full stop is missing.
 const FAULTY_TEXT: &str = "MODULE M; END M";
@@ -80,13 +57,8 @@ macro_rules! moments {
 macro_rules! stories {
     ($($name:expr, $unit:expr, $moments:expr, [$($before:expr => $after:expr),*],
         [$($version:expr, $text:expr => $empty:expr);*];)*) => {
-        &[$(Story {
-            name: $name,
-            unit: $unit,
-            moments: $moments,
-            applied: &[$(Edited { before: $before, after: $after }),*],
-            made: &[$(Publication { version: $version, text: $text, empty: $empty }),*],
-        }),*]
+        &[$(Story { name: $name, unit: $unit, moments: $moments, applied: &[$(($before, $after)),*],
+            made: &[$(($version, $text, $empty)),*] }),*]
     };
 }
 
@@ -138,7 +110,7 @@ static STORIES: &[Story] = stories![
             Touch => Nothing, Close => Nothing, NAME => Nothing, Open(COUNTS) => Sent,
             Open(FAULTY_TEXT) => Nothing, Serve => Served(1), Serve => Nothing],
         [], [1, COUNTS => true];
-    "an answer is let go", Utf16,
+    "an answer is discarded", Utf16,
         moments![Open(COUNTS) => Sent, NAME => Sent, Serve => Served(1), Serve => Served(1),
             Take => Published(true), Take => Answered(1, true), Discard(1) => Dropped(1), Discard(1) => Nothing,
             Apply(1) => Nothing],

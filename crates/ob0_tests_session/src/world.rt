@@ -1,29 +1,143 @@
 //! Whole lists of events of client and server, step by step and played, in both units of positions, over both stores.
 
-use crate::acts::{EventCounts, Story, Way, count_left, left_by_steps, way_of};
+use crate::acts::{Story, Way, events_again, join_ways, way_of_event};
 use crate::stories::stories;
-use ob0_text::{Lines, Whole};
-use std::alloc::Global;
+use ob0_text::{Lines, TextStore, Unit, Whole};
+use ob0_world::{Applied, Event, Made, PlayFault, Played, World, WorldFault};
+use std::alloc::{AllocError, Global};
 use std::process::Abort;
 
-/// Whether a story leaves all that it is to leave.
-fn leaves_all(alloc: Global, story: &Story) -> bool {
-    match count_left(alloc, story) {
-        Some(counts) => counts.applied == story.applied.len() && counts.made == story.made.len(),
-        None => false,
+/// How a story's events are made: one by one, over a store, or played.
+#[derive(Clone, Copy)]
+enum Telling {
+    OverLines,
+    OverWhole,
+    Played,
+}
+
+/// How a story goes, how many of its events are made, and how many edits and publications come of them.
+#[derive(Clone, Copy)]
+struct Outcome(Way, u64, usize, usize);
+
+/// Nothing comes of a story.
+const NOTHING: Outcome = Outcome(Way::Otherwise, 0, 0, 0);
+
+/// Whether edits are the first of these.
+fn are_first_edits(found: &[Applied], wanted: &[(&str, &str)]) -> bool {
+    if found.len() > wanted.len() {
+        return false;
+    }
+    for i in 0..found.len() {
+        let (before, after) = wanted[i];
+        if found[i].before.as_str() != before || found[i].after.as_str() != after {
+            return false;
+        }
+    }
+    true
+}
+
+/// Whether publications are the first of these.
+fn are_first_publications(found: &[Made], wanted: &[(i64, &str, bool)]) -> bool {
+    if found.len() > wanted.len() {
+        return false;
+    }
+    for i in 0..found.len() {
+        let (version, text, empty) = wanted[i];
+        if found[i].version != version
+            || found[i].text.as_str() != text
+            || found[i].empty != empty
+        {
+            return false;
+        }
+    }
+    true
+}
+
+/// What comes of some events, where the edits and publications are the first that a story is to leave.
+fn outcome_of(story: &Story, way: Way, steps: u64, played: &Played) -> Outcome {
+    let are_edits = are_first_edits(played.applied.as_slice(), story.applied);
+    if !are_edits || !are_first_publications(played.made.as_slice(), story.made) {
+        return NOTHING;
+    }
+    Outcome(way, steps, played.applied.len(), played.made.len())
+}
+
+fn begin_world<T: TextStore>(alloc: Global, unit: Unit) -> Result<World<T>, WorldFault> {
+    match unit {
+        Unit::Utf16 => World::new(alloc),
+        Unit::Utf8 => World::new_in(alloc, unit),
     }
 }
 
-fn plays_as_written(alloc: Global, story: &Story) -> bool {
-    way_of::<Lines>(alloc, story) == Way::AsTold
-        && way_of::<Whole>(alloc, story) == Way::AsTold
-        && leaves_all(alloc, story)
+/// How the events of a story go in a world.
+fn way_through<T: TextStore>(world: &mut World<T>, story: &Story, events: &[Event]) -> Way {
+    let mut way = Way::AsTold;
+    for i in 0..events.len().min(story.moments.len()) {
+        way = join_ways(way, way_of_event(world, &events[i], story.moments[i].1));
+    }
+    way
 }
 
-/// The name of the first story that is not played as written; of none the empty one.
-fn first_unplayed(alloc: Global) -> &'static str {
+/// What comes of a story's events that are made one by one.
+fn step_through<T: TextStore>(alloc: Global, story: &Story, events: &[Event]) -> Outcome {
+    let Ok(mut world) = begin_world::<T>(alloc, story.unit) else {
+        return Outcome(Way::Refused, 0, 0, 0);
+    };
+    let way = way_through(&mut world, story, events);
+    let steps = world.steps();
+    outcome_of(story, way, steps, &world.into_played())
+}
+
+fn play(alloc: Global, unit: Unit, events: &[Event]) -> Result<Played, PlayFault> {
+    match unit {
+        Unit::Utf16 => World::<Lines>::play(alloc, events),
+        Unit::Utf8 => World::<Lines>::play_in(alloc, unit, events),
+    }
+}
+
+/// What comes of a story's events that are played.
+fn play_through(alloc: Global, story: &Story, events: &[Event]) -> Outcome {
+    match play(alloc, story.unit, events) {
+        Ok(played) => outcome_of(story, Way::AsTold, events.len() as u64, &played),
+        Err(fault) => outcome_of(story, Way::Refused, fault.steps, &fault.played),
+    }
+}
+
+/// What comes of a story up to an event at which an allocation fails, or to its end.
+fn tell(alloc: Global, story: &Story, telling: Telling) -> Outcome {
+    match events_again(alloc, story) {
+        Ok(events) => match telling {
+            Telling::OverLines => step_through::<Lines>(alloc, story, events.as_slice()),
+            Telling::OverWhole => step_through::<Whole>(alloc, story, events.as_slice()),
+            Telling::Played => play_through(alloc, story, events.as_slice()),
+        },
+        Err(AllocError) => NOTHING,
+    }
+}
+
+/// Whether a story is told to its end, and leaves all that it is to leave.
+fn is_told(alloc: Global, story: &Story, telling: Telling) -> bool {
+    let Outcome(way, steps, applied, made) = tell(alloc, story, telling);
+    way == Way::AsTold
+        && steps == story.moments.len() as u64
+        && applied == story.applied.len()
+        && made == story.made.len()
+}
+
+/// Whether a story goes as it is written, or, where an allocation may fail, up to there.
+fn goes_as_written(alloc: Global, story: &Story, may_fail: bool) -> bool {
+    if may_fail {
+        return tell(alloc, story, Telling::OverLines).0 != Way::Otherwise;
+    }
+    is_told(alloc, story, Telling::OverLines)
+        && is_told(alloc, story, Telling::OverWhole)
+        && is_told(alloc, story, Telling::Played)
+}
+
+/// The name of the first story that goes otherwise; of none the empty one.
+fn first_astray(alloc: Global, may_fail: bool) -> &'static str {
     for story in stories() {
-        if !plays_as_written(alloc, story) {
+        if !goes_as_written(alloc, story, may_fail) {
             return story.name;
         }
     }
@@ -32,60 +146,35 @@ fn first_unplayed(alloc: Global) -> &'static str {
 
 #[test]
 fn worlds_play_as_written(rt: HostRuntime) {
-    let name = first_unplayed(rt.alloc());
+    let name = first_astray(rt.alloc(), false);
     assert!(rt; name.is_empty(), "{name}");
-}
-
-/// The name of the first story that goes otherwise than up to a refusal; of none the empty one.
-fn first_astray(alloc: Global) -> &'static str {
-    for story in stories() {
-        if way_of::<Lines>(alloc, story) == Way::Otherwise {
-            return story.name;
-        }
-    }
-    ""
 }
 
 #[test]
 fn a_refused_event_ends_a_world(rt: HostRuntime) {
-    let name = first_astray(rt.alloc());
+    let name = first_astray(rt.alloc(), true);
     assert!(rt; name.is_empty(), "{name}");
 }
 
-fn first_left(alloc: Global) -> Option<EventCounts> {
-    count_left(alloc, stories().first()?)
+fn tell_first(alloc: Global, telling: Telling) -> Outcome {
+    match stories().first() {
+        Some(story) => tell(alloc, story, telling),
+        None => NOTHING,
+    }
 }
-
-fn first_left_by_steps(alloc: Global) -> Option<EventCounts> {
-    left_by_steps(alloc, stories().first()?)
-}
-
-const NOTHING: EventCounts = EventCounts {
-    steps: 0,
-    applied: 0,
-    made: 0,
-};
 
 // With the same allocation failing this prints what the test below prints: `make test` compares the two, since nothing
 // here knows at which event it failed.
 #[test]
 fn a_refused_event_leaves_what_was_played_before(rt: HostRuntime) {
-    let found = first_left(rt.alloc());
-    assert!(rt; found.is_some());
-    let counts = found.unwrap_or(NOTHING);
-    let _ = println!(rt;
-        "played {} {} {}",
-        counts.steps, counts.applied, counts.made
-    );
+    let Outcome(way, steps, applied, made) = tell_first(rt.alloc(), Telling::Played);
+    assert!(rt; way != Way::Otherwise);
+    let _ = println!(rt; "played {steps} {applied} {made}");
 }
 
 #[test]
 fn a_refused_step_ends_what_was_played(rt: HostRuntime) {
-    let found = first_left_by_steps(rt.alloc());
-    assert!(rt; found.is_some());
-    let counts = found.unwrap_or(NOTHING);
-    let _ = println!(rt;
-        "played {} {} {}",
-        counts.steps, counts.applied, counts.made
-    );
+    let Outcome(way, steps, applied, made) = tell_first(rt.alloc(), Telling::OverLines);
+    assert!(rt; way != Way::Otherwise);
+    let _ = println!(rt; "played {steps} {applied} {made}");
 }

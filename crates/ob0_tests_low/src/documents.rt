@@ -1,0 +1,207 @@
+//! What is held of documents while they are opened, changed, lost and closed, in both stores; and what documents and a
+//! text are left as where the memory of a call is refused.
+
+use crate::cases::{Case, first_wrong};
+use crate::documents::Act::{Close, Lose, Note, Open};
+use crate::documents::Known::{Closed, InStep, OutOfStep};
+use crate::text::{ASSIGNED, range_of};
+use ob0_text::{Change, Documents, Held, Lines, ReplacedBytes, TextStore, Unit, Whole};
+use std::alloc::{AllocError, Global};
+use std::process::Abort;
+
+/// Where a change begins and ends, and what comes in its place.
+type ChangeRow = ((u64, u64), (u64, u64), &'static str);
+
+/// What happens to a document.
+enum Act {
+    Open(i64, &'static str),
+    /// A note with changes; and the bytes around them in the text before: from where, how many gave way, and to how many.
+    Note(i64, &'static [ChangeRow], Option<(usize, usize, usize)>),
+    Lose,
+    /// It was open, or wasn't.
+    Close(bool),
+}
+
+/// What is held of a document.
+#[derive(Clone, Copy)]
+enum Known {
+    InStep(i64, &'static str),
+    OutOfStep,
+    Closed,
+}
+
+const OPENED: &str = "a\rb";
+
+/// Three changes of that text in one note, and what they make of it.
+const THREE_CHANGES: &[ChangeRow] =
+    rows![((1, 0), (1, 0), "\n"); ((1, 1), (1, 1), "\nc"); ((2, 0), (2, 1), "d");];
+
+const CHANGED_BY_THREE: &str = "a\r\nb\nd";
+
+const TWO_CHANGES: &[ChangeRow] = &[((0, 9), (0, 10), "yz"), ((0, 4), (0, 4), "!")];
+
+/// What happens to a document, in a unit, and what is held of it after each act.
+struct Row(Unit, &'static [(Act, Known)]);
+
+static ROWS: &[Row] = rows![
+    Row(Unit::Utf16, rows![
+        Open(1, ASSIGNED) => InStep(1, ASSIGNED);
+        Note(2, TWO_CHANGES, Some((3, 9, 11))) => InStep(2, "(* !😀 *) yz := 1;");
+    ]);
+    Row(Unit::Utf16, rows![
+        Open(1, OPENED) => InStep(1, OPENED);
+        Note(2, THREE_CHANGES, Some((2, 1, 4))) => InStep(2, CHANGED_BY_THREE);
+    ]);
+    Row(Unit::Utf8, rows![
+        Open(1, "a") => InStep(1, "a");
+        Close(true) => Closed;
+        Close(false) => Closed;
+        Open(1, "a") => InStep(1, "a");
+        Lose => OutOfStep;
+        Note(2, &[], None) => OutOfStep;
+        Open(3, "b") => InStep(3, "b");
+    ]);
+];
+
+fn change_of(alloc: Global, row: &ChangeRow) -> Result<Change, AllocError> {
+    let (start, end, text) = *row;
+    let text = String::from_str(alloc, text)?;
+    let range = Some(range_of(start, end));
+    Ok(Change { range, text })
+}
+
+fn changes_of(alloc: Global, rows: &[ChangeRow]) -> Result<Vec<Change>, AllocError> {
+    let mut changes = Vec::new(alloc);
+    for row in rows {
+        changes.push(change_of(alloc, row)?)?;
+    }
+    Ok(changes)
+}
+
+/// Whether this is what is held of a document.
+fn is_known<T: TextStore>(documents: &Documents<T>, uri: &str, wanted: Known) -> bool {
+    match (documents.get(uri), wanted) {
+        (Some(Held::InStep { version, text }), InStep(number, content)) => {
+            version == number && text.as_str() == content
+        }
+        (Some(Held::OutOfStep), OutOfStep) => true,
+        (None, Closed) => true,
+        _ => false,
+    }
+}
+
+fn are_bytes(found: Option<ReplacedBytes>, wanted: Option<(usize, usize, usize)>) -> bool {
+    match (found, wanted) {
+        (Some(bytes), Some(wanted)) => (bytes.from, bytes.removed, bytes.added) == wanted,
+        (None, None) => true,
+        _ => false,
+    }
+}
+
+/// Whether an act gives what it is to give.
+fn does<T: TextStore>(
+    alloc: Global,
+    documents: &mut Documents<T>,
+    act: &Act,
+) -> Result<bool, AllocError> {
+    match act {
+        Open(version, text) => {
+            documents.did_open("u", *version, text)?;
+        }
+        Note(version, rows, bytes) => {
+            let changes = changes_of(alloc, rows)?;
+            let found = documents.did_change("u", *version, changes.as_slice())?;
+            return Ok(are_bytes(found, *bytes));
+        }
+        Lose => documents.lose("u"),
+        Close(was_open) => return Ok(documents.did_close("u") == *was_open),
+    }
+    Ok(true)
+}
+
+fn do_all<T: TextStore>(
+    alloc: Global,
+    documents: &mut Documents<T>,
+    acts: &[(Act, Known)],
+) -> Result<bool, AllocError> {
+    for act in acts {
+        if !does(alloc, documents, &act.0)? || !is_known(documents, "u", act.1) {
+            return Ok(false);
+        }
+    }
+    Ok(true)
+}
+
+/// Whether acts do what they are to do, in the unit that was set before.
+fn are_done<T: TextStore>(alloc: Global, row: &Row) -> Result<bool, AllocError> {
+    let mut documents: Documents<T> = Documents::new(alloc);
+    if row.0 == Unit::Utf8 {
+        documents.set_unit(Unit::Utf8);
+    }
+    Ok(do_all(alloc, &mut documents, row.1)? && documents.unit() == row.0)
+}
+
+impl Case for Row {
+    fn holds(&self, alloc: Global) -> Result<bool, AllocError> {
+        Ok(are_done::<Whole>(alloc, self)? && are_done::<Lines>(alloc, self)?)
+    }
+}
+
+#[test]
+fn a_document_is_held_until_it_is_closed_or_lost(rt: HostRuntime) {
+    let wrong = first_wrong(rt.alloc(), ROWS);
+    assert!(rt; wrong.is_none(), "row {wrong:?}");
+}
+
+/// Opens a document, and once more where an allocation failed; then whether it was as before in between.
+fn opens(documents: &mut Documents<Lines>, uri: &str) -> bool {
+    if documents.did_open(uri, 1, OPENED).is_err() {
+        if documents.get(uri).is_some() || documents.did_open(uri, 1, OPENED).is_err() {
+            return false;
+        }
+    }
+    is_known(documents, uri, InStep(1, OPENED))
+}
+
+/// Changes a document by a note: it is in step where the note was taken, and else out of step.
+fn changes(documents: &mut Documents<Lines>, uri: &str, note: &[Change]) -> bool {
+    match documents.did_change(uri, 2, note) {
+        Ok(_bytes) => is_known(documents, uri, InStep(2, CHANGED_BY_THREE)),
+        Err(AllocError) => is_known(documents, uri, OutOfStep),
+    }
+}
+
+/// Opens two documents and changes one of them. Whether they are held as they are to be.
+fn are_held(alloc: Global) -> Result<bool, AllocError> {
+    let note = changes_of(alloc, THREE_CHANGES)?;
+    let mut documents: Documents<Lines> = Documents::new(alloc);
+    Ok(
+        opens(&mut documents, "u")
+            && opens(&mut documents, "v")
+            && changes(&mut documents, "u", note.as_slice())
+            && is_known(&documents, "v", InStep(1, OPENED)),
+    )
+}
+
+/// Whether a text is as it was where a replacement is refused.
+fn is_text_left(alloc: Global) -> Result<bool, AllocError> {
+    let mut store = Lines::from_str(alloc, OPENED)?;
+    match store.replace(range_of((1, 0), (1, 0)), "\nmore than there was room for") {
+        Ok(()) => Ok(store.as_str() == "a\r\nmore than there was room forb"),
+        Err(AllocError) => Ok(store.as_str() == OPENED),
+    }
+}
+
+// `make test` runs this with each allocation refused in turn. (What it allocates for itself it tries a second time.)
+#[test]
+fn a_refused_note_leaves_its_document_alone_out_of_step(rt: HostRuntime) {
+    let held = are_held(rt.alloc());
+    assert!(rt; held == Ok(true) || held.is_err() && are_held(rt.alloc()) == Ok(true));
+}
+
+// In the same way.
+#[test]
+fn a_refused_replacement_leaves_the_text(rt: HostRuntime) {
+    let left = is_text_left(rt.alloc());
+    assert!(rt; left == Ok(true) || left.is_err() && is_text_left(rt.alloc()) == Ok(true));
+}
