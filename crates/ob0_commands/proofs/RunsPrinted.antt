@@ -4,11 +4,10 @@ use Rattle.std.specs.Io.KnownBytes.{Appends}
 use Rattle.ob0_analysis.specs.Diagnosed.{IsWellTypedModule}
 use Rattle.ob0_run_lowering.specs.declared.programs.Program.{Program}
 use Rattle.ob0_run_machine.specs.declared.machine.Item.{Item}
-use Rattle.ob0_run.specs.declared.running.End.{End}
-use Rattle.ob0_run.specs.declared.running.End.TheVariants as end
-use Rattle.ob0_run.specs.declared.running.Outcome.{Outcome}
-use Rattle.ob0_run.specs.Outcomes.{end_in, run_of}
-use Rattle.ob0_run.specs.States.{items_out}
+use Rattle.ob0_run_machine.specs.declared.running.End.{End}
+use Rattle.ob0_run_machine.specs.declared.running.End.TheVariants as end
+use Rattle.ob0_run_machine.specs.declared.running.Outcome.{Outcome}
+use Rattle.ob0_run.specs.Outcomes.{end_in, items_out, run_of}
 use Rattle.ob0_commands.specs.declared.faults.FileFault.{FileFault}
 use Rattle.ob0_commands.specs.declared.faults.FileFault.TheVariants as fault
 use Rattle.ob0_commands.specs.Numbers.{HasNoNumbers, IsInputOf}

@@ -5,8 +5,8 @@ use Rattle.std.specs.Fmt.{signed_decimal}
 use Rattle.std.specs.Io.KnownBytes.{Appends}
 use Rattle.std.specs.Str.{chars}
 use Rattle.ob0_language_runs.specs.Runs.{Written, line_out, number_out}
-use Rattle.ob0_run.specs.declared.running.End.{End}
-use Rattle.ob0_run.specs.declared.running.End.TheVariants as end
+use Rattle.ob0_run_machine.specs.declared.running.End.{End}
+use Rattle.ob0_run_machine.specs.declared.running.End.TheVariants as end
 use Rattle.ob0_scan.specs.Scanned.{max_text}
 use Rattle.ob0_scan.specs.declared.fault.Code.TheVariants.{TooLong}
 use Rattle.ob0_analysis.specs.Diagnosed.{Complaint, IsWellTypedModule, ReportsFaults, complaint_of}

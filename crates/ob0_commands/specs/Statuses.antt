@@ -4,8 +4,8 @@ use Rattle.std.specs.Prelude.{◌≡◌, ◌≢◌, ◌≤◌, ◌⊎◌, ℕ, L
 use Rattle.std.specs.Str.{IsUtf8}
 use Rattle.ob0_scan.specs.Scanned.{max_text}
 use Rattle.ob0_analysis.specs.Diagnosed.{IsWellTypedModule}
-use Rattle.ob0_run.specs.declared.running.End.{End}
-use Rattle.ob0_run.specs.declared.running.End.TheVariants as end
+use Rattle.ob0_run_machine.specs.declared.running.End.{End}
+use Rattle.ob0_run_machine.specs.declared.running.End.TheVariants as end
 use Rattle.ob0_commands.specs.declared.faults.FileFault.{FileFault}
 use Rattle.ob0_commands.specs.declared.faults.FileFault.TheVariants as fault
 use Rattle.ob0_commands.specs.Numbers.{HasNoNumbers}

@@ -7,8 +7,8 @@ use Rattle.ob0_analysis.specs.Diagnosed.{IsWellTypedModule}
 use Rattle.ob0_run.specs.Outcomes.{end_in}
 use Rattle.ob0_run.specs.Programs as lowered
 use Rattle.ob0_run_lowering.specs.declared.programs.Program.{Program}
-use Rattle.ob0_run.specs.declared.running.End.{End}
-use Rattle.ob0_run.specs.declared.running.End.TheVariants as end
+use Rattle.ob0_run_machine.specs.declared.running.End.{End}
+use Rattle.ob0_run_machine.specs.declared.running.End.TheVariants as end
 use Rattle.ob0_commands.specs.Endings.{EndsWell}
 use Rattle.ob0_commands.specs.Numbers.{IsInputOf}
 use Rattle.ob0_commands.specs.Printed.{PrintsFaults, end_line, output_text}

@@ -1,22 +1,29 @@
 -- What an outcome says of a run.
 -- Rule: none; for contracts: what values of the code mean.
+use Rattle.std.specs.Prelude.{List, map}
+use Rattle.ob0_language_runs.specs.Runs.{Run, Written}
 use Rattle.ob0_language_values.specs.Values as values
-use Rattle.ob0_run.specs.declared.running.End.{End}
-use Rattle.ob0_run.specs.declared.running.End.TheVariants as end
-use Rattle.ob0_run.specs.declared.running.Outcome.{Outcome}
-use Rattle.ob0_language_runs.specs.Runs.{Run}
-use Rattle.ob0_run.specs.States.{items_out}
+use Rattle.ob0_run_machine.specs.Machines as machine
+use Rattle.ob0_run_machine.specs.Outcomes as outcomes
+use Rattle.ob0_run_machine.specs.declared.machine.Item.{Item}
+use Rattle.ob0_run_machine.specs.declared.running.End.{End}
+use Rattle.ob0_run_machine.specs.declared.running.Outcome.{Outcome}
+use Rattle.ob0_run_cells.specs.ActivationLaws as cells
+use Rattle.ob0_run_cells.specs.LoweredStatements.{written_of}
+use Rattle.ob0_run_cells.specs.Lowering.{end_of}
+
+-- an item of output of the code
+abbrev pub item_of : Item → Written
+item_of i = written_of (machine.item_of i)
+
+-- the output of the code
+abbrev pub items_out : List Item → List Written
+items_out is = map written_of (machine.items_out is)
 
 -- an end of the code
 abbrev pub end_in : End → values.End
-end_in end.Done = values.Done
-end_in end.Overflow = values.Overflow
-end_in end.Divisor = values.Divisor
-end_in end.Index = values.Index
-end_in end.InputEnd = values.InputEnd
-end_in end.CallBound = values.CallBound
-end_in end.TurnBound = values.TurnBound
+end_in e = end_of (outcomes.end_in e)
 
 -- the run that an outcome gives
 abbrev pub run_of : Outcome → Run
-run_of o = record { output = items_out o.output.items; ending = end_in o.end }
+run_of o = cells.run_of (outcomes.run_of o)

@@ -16,9 +16,7 @@ ghost use Rattle.ob0_tree.specs.Tree.{Tree, module_text};
 ghost use Rattle.ob0_language_names.specs.Names.{Name};
 ghost use Rattle.ob0_language_values.specs.Values as values;
 ghost use Rattle.ob0_language_runs.specs.Runs.{run};
-ghost use Rattle.ob0_run_machine.specs.Outcomes as machine;
 ghost use Rattle.ob0_run_machine.specs.View.{program_of};
-ghost use Rattle.ob0_run_cells.specs.Lowering.{end_of};
 ghost use Rattle.ob0_run_cells.specs.LoweredStatements.{HaveNumbers};
 ghost use Rattle.ob0_run_lowering.specs.LoweredModules.{MeansModule};
 ghost use Rattle.ob0_run.specs.Outcomes.{end_in, run_of};
@@ -26,52 +24,9 @@ ghost use Rattle.ob0_run.specs.Programs.{RunsAs};
 
 use ob0_run_cells::activation_laws::runs_lowered;
 use ob0_run_lowering::Program;
-use ob0_run_machine::{Ending, Item};
+use ob0_run_machine::{End, Outcome};
 use ob0_types::WellTyped;
 use std::alloc::{AllocError, Global};
-
-/// How a run ends.
-#[derive(Clone, Copy, Debug, PartialEq, Eq)]
-pub enum End {
-    /// The end of the module's body.
-    Done,
-    /// A result outside the 32 bits.
-    Overflow,
-    /// A divisor below 1.
-    Divisor,
-    /// An index outside its array.
-    Index,
-    /// Nothing left to read.
-    InputEnd,
-    /// A call more than may be open.
-    CallBound,
-    /// An iteration more than an execution of a loop may make.
-    TurnBound,
-}
-
-/// What a run output, and how it ended.
-#[derive(Debug, Drop)]
-pub struct Outcome {
-    pub output: Vec<Item>,
-    pub end: End,
-}
-
-/// How a run of the machine ended.
-fn end_of(end: ob0_run_machine::Halt) -> End
-    ensures { end_in result ≡ end_of (machine.end_in end) }
-{
-    match end {
-        ob0_run_machine::Halt::Done => End::Done,
-        ob0_run_machine::Halt::Ended(ending) => match ending {
-            Ending::Overflow => End::Overflow,
-            Ending::Divisor => End::Divisor,
-            Ending::Index => End::Index,
-            Ending::InputEnd => End::InputEnd,
-            Ending::CallBound => End::CallBound,
-            Ending::TurnBound => End::TurnBound,
-        },
-    }
-}
 
 /// An input is of numbers of 32 bits, as the law of lowered runs requires. The loop is for the proof alone: that an `i32`
 /// has 32 bits is known of each that is read, not of all at once, so each is read, once for a run.
@@ -147,10 +102,6 @@ pub fn execute(
     have_numbers(input);
     let bound = calls_with_addresses(program.most_cells, calls);
     let outcome = ob0_run_machine::run(alloc, &program.code, input, bound, turns)?;
-    let outcome = Outcome {
-        output: outcome.output,
-        end: end_of(outcome.end),
-    };
     if bound < calls {
         return of_fewer_calls(outcome);
     }

@@ -17,7 +17,7 @@ use Rattle.ob0_run_machine.specs.Lowered as lowered
 use Rattle.ob0_run_machine.specs.View.{program_of, sequence_of}
 use Rattle.ob0_run_machine.specs.declared.code.Instruction.{Instruction}
 use Rattle.ob0_run_machine.specs.Outcomes.{EndsAs, IsEndOf, block_run, end_in}
-use Rattle.ob0_run_machine.specs.declared.running.Halt.{Halt}
+use Rattle.ob0_run_machine.specs.declared.running.End.{End}
 use Rattle.std.specs.declared.alloc.AllocError.{AllocError}
 use Rattle.std.specs.Prelude.{slice_get}
 
@@ -89,12 +89,12 @@ given d (Err e) = d
 ok-same : {A E : Type 0} {a b : A} (r : Result A E) → r ≡ Ok a → r ≡ Ok b → a ≡ b
 ok-same {a = a} r h k = sym (ap (given a) h) ∙ ap (given a) k
 
-ended_at : (o : Option ending.Halt) (m : Machine) (p : MachineProgress) (r : Result Halt AllocError) (end : Halt) → r ≡ Ok end → EndsAs o r → StopsRun o m p
+ended_at : (o : Option ending.Halt) (m : Machine) (p : MachineProgress) (r : Result End AllocError) (end : End) → r ≡ Ok end → EndsAs o r → StopsRun o m p
     → record { output = items_out m.output.items; ending = end_in end } ≡ finished p
 ended_at (Some e) m p r end is h steps = ap (λ e. record { output = items_out m.output.items; ending = e }) (ap end_in (ok-same r is h.1) ∙ h.2) ∙ sym (ap finished steps)
 ended_at None m p r end is h steps = let no = subst IsErr is h in absurd (cc)
 
-pub ended_by : (m : Machine) (p : MachineProgress) (executed : Result (Unit {0}) Stop) (r : Result Halt AllocError) (end : Halt) → r ≡ Ok end → IsEndOf executed r → MachineSteps executed m p
+pub ended_by : (m : Machine) (p : MachineProgress) (executed : Result (Unit {0}) Stop) (r : Result End AllocError) (end : End) → r ≡ Ok end → IsEndOf executed r → MachineSteps executed m p
     → record { output = items_out m.output.items; ending = end_in end } ≡ finished p
 ended_by m p (Ok done) r end is h steps = ap (λ e. record { output = items_out m.output.items; ending = end_in e }) (ok-same r is h) ∙ sym (ap finished steps)
 ended_by m p (Err s) r end is h steps = ended_at (end_at s) m p r end is h steps

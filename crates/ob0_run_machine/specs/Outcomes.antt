@@ -2,34 +2,39 @@
 -- Rule: none; for contracts: what values of the code mean.
 use Rattle.std.specs.Prelude.{◌≡◌, ℕ, IsErr, Ok, Err, None, Option, Result, Some}
 use Rattle.std.specs.declared.alloc.AllocError.{AllocError}
-use Rattle.ob0_run_machine.specs.declared.running.Halt as code_end
-use Rattle.ob0_run_machine.specs.declared.running.Halt.TheVariants as code
-use Rattle.ob0_run_machine.specs.declared.running.Execution.{Execution}
+use Rattle.ob0_run_machine.specs.declared.running.End.{End}
+use Rattle.ob0_run_machine.specs.declared.running.End.TheVariants as code
+use Rattle.ob0_run_machine.specs.declared.running.Outcome.{Outcome}
 use Rattle.ob0_run_machine.specs.declared.ending.Stop.{Stop}
-use Rattle.ob0_run_machine.specs.Answers.{end_at, end_of}
-use Rattle.ob0_run_machine.specs.Evaluation.{Done, Halt}
+use Rattle.ob0_run_machine.specs.Answers.{end_at}
+use Rattle.ob0_run_machine.specs.Evaluation.{CallBound, Divisor, Done, Halt, Index, InputEnd, Overflow, TurnBound}
 use Rattle.ob0_run_machine.specs.Execution.{MachineProgress, MachineRun, MachineState, call, execute_all, outermost}
 use Rattle.ob0_run_machine.specs.Lowered.{LoweredCode}
 use Rattle.ob0_run_machine.specs.Machines.{items_out}
 
 -- an end of the code
-abbrev pub end_in : code_end.Halt → Halt
+abbrev pub end_in : End → Halt
 end_in code.Done = Done
-end_in (code.Ended e) = end_of e
+end_in code.Overflow = Overflow
+end_in code.Divisor = Divisor
+end_in code.Index = Index
+end_in code.InputEnd = InputEnd
+end_in code.CallBound = CallBound
+end_in code.TurnBound = TurnBound
 
 -- this end is returned, and an error where there is none
-abbrev pub EndsAs : Option Halt → Result code_end.Halt AllocError → Type 0
-EndsAs (Some e) r = (x : code_end.Halt) × (r ≡ Ok x) × (end_in x ≡ e)
+abbrev pub EndsAs : Option Halt → Result End AllocError → Type 0
+EndsAs (Some e) r = (x : End) × (r ≡ Ok x) × (end_in x ≡ e)
 EndsAs None r = IsErr r
 
 -- statements that return have reached the end of the program, a rule that they break ends the run,
 -- and nothing else but an allocation that failed leaves it without an end
-abbrev pub IsEndOf : Result (Unit {0}) Stop → Result code_end.Halt AllocError → Type 0
+abbrev pub IsEndOf : Result (Unit {0}) Stop → Result End AllocError → Type 0
 IsEndOf (Ok done) r = r ≡ Ok code.Done
 IsEndOf (Err s) r = EndsAs (end_at s) r
 
 -- an outcome of the code as a run
-abbrev pub run_of : Execution → MachineRun
+abbrev pub run_of : Outcome → MachineRun
 run_of o = record { output = items_out o.output.items; ending = end_in o.end }
 
 -- the statements of a program, from a state on

@@ -16,6 +16,5 @@ mod passing;
 mod running;
 mod statements;
 
-pub use ending::Ending;
 pub use machine::Item;
-pub use running::{Execution, Halt, run};
+pub use running::{End, Outcome, run};

@@ -8,7 +8,7 @@ ghost use Rattle.ob0_run_machine.specs.View.{program_of};
 
 use crate::calls::call;
 use crate::code::LoweredCode;
-use crate::ending::{Ending, Stop};
+use crate::ending::Stop;
 use crate::level::Level;
 use crate::machine::{Item, Machine};
 use crate::memory::Memory;
@@ -17,17 +17,28 @@ use std::alloc::{AllocError, Global};
 
 /// How a run ends.
 #[derive(Clone, Copy, PartialEq, Eq, Debug)]
-pub enum Halt {
+pub enum End {
     /// The end of the program.
     Done,
-    Ended(Ending),
+    /// A result outside the 32 bits.
+    Overflow,
+    /// A divisor below 1.
+    Divisor,
+    /// An index outside its array.
+    Index,
+    /// Nothing left to read.
+    InputEnd,
+    /// A call more than may be open.
+    CallBound,
+    /// An iteration more than an execution of a loop may make.
+    TurnBound,
 }
 
 /// What a run output, and how it ended.
-#[derive(Drop)]
-pub struct Execution {
+#[derive(Debug, Drop)]
+pub struct Outcome {
     pub output: Vec<Item>,
-    pub end: Halt,
+    pub end: End,
 }
 
 /// The statements of a program.
@@ -52,18 +63,18 @@ fn execute(
 }
 
 /// The end of a run whose statements returned this. An error exactly where an allocation failed.
-fn end_of(executed: Result<(), Stop>) -> Result<Halt, AllocError>
+fn end_of(executed: Result<(), Stop>) -> Result<End, AllocError>
     ensures { IsEndOf executed result }
 {
     match executed {
-        Ok(()) => Ok(Halt::Done),
+        Ok(()) => Ok(End::Done),
         Err(stop) => match stop {
-            Stop::Overflow => Ok(Halt::Ended(Ending::Overflow)),
-            Stop::Divisor => Ok(Halt::Ended(Ending::Divisor)),
-            Stop::Index => Ok(Halt::Ended(Ending::Index)),
-            Stop::InputEnd => Ok(Halt::Ended(Ending::InputEnd)),
-            Stop::CallBound => Ok(Halt::Ended(Ending::CallBound)),
-            Stop::TurnBound => Ok(Halt::Ended(Ending::TurnBound)),
+            Stop::Overflow => Ok(End::Overflow),
+            Stop::Divisor => Ok(End::Divisor),
+            Stop::Index => Ok(End::Index),
+            Stop::InputEnd => Ok(End::InputEnd),
+            Stop::CallBound => Ok(End::CallBound),
+            Stop::TurnBound => Ok(End::TurnBound),
             Stop::Memory => Err(AllocError),
         },
     }
@@ -81,7 +92,7 @@ pub fn run(
     input: &[i32],
     calls: u32,
     turns: u32,
-) -> Result<Execution, AllocError>
+) -> Result<Outcome, AllocError>
     ensures { IfOk result (λ o. run_of o ≡ run (program_of program.now) input.now calls turns) }
 {
     let mut memory = Memory::new(alloc);
@@ -94,7 +105,7 @@ pub fn run(
         output: Vec::new(alloc),
     };
     let end = end_of(execute(program, calls, turns, &mut machine))?;
-    Ok(Execution {
+    Ok(Outcome {
         output: machine.output,
         end,
     })

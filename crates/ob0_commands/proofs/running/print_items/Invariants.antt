@@ -1,5 +1,5 @@
 use Rattle.std.proofs.Common.{◌≡◌, ◌++◌, drop}
-use Rattle.ob0_run.specs.States.{items_out}
+use Rattle.ob0_run.specs.Outcomes.{items_out}
 use Rattle.ob0_commands.specs.Printed.{IsWrittenBut, output_text}
 use Rattle.ob0_commands.proofs.running.print_items.Given as goal
 
