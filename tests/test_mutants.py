@@ -374,9 +374,9 @@ def whole_run() -> None:
     right = mutant(folder, "right", line, f"{line} ")
     bad = mutant(folder, "bad", line, f"{line} | lf()")
     lost = mutant(folder, "lost", "        [b'y']", line)
-    words = [it.try_over(libraries, mutants.CALLED).word for it in (right, bad, lost)]
+    words = [mutants.try_together([it], libraries, mutants.CALLED)[0].word for it in (right, bad, lost)]
     same(words, [mutants.PROVED, mutants.BAD, mutants.BAD], "what each comes to")
-    words = [it.try_over(libraries, mutants.CONTRACTS).word for it in (refused, right, bad)]
+    words = [mutants.try_together([it], libraries, mutants.CONTRACTS)[0].word for it in (refused, right, bad)]
     same(words, [mutants.REFUSED, mutants.NOT_TRIED, mutants.NOT_TRIED], "what each comes to over contracts alone")
     same(counts_with(wanted=1), (1, 0), "one that is refused")
     same(counts_with(right, bad, lost, wanted=4), (1, 3), "one that is made right again, one that doesn't compile, one without its text")
@@ -393,7 +393,7 @@ def contracts() -> None:
     chosen = mutant(folder, "chosen", "        [b'\\n'] | [b'\\r', b'\\n']", "        [b'x'] | [b'\\r', b'\\n']")
     room = os.path.join(folder, "room")
     checks.furnish(room, chosen.edit.crate, [chosen.edit])
-    chosen.leave_contracts(room)
+    mutants.leave_contracts(room, [chosen])
     source = chosen.source
     for it in source.functions:
         with open(os.path.join(room, it.file), encoding="utf-8") as file:
@@ -404,3 +404,11 @@ def contracts() -> None:
         holds(is_own or os.path.isfile(os.path.join(proof, "Proof.antt")), f"{it.path} has no hole")
         holds(is_own or not os.path.exists(os.path.join(proof, "Answers.antt")), f"{it.path} has its answers")
     shutil.rmtree(folder)
+
+
+@test("mutants: those of a crate are in one check, but for two that turn one function")
+def groups() -> None:
+    of_text = [it for it in mutants.mutants_of_gate() if it.edit.crate == "ob0_text"]
+    names = [[it.edit.name for it in group] for group in mutants.apart(of_text)]
+    together = ["changes_made_of_the_first_text.edit", "units_are_characters.edit"]
+    same(names, [together, ["utf16_units_are_bytes.edit"]], "two of `width` and one of `make_changes`")

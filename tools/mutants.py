@@ -2,12 +2,12 @@
 first line names.
 
 `make test` calls this after `rt ci`, over the libraries that `rt ci` has proved. A mutant is tried by a check of the function that
-it turns (`rattle check --only`), those of one crate one after the other, each over what the ones before it kept in this run; as many
-crates side by side as processors and memory allow. Of each other function of the crate the check has the contract alone, which is
-all that a proof rests on, and which `rt ci` has proved: it has no body, and a hole for a proof. A mutant that isn't refused so by a
-clause that it names is tried with what its function calls. Where such a check ends without a verdict it is made once more, alone;
-where that has none either, the whole crate is checked with the mutant; and where a library lacks, all crates are proved as
-`make check` does, and the mutant is tried over what that keeps."""
+it turns (`rattle check --only`): those of one crate, of which no two turn one function, in one check, and as many crates side by
+side as processors and memory allow. Of each other function of the crate the check has the contract alone, which is all that a
+proof rests on, and which `rt ci` has proved: it has no body, and a hole for a proof. A mutant that isn't refused so by a clause
+that it names is tried alone, with what its function calls, over what the checks before it kept in this run. Where such a check ends
+without a verdict it is made once more, with nothing beside it; where that has none either, the whole crate is checked with the
+mutant; and where a library lacks, all crates are proved as `make check` does, and the mutant is tried over what that keeps."""
 from __future__ import annotations
 
 import os
@@ -96,8 +96,8 @@ class Mutant:
     def __init__(self, edit: edits.Edit, source: reading.Source) -> None:
         self.edit, self.source = edit, source
         self.claim = edit.claim
-        turned = source.proved_with(edit.turned or ())
-        self.named = [it for it in turned if self.claim and self.claim.is_of(it)]
+        self.turned = source.proved_with(edit.turned or ())
+        self.named = [it for it in self.turned if self.claim and self.claim.is_of(it)]
         # (functions that call each other have one proof, and the prover may refuse it under any of their names)
         self.functions = source.proved_with(self.named)
 
@@ -115,50 +115,63 @@ class Mutant:
         """The paths under which its functions are asked for."""
         return sorted({it.checked_as for it in self.named})
 
-    def try_over(self, libraries: Libraries, reads: int) -> Outcome:
-        """Tries it by a check of its functions, which reads so much beside them, over what those before it kept."""
-        if self.fault or not self.claim:
-            return Outcome(self.edit, BAD, self.fault or "")
-        words = libraries.words(self.edit.crate, [] if reads == WHOLE else self.asked) if self.edit.crate in libraries.proved else None
-        if not words:
-            return Outcome(self.edit, NOT_TRIED, "`rt ci` left no library of it, or of a crate below")
-        words += ["--incremental", os.path.join(KEPT, self.edit.crate)]
-        with tempfile.TemporaryDirectory(dir=build.ROOMS) as room:
-            checks.furnish(room, self.edit.crate, [self.edit])
-            if reads == CONTRACTS:
-                self.leave_contracts(room)
-                words.append("--allow-holes")
-            found = judge(self.edit, self.claim, checks.check(words, room), self.functions)
-        # (over holes nothing is proved, and what another clause refuses may be for what a stub lacks)
-        return found._replace(word=NOT_TRIED) if reads == CONTRACTS and found.word != REFUSED else found
-
-    def leave_contracts(self, room: str) -> None:
-        """Leaves of each function but those with this mutant the contract alone."""
-        own = {it.proof for it in self.functions}
-        others = [it for it in self.source.functions if it.has_body and not it.is_test and it.proof not in own]
-        for path in {it.file for it in others}:
-            with open(os.path.join(room, path), encoding="utf-8") as file:
-                lines = file.read().split("\n")
-            for it in others:
-                if it.file == path:
-                    take_body(lines, it)
-            with open(os.path.join(room, path), "w", encoding="utf-8") as file:
-                file.write("\n".join(lines))
-        for it in others:
-            *above, name = it.checked_as.split("::")
-            # (the proof of a cycle is beside its functions; one without a body is in no cycle)
-            for last in (name, it.proof.rpartition("::")[2]):
-                remove_proof(os.path.join(room, "proofs", *above, last))
-            folder = os.path.join(room, "proofs", *above, name)
-            os.makedirs(folder, exist_ok=True)
-            with open(os.path.join(folder, "Proof.antt"), "w", encoding="utf-8") as file:
-                file.write(HOLE.format(crate=it.crate, module=".".join([*above, name]), name=name))
-
     def try_over_kept(self, libraries: checks.Libraries) -> Outcome:
         """Tries it over what a check of the crate has kept."""
         if not self.claim:
             return Outcome(self.edit, BAD, self.fault or "")
         return judge(self.edit, self.claim, wrong_bodies.check(self.edit.crate, [self.edit], libraries), self.functions)
+
+
+def try_together(chosen: list[Mutant], libraries: Libraries, reads: int) -> list[Outcome]:
+    """Tries mutants of one crate, of which no two turn one function, by one check of their functions. It reads so much beside them,
+    over what the checks before it kept."""
+    crate, able = chosen[0].edit.crate, [it for it in chosen if not it.fault]
+    asked = [] if reads == WHOLE else sorted({path for it in able for path in it.asked})
+    words = libraries.words(crate, asked) if able and crate in libraries.proved else None
+    if not words:
+        return [outcome_of(it, None, reads) for it in chosen]
+    words += ["--incremental", os.path.join(KEPT, crate)]
+    with tempfile.TemporaryDirectory(dir=build.ROOMS) as room:
+        checks.furnish(room, crate, [it.edit for it in able])
+        if reads == CONTRACTS:
+            leave_contracts(room, able)
+            words.append("--allow-holes")
+        said = checks.check(words, room)
+    return [outcome_of(it, said, reads) for it in chosen]
+
+
+def outcome_of(mutant: Mutant, said: Optional[Said], reads: int) -> Outcome:
+    """What a check says of one of its mutants."""
+    if mutant.fault or not mutant.claim:
+        return Outcome(mutant.edit, BAD, mutant.fault or "")
+    if not said:
+        return Outcome(mutant.edit, NOT_TRIED, "`rt ci` left no library of it, or of a crate below")
+    found = judge(mutant.edit, mutant.claim, said, mutant.functions)
+    # (over holes nothing is proved, and what another clause refuses may be for what a stub lacks)
+    return found._replace(word=NOT_TRIED) if reads == CONTRACTS and found.word != REFUSED else found
+
+
+def leave_contracts(room: str, chosen: list[Mutant]) -> None:
+    """Leaves of each function of a crate but those with these mutants the contract alone."""
+    own = {it.proof for mutant in chosen for it in mutant.functions}
+    others = [it for it in chosen[0].source.functions if it.has_body and not it.is_test and it.proof not in own]
+    for path in {it.file for it in others}:
+        with open(os.path.join(room, path), encoding="utf-8") as file:
+            lines = file.read().split("\n")
+        for it in others:
+            if it.file == path:
+                take_body(lines, it)
+        with open(os.path.join(room, path), "w", encoding="utf-8") as file:
+            file.write("\n".join(lines))
+    for it in others:
+        *above, name = it.checked_as.split("::")
+        # (the proof of a cycle is beside its functions; one without a body is in no cycle)
+        for last in (name, it.proof.rpartition("::")[2]):
+            remove_proof(os.path.join(room, "proofs", *above, last))
+        folder = os.path.join(room, "proofs", *above, name)
+        os.makedirs(folder, exist_ok=True)
+        with open(os.path.join(folder, "Proof.antt"), "w", encoding="utf-8") as file:
+            file.write(HOLE.format(crate=it.crate, module=".".join([*above, name]), name=name))
 
 
 def take_body(lines: list[str], function: reading.Function) -> None:
@@ -188,6 +201,20 @@ def mutants_of_gate() -> list[Mutant]:
     return sorted(found, key=lambda it: -sum(map(len, it.source.words.values())))
 
 
+def apart(chosen: list[Mutant]) -> list[list[Mutant]]:
+    """Mutants in groups, in each of which no two turn one function."""
+    groups: list[Tuple[set[str], list[Mutant]]] = []
+    for mutant in chosen:
+        turned = {it.proof for it in mutant.turned}
+        found = next((it for it in groups if not it[0] & turned), None)
+        if found is None:
+            found = set(), []
+            groups.append(found)
+        found[0].update(turned)
+        found[1].append(mutant)
+    return [group for _, group in groups]
+
+
 def say(outcome: Outcome, how: str = "") -> Outcome:
     print(f"{outcome.word}: {outcome.edit.path}{how}: {outcome.why}", flush=True)
     return outcome
@@ -198,13 +225,16 @@ def try_side_by_side(chosen: list[Mutant], libraries: Libraries, lanes: int, rea
     way."""
     os.makedirs(KEPT, exist_ok=True)
 
-    def one(mutant: Mutant) -> Tuple[Mutant, Outcome]:
+    def try_group(group: list[Mutant]) -> list[Tuple[Mutant, Outcome]]:
         timer = common.Timer()
-        found = mutant.try_over(libraries, reads)
-        return mutant, found if found.word == NOT_TRIED else say(found, f", {timer} over {OVER[reads]}")
+        found = try_together(group, libraries, reads)
+        how = f", {timer} over {OVER[reads]}" + (f", {len(group)} in one check" if len(group) > 1 else "")
+        return [(it, outcome if outcome.word == NOT_TRIED else say(outcome, how)) for it, outcome in zip(group, found)]
 
     def of_crate(crate: str) -> list[Tuple[Mutant, Outcome]]:
-        return [one(it) for it in chosen if it.edit.crate == crate]
+        own = [it for it in chosen if it.edit.crate == crate]
+        groups = apart(own) if reads == CONTRACTS else [[it] for it in own]
+        return [pair for group in groups for pair in try_group(group)]
 
     with ThreadPoolExecutor(lanes) as pool:
         return [it for found in pool.map(of_crate, dict.fromkeys(it.edit.crate for it in chosen)) for it in found]
