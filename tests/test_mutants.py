@@ -409,6 +409,6 @@ def contracts() -> None:
 @test("mutants: those of a crate are in one check, but for two that turn one function")
 def groups() -> None:
     of_text = [it for it in mutants.mutants_of_gate() if it.edit.crate == "ob0_text"]
-    names = [[it.edit.name for it in group] for group in mutants.apart(of_text)]
+    names = [[os.path.basename(it.edit.name) for it in group] for group in mutants.apart(of_text)]
     together = ["changes_made_of_the_first_text.edit", "units_are_characters.edit"]
     same(names, [together, ["utf16_units_are_bytes.edit"]], "two of `width` and one of `make_changes`")
