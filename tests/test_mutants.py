@@ -407,7 +407,7 @@ def contracts() -> None:
 
 
 @test("mutants: those of a crate are in one check, but for two that turn one function")
-def groups() -> None:
+def checks_of_a_crate() -> None:
     of_text = [it for it in mutants.mutants_of_gate() if it.edit.crate == "ob0_text"]
     names = [[os.path.basename(it.edit.name) for it in group] for group in mutants.apart(of_text)]
     together = ["changes_made_of_the_first_text.edit", "units_are_characters.edit"]
