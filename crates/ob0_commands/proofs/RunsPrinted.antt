@@ -63,7 +63,8 @@ prints_wrong file text given c t before mid after same kept wrong Said silent =
 pub stops_reading : (file text : List ℕ) (program : Program) (given : Option (List ℕ)) (failed : Bool) (Otherwise : Type 0) (f : FileFault) → text ≡ file → IsLoweredTo text program → ¬ (HasNoText file)
     → StopsFor fault.Input (HasNoNumbers given failed) Otherwise f → StopsRunning file given failed f
 stops_reading file text program given failed Otherwise f same lowered readable (inl none) =
-    inl (none.0, (subst IsWellTypedModule same lowered.well_typed, none.1))
+    let module_there : IsWellTypedModule text = record { tree = lowered.tree; text_of = lowered.text_of; well_typed = lowered.well_typed } in
+    inl (none.0, (subst IsWellTypedModule same module_there, none.1))
 stops_reading file text program given failed Otherwise f same lowered readable (inr memory) = inr (inr (inr memory.0, readable))
 
 -- what follows from what is known of a status, and of a value

@@ -2,8 +2,11 @@
 -- Rule: docs/PROTOCOL.md, The program 2.
 use Rattle.std.specs.Prelude.{◌≡◌, ◌≢◌, ◌⊎◌, ℕ, ℤ, List, Option, None, IfSome, Bool, true}
 use Rattle.std.specs.Io.KnownBytes.{Appends}
+use Rattle.ob0_tree.specs.Tree.{Tree, module_text}
+use Rattle.ob0_language_names.specs.Names.{Name}
+use Rattle.ob0_language_types.specs.WellTyped.{WellTyped}
 use Rattle.ob0_language_runs.specs.Runs.{Run, run}
-use Rattle.ob0_analysis.specs.Diagnosed.{IsWellTypedModule}
+use Rattle.ob0_analysis.specs.Diagnosed.{IsTextOf}
 use Rattle.ob0_run.specs.Outcomes.{end_in}
 use Rattle.ob0_run.specs.Programs as lowered
 use Rattle.ob0_run_lowering.specs.declared.programs.Program.{Program}
@@ -15,13 +18,17 @@ use Rattle.ob0_commands.specs.Printed.{PrintsFaults, end_line, output_text}
 
 -- the text is a well-typed module, and this is its run
 pub record TextRunsAs (text : List ℕ) (input : List ℤ) (c t : ℕ) (r : Run) : Type 0 where
-  pub well_typed : IsWellTypedModule text
-  pub is : r ≡ run well_typed.tree input c t
+  pub tree : Tree Name module_text
+  pub text_of : IsTextOf tree text
+  pub well_typed : WellTyped tree
+  pub is : r ≡ run tree input c t
 
 -- the text is a well-typed module, and this program runs as it does
 pub record IsLoweredTo (text : List ℕ) (program : Program) : Type 0 where
-  pub well_typed : IsWellTypedModule text
-  pub runs : lowered.RunsAs well_typed.tree program
+  pub tree : Tree Name module_text
+  pub text_of : IsTextOf tree text
+  pub well_typed : WellTyped tree
+  pub runs : lowered.RunsAs tree program
 
 -- known bytes grow by what a run of the file's module outputs,
 -- given the numbers that the known bytes of an input write

@@ -8,5 +8,5 @@ use Rattle.ob0_commands.proofs.running.execute_module.Goals as goal
 pub returns : goal.returns
 returns c =
     let l = c.requires in
-    IfOk-weaker c.execute.result (λ outcome. run_of outcome ≡ run l.well_typed.tree c.args.input.now c.args.calls c.args.turns) (λ outcome. TextRunsAs c.args.text.now c.args.input.now c.args.calls c.args.turns (run_of outcome))
-    (λ outcome same. record { well_typed = l.well_typed; is = same }) (c.execute.ensures l.well_typed.tree l.runs)
+    IfOk-weaker c.execute.result (λ outcome. run_of outcome ≡ run l.tree c.args.input.now c.args.calls c.args.turns) (λ outcome. TextRunsAs c.args.text.now c.args.input.now c.args.calls c.args.turns (run_of outcome))
+    (λ outcome same. record { tree = l.tree; text_of = l.text_of; well_typed = l.well_typed; is = same }) (c.execute.ensures l.tree l.runs)
