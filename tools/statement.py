@@ -403,8 +403,8 @@ PROVED = (
     "*Where an allocation fails* `play_in` may return an `Err`: then all that an `Ok` says holds of the first n "
     "events, for some n, or no session had begun (`PlaysBefore`). `serve` may return `Err(Memory)`: then it has "
     "written whole replies to the first n contents, for some n. (That the headline holds of these is inferred.)",
-    "*Every function returns*, given stack enough and devices whose calls return (where an allocation fails, an "
-    "`Err`), and none has undefined behaviour: by the checker. (`serve` hasn't returned while its reader waits.)",
+    "*Every function returns*, also where an allocation fails, given stack enough and devices whose calls return, and "
+    "none has undefined behaviour: by the checker. (`serve` hasn't returned while its reader waits.)",
 )
 UNPROVED = (
     "*The headline with another editor* (inferred). It holds with any editor that sends every change, makes the edits "
