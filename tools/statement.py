@@ -400,9 +400,10 @@ PROVED = (
     "and output don't; no call of either had returned an error before (`reads`, `writes`); it has read exactly the "
     "frames of what the session took, with no content of more than 16,777,216 bytes; it has returned, and neither "
     "`Err(Memory)` nor `Err(Write)`.",
-    "*Where an allocation fails* `play_in` may return an `Err`: then all that an `Ok` says holds of the first n "
-    "events, for some n, or no session had begun (`PlaysBefore`). `serve` may return `Err(Memory)`: then it has "
-    "written whole replies to the first n contents, for some n. (That the headline holds of these is inferred.)",
+    "*Where memory runs out* `play_in` may return an `Err`, whose cause no contract knows: then all that an `Ok` says "
+    "holds of the first n events, for some n, or no session had begun (`PlaysBefore`). `serve` may return "
+    "`Err(Memory)`: then it has written whole replies to the first n contents, for some n. (That the headline holds of "
+    "these is inferred.)",
     "*Every function returns*, also where an allocation fails, given stack enough and devices whose calls return, and "
     "none has undefined behaviour: by the checker. (`serve` hasn't returned while its reader waits.)",
 )
@@ -410,8 +411,8 @@ UNPROVED = (
     "*The headline with another editor* (inferred). It holds with any editor that sends every change, makes the edits "
     "of an answer at once and as the protocol says, and drops an answer whose document was changed, or closed and "
     "opened again, since it asked. Changes are sent in order, columns are counted as LSP does, and to take no keys "
-    "until the answer comes is as good as to drop it. The model's editor does so. Others write other "
-    "contents; of the headline with them there is no theorem, but real ones are tested (editors/README.md).",
+    "until the answer comes is as good as to drop it. The model's editor does so. Real ones are tested "
+    "(editors/README.md).",
     "*Other messages* (inferred; tested in tests/test_lifecycle.py). The model begins after an `initialize` that takes "
     "edits with versions and code actions with edits, and has openings, changes, closes and requests for edits alone. A "
     "real session has `initialized` too, `shutdown` and `exit` at its normal end, and perhaps hovers. By `react` these "
@@ -422,8 +423,8 @@ UNPROVED = (
     "*A `serve` that still runs* has written and flushed each reply before it reads on (inferred in part 6; tested in "
     "tests/test_stream.py). An editor waits for replies, while the contract takes all that will come as given at the "
     "call (`R.remaining`): that is harmless, since `serve` sees only what has come.",
-    "*That an `Err(Memory)` comes only where an allocation failed* (tested, docs/ROBUSTNESS.md): contracts don't know "
-    "how much memory there is.",
+    "*That these errors come only where an allocation failed* (tested, docs/ROBUSTNESS.md): contracts don't know how "
+    "much memory there is. So a `play_in` that always fails would meet its contract; tests show that it doesn't.",
 )
 UNPROMISED = (
     "**Not promised**: that memory, stack and time suffice; that an editor does its part; that events lead somewhere "
