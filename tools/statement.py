@@ -424,7 +424,7 @@ UNPROVED = (
     "tests/test_stream.py). An editor waits for replies, while the contract takes all that will come as given at the "
     "call (`R.remaining`): that is harmless, since `serve` sees only what has come.",
     "*That these errors come only where an allocation failed* (tested, docs/ROBUSTNESS.md): contracts don't know how "
-    "much memory there is. So a `play_in` that always fails would meet its contract; tests show that it doesn't.",
+    "much memory there is, so a `play_in` that always fails would meet its own.",
 )
 UNPROMISED = (
     "**Not promised**: that memory, stack and time suffice; that an editor does its part; that events lead somewhere "
