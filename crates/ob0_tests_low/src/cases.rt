@@ -4,7 +4,7 @@ use std::alloc::{AllocError, Global};
 
 /// A row of a table.
 pub trait Case {
-    /// Whether what comes of it is what stands in the row.
+    /// Whether what comes of it is what the row says.
     fn holds(&self, alloc: Global) -> Result<bool, AllocError>;
 }
 

@@ -1,4 +1,4 @@
-//! Events of worlds as they stand in tables, and what is seen of them. What they take for themselves is allocated a
+//! Events of worlds as tables write them, and what is seen of them. What they take for themselves is allocated a
 //! second time where that fails, since only one allocation does.
 
 use ob0_text::{Change, Indent, Position, Range, TextStore};
@@ -60,7 +60,7 @@ pub struct Story {
 #[derive(Clone, Copy, PartialEq, Eq)]
 pub enum Way {
     AsTold,
-    /// As told up to an allocation that fails, after which each step finds that all has ended.
+    /// As written up to an allocation that fails, after which each step finds that all has ended.
     Refused,
     Ended,
     Otherwise,

@@ -9,7 +9,7 @@ use std::process::Abort;
 
 /// How a story's events are made: one by one, over a store, or played.
 #[derive(Clone, Copy)]
-enum Telling {
+enum Manner {
     OverLines,
     OverWhole,
     Played,
@@ -104,20 +104,20 @@ fn play_through(alloc: Global, story: &Story, events: &[Event]) -> Outcome {
 }
 
 /// What comes of a story up to an event at which an allocation fails, or to its end.
-fn tell(alloc: Global, story: &Story, telling: Telling) -> Outcome {
+fn run_story(alloc: Global, story: &Story, manner: Manner) -> Outcome {
     match events_again(alloc, story) {
-        Ok(events) => match telling {
-            Telling::OverLines => step_through::<Lines>(alloc, story, events.as_slice()),
-            Telling::OverWhole => step_through::<Whole>(alloc, story, events.as_slice()),
-            Telling::Played => play_through(alloc, story, events.as_slice()),
+        Ok(events) => match manner {
+            Manner::OverLines => step_through::<Lines>(alloc, story, events.as_slice()),
+            Manner::OverWhole => step_through::<Whole>(alloc, story, events.as_slice()),
+            Manner::Played => play_through(alloc, story, events.as_slice()),
         },
         Err(AllocError) => NOTHING,
     }
 }
 
-/// Whether a story is told to its end, and leaves all that it is to leave.
-fn is_told(alloc: Global, story: &Story, telling: Telling) -> bool {
-    let Outcome(way, steps, applied, made) = tell(alloc, story, telling);
+/// Whether a story is run to its end, and leaves all that it is to leave.
+fn ends_as_written(alloc: Global, story: &Story, manner: Manner) -> bool {
+    let Outcome(way, steps, applied, made) = run_story(alloc, story, manner);
     way == Way::AsTold
         && steps == story.moments.len() as u64
         && applied == story.applied.len()
@@ -127,11 +127,11 @@ fn is_told(alloc: Global, story: &Story, telling: Telling) -> bool {
 /// Whether a story goes as it is written, or, where an allocation may fail, up to there.
 fn goes_as_written(alloc: Global, story: &Story, may_fail: bool) -> bool {
     if may_fail {
-        return tell(alloc, story, Telling::OverLines).0 != Way::Otherwise;
+        return run_story(alloc, story, Manner::OverLines).0 != Way::Otherwise;
     }
-    is_told(alloc, story, Telling::OverLines)
-        && is_told(alloc, story, Telling::OverWhole)
-        && is_told(alloc, story, Telling::Played)
+    ends_as_written(alloc, story, Manner::OverLines)
+        && ends_as_written(alloc, story, Manner::OverWhole)
+        && ends_as_written(alloc, story, Manner::Played)
 }
 
 /// The name of the first story that goes otherwise; of none the empty one.
@@ -156,9 +156,9 @@ fn a_refused_event_ends_a_world(rt: HostRuntime) {
     assert!(rt; name.is_empty(), "{name}");
 }
 
-fn tell_first(alloc: Global, telling: Telling) -> Outcome {
+fn run_first(alloc: Global, manner: Manner) -> Outcome {
     match stories().first() {
-        Some(story) => tell(alloc, story, telling),
+        Some(story) => run_story(alloc, story, manner),
         None => NOTHING,
     }
 }
@@ -167,14 +167,14 @@ fn tell_first(alloc: Global, telling: Telling) -> Outcome {
 // here knows at which event it failed.
 #[test]
 fn a_refused_event_leaves_what_was_played_before(rt: HostRuntime) {
-    let Outcome(way, steps, applied, made) = tell_first(rt.alloc(), Telling::Played);
+    let Outcome(way, steps, applied, made) = run_first(rt.alloc(), Manner::Played);
     assert!(rt; way != Way::Otherwise);
     let _ = println!(rt; "played {steps} {applied} {made}");
 }
 
 #[test]
 fn a_refused_step_ends_what_was_played(rt: HostRuntime) {
-    let Outcome(way, steps, applied, made) = tell_first(rt.alloc(), Telling::OverLines);
+    let Outcome(way, steps, applied, made) = run_first(rt.alloc(), Manner::OverLines);
     assert!(rt; way != Way::Otherwise);
     let _ = println!(rt; "played {steps} {applied} {made}");
 }
