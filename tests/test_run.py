@@ -247,7 +247,7 @@ def inlined() -> None:
     # (one that has grown too large isn't, without a word from the toolchain, and loops take a quarter longer)
     with open(BINARY, "rb") as file:
         program = file.read()
-    if b"ob0_run_machine::statements::run_loop" not in program:
+    if b"ob0_run_machine::statements::run_while" not in program:
         leave_out("the program has no symbols")
-    for name in ("statements::statement", "statements::in_order", "statements::branches", "passing::pass_all"):
+    for name in ("statements::statement", "statements::run_inlined", "statements::branches", "passing::pass_all"):
         holds(f"ob0_run_machine::{name}".encode() not in program, f"{name} isn't inlined")

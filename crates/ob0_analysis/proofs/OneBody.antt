@@ -42,32 +42,32 @@ module _ (s : SameTokens) (old new : Scanned) (alike : kinds new.tokens ≡ kind
   as_many =
       sym (length-map new.tokens (λ (t : Token). valueless t.kind)) ∙ (ap length alike ∙ length-map old.tokens (λ (t : Token). valueless t.kind))
 
-  same_back : s.back ≡ s.old_back
+  same_back : s.new_suffix ≡ s.old_suffix
   same_back =
-      let left : length after - s.back ≡ length before - s.old_back = sym (length-drop s.back after) ∙ (ap length written.back ∙ length-drop s.old_back before) in
+      let left : length after - s.new_suffix ≡ length before - s.old_suffix = sym (length-drop s.new_suffix after) ∙ (ap length written.back ∙ length-drop s.old_suffix before) in
       let a : length after ≡ length new.tokens = length-map new.tokens (read_in new.text) in
       let b : length before ≡ length old.tokens = length-map old.tokens (read_in old.text) in
       omega (arith, left, a, b, as_many, same.back_inside, same.old_back_inside)
 
-  same_outside : (i : ℕ) → is_out s.front s.old_back i ≡ true → slice_get after i ≡ slice_get before i
-  same_outside i e = one (nat_lt i s.front) refl
+  same_outside : (i : ℕ) → is_out s.prefix s.old_suffix i ≡ true → slice_get after i ≡ slice_get before i
+  same_outside i e = one (nat_lt i s.prefix) refl
     where
-      one : (b : Bool) → nat_lt i s.front ≡ b → slice_get after i ≡ slice_get before i
+      one : (b : Bool) → nat_lt i s.prefix ≡ b → slice_get after i ≡ slice_get before i
       one true h =
-          let less : i < s.front = grind (arith, nat_tests) in
-          sym (get_taken s.front after i less) ∙ (ap (λ l. slice_get l i) written.front ∙ get_taken s.front before i less)
+          let less : i < s.prefix = grind (arith, nat_tests) in
+          sym (get_taken s.prefix after i less) ∙ (ap (λ l. slice_get l i) written.front ∙ get_taken s.prefix before i less)
       one false h =
-          let late : s.old_back ≤ i = past (nat_le s.old_back i) refl (sym (ap (λ b. b || nat_le s.old_back i) h) ∙ e) in
-          let there : s.back + (i - s.old_back) ≡ i = omega (arith, late, same_back) in
-          let here : s.old_back + (i - s.old_back) ≡ i = omega (arith, late) in
-          sym (get_dropped s.back after (i - s.old_back) i there) ∙ (ap (λ l. slice_get l (i - s.old_back)) written.back ∙ get_dropped s.old_back before (i - s.old_back) i here)
+          let late : s.old_suffix ≤ i = past (nat_le s.old_suffix i) refl (sym (ap (λ b. b || nat_le s.old_suffix i) h) ∙ e) in
+          let there : s.new_suffix + (i - s.old_suffix) ≡ i = omega (arith, late, same_back) in
+          let here : s.old_suffix + (i - s.old_suffix) ≡ i = omega (arith, late) in
+          sym (get_dropped s.new_suffix after (i - s.old_suffix) i there) ∙ (ap (λ l. slice_get l (i - s.old_suffix)) written.back ∙ get_dropped s.old_suffix before (i - s.old_suffix) i here)
         where
-          past : (b : Bool) → nat_le s.old_back i ≡ b → b ≡ true → s.old_back ≤ i
+          past : (b : Bool) → nat_le s.old_suffix i ≡ b → b ≡ true → s.old_suffix ≤ i
           past true f g = grind (arith, nat_tests)
           past false f g = absurd (cc)
 
-module _ {new : Scanned} {tree : ModuleTree} {b : Bindings} {types : ModuleTypes} {s : SameTokens} (h : HadTree new tree b types s) (lies : is_in_body s.front s.old_back (tree_of (parsed_by new tree)) ≡ true) where
-  body_change : IsBodyChange h.old (parsed_by new tree) s.front s.old_back
+module _ {new : Scanned} {tree : ModuleTree} {b : Bindings} {types : ModuleTypes} {s : SameTokens} (h : HadTree new tree b types s) (lies : is_in_body s.prefix s.old_suffix (tree_of (parsed_by new tree)) ≡ true) where
+  body_change : IsBodyChange h.old (parsed_by new tree) s.prefix s.old_suffix
   body_change = record {
     old_scan = h.old_scan;
     new_scan = h.new_scan;
@@ -76,20 +76,20 @@ module _ {new : Scanned} {tree : ModuleTree} {b : Bindings} {types : ModuleTypes
     in_body = lies;
   }
 
-  pub was_bound : IsParsed (parsed_by new tree) → WasBound (parsed_by new tree) b s.front s.old_back
+  pub was_bound : IsParsed (parsed_by new tree) → WasBound (parsed_by new tree) b s.prefix s.old_suffix
   was_bound parsed = record { old = h.old; change = body_change; parsed = parsed; resolved = h.resolved }
 
   -- where they were bound again
-  pub were_types : (c : Bindings) → IsResolution (resolution_by (parsed_by new tree) c) → WereTypes (resolution_by (parsed_by new tree) c) types s.front
+  pub were_types : (c : Bindings) → IsResolution (resolution_by (parsed_by new tree) c) → WereTypes (resolution_by (parsed_by new tree) c) types s.prefix
   were_types c resolved = record {
-    high = s.old_back;
+    high = s.old_suffix;
     old = h.old;
     bindings = b;
     change = body_change;
-    bound = ordinals_outside h.old (parsed_by new tree) s.front s.old_back b c body_change h.resolved resolved;
+    bound = ordinals_outside h.old (parsed_by new tree) s.prefix s.old_suffix b c body_change h.resolved resolved;
     types_are = h.types_are;
   }
 
   -- where the names are bound as they were
-  pub kept_types : WereTypes (resolution_by (parsed_by new tree) b) types s.front
-  kept_types = record { high = s.old_back; old = h.old; bindings = b; change = body_change; bound = λ token e. refl; types_are = h.types_are }
+  pub kept_types : WereTypes (resolution_by (parsed_by new tree) b) types s.prefix
+  kept_types = record { high = s.old_suffix; old = h.old; bindings = b; change = body_change; bound = λ token e. refl; types_are = h.types_are }

@@ -26,10 +26,10 @@ pub(crate) fn is_in_one_body(
 ) -> Result<bool, AllocError>
     requires { IsParsed (parsed_by tokens.now tree.now) }
     ensures { IfOk result (λ lies. lies
-        ≡ is_in_body same.front same.old_back (tree_of (parsed_by tokens.now tree.now))) }
+        ≡ is_in_body same.prefix same.old_suffix (tree_of (parsed_by tokens.now tree.now))) }
 {
     let read = Module::from_parts(tokens, tree);
-    is_in_body(&read, same.front, same.old_back)
+    is_in_body(&read, same.prefix, same.old_suffix)
 }
 
 /// What the names are bound to: where the texts differ in one body, only that one is numbered again.
@@ -43,12 +43,12 @@ pub(crate) fn bind_again(
 ) -> Result<Bindings, AllocError>
     requires parsed { IsParsed (parsed_by tokens.now tree.now) }
     requires before { in_body ≡ true
-        → WasBound (parsed_by tokens.now tree.now) bindings same.front same.old_back }
+        → WasBound (parsed_by tokens.now tree.now) bindings same.prefix same.old_suffix }
     ensures { IfOk result (λ b. IsResolution (resolution_by (parsed_by tokens.now tree.now) b)) }
 {
     let read = Module::from_parts(tokens, tree);
     if in_body {
-        rebind_body(alloc, &read, bindings, same.front, same.old_back)
+        rebind_body(alloc, &read, bindings, same.prefix, same.old_suffix)
     } else {
         drop(bindings);
         bindings_of(alloc, &read)
@@ -68,7 +68,7 @@ pub(crate) fn check_again(
     requires parsed { IsParsed (parsed_by tokens.now tree.now) }
     requires resolved { IsResolution (resolution_by (parsed_by tokens.now tree.now) bindings.now) }
     requires before { in_body ≡ true → WereTypes
-        (resolution_by (parsed_by tokens.now tree.now) bindings.now) types same.front }
+        (resolution_by (parsed_by tokens.now tree.now) bindings.now) types same.prefix }
     ensures { IfOk result
         (AreTypesOf (resolution_by (parsed_by tokens.now tree.now) bindings.now)) }
 {
@@ -78,6 +78,6 @@ pub(crate) fn check_again(
     }
     let module = Module::from_parts(tokens, tree);
     let resolved = Resolved::from_parts(&module, bindings);
-    let again = types_again(alloc, &resolved, types, same.front)?;
+    let again = types_again(alloc, &resolved, types, same.prefix)?;
     Ok(again)
 }

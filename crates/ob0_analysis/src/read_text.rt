@@ -320,7 +320,7 @@ impl ReadText {
         requires parsed { IsParsed (parsed_by tokens tree) }
         requires resolved { IsResolution (resolution_by (parsed_by tokens tree) bindings) }
         requires before { in_body ≡ true
-            → WereTypes (resolution_by (parsed_by tokens tree) bindings) types same.front }
+            → WereTypes (resolution_by (parsed_by tokens tree) bindings) types same.prefix }
         ensures { IfOk result (λ r. r ≡ tokens.text) }
     {
         let types = check_again(alloc, &tokens, &tree, &bindings, types, same, in_body)?;

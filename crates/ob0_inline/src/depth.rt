@@ -36,7 +36,7 @@ pub(crate) fn is_too_deep<T: TextStore>(
     is_parsed_too_deep(alloc, store, edits)
 }
 
-/// The same by the text itself.
+/// Whether the text that these edits make is nested deeper than a module may be, by a parse of that text.
 fn is_parsed_too_deep<T: TextStore>(
     alloc: Global,
     store: &T,
@@ -76,7 +76,8 @@ fn is_module(alloc: Global, text: &str) -> Result<bool, EditRefusal>
     }
 }
 
-/// The same of its tokens.
+/// Whether tokens, of which a tree spells the text, are those of a module: then the tree is nested no deeper than a
+/// module may be.
 fn is_parsed(alloc: Global, tokens: &Tokens) -> Result<bool, EditRefusal>
     ensures shallow { (t : Tree (List ℕ) module_text)
         → text_lexemes tokens.now ≡ spell t

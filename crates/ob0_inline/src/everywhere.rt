@@ -49,7 +49,8 @@ pub fn inline_all<T: TextStore>(
     }
 }
 
-/// The same of a constant.
+/// The edits that write a constant's value in place of all its uses and take its declaration out, once the constant is
+/// found.
 fn inline_constant<T: TextStore>(
     alloc: Global,
     store: &T,

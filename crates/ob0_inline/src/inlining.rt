@@ -33,7 +33,7 @@ pub fn inline_here<T: TextStore>(
     }
 }
 
-/// The same at a use.
+/// The edit that writes a constant's value in place of a use of it, once the use is found.
 fn inline_use<T: TextStore>(
     alloc: Global,
     store: &T,

@@ -49,27 +49,27 @@ there_again old new at next here end t p same forward within = record {
   within = within;
 }
 
-pub front_stays : (old new : List Token) (same : SameTokens) (at next : ℕ) (t : Tree ℕ (item procedure)) → HasSameTokens same old new → next ≤ same.front → IsThere old at next t → IsThere new at next t
+pub front_stays : (old new : List Token) (same : SameTokens) (at next : ℕ) (t : Tree ℕ (item procedure)) → HasSameTokens same old new → next ≤ same.prefix → IsThere old at next t → IsThere new at next t
 front_stays old new same at next t h inside p =
-    let small : at + (next - at) ≤ same.front = omega (arith, p.forward, inside) in
+    let small : at + (next - at) ≤ same.prefix = omega (arith, p.forward, inside) in
     let alike : slice_range (kinds old) at next ≡ slice_range (kinds new) at next =
-    sym (within_front (kinds old) at (next - at) same.front small) ∙ ap (λ ks. take (next - at) (drop at ks)) (sym h.front) ∙ within_front (kinds new) at (next - at) same.front small in
+    sym (within_front (kinds old) at (next - at) same.prefix small) ∙ ap (λ ks. take (next - at) (drop at ks)) (sym h.front) ∙ within_front (kinds new) at (next - at) same.prefix small in
     there_again old new at next at next t p alike p.forward (omega (arith, inside, h.front_inside))
 
 count_kinds : (ts : List Token) (i : ℕ) → length (drop i (kinds ts)) ≡ length ts - i
 count_kinds ts i = length-drop i (kinds ts) ∙ ap (λ n. n - i) (length-map ts (λ (t : Token). valueless t.kind))
 
 pub back_moves : (old new : List Token) (same : SameTokens) (at next here end : ℕ) (t : Tree ℕ (item procedure)) → HasSameTokens same old new
-    → same.old_back ≤ at → here + same.old_back ≡ at + same.back → same.old_back ≤ next → end + same.old_back ≡ next + same.back
+    → same.old_suffix ≤ at → here + same.old_suffix ≡ at + same.new_suffix → same.old_suffix ≤ next → end + same.old_suffix ≡ next + same.new_suffix
     → IsThere old at next t → IsThere new here end t
 back_moves old new same at next here end t h in_at to_here in_next to_end p =
-    let i : ℕ = at - same.old_back in
-    let old_place : same.old_back + i ≡ at = omega (arith, in_at) in
-    let new_place : same.back + i ≡ here = omega (arith, in_at, to_here) in
+    let i : ℕ = at - same.old_suffix in
+    let old_place : same.old_suffix + i ≡ at = omega (arith, in_at) in
+    let new_place : same.new_suffix + i ≡ here = omega (arith, in_at, to_here) in
     let count : next - at ≡ end - here = omega (arith, in_at, to_here, in_next, to_end, p.forward) in
-    let both : length old - same.old_back ≡ length new - same.back = sym (count_kinds old same.old_back) ∙ ap (λ ks. length ks) (sym h.back) ∙ count_kinds new same.back in
+    let both : length old - same.old_suffix ≡ length new - same.new_suffix = sym (count_kinds old same.old_suffix) ∙ ap (λ ks. length ks) (sym h.back) ∙ count_kinds new same.new_suffix in
     let dropped : drop at (kinds old) ≡ drop here (kinds new) =
-    ap (λ n. drop n (kinds old)) (sym old_place) ∙ sym (drop-drop i same.old_back (kinds old)) ∙ ap (drop i) (sym h.back) ∙ drop-drop i same.back (kinds new) ∙ ap (λ n. drop n (kinds new)) new_place in
+    ap (λ n. drop n (kinds old)) (sym old_place) ∙ sym (drop-drop i same.old_suffix (kinds old)) ∙ ap (drop i) (sym h.back) ∙ drop-drop i same.new_suffix (kinds new) ∙ ap (λ n. drop n (kinds new)) new_place in
     there_again old new at next here end t p (ap (λ n. take n (drop at (kinds old))) count ∙ ap (take (end - here)) dropped)
     (omega (arith, in_at, to_here, in_next, to_end, p.forward)) (omega (arith, both, in_next, to_end, p.within, h.back_inside, h.old_back_inside))
 

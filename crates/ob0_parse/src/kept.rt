@@ -98,7 +98,8 @@ fn keep_waiting(
     Ok(kept)
 }
 
-/// The same of procedures whose leaves are in place. They are taken from the last to the first.
+/// Adds those of the procedures whose leaves are in place and whose tokens another text has, in the same order. They
+/// are taken from the last to the first.
 fn keep_made(
     kept: &mut Vec<KeptProcedure>,
     made: &mut Vec<Procedure>,
@@ -128,7 +129,7 @@ fn keep(
     Ok(())
 }
 
-/// The same of a procedure whose leaves are in place.
+/// Adds a procedure whose leaves are in place, where another text has its tokens.
 fn keep_one_made(
     kept: &mut Vec<KeptProcedure>,
     procedure: Procedure,
@@ -160,7 +161,7 @@ impl KeptProcedure {
     fn after(self, same: SameTokens) -> Option<KeptProcedure>
         ensures { IfSome result (CarriesTo same self) }
     {
-        if self.next <= same.front {
+        if self.next <= same.prefix {
             return Some(self);
         }
         let at = place_after_change(self.at, same)?;
@@ -175,11 +176,11 @@ impl KeptProcedure {
 
 /// Where a token after a change is, which was at this index.
 fn place_after_change(index: usize, same: SameTokens) -> Option<usize>
-    ensures { IfSome result (λ place. (same.old_back ≤ index)
-        × (place + same.old_back ≡ index + same.back)) }
+    ensures { IfSome result (λ place. (same.old_suffix ≤ index)
+        × (place + same.old_suffix ≡ index + same.new_suffix)) }
 {
-    let following = index.checked_sub(same.old_back)?;
-    following.checked_add(same.back)
+    let following = index.checked_sub(same.old_suffix)?;
+    following.checked_add(same.new_suffix)
 }
 
 /// Takes the kept procedure that begins at this token, if there is one. Those before it are dropped.

@@ -24,7 +24,7 @@ use std::alloc::{AllocError, Global};
 /// What was made, and the index of the token after it.
 pub type Parsed<T> = Result<(T, usize), ParseRefusal>;
 
-/// The same of an item, which need not be there.
+/// What was made of an item, which need not be there, and the index of the token after it.
 pub type ParsedItem<T> = Result<Option<(T, usize)>, ParseRefusal>;
 
 /// The tokens that are read, and where what is built gets its memory.

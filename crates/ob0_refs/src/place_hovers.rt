@@ -14,7 +14,7 @@ use ob0_scope_table::{Resolved, token_span};
 use ob0_tree::text_at;
 use ob0_types::{Identified, Meant, WellTyped, meant_at};
 use ob0_types_fields::typed_field;
-use ob0_types_table::{Known, TypeId};
+use ob0_types_table::{DeclarationTable, TypeId};
 use std::alloc::{AllocError, Global};
 
 /// The hover text at a place, where it lies in a name or at its end: of a name its declaration, and of a field its
@@ -58,7 +58,7 @@ fn hover_of(
 {
     let names = well_typed.resolved();
     let span = token_span(names.tokens(), name.token);
-    match name_text(alloc, well_typed.known(), names, name)? {
+    match name_text(alloc, well_typed.declarations(), names, name)? {
         None => Ok(None),
         Some(text) => Ok(Some(Hover { span, text })),
     }
@@ -72,7 +72,7 @@ fn field_hover(
 ) -> Result<Option<Hover>, AllocError>
     ensures { IfOk result (λ h. option_map hover_in h ≡ field_hover well_typed.now field) }
 {
-    let known = well_typed.known();
+    let known = well_typed.declarations();
     let names = well_typed.resolved();
     match typed_field(known, names, field) {
         None => Ok(None),
@@ -82,7 +82,7 @@ fn field_hover(
 
 fn typed_hover(
     alloc: Global,
-    known: &Known,
+    known: &DeclarationTable,
     names: &Resolved<'_>,
     token: usize,
     of: TypeId,

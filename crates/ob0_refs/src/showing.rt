@@ -24,13 +24,13 @@ use ob0_scan::Tokens;
 use ob0_scope::Named;
 use ob0_scope_table::{PREDECLARED, Resolved};
 use ob0_tree::text_at;
-use ob0_types_table::{Formal, Known, Object, TypeId};
+use ob0_types_table::{DeclarationTable, Formal, Object, TypeId};
 use std::alloc::{AllocError, Global};
 
 /// The hover text of a name. None where its declaration is nothing.
 pub(crate) fn name_text(
     alloc: Global,
-    known: &Known,
+    known: &DeclarationTable,
     names: &Resolved<'_>,
     name: Named,
 ) -> Result<Option<String>, AllocError>
@@ -49,7 +49,7 @@ pub(crate) fn name_text(
 
 fn object_text(
     alloc: Global,
-    known: &Known,
+    known: &DeclarationTable,
     names: &Resolved<'_>,
     name: Named,
     object: &Object,
@@ -71,7 +71,12 @@ fn object_text(
     }
 }
 
-fn type_line(alloc: Global, known: &Known, name: &str, of: TypeId) -> Result<String, AllocError>
+fn type_line(
+    alloc: Global,
+    known: &DeclarationTable,
+    name: &str,
+    of: TypeId,
+) -> Result<String, AllocError>
     ensures { IfOk result (λ text. string_bytes text
         ≡ named_type_text name.now (type_text (type_shape (shapes_of known.now) of))) }
 {
@@ -79,7 +84,12 @@ fn type_line(alloc: Global, known: &Known, name: &str, of: TypeId) -> Result<Str
     named_type_text(alloc, name, of.as_str())
 }
 
-fn variable_line(alloc: Global, known: &Known, name: &str, of: TypeId) -> Result<String, AllocError>
+fn variable_line(
+    alloc: Global,
+    known: &DeclarationTable,
+    name: &str,
+    of: TypeId,
+) -> Result<String, AllocError>
     ensures { IfOk result (λ text. string_bytes text
         ≡ variable_text name.now (type_text (type_shape (shapes_of known.now) of))) }
 {
@@ -90,7 +100,7 @@ fn variable_line(alloc: Global, known: &Known, name: &str, of: TypeId) -> Result
 /// The hover text of a field of a type.
 pub(crate) fn field_line(
     alloc: Global,
-    known: &Known,
+    known: &DeclarationTable,
     name: &str,
     of: TypeId,
 ) -> Result<String, AllocError>
@@ -104,7 +114,7 @@ pub(crate) fn field_line(
 
 fn procedure_line(
     alloc: Global,
-    known: &Known,
+    known: &DeclarationTable,
     names: &Resolved<'_>,
     name: Named,
     formals: &[Formal],
@@ -143,7 +153,7 @@ fn declared_after<'r>(names: &'r Resolved<'_>, ordinal: usize) -> &'r [usize]
 /// The parameters of a procedure, by the tokens of the declarations after it.
 fn parameters_of<'s>(
     alloc: Global,
-    known: &Known,
+    known: &DeclarationTable,
     tokens: &'s Tokens,
     following: &[usize],
     formals: &[Formal],
@@ -161,7 +171,7 @@ fn parameters_of<'s>(
 
 fn parameter_of<'s>(
     alloc: Global,
-    known: &Known,
+    known: &DeclarationTable,
     name: &'s str,
     formal: Formal,
 ) -> Result<Parameter<'s>, AllocError>

@@ -9,12 +9,16 @@ ghost use Rattle.ob0_types_table.specs.Tables.{type_shape};
 ghost use Rattle.ob0_language_values.specs.Values.{array_shape};
 
 use crate::hovers::{array_text, record_text};
-use ob0_types_table::{ArrayShape, Known, Parts, TypeId};
+use ob0_types_table::{ArrayShape, DeclarationTable, Parts, TypeId};
 use std::alloc::{AllocError, Global};
 
 /// The text of a type, arrays level by level; a record by the number of its fields.
 #[cycle(types)]
-pub(crate) fn type_text(alloc: Global, known: &Known, of: TypeId) -> Result<String, AllocError>
+pub(crate) fn type_text(
+    alloc: Global,
+    known: &DeclarationTable,
+    of: TypeId,
+) -> Result<String, AllocError>
     ensures { IfOk result
         (λ text. string_bytes text ≡ type_text (type_shape (shapes_of known.now) of)) }
 {
@@ -28,7 +32,11 @@ pub(crate) fn type_text(alloc: Global, known: &Known, of: TypeId) -> Result<Stri
 }
 
 #[cycle(types)]
-fn of_array(alloc: Global, known: &Known, array: ArrayShape) -> Result<String, AllocError>
+fn of_array(
+    alloc: Global,
+    known: &DeclarationTable,
+    array: ArrayShape,
+) -> Result<String, AllocError>
     ensures { IfOk result (λ text. string_bytes text
         ≡ type_text
         (array_shape array.ordinal array.length (type_shape (shapes_of known.now) array.element))) }

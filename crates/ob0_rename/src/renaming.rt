@@ -82,7 +82,7 @@ pub fn rename<T: TextStore>(
     }
 }
 
-/// The same for the declaration with an ordinal.
+/// The edits that write `new` for the declaration with an ordinal, in text order.
 fn rename_declaration<T: TextStore>(
     alloc: Global,
     store: &T,

@@ -6,7 +6,7 @@ use Rattle.std.specs.declared.alloc.Global.{Global}
 use Rattle.serde_json.specs.Data.{Data, null, number, string, unsigned}
 use Rattle.serde_json.specs.Find.{of_integer}
 use Rattle.serde_json.specs.View.{view}
-use Rattle.ob0_text.specs.OpenDocuments.{reported_change}
+use Rattle.ob0_text.specs.OpenDocuments.{change_in_text}
 use Rattle.ob0_rpc.specs.Requesting.{At, ClientRequest, initialize, shutdown, hover, definition, references, prepare_rename, rename, code_action, formatting}
 use Rattle.ob0_rpc.specs.Messages.{ReadsContent, MessageMeaning, not_a_message, response, request, notice, meaning_of}
 use Rattle.ob0_rpc.specs.Notifications.{Notification, exits, opens, changes, closes, unreadable, other, note_of}
@@ -88,7 +88,7 @@ seen_note noted.TheVariants.Exit = exits
 seen_note (noted.TheVariants.Open uri version text) =
     opens (string_bytes uri) version (chars (string_bytes text))
 seen_note (noted.TheVariants.Change uri version cs) =
-    changes (string_bytes uri) version (map reported_change cs.items)
+    changes (string_bytes uri) version (map change_in_text cs.items)
 seen_note (noted.TheVariants.Close uri) = closes (string_bytes uri)
 seen_note (noted.TheVariants.Unreadable uri) = unreadable (option_map string_bytes uri)
 seen_note noted.TheVariants.Other = other

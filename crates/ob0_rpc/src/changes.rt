@@ -5,7 +5,7 @@
 //! and the value that they are in is still needed. A range that is null counts as absent (the whole text); one that
 //! can't be read makes the whole notification one that can't be read.
 ghost use Rattle.std.specs.Prelude.{◌≡◌, IfOk, codes, option_and_then, option_map, map};
-ghost use Rattle.ob0_text.specs.OpenDocuments.{reported_change};
+ghost use Rattle.ob0_text.specs.OpenDocuments.{change_in_text};
 ghost use Rattle.serde_json.specs.Find.{get, as_array};
 ghost use Rattle.serde_json.specs.View.{view, items_view};
 ghost use Rattle.ob0_rpc.specs.Notifications.{changes_of as changes_in, change_in, range_of_change};
@@ -17,7 +17,7 @@ use std::alloc::{AllocError, Global};
 
 /// The changes, none where an entry can't be read.
 pub fn read_changes(alloc: Global, params: Value) -> Result<Option<Vec<Change>>, AllocError>
-    ensures { IfOk result (λ found. option_map (λ cs. map reported_change cs.items) found
+    ensures { IfOk result (λ found. option_map (λ cs. map change_in_text cs.items) found
         ≡ changes_in (view params)) }
 {
     let Some(entries) = entries_of(params) else {
@@ -55,7 +55,7 @@ fn into_list(value: Value) -> Option<Vec<Value>>
 
 /// A change of a range, or one of the whole text.
 fn read_change_in(entry: Value) -> Option<Change>
-    ensures { option_map reported_change result ≡ change_in (view entry) }
+    ensures { option_map change_in_text result ≡ change_in (view entry) }
 {
     let range = read_range(entry.get("range"))?;
     let text = into_text_in(entry, "text")?;

@@ -78,7 +78,7 @@ pub fn lower(alloc: Global, checked: &WellTyped<'_>) -> Result<Program, AllocErr
         (named_tree_of checked.now.module_read) (program_of made.code)) }
 {
     runs_lowered();
-    ob0_run_lowering::lower(alloc, checked.resolved(), checked.known())
+    ob0_run_lowering::lower(alloc, checked.resolved(), checked.declarations())
 }
 
 /// Executes a program on an input, with at most `calls` calls open at a time, and at most `turns` iterations of each

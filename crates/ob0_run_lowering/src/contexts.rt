@@ -30,7 +30,7 @@ impl<'g, 'k, 't> LoweringContext<'g, 'k, 't> {
             ≡ type_declared (object_at self.now.types.now (label_in self.now.resolved.now name)) }
     {
         let ordinal = self.resolved.ordinal_at(name)?;
-        self.types.known().declared_type(ordinal)
+        self.types.declarations().declared_type(ordinal)
     }
 
     /// How many cells the variable that a name declares has.

@@ -91,7 +91,7 @@ impl<'s, 'k, 't> Scene<'s, 'k, 't> {
         ensures { HasSmall self.now }
     {
         // For the proof: what the contracts of these calls say.
-        let _known = self.types.known();
+        let _known = self.types.declarations();
         let _text = self.resolved.tokens().text();
     }
 

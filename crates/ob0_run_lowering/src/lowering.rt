@@ -151,7 +151,7 @@ impl<'s, 'k, 't> Scene<'s, 'k, 't> {
     {
         let TypedPlace { place, of } = at;
         let name = self.field_name(name);
-        match self.types.known().field(of, name) {
+        match self.types.declarations().field_type(of, name) {
             None => Ok(None),
             Some(field) => {
                 let offset = self.types.offset(of, name);
@@ -174,7 +174,7 @@ impl<'s, 'k, 't> Scene<'s, 'k, 't> {
             (found_of (shapes_of self.now.types.now) at).shape) }
     {
         let TypedPlace { place, of } = at;
-        match self.types.known().parts(of) {
+        match self.types.declarations().parts(of) {
             Parts::Array(array) => {
                 let stride = self.types.size(array.element);
                 let place = element(alloc, place, index, array.length, stride)?;

@@ -147,7 +147,8 @@ fn count_links(chain: &Chain) -> usize
     chain.rest.len()
 }
 
-/// The same by a row of operations, which is a literal where it has none.
+/// How far into an array an index leads that is a row of operations: known where the row has none, since it is a literal
+/// then.
 fn chain_offset(chain: &Chain, length: usize, stride: usize) -> Option<usize>
     ensures { result ≡ known_offset (chained_in chain.now) length stride }
 {

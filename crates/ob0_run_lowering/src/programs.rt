@@ -18,7 +18,7 @@ use crate::{Scene, Site, Types, body};
 use ob0_run_machine::code;
 use ob0_scope_table::Resolved;
 use ob0_tree::{Block, Procedure};
-use ob0_types_table::Known;
+use ob0_types_table::DeclarationTable;
 use std::alloc::{AllocError, Global};
 
 /// A module on its way to a program: where what is in scope is, the procedures so far, and the most cells of an
@@ -165,7 +165,7 @@ impl Lowering {
 pub fn lower<'t>(
     alloc: Global,
     resolved: &Resolved<'t>,
-    known: &Known,
+    known: &DeclarationTable,
 ) -> Result<Program, AllocError>
     ensures { IfOk result (λ made. WellTyped (named_tree_of resolved.now.module_read)
         → ((k : ℕ)

@@ -70,7 +70,7 @@ impl<'s, 'k, 't> Scene<'s, 'k, 't> {
             ≡ object_at self.now.types.now (label_in self.now.resolved.now name) }
     {
         let ordinal = self.resolved.ordinal_at(name)?;
-        self.types.known().object(ordinal)
+        self.types.declarations().object(ordinal)
     }
 
     /// Where the declaration of a name is.

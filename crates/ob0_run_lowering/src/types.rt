@@ -18,7 +18,7 @@ ghost use Rattle.ob0_language_values.specs.Values as values;
 ghost use Rattle.ob0_run_lowering.specs.Layouts.{AreLaidOut, LayOut, HasLayout, RecordAt};
 
 use ob0_language_values::Scalar;
-use ob0_types_table::{Field, FieldOf, Known, TypeEntry, TypeId};
+use ob0_types_table::{DeclarationTable, Field, FieldOf, TypeEntry, TypeId};
 use std::alloc::{AllocError, Global};
 use std::marker::Model;
 
@@ -39,7 +39,7 @@ enum Layout {
 /// What is known of a module, with the sizes of its types.
 #[derive(Drop)]
 pub struct Types<'k> {
-    known: &'k Known,
+    known: &'k DeclarationTable,
     layouts: Vec<Layout>,
 }
 
@@ -157,7 +157,7 @@ fn entry(alloc: Global, layouts: &[Layout], shape: &TypeEntry) -> Result<Layout,
 }
 
 /// The constant of an ordinal has 32 bits.
-fn constant_is_small(known: &Known, ordinal: usize)
+fn constant_is_small(known: &DeclarationTable, ordinal: usize)
     ensures { (n : ℤ)
         → declared_in known.now ordinal ≡ Some (a_constant (values.number n))
         → machine.fits n ≡ true }
@@ -173,7 +173,7 @@ fn constant_is_small(known: &Known, ordinal: usize)
 
 /// The constants of a module have 32 bits. The loop is for the proof alone: that a constant has 32 bits is known of each
 /// that is looked up, not of all at once, so each is looked up, once for a module.
-fn constants_are_small(known: &Known)
+fn constants_are_small(known: &DeclarationTable)
     ensures { (k : ℕ) (n : ℤ)
         → declared_in known.now k ≡ Some (a_constant (values.number n))
         → machine.fits n ≡ true }
@@ -209,7 +209,7 @@ impl<'k> Types<'k> {
     /// # Errors
     ///
     /// Out of memory.
-    pub fn new(alloc: Global, known: &'k Known) -> Result<Types<'k>, AllocError>
+    pub fn new(alloc: Global, known: &'k DeclarationTable) -> Result<Types<'k>, AllocError>
         ensures { IfOk result (λ t. t ≡ known.now) }
     {
         constants_are_small(known);
@@ -218,7 +218,7 @@ impl<'k> Types<'k> {
     }
 
     /// What is known of the module. Its constants have 32 bits.
-    pub fn known(&self) -> &'k Known
+    pub fn declarations(&self) -> &'k DeclarationTable
         ensures value { result.now ≡ self.now }
         ensures small { (k : ℕ) (n : ℤ)
             → declared_in self.now k ≡ Some (a_constant (values.number n))
@@ -264,14 +264,14 @@ fn record_offset(laid: &RecordLayout, field: Option<FieldOf>) -> usize
     }
 }
 
-fn offset_in(known: &Known, layouts: &[Layout], of: TypeId, name: &str) -> usize
+fn offset_in(known: &DeclarationTable, layouts: &[Layout], of: TypeId, name: &str) -> usize
     ensures { LayOut (shapes_of known.now) layouts.now
         → result ≡ step_offset (type_shape (shapes_of known.now) of) (values.at_field name.now) }
 {
     match of {
         TypeId::Record(place) => match record_at(layouts, place) {
             None => 0,
-            Some(record) => record_offset(record, known.field_of(of, name)),
+            Some(record) => record_offset(record, known.field(of, name)),
         },
         TypeId::Integer => 0,
         TypeId::Boolean => 0,
@@ -281,7 +281,7 @@ fn offset_in(known: &Known, layouts: &[Layout], of: TypeId, name: &str) -> usize
 }
 
 /// All types of the table, each by those before it.
-fn lay_out_all(alloc: Global, known: &Known) -> Result<Vec<Layout>, AllocError>
+fn lay_out_all(alloc: Global, known: &DeclarationTable) -> Result<Vec<Layout>, AllocError>
     ensures { IfOk result (λ layouts. LayOut (shapes_of known.now) layouts.items) }
 {
     let mut layouts = Vec::new(alloc);

@@ -10,7 +10,7 @@ use crate::code::{LoweredCode, Routine};
 use crate::ending::Stop;
 use crate::level::Level;
 use crate::machine::Machine;
-use crate::statements::in_order;
+use crate::statements::run_inlined;
 
 /// The procedure at an index.
 #[inline(always)]
@@ -43,7 +43,7 @@ fn activate<F: Fn(&mut Machine<'_>, usize, &Level<'_>) -> Result<(), Stop>>(
             machine
                 .memory
                 .push_zeros(&mut machine.cells, procedure.cells)?;
-            in_order(&procedure.body, level, turns, machine, enter)
+            run_inlined(&procedure.body, level, turns, machine, enter)
         }
     }
 }

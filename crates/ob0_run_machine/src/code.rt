@@ -219,9 +219,9 @@ pub enum Argument {
 #[derive(Drop)]
 pub enum Instruction {
     StoreNumber(Place, Number),
-    /// The same to a variable.
+    /// A variable becomes a number.
     StoreVariable(Variable, Number),
-    /// The same of operations in a row.
+    /// A variable becomes the result of operations in a row.
     StoreChain(Variable, Box<Chain>),
     /// A variable becomes the result of an operation whose left operand it is, as in `x := x * 2`.
     Update(Variable, Link),

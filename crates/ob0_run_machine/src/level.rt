@@ -71,7 +71,7 @@ pub(crate) fn var_parameter_at(level: &Level<'_>, index: usize) -> usize
     }
 }
 
-/// The same of the activation `up` levels out.
+/// Where a VAR parameter of the activation `up` levels out leads.
 pub(crate) fn passed_at(level: &Level<'_>, up: usize, index: usize) -> usize
     ensures { result ≡ slice_index_or (level_at (levels_of level.now) up).addresses index 0 }
 {

@@ -12,7 +12,7 @@ use crate::ending::Stop;
 use crate::level::Level;
 use crate::machine::{Item, Machine};
 use crate::memory::Memory;
-use crate::statements::sequence;
+use crate::statements::run_called;
 use std::alloc::{AllocError, Global};
 
 /// How a run ends.
@@ -59,7 +59,7 @@ fn execute(
     let enter = |machine: &mut Machine<'_>, procedure: usize, level: &Level<'_>| {
         call(program, calls, turns, machine, procedure, level)
     };
-    sequence(&program.body, &level, turns, machine, &enter)
+    run_called(&program.body, &level, turns, machine, &enter)
 }
 
 /// The end of a run whose statements returned this. An error exactly where an allocation failed.

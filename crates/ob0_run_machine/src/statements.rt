@@ -211,7 +211,7 @@ fn write_line(level: &Level<'_>, machine: &mut Machine<'_>) -> Result<(), Stop>
 
 /// Enters the procedure of a call, whose arguments are passed.
 #[inline(always)]
-fn run_body<F: Fn(&mut Machine<'_>, usize, &Level<'_>) -> Result<(), Stop>>(
+fn enter_procedure<F: Fn(&mut Machine<'_>, usize, &Level<'_>) -> Result<(), Stop>>(
     c: &ProcedureCall,
     base: usize,
     addresses: &[usize],
@@ -254,10 +254,10 @@ fn run_call<F: Fn(&mut Machine<'_>, usize, &Level<'_>) -> Result<(), Stop>>(
         &mut addresses,
     )?;
     match &addresses {
-        Addresses::Empty => run_body(c, base, &[], level, machine, enter),
-        Addresses::One(a) => run_body(c, base, &[*a], level, machine, enter),
-        Addresses::Two(a, b) => run_body(c, base, &[*a, *b], level, machine, enter),
-        Addresses::More(all) => run_body(c, base, all.as_slice(), level, machine, enter),
+        Addresses::Empty => enter_procedure(c, base, &[], level, machine, enter),
+        Addresses::One(a) => enter_procedure(c, base, &[*a], level, machine, enter),
+        Addresses::Two(a, b) => enter_procedure(c, base, &[*a, *b], level, machine, enter),
+        Addresses::More(all) => enter_procedure(c, base, all.as_slice(), level, machine, enter),
     }
 }
 
@@ -302,8 +302,8 @@ fn statement<F: Fn(&mut Machine<'_>, usize, &Level<'_>) -> Result<(), Stop>>(
         Instruction::Write(n) => write(n, level, machine),
         Instruction::WriteLine => write_line(level, machine),
         Instruction::If(i) => branches(i, level, turns, machine, enter),
-        Instruction::While(w) => run_loop(w, level, turns, machine, enter),
-        Instruction::Repeat(r) => until(r, level, turns, machine, enter),
+        Instruction::While(w) => run_while(w, level, turns, machine, enter),
+        Instruction::Repeat(r) => run_repeat(r, level, turns, machine, enter),
         Instruction::Call(c) => run_call(c, level, machine, enter),
     }
 }
@@ -311,7 +311,7 @@ fn statement<F: Fn(&mut Machine<'_>, usize, &Level<'_>) -> Result<(), Stop>>(
 /// Statements in order. Loops and procedures execute their bodies by this, without a call.
 #[inline(always)]
 #[cycle(execution)]
-pub(crate) fn in_order<F: Fn(&mut Machine<'_>, usize, &Level<'_>) -> Result<(), Stop>>(
+pub(crate) fn run_inlined<F: Fn(&mut Machine<'_>, usize, &Level<'_>) -> Result<(), Stop>>(
     statements: &[Instruction],
     level: &Level<'_>,
     turns: u32,
@@ -328,10 +328,10 @@ pub(crate) fn in_order<F: Fn(&mut Machine<'_>, usize, &Level<'_>) -> Result<(), 
     Ok(())
 }
 
-/// The same in a call.
+/// Statements in order, in a call: the branches of an IF.
 #[inline(never)]
 #[cycle(execution)]
-pub(crate) fn sequence<F: Fn(&mut Machine<'_>, usize, &Level<'_>) -> Result<(), Stop>>(
+pub(crate) fn run_called<F: Fn(&mut Machine<'_>, usize, &Level<'_>) -> Result<(), Stop>>(
     statements: &[Instruction],
     level: &Level<'_>,
     turns: u32,
@@ -342,13 +342,13 @@ pub(crate) fn sequence<F: Fn(&mut Machine<'_>, usize, &Level<'_>) -> Result<(), 
     ensures { MachineDoes (F.post enter.now) result machine.old machine.new
         (executed_all turns (levels_of level.now) (sequence_of statements.now)) }
 {
-    in_order(statements, level, turns, machine, enter)
+    run_inlined(statements, level, turns, machine, enter)
 }
 
-/// The same: of no statements, as of an IF without ELSE, there is no call.
+/// Statements in order, in a call unless there are none, as of an IF without ELSE.
 #[inline(always)]
 #[cycle(execution)]
-fn sequence_if_any<F: Fn(&mut Machine<'_>, usize, &Level<'_>) -> Result<(), Stop>>(
+fn run_unless_empty<F: Fn(&mut Machine<'_>, usize, &Level<'_>) -> Result<(), Stop>>(
     statements: &[Instruction],
     level: &Level<'_>,
     turns: u32,
@@ -363,7 +363,7 @@ fn sequence_if_any<F: Fn(&mut Machine<'_>, usize, &Level<'_>) -> Result<(), Stop
     if count == 0 {
         return Ok(());
     }
-    sequence(statements, level, turns, machine, enter)
+    run_called(statements, level, turns, machine, enter)
 }
 
 /// IF: the statements after the first condition that is TRUE.
@@ -381,12 +381,12 @@ fn branches<F: Fn(&mut Machine<'_>, usize, &Level<'_>) -> Result<(), Stop>>(
         (executed turns (levels_of level.now) (branches_in i.now)) }
 {
     if evaluate_condition(&i.condition, level, machine)? {
-        return sequence(&i.body, level, turns, machine, enter);
+        return run_called(&i.body, level, turns, machine, enter);
     }
     let others = i.others.as_slice();
     let count = others.len();
     if count == 0 {
-        return sequence_if_any(&i.otherwise, level, turns, machine, enter);
+        return run_unless_empty(&i.otherwise, level, turns, machine, enter);
     }
     other_branches(i, level, turns, machine, enter)
 }
@@ -407,16 +407,16 @@ fn other_branches<F: Fn(&mut Machine<'_>, usize, &Level<'_>) -> Result<(), Stop>
 {
     for branch in &i.others {
         if evaluate_condition(&branch.condition, level, machine)? {
-            return sequence(&branch.body, level, turns, machine, enter);
+            return run_called(&branch.body, level, turns, machine, enter);
         }
     }
-    sequence_if_any(&i.otherwise, level, turns, machine, enter)
+    run_unless_empty(&i.otherwise, level, turns, machine, enter)
 }
 
 /// WHILE: where the condition is TRUE and this execution has made as many iterations as it may, it ends with TurnBound.
 #[inline(never)]
 #[cycle(execution)]
-fn run_loop<F: Fn(&mut Machine<'_>, usize, &Level<'_>) -> Result<(), Stop>>(
+fn run_while<F: Fn(&mut Machine<'_>, usize, &Level<'_>) -> Result<(), Stop>>(
     w: &WhileLoop,
     level: &Level<'_>,
     turns: u32,
@@ -436,14 +436,14 @@ fn run_loop<F: Fn(&mut Machine<'_>, usize, &Level<'_>) -> Result<(), Stop>>(
             return Err(Stop::TurnBound);
         }
         left -= 1;
-        in_order(&w.body, level, turns, machine, enter)?;
+        run_inlined(&w.body, level, turns, machine, enter)?;
     }
 }
 
 /// REPEAT: the first iteration is made whatever the bound.
 #[inline(never)]
 #[cycle(execution)]
-fn until<F: Fn(&mut Machine<'_>, usize, &Level<'_>) -> Result<(), Stop>>(
+fn run_repeat<F: Fn(&mut Machine<'_>, usize, &Level<'_>) -> Result<(), Stop>>(
     r: &RepeatLoop,
     level: &Level<'_>,
     turns: u32,
@@ -456,7 +456,7 @@ fn until<F: Fn(&mut Machine<'_>, usize, &Level<'_>) -> Result<(), Stop>>(
 {
     let mut further = turns.saturating_sub(1);
     loop {
-        in_order(&r.body, level, turns, machine, enter)?;
+        run_inlined(&r.body, level, turns, machine, enter)?;
         if evaluate_condition(&r.condition, level, machine)? {
             return Ok(());
         }

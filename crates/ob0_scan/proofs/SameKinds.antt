@@ -35,22 +35,22 @@ back_kinds old first following back removed added at =
     ∙ sym (drop-map kind following old)
 
 pub same_tokens : (old between : List Token) (front following removed added : ℕ) (s : SameTokens)
-    → front ≤ following → following ≤ length old → s.front ≡ front → s.old_back ≡ following
-    → s.back ≡ length (joined_tokens old between front following removed added) - (length old - following)
+    → front ≤ following → following ≤ length old → s.prefix ≡ front → s.old_suffix ≡ following
+    → s.new_suffix ≡ length (joined_tokens old between front following removed added) - (length old - following)
     → HasSameTokens s old (joined_tokens old between front following removed added)
 same_tokens old between front following removed added s ordered inside is_front is_old_back is_back =
     let moved : List Token = map (moved_token removed added) (drop following old) in
     let all : List Token = joined_tokens old between front following removed added in
     let front_inside : front ≤ length old = omega (arith, ordered, inside) in
     let count : length all ≡ front + (length between + (length old - following)) = joined_length old between front following removed added front_inside in
-    let first : length (take front old ++ between) ≡ s.back = length-append (take front old) between ∙ omega (arith, is_back, count, inside, length-take-le front old front_inside) in
+    let first : length (take front old ++ between) ≡ s.new_suffix = length-append (take front old) between ∙ omega (arith, is_back, count, inside, length-take-le front old front_inside) in
     record {
       front_inside = omega (arith, count, is_front);
       back_inside = omega (arith, is_back, count);
       old_front_inside = omega (arith, is_front, front_inside);
       old_back_inside = omega (arith, is_old_back, inside);
       front = ap (λ n. take n (kinds all)) is_front ∙ front_kinds old (between ++ moved) front front_inside ∙ ap (λ n. take n (kinds old)) (sym is_front);
-      back = ap (λ (l : List Token). drop s.back (kinds l)) (sym (append_assoc (take front old) between moved))
-          ∙ back_kinds old (take front old ++ between) following s.back removed added first
+      back = ap (λ (l : List Token). drop s.new_suffix (kinds l)) (sym (append_assoc (take front old) between moved))
+          ∙ back_kinds old (take front old ++ between) following s.new_suffix removed added first
           ∙ ap (λ n. drop n (kinds old)) (sym is_old_back);
     }

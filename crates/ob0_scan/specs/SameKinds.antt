@@ -7,18 +7,18 @@ use Rattle.ob0_scan.specs.Reused.{kinds, words_in}
 use Rattle.ob0_scan.specs.Scanned.{Scanned}
 
 -- The first tokens of a text are of the kinds of those before, and so are the last: those from
--- `back` on, which were those from `old_back` on.
+-- `new_suffix` on, which were those from `old_suffix` on.
 pub record HasSameTokens (s : SameTokens) (old new : List Token) : Type 0 where
-  pub front_inside : s.front ≤ length new
-  pub back_inside : s.back ≤ length new
-  pub old_front_inside : s.front ≤ length old
-  pub old_back_inside : s.old_back ≤ length old
-  pub front : take s.front (kinds new) ≡ take s.front (kinds old)
-  pub back : drop s.back (kinds new) ≡ drop s.old_back (kinds old)
+  pub front_inside : s.prefix ≤ length new
+  pub back_inside : s.new_suffix ≤ length new
+  pub old_front_inside : s.prefix ≤ length old
+  pub old_back_inside : s.old_suffix ≤ length old
+  pub front : take s.prefix (kinds new) ≡ take s.prefix (kinds old)
+  pub back : drop s.new_suffix (kinds new) ≡ drop s.old_suffix (kinds old)
 
 -- these tokens are also written as they were
 pub record HasSameWords (s : SameTokens) (old new : Scanned) : Type 0 where
-  pub front : take s.front (words_in new.text new.tokens)
-      ≡ take s.front (words_in old.text old.tokens)
-  pub back : drop s.back (words_in new.text new.tokens)
-      ≡ drop s.old_back (words_in old.text old.tokens)
+  pub front : take s.prefix (words_in new.text new.tokens)
+      ≡ take s.prefix (words_in old.text old.tokens)
+  pub back : drop s.new_suffix (words_in new.text new.tokens)
+      ≡ drop s.old_suffix (words_in old.text old.tokens)

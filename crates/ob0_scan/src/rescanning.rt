@@ -29,242 +29,26 @@
 //! the old lexemes before the change; `Reusing` has the two seams (a lexeme depends on its bytes and the one byte
 //! after; equal rests have equal lexemes); `Between` collects what was read; `Kept` has the old ones that stay, by
 //! their numbers; `Named` that what is before and after is written as before. That the old tokens were not scanned
-//! again is read only: no clause counts steps. A part of a `Vec` is changed by index (`for index in
-//! first..items.len()`), under "those up to here are changed, the rest is as it was" (`ChangedTo`); after a call on
-//! `&mut items[first..]` the list is a term without a name.
+//! again is read only: no clause counts steps.
 
-ghost use Rattle.std.specs.Prelude.{◌≡◌, ℕ, List, [], false, ◌+◌, ◌-◌, ◌<◌, ◌≤◌, ◌^◌, ◌||◌, ◌++◌, true, IfOk, IfErr, OnOk, length, map, take, drop, nat_lt, option_copied, string_bytes};
-ghost use Rattle.std.specs.List.{All, prefix_len};
-ghost use Rattle.std.specs.List.Sorted.{IsNonDecreasingBy};
-ghost use Rattle.ob0_scan.specs.declared.lexeme.Span.{Span};
-ghost use Rattle.ob0_scan.specs.declared.lexeme.Token.{Token};
+ghost use Rattle.std.specs.Prelude.{◌≡◌, ℕ, List, [], false, ◌+◌, ◌-◌, ◌<◌, ◌≤◌, true, IfOk, IfErr, OnOk, length, take, drop};
 ghost use Rattle.ob0_scan.specs.declared.lexeme.TokenKind.TheVariants.{Identifier, Integer};
 ghost use Rattle.ob0_scan.specs.declared.rescanning.NotRescanned.TheVariants as rescanned;
 ghost use Rattle.ob0_scan.specs.Scanned.{IsScanOf, read_in, spanned};
 ghost use Rattle.ob0_scan.specs.Refused.{IsRightRefusal, IsRightRefusalOver};
 ghost use Rattle.ob0_scan.specs.UnderWay.{IsUnderWay};
-ghost use Rattle.ob0_scan.specs.Reused.{IsReplaced, Reuses, kinds, move_span, moved_token, tokens_before_change, comments_before_change, back_tokens, back_comments, valueless, name_of, names_in, words_in};
+ghost use Rattle.ob0_scan.specs.Reused.{IsReplaced, Reuses, kinds, valueless, name_of, names_in, words_in};
 ghost use Rattle.ob0_scan.specs.SameKinds.{HasSameTokens, HasSameWords};
 ghost use Rattle.ob0_scan.specs.Rescanned.{IsRescanOf};
-ghost use Rattle.ob0_scan.specs.Rescanning.{token_end, comment_end, last_end, token_begins, comment_begins, AreInOrder, IsMovable, ReadsOn, IsMet, IsBetween};
+ghost use Rattle.ob0_scan.specs.Rescanning.{ReadsOn, IsMet, IsBetween};
 
 use crate::fault::{Fault, ScanRefusal};
 use crate::lexeme::{Span, Token, TokenKind};
+use crate::old_lexemes::{Pieces, ReplacedRange};
 use crate::scanner::{MAX_TEXT, Scanner, too_long};
 use crate::tokens::{Rescan, RescanInPlace, SameTokens, Tokens};
 use std::alloc::{AllocError, Global};
 use thiserror::Error;
-
-/// The `removed` bytes of a text from byte `from` on gave way to `added` other bytes.
-#[derive(Clone, Copy)]
-pub(crate) struct ReplacedRange {
-    from: usize,
-    removed: usize,
-    added: usize,
-}
-
-impl ReplacedRange {
-    /// Where a byte after the change was before it.
-    fn old_place(self, place: usize) -> usize
-        requires following { self.added ≤ place }
-        requires small { place + self.removed < 2 ^ 64 }
-        ensures { result + self.added ≡ place + self.removed }
-    {
-        place - self.added + self.removed
-    }
-
-    /// Makes of the old text the new one. The bytes after the change are moved, and those before it stay; where the
-    /// change begins or ends inside a character, the new text is copied.
-    pub(crate) fn replace(self, old: &mut String, new: &str) -> Result<(), AllocError>
-        requires { IsReplaced (string_bytes old.old) new.now self.from self.removed self.added }
-        ensures { OnOk result (string_bytes old.new ≡ new.now) }
-    {
-        let (end, new_end) = (self.from + self.removed, self.from + self.added);
-        let is_between = old.is_char_boundary(self.from)
-            && old.is_char_boundary(end)
-            && new.is_char_boundary(self.from)
-            && new.is_char_boundary(new_end);
-        if is_between {
-            return old.replace_range(self.from..end, &new[self.from..new_end]);
-        }
-        old.clear();
-        old.push_str(new)
-    }
-
-    /// Where a span of the old text that lies after the change is now.
-    fn move_span(self, span: Span) -> Span
-        requires { IsMovable self.removed self.added span }
-        ensures { result ≡ move_span self.removed self.added span }
-    {
-        Span {
-            start: (span.start as usize + self.added - self.removed) as u32,
-            end: (span.end as usize + self.added - self.removed) as u32,
-        }
-    }
-}
-
-/// Some tokens and comments of a text, each in text order.
-#[derive(Clone, Copy)]
-pub(crate) struct Pieces<'t> {
-    pub(crate) tokens: &'t [Token],
-    pub(crate) comments: &'t [Span],
-}
-
-impl<'t> Pieces<'t> {
-    /// Those before it that end before a byte, found by halving.
-    fn ending_before(self, place: usize) -> Pieces<'t>
-        requires { AreInOrder self.tokens.now self.comments.now }
-        ensures tokens { result.tokens.now ≡ tokens_before_change place self.entry.tokens.now }
-        ensures comments { result.comments.now
-            ≡ comments_before_change place self.entry.comments.now }
-    {
-        let tokens = tokens_ending_before(self.tokens, place);
-        let comments = comments_ending_before(self.comments, place);
-        Pieces {
-            tokens: &self.tokens[..tokens],
-            comments: &self.comments[..comments],
-        }
-    }
-
-    /// Those from the first on that doesn't begin before a byte, found by halving.
-    fn beginning_from(self, place: usize) -> Pieces<'t>
-        requires { AreInOrder self.tokens.now self.comments.now }
-        ensures tokens { result.tokens.now ≡ back_tokens place self.entry.tokens.now }
-        ensures comments { result.comments.now ≡ back_comments place self.entry.comments.now }
-    {
-        let tokens = tokens_beginning_before(self.tokens, place);
-        let comments = comments_beginning_before(self.comments, place);
-        Pieces {
-            tokens: &self.tokens[tokens..],
-            comments: &self.comments[comments..],
-        }
-    }
-
-    /// The same, where few begin before it: they are passed one after the other.
-    fn onward_to(self, place: usize) -> Pieces<'t>
-        ensures tokens { result.tokens.now ≡ back_tokens place self.entry.tokens.now }
-        ensures comments { result.comments.now ≡ back_comments place self.entry.comments.now }
-    {
-        let tokens = first_tokens_before(self.tokens, place);
-        let comments = first_comments_before(self.comments, place);
-        Pieces {
-            tokens: &self.tokens[tokens..],
-            comments: &self.comments[comments..],
-        }
-    }
-
-    /// Whether the first token or the first comment begins at a byte.
-    fn begin_at(self, place: usize) -> bool
-        ensures { result
-            ≡ token_begins place self.entry.tokens.now
-            || comment_begins place self.entry.comments.now }
-    {
-        token_begins(self.tokens, place) || comment_begins(self.comments, place)
-    }
-
-    /// After which byte the last of them ends.
-    pub(crate) fn end(self) -> usize
-        ensures { result ≡ last_end self.entry.tokens.now self.entry.comments.now }
-    {
-        token_end(self.tokens.last()).max(comment_end(self.comments.last()))
-    }
-}
-
-/// Whether the first token begins at a byte.
-fn token_begins(tokens: &[Token], place: usize) -> bool
-    ensures { result ≡ token_begins place tokens.now }
-{
-    match tokens {
-        [token, ..] => token.span.start as usize == place,
-        [] => false,
-    }
-}
-
-/// Whether the first comment begins at a byte.
-fn comment_begins(comments: &[Span], place: usize) -> bool
-    ensures { result ≡ comment_begins place comments.now }
-{
-    match comments {
-        [comment, ..] => comment.start as usize == place,
-        [] => false,
-    }
-}
-
-fn token_end(token: Option<&Token>) -> usize
-    ensures { result ≡ token_end (option_copied token.entry) }
-{
-    match token {
-        Some(token) => token.span.end as usize,
-        None => 0,
-    }
-}
-
-fn comment_end(comment: Option<&Span>) -> usize
-    ensures { result ≡ comment_end (option_copied comment.entry) }
-{
-    match comment {
-        Some(comment) => comment.end as usize,
-        None => 0,
-    }
-}
-
-/// How many tokens end before a byte.
-fn tokens_ending_before(tokens: &[Token], place: usize) -> usize
-    requires { IsNonDecreasingBy (λ (t : Token). t.span.end) tokens.now }
-    ensures bound { result ≤ length tokens.now }
-    ensures count { result ≡ prefix_len (λ (t : Token). nat_lt t.span.end place) tokens.now }
-{
-    tokens.partition_point(|token| (token.span.end as usize) < place)
-}
-
-/// How many comments end before a byte.
-fn comments_ending_before(comments: &[Span], place: usize) -> usize
-    requires { IsNonDecreasingBy (λ (c : Span). c.end) comments.now }
-    ensures bound { result ≤ length comments.now }
-    ensures count { result ≡ prefix_len (λ (c : Span). nat_lt c.end place) comments.now }
-{
-    comments.partition_point(|comment| (comment.end as usize) < place)
-}
-
-/// How many tokens begin before a byte.
-fn tokens_beginning_before(tokens: &[Token], place: usize) -> usize
-    requires { IsNonDecreasingBy (λ (t : Token). t.span.start) tokens.now }
-    ensures bound { result ≤ length tokens.now }
-    ensures count { result ≡ prefix_len (λ (t : Token). nat_lt t.span.start place) tokens.now }
-{
-    tokens.partition_point(|token| (token.span.start as usize) < place)
-}
-
-/// How many comments begin before a byte.
-fn comments_beginning_before(comments: &[Span], place: usize) -> usize
-    requires { IsNonDecreasingBy (λ (c : Span). c.start) comments.now }
-    ensures bound { result ≤ length comments.now }
-    ensures count { result ≡ prefix_len (λ (c : Span). nat_lt c.start place) comments.now }
-{
-    comments.partition_point(|comment| (comment.start as usize) < place)
-}
-
-/// How many tokens begin before a byte, before the first that doesn't.
-fn first_tokens_before(tokens: &[Token], place: usize) -> usize
-    ensures bound { result ≤ length tokens.now }
-    ensures count { result ≡ prefix_len (λ (t : Token). nat_lt t.span.start place) tokens.now }
-{
-    tokens
-        .iter()
-        .take_while(|token| (token.span.start as usize) < place)
-        .count()
-}
-
-/// How many comments begin before a byte, before the first that doesn't.
-fn first_comments_before(comments: &[Span], place: usize) -> usize
-    ensures bound { result ≤ length comments.now }
-    ensures count { result ≡ prefix_len (λ (c : Span). nat_lt c.start place) comments.now }
-{
-    comments
-        .iter()
-        .take_while(|comment| (comment.start as usize) < place)
-        .count()
-}
 
 /// How many tokens and comments there are before a place.
 #[derive(Clone, Copy)]
@@ -273,8 +57,7 @@ pub(crate) struct LexemeCounts {
     pub(crate) comments: usize,
 }
 
-/// What comes between the old tokens and comments that a changed text goes on to have: those before it, whose numbers
-/// are `front`, and those from `following` on.
+/// What was scanned between the old lexemes that stay: the first `front` of them, and those from `following` on.
 #[derive(Drop)]
 pub(crate) struct Between {
     pub(crate) front: LexemeCounts,
@@ -485,8 +268,8 @@ pub fn rescan(
     }
 }
 
-/// The same, in place of the old tokens and comments: those before it stay where they are. A text with faults gives the
-/// old ones back.
+/// The tokens and comments of `new_text`, as `rescan` has them, in place of the old ones: those before the change stay
+/// where they are. A text with faults gives the old ones back.
 pub fn rescan_in_place(
     alloc: Global,
     old: Tokens,
@@ -523,13 +306,13 @@ pub fn rescan_in_place(
             let alike = between.is_alike(old.tokens());
             let same_names = between.has_names_of(new_text, &old);
             let same_words = between.has_words_of(new_text, &old);
-            let (front, old_back) = (between.front.tokens, between.following.tokens);
-            let following = old.tokens().len() - old_back;
+            let (prefix, old_suffix) = (between.front.tokens, between.following.tokens);
+            let following = old.tokens().len() - old_suffix;
             let tokens = old.with(new_text, between, change)?;
             let same = SameTokens {
-                front,
-                old_back,
-                back: tokens.tokens().len() - following,
+                prefix,
+                old_suffix,
+                new_suffix: tokens.tokens().len() - following,
             };
             Ok(RescanInPlace {
                 rescan: Rescan { tokens, read },
@@ -641,80 +424,4 @@ fn scan_on<'o>(
         tokens: &[],
         comments: &[],
     })
-}
-
-/// Puts tokens between those before it and those after, which are moved to where they are now.
-pub(crate) fn splice_tokens(
-    tokens: &mut Vec<Token>,
-    front: usize,
-    following: usize,
-    between: Vec<Token>,
-    change: ReplacedRange,
-) -> Result<(), AllocError>
-    requires ordered { front ≤ following }
-    requires inside { following ≤ length tokens.old.items }
-    requires movable { All (λ (t : Token). IsMovable change.removed change.added t.span)
-        (drop following tokens.old.items) }
-    ensures { OnOk result (tokens.new.items
-        ≡ take front tokens.old.items
-        ++ (between.items
-        ++ map (moved_token change.removed change.added) (drop following tokens.old.items))) }
-{
-    move_tokens(tokens, following, change);
-    tokens.splice(front..following, between)?;
-    Ok(())
-}
-
-/// Puts comments between those before it and those after, which are moved to where they are now.
-pub(crate) fn splice_comments(
-    comments: &mut Vec<Span>,
-    front: usize,
-    following: usize,
-    between: Vec<Span>,
-    change: ReplacedRange,
-) -> Result<(), AllocError>
-    requires ordered { front ≤ following }
-    requires inside { following ≤ length comments.old.items }
-    requires movable { All (λ (c : Span). IsMovable change.removed change.added c)
-        (drop following comments.old.items) }
-    ensures { OnOk result (comments.new.items
-        ≡ take front comments.old.items
-        ++ (between.items
-        ++ map (move_span change.removed change.added) (drop following comments.old.items))) }
-{
-    move_comments(comments, following, change);
-    comments.splice(front..following, between)?;
-    Ok(())
-}
-
-/// Moves tokens of the old text, from one on, to where they are now.
-fn move_tokens(tokens: &mut Vec<Token>, first: usize, change: ReplacedRange)
-    requires inside { first ≤ length tokens.old.items }
-    requires movable { All (λ (t : Token). IsMovable change.removed change.added t.span)
-        (drop first tokens.old.items) }
-    ensures { tokens.new.items
-        ≡ take first tokens.old.items
-        ++ map (moved_token change.removed change.added) (drop first tokens.old.items) }
-{
-    for index in first..tokens.len() {
-        let Token { kind, span } = tokens[index];
-        tokens[index] = Token {
-            kind,
-            span: change.move_span(span),
-        };
-    }
-}
-
-/// Moves comments of the old text, from one on, to where they are now.
-fn move_comments(comments: &mut Vec<Span>, first: usize, change: ReplacedRange)
-    requires inside { first ≤ length comments.old.items }
-    requires movable { All (λ (c : Span). IsMovable change.removed change.added c)
-        (drop first comments.old.items) }
-    ensures { comments.new.items
-        ≡ take first comments.old.items
-        ++ map (move_span change.removed change.added) (drop first comments.old.items) }
-{
-    for index in first..comments.len() {
-        comments[index] = change.move_span(comments[index]);
-    }
 }

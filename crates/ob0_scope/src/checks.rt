@@ -213,7 +213,7 @@ impl Checks {
         }
     }
 
-    /// The same, where each name is compared with all before it.
+    /// No name is twice, of few names: each is compared with all before it.
     fn distinct_few(&mut self, tokens: &Tokens, names: &[usize]) -> Result<(), AllocError>
         ensures { OnOk result (self.new ≡ self.old ++ again tokens.now [] names.now) }
     {
@@ -224,7 +224,7 @@ impl Checks {
         Ok(())
     }
 
-    /// The same, with a set of the names so far.
+    /// No name is twice, of many names: each is looked for in the set of those before it.
     fn distinct_many(&mut self, tokens: &Tokens, names: &[usize]) -> Result<(), AllocError>
         ensures { OnOk result (self.new ≡ self.old ++ again tokens.now [] names.now) }
     {

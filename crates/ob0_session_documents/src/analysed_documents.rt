@@ -8,7 +8,7 @@
 
 ghost use Rattle.std.specs.Prelude.{◌≡◌, ◌⊎◌, IfSome, IfOk, OnOk, OnErr, is_some, map, string_bytes};
 ghost use Rattle.std.specs.Str.{chars};
-ghost use Rattle.ob0_text.specs.OpenDocuments.{changed, closed, document_at, lost, opened, reported_change};
+ghost use Rattle.ob0_text.specs.OpenDocuments.{changed, closed, document_at, lost, opened, change_in_text};
 ghost use Rattle.ob0_session_documents.specs.DocumentRequests.{ComesOfRequest};
 
 use crate::analyses::Analyses;
@@ -82,9 +82,9 @@ impl<T: TextStore> AnalysedDocuments<T> {
         changes: Vec<Change>,
     ) -> Result<(), AllocError>
         ensures ok { OnOk result
-            (self.new ≡ changed self.old uri.now version (map reported_change changes.items)) }
+            (self.new ≡ changed self.old uri.now version (map change_in_text changes.items)) }
         ensures err { OnErr result ((self.new ≡ lost self.old uri.now)
-            ⊎ (self.new ≡ changed self.old uri.now version (map reported_change changes.items))) }
+            ⊎ (self.new ≡ changed self.old uri.now version (map change_in_text changes.items))) }
     {
         let before = self.analyses.take(uri);
         self.documents.did_change(uri, version, changes.as_slice())?;

@@ -63,7 +63,7 @@ impl<T: TextStore> Server<T> {
     ghost use Rattle.ob0_session_server.specs.Seen.{Reacts, RepliesAbout};
     ghost use Rattle.ob0_session_server.specs.Steps.{next_after};
     ghost use Rattle.std.specs.Str.{chars};
-    ghost use Rattle.ob0_text.specs.OpenDocuments.{reported_change, document_at};
+    ghost use Rattle.ob0_text.specs.OpenDocuments.{change_in_text, document_at};
 
     /// A server before `initialize`, with no open document; positions are in UTF-16 units.
     pub fn new(alloc: Global) -> Server<T>
@@ -408,7 +408,7 @@ impl<T: TextStore> Server<T> {
         all: Vec<Change>,
     ) -> Result<Option<Vec<u8>>, AllocError>
         ensures { IfOk result (λ sent. Reacts (apply_notification self.old
-            (changes (string_bytes uri) version (map reported_change all.items))) sent self.new) }
+            (changes (string_bytes uri) version (map change_in_text all.items))) sent self.new) }
     {
         self.documents.did_change(uri.as_str(), version, all)?;
         self.publish(uri.as_str())

@@ -152,7 +152,7 @@ fn is_as_new(alloc: Global, old: &str, new: &str) -> Result<bool, AllocError> {
     Ok(found.as_str() == wanted.as_str())
 }
 
-/// The same where a text is changed, and back.
+/// Whether a text that is changed, and back, has the faults that an analysis of it from nothing finds.
 fn are_as_new(alloc: Global, row: &(&str, u64, u64, &str)) -> Result<bool, AllocError> {
     let (text, start, end, new) = *row;
     let mut store = Whole::from_str(alloc, text)?;

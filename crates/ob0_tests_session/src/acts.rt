@@ -8,7 +8,7 @@ use std::alloc::{AllocError, Global};
 /// One event, about the document `u`.
 #[derive(Clone, Copy)]
 pub enum Act {
-    /// The same about another document, `v`.
+    /// One event, about another document, `v`.
     Other(&'static Act),
     Open(&'static str),
     /// A change with no changes in it.

@@ -132,7 +132,7 @@ fn is_reader_noted() -> bool {
     is_read && reader.read(&mut piece) == Err(DeviceFault) && reader.failed()
 }
 
-/// The same of a writer.
+/// Whether a writer is passed on as it is, and its failure is kept.
 fn is_writer_noted() -> bool {
     let mut count = Count::new(1, 1);
     let mut writer = Noted::new(Counter { count: &mut count });

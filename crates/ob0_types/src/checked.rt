@@ -24,7 +24,7 @@ use ob0_scope_table::{PREDECLARED, Resolved};
 use ob0_types_check::laws::{modules_fit, no_fault_in_modules};
 use ob0_types_check::{Report, report_bodies, report_faults};
 use ob0_types_fields::{FieldList, typed_field};
-use ob0_types_table::{FieldOf, Known, Parts, TypeId};
+use ob0_types_table::{DeclarationTable, FieldOf, Parts, TypeId};
 use std::alloc::{AllocError, Global};
 use std::borrow::Cow;
 use std::marker::Model;
@@ -36,7 +36,7 @@ const MOST_FAULTY: usize = 32;
 /// scopes and types; and its bodies of which a fault of types is reported, by their closing names. It borrows nothing.
 #[derive(Drop)]
 pub struct ModuleTypes {
-    pub known: Option<Known>,
+    pub known: Option<DeclarationTable>,
     pub fields: FieldList,
     pub faults: Vec<Fault>,
     pub faulty: Vec<usize>,
@@ -69,7 +69,7 @@ impl<'t> Model for Checked<'t> {
 #[derive(Drop)]
 pub struct WellTyped<'t> {
     checked: &'t Checked<'t>,
-    known: &'t Known,
+    known: &'t DeclarationTable,
     fields: &'t FieldList,
 }
 
@@ -92,7 +92,7 @@ impl<'t> Model for WellTyped<'t> {
 /// A type of a module, with the table that knows its parts.
 #[derive(Clone, Copy)]
 pub struct Shape<'t> {
-    pub known: &'t Known,
+    pub known: &'t DeclarationTable,
     pub of: TypeId,
 }
 
@@ -181,7 +181,7 @@ fn types_reported<'t>(
 fn known_fields<'t>(
     alloc: Global,
     resolved: &'t Resolved<'t>,
-    known: &Option<Known>,
+    known: &Option<DeclarationTable>,
 ) -> Result<FieldList, AllocError>
     requires { IsKnownWhereTyped resolved.now known.now }
     ensures { IfOk result (AreFieldsWhereTyped resolved.now) }
@@ -201,7 +201,7 @@ fn known_fields<'t>(
 fn fields_again<'t>(
     alloc: Global,
     resolved: &'t Resolved<'t>,
-    known: &Option<Known>,
+    known: &Option<DeclarationTable>,
     before: ModuleTypes,
     low: usize,
 ) -> Result<FieldList, AllocError>
@@ -364,7 +364,7 @@ impl<'t> WellTyped<'t> {
     }
 
     /// What is known of the module: what each declaration is, by its ordinal (`Known::object`), and the parts of types.
-    pub fn known(&self) -> &'t Known
+    pub fn declarations(&self) -> &'t DeclarationTable
         ensures { HasDeclarations (named_tree_of self.now.module_read) result.now }
     {
         self.known
@@ -381,7 +381,7 @@ impl<'t> WellTyped<'t> {
     pub(crate) fn field_row(&self, identifier: (usize, usize)) -> Option<FieldRow<'t>>
         ensures { option_map row_in result ≡ field_row_of self.now identifier }
     {
-        let known = self.known();
+        let known = self.declarations();
         match typed_field(known, self.resolved(), identifier) {
             None => None,
             Some(found) => Some(FieldRow {
@@ -403,7 +403,7 @@ impl<'t> WellTyped<'t> {
     {
         // For the proof: what the contract of this call says.
         let _module = self.resolved();
-        let value = self.known().constant(declaration);
+        let value = self.declarations().constant(declaration);
         if declaration < PREDECLARED {
             None
         } else {
@@ -417,7 +417,7 @@ impl<'t> WellTyped<'t> {
         ensures { option_map shape_of result
             ≡ type_declared (declared_object (named_tree_of self.now.module_read) declaration) }
     {
-        let known = self.known();
+        let known = self.declarations();
         let of = known.declared_type(declaration)?;
         Some(Shape { known, of })
     }

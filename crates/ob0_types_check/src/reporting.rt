@@ -58,7 +58,7 @@ use crate::reporting::objects::{define_standards, objects_of};
 use crate::reporting::supposed::{Meaning, Supposed, predeclared_meanings};
 use ob0_scan::{Code, Fault};
 use ob0_scope_table::Resolved;
-use ob0_types_table::Known;
+use ob0_types_table::DeclarationTable;
 use std::alloc::{AllocError, Global};
 
 /// What is reported of a module, and what is known of it.
@@ -67,7 +67,7 @@ pub struct Report {
     /// The names that nothing binds, in text order, and then the faults of types.
     pub faults: Vec<Fault>,
     /// What the declarations are, where there is no fault.
-    pub known: Option<Known>,
+    pub known: Option<DeclarationTable>,
     /// The bodies of which something is reported, by their closing names, in text order.
     pub faulty: Vec<usize>,
 }
@@ -100,8 +100,9 @@ pub fn report_faults<'t>(alloc: Global, resolved: &'t Resolved<'t>) -> Result<Re
     report_wanted(alloc, resolved, &every)
 }
 
-/// The same where its tokens changed in one of these bodies, which are known by their closing names, and nothing was
-/// reported before of the others: its declarations and these bodies are gone through, and no other body.
+/// What `report_faults` finds where the module's tokens changed in one of these bodies, which are known by their closing
+/// names, and nothing was reported before of the others: its declarations and these bodies are gone through, and no
+/// other body.
 pub fn report_bodies<'t>(
     alloc: Global,
     resolved: &'t Resolved<'t>,
@@ -137,7 +138,7 @@ fn report_wanted<'t>(
 }
 
 /// What is known, as a table.
-fn known_of<'t>(alloc: Global, supposed: Supposed<'t>) -> Result<Known, AllocError>
+fn known_of<'t>(alloc: Global, supposed: Supposed<'t>) -> Result<DeclarationTable, AllocError>
     requires { AreEntriesInOrder [] supposed.composites.items }
     ensures { IfOk result (λ t. t ≡ table_in supposed.entry) }
 {
@@ -148,7 +149,7 @@ fn known_of<'t>(alloc: Global, supposed: Supposed<'t>) -> Result<Known, AllocErr
     } = supposed;
     let mut objects = objects_of(alloc, meanings)?;
     define_standards(&mut objects);
-    Ok(Known::new(composites, objects))
+    Ok(DeclarationTable::new(composites, objects))
 }
 
 /// A module on its way through the reporting walk.

@@ -102,7 +102,7 @@ fn fields(
     }
 }
 
-/// The same for the types of a block.
+/// Notes the fields that the types of a block declare. `made` is the number of ARRAY and RECORD before them.
 pub(crate) fn types(
     found: &mut Vec<(usize, usize)>,
     made: &mut usize,
@@ -123,7 +123,7 @@ pub(crate) fn types(
     Ok(())
 }
 
-/// The same for the variables of a block.
+/// Notes the fields that the variables of a block declare. `made` is the number of ARRAY and RECORD before them.
 pub(crate) fn variables(
     found: &mut Vec<(usize, usize)>,
     made: &mut usize,
@@ -145,7 +145,7 @@ pub(crate) fn variables(
     Ok(())
 }
 
-/// The same for formal parameters.
+/// Notes the fields that formal parameters declare. `made` is the number of ARRAY and RECORD before them.
 pub(crate) fn formals(
     found: &mut Vec<(usize, usize)>,
     made: &mut usize,

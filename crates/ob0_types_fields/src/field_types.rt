@@ -20,7 +20,7 @@ use ob0_tree::{
     Block, FieldGroup, Fields, Procedure, RecordType, Section, TypeDeclaration, Variables,
     WrittenType, text_at,
 };
-use ob0_types_table::{FieldOf, Known, TypeId};
+use ob0_types_table::{DeclarationTable, FieldOf, TypeId};
 
 /// A field of a record, with its type.
 #[derive(Clone, Copy)]
@@ -32,7 +32,7 @@ pub struct TypedField {
 /// The field that an identifier is of, by its token and the ordinal of its record: as the RECORD with this ordinal has
 /// it, by the table of declarations.
 pub fn typed_field<'a, 't>(
-    known: &'a Known,
+    known: &'a DeclarationTable,
     resolved: &'a Resolved<'t>,
     identifier: (usize, usize),
 ) -> Option<TypedField>
@@ -41,14 +41,14 @@ pub fn typed_field<'a, 't>(
 {
     let base = constructed_type(known, resolved, identifier.1)?;
     let name = text_at(resolved.tokens(), identifier.0);
-    let field = known.field_of(base, name)?;
-    let of = known.field(base, name)?;
+    let field = known.field(base, name)?;
+    let of = known.field_type(base, name)?;
     Some(TypedField { field, of })
 }
 
 /// The type that the ARRAY or RECORD with an ordinal constructs.
 fn constructed_type<'a, 't>(
-    known: &'a Known,
+    known: &'a DeclarationTable,
     resolved: &'a Resolved<'t>,
     ordinal: usize,
 ) -> Option<TypeId>
@@ -94,7 +94,7 @@ impl Search {
 /// A module with the table of its declarations.
 #[derive(Clone, Copy)]
 struct ConstructorWalk<'a, 't> {
-    known: &'a Known,
+    known: &'a DeclarationTable,
     resolved: &'a Resolved<'t>,
 }
 
@@ -122,7 +122,8 @@ impl<'a, 't> ConstructorWalk<'a, 't> {
             ≡ option_and_then (λ r. field_type r ((meanings_in self.now).written name))
             (type_in self.now of) }
     {
-        self.known.field(of?, text_at(self.resolved.tokens(), name))
+        self.known
+            .field_type(of?, text_at(self.resolved.tokens(), name))
     }
 
     /// The search after a type as it is written, by the type that it denotes.

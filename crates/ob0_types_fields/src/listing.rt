@@ -29,7 +29,7 @@ use crate::reading::{field_on, first_among, place_among, tokens_among};
 use ob0_scan::Tokens;
 use ob0_scope_table::Resolved;
 use ob0_tree::Statement;
-use ob0_types_table::Known;
+use ob0_types_table::DeclarationTable;
 use std::alloc::{AllocError, Global};
 use std::marker::Model;
 
@@ -64,22 +64,22 @@ impl FieldList {
     /// what is selected.
     pub fn of<'a, 't>(
         alloc: Global,
-        known: &'a Known,
+        known: &'a DeclarationTable,
         resolved: &'a Resolved<'t>,
     ) -> Result<FieldList, AllocError>
         ensures { IfOk result (λ f. f ≡ listed_by known.now resolved.now) }
     {
         let declared = declared_fields(alloc, resolved)?;
-        let all = fields_beside(alloc, known, resolved, &declared)?;
+        let all = all_fields(alloc, known, resolved, &declared)?;
         Ok(FieldList { declared, all })
     }
 
-    /// The same fields but for those that the statements of one body select, which are found again and written over
+    /// These fields, but for those that the statements of one body select, which are found again and written over
     /// those at their tokens.
     pub fn with_body<'a, 't>(
         self,
         alloc: Global,
-        known: &'a Known,
+        known: &'a DeclarationTable,
         resolved: &'a Resolved<'t>,
         statements: &Option<Vec<Statement>>,
     ) -> Result<FieldList, AllocError>
@@ -186,10 +186,10 @@ fn declared_fields(alloc: Global, resolved: &Resolved<'_>) -> Result<FieldTokens
     Ok(found)
 }
 
-/// The same where some are declared; none where none is.
-fn fields_beside<'a, 't>(
+/// All fields of the module; without a walk where none is declared.
+fn all_fields<'a, 't>(
     alloc: Global,
-    known: &'a Known,
+    known: &'a DeclarationTable,
     resolved: &'a Resolved<'t>,
     declared: &[(usize, usize)],
 ) -> Result<FieldTokens, AllocError>
@@ -208,7 +208,7 @@ fn fields_beside<'a, 't>(
 /// The fields of a module, in text order.
 fn found_fields<'a, 't>(
     alloc: Global,
-    known: &'a Known,
+    known: &'a DeclarationTable,
     resolved: &'a Resolved<'t>,
 ) -> Result<FieldTokens, AllocError>
     ensures { IfOk result (λ found. found.items

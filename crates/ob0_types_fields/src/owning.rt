@@ -21,7 +21,7 @@ use ob0_tree::{
     Assignment, Block, Call, Compound, Designator, Elsif, Expression, Factor, If, Procedure,
     Repeat, Selector, Simple, Statement, Term, While, text_at,
 };
-use ob0_types_table::{Known, Object, Parts, RecordShape, TypeId, scalar_type};
+use ob0_types_table::{DeclarationTable, Object, Parts, RecordShape, TypeId, scalar_type};
 use std::alloc::AllocError;
 
 /// Tokens of fields, each with the ordinal of its record.
@@ -30,7 +30,7 @@ pub(crate) type FieldTokens = Vec<(usize, usize)>;
 /// A module with the table of its declarations.
 #[derive(Clone, Copy)]
 pub(crate) struct Owning<'a, 't> {
-    pub(crate) known: &'a Known,
+    pub(crate) known: &'a DeclarationTable,
     pub(crate) resolved: &'a Resolved<'t>,
 }
 
@@ -80,7 +80,8 @@ impl<'a, 't> Owning<'a, 't> {
         }
     }
 
-    /// The same of a record. The name is looked up once, for the field's type: the ordinal is that of the record.
+    /// Notes the record whose field a name selects, by the record, and gives the field's type. The name is looked up once,
+    /// for the type: the ordinal is that of the record.
     fn select_in(
         &self,
         found: &mut FieldTokens,

@@ -1,7 +1,7 @@
 //! What is known of a module without faults: the shapes of its types, and what its declarations are.
 //!
 //! Types are places in a table: the entry of an ARRAY or RECORD is made over those before it (`AreEntriesInOrder`), and
-//! `shapes_of` computes the shapes of the table from its first entry on. The value of `Known` is its two lists as the
+//! `shapes_of` computes the shapes of the table from its first entry on. The value of `DeclarationTable` is its two lists as the
 //! code has them, since the code of a value is found for types of the code and not for the definitions' `Shape`; shapes
 //! are functions of it.
 
@@ -92,14 +92,14 @@ pub enum Object {
 
 /// The shapes of the types, each made of those before it, and what each declaration is, by its ordinal.
 #[derive(Drop)]
-pub struct Known {
+pub struct DeclarationTable {
     shapes: Vec<TypeEntry>,
     objects: Vec<Option<Object>>,
 }
 
 impl RecordShape {
     /// The first field of this name.
-    fn field_of(&self, name: &str) -> Option<FieldOf>
+    fn field(&self, name: &str) -> Option<FieldOf>
         ensures { (shapes : List shape.Shape)
             → result
             ≡ field_selected
@@ -115,7 +115,7 @@ impl RecordShape {
     }
 }
 
-impl Model for Known {
+impl Model for DeclarationTable {
     ghost use Rattle.std.specs.Prelude.{[]};
     ghost use Rattle.ob0_types_table.specs.KnownTables.{Tables};
     ghost use Rattle.ob0_types_table.specs.Tables.{AreEntriesInOrder};
@@ -127,7 +127,7 @@ impl Model for Known {
     ghost invariant = { λ k. AreEntriesInOrder [] k.shapes.items };
 }
 
-impl Known {
+impl DeclarationTable {
     ghost use Rattle.std.specs.Prelude.{◌≡◌, [], length, option_map, option_and_then, slice_get, slice_index_or, MatchOption};
     ghost use Rattle.ob0_types_table.specs.KnownTables.{declared_in, shapes_of};
     ghost use Rattle.ob0_types_table.specs.Tables.{AreEntriesInOrder, CountsParts, made_shape, no_shape, object_in, type_shape};
@@ -136,11 +136,11 @@ impl Known {
     ghost use Rattle.ob0_language_values.specs.Values.{integer_shape};
 
     /// What is known of a module, by the arrays and records that it makes and by what its declarations are.
-    pub fn new(shapes: Vec<TypeEntry>, objects: Vec<Option<Object>>) -> Known
+    pub fn new(shapes: Vec<TypeEntry>, objects: Vec<Option<Object>>) -> DeclarationTable
         requires { AreEntriesInOrder [] shapes.items }
         ensures { result ≡ record { shapes = shapes.items; objects = objects.items } }
     {
-        Known { shapes, objects }
+        DeclarationTable { shapes, objects }
     }
 
     /// How many declarations there are.
@@ -234,7 +234,7 @@ impl Known {
     }
 
     /// The type of the first field of this name in a record.
-    pub fn field(&self, base: TypeId, name: &str) -> Option<TypeId>
+    pub fn field_type(&self, base: TypeId, name: &str) -> Option<TypeId>
         ensures { option_map (type_shape (shapes_of self.now)) result
             ≡ field_type (type_shape (shapes_of self.now) base) name.now }
     {
@@ -251,12 +251,12 @@ impl Known {
     }
 
     /// The first field of this name in a record.
-    pub fn field_of(&self, base: TypeId, name: &str) -> Option<FieldOf>
+    pub fn field(&self, base: TypeId, name: &str) -> Option<FieldOf>
         ensures { result ≡ field_selected (type_shape (shapes_of self.now) base) name.now }
     {
         match base {
             TypeId::Record(i) => match self.entry(i)? {
-                TypeEntry::Record(record) => record.field_of(name),
+                TypeEntry::Record(record) => record.field(name),
                 TypeEntry::Array(_) => None,
             },
             TypeId::Integer => None,

@@ -14,8 +14,8 @@ mod types;
 pub use entries::add_entry;
 pub use field_table::FieldTable;
 pub use known::{
-    ArrayShape, Field, FieldOf, Formal, Known, MAX_DEPTH, MAX_SCALARS, Object, RecordShape,
-    Standard, TypeEntry,
+    ArrayShape, DeclarationTable, Field, FieldOf, Formal, MAX_DEPTH, MAX_SCALARS, Object,
+    RecordShape, Standard, TypeEntry,
 };
 pub use numbers::number_at;
 pub use type_parts::Parts;

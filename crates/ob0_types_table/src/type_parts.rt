@@ -10,7 +10,7 @@ ghost use Rattle.ob0_types_table.specs.Parts.{PartsAreCounted, has_parts, is_kno
 ghost use Rattle.ob0_types_table.specs.KnownTables.{shapes_of};
 ghost use Rattle.ob0_types_table.specs.Tables.{type_shape};
 
-use crate::known::{ArrayShape, Known, RecordShape, TypeEntry};
+use crate::known::{ArrayShape, DeclarationTable, RecordShape, TypeEntry};
 use crate::types::TypeId;
 
 /// A type with its parts. What has a fault is a record without fields.
@@ -23,7 +23,7 @@ pub enum Parts<'k> {
     Faulty,
 }
 
-impl Known {
+impl DeclarationTable {
     /// A type with its parts. It has none exactly where it isn't a type of the module.
     pub fn parts(&self, of: TypeId) -> Parts<'_>
         ensures shape { parts_shape (shapes_of self.now) result

@@ -3,7 +3,7 @@
 use Rattle.std.specs.Prelude.{ℕ, List, map, string_bytes, Vec}
 use Rattle.std.specs.Str.{chars}
 use Rattle.std.specs.declared.alloc.Global.{Global}
-use Rattle.ob0_text.specs.OpenDocuments.{reported_change}
+use Rattle.ob0_text.specs.OpenDocuments.{change_in_text}
 use Rattle.ob0_world_editor.specs.Code.{ask_of, applied_of}
 use Rattle.ob0_world.specs.declared.events.Event as event
 use Rattle.ob0_world.specs.declared.played.Made as made
@@ -17,7 +17,7 @@ abbrev pub event_of : event.Event → Event
 event_of (event.TheVariants.OpenDoc uri text) =
     does (open_document (string_bytes uri) (chars (string_bytes text)))
 event_of (event.TheVariants.ChangeDoc uri changes) =
-    does (change_document (string_bytes uri) (map reported_change changes.items))
+    does (change_document (string_bytes uri) (map change_in_text changes.items))
 event_of (event.TheVariants.CloseDoc uri) = does (close_document (string_bytes uri))
 event_of (event.TheVariants.Ask uri ask) = does (ask_about (string_bytes uri) (ask_of ask))
 event_of event.TheVariants.Serve = serve

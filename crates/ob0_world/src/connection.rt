@@ -2,7 +2,7 @@
 ghost use Rattle.std.specs.Prelude.{◌≡◌, ◌<◌, IfOk, OnErr, OnOk, map, option_map, option_and_then, string_bytes};
 ghost use Rattle.std.specs.Str.{chars};
 ghost use Rattle.std.specs.Vec.{vec_capacity, vec_len};
-ghost use Rattle.ob0_text.specs.OpenDocuments.{reported_change, document_at};
+ghost use Rattle.ob0_text.specs.OpenDocuments.{change_in_text, document_at};
 ghost use Rattle.ob0_session_server.specs.SessionStates.{failed};
 ghost use Rattle.ob0_world_editor.specs.Code.{ask_of};
 ghost use Rattle.ob0_world_editor.specs.Moves.{AreFew};
@@ -138,7 +138,7 @@ impl<T: TextStore> Connection<T> {
     fn change(&mut self, uri: &str, changes: &[Change]) -> Result<Seen, AllocError>
         requires { AreFew self.old.model.editor }
         ensures ok { IfOk result (λ seen. Shows self.old.model
-            (does (change_document uri.now (map reported_change changes.now))) (seen_of seen)
+            (does (change_document uri.now (map change_in_text changes.now))) (seen_of seen)
             self.new.model) }
         ensures wire { OnOk result (WritesContent self.old.wire self.new.wire) }
         ensures err { OnErr result (SameHistory self.old self.new) }

@@ -7,7 +7,7 @@ use Rattle.serde_json.specs.View.{items_of}
 use Rattle.ob0_text.specs.declared.edits.Change.{Change}
 use Rattle.ob0_text.specs.declared.edits.Indent.TheVariants.{Tab, Spaces}
 use Rattle.ob0_text.specs.declared.position_types.Range.{Range}
-use Rattle.ob0_text.specs.OpenDocuments.{Opened, Changed, Closed, TextChange, reported_change}
+use Rattle.ob0_text.specs.OpenDocuments.{Opened, Changed, Closed, TextChange, change_in_text}
 use Rattle.ob0_rpc.specs.Requesting.{request_by_method}
 use Rattle.ob0_rpc.specs.Messages.{ReadsContent}
 use Rattle.ob0_rpc.specs.Notifications.{change_in, all_changes, change_of, open_of}
@@ -43,7 +43,7 @@ read_back : (range : Option Range) (new : List ℕ) → change_in (change_object
 read_back (Some range) new = refl
 read_back None new = refl
 
-changes_read_back : (cs : List Change) → all_changes (items_of (map change_value cs)) ≡ Some (map reported_change cs)
+changes_read_back : (cs : List Change) → all_changes (items_of (map change_value cs)) ≡ Some (map change_in_text cs)
 changes_read_back [] = refl
 changes_read_back (c ∷ cs) = rw (read_back c.range (string_bytes c.text), changes_read_back cs) refl
 
@@ -83,8 +83,8 @@ changed_so content uri version values all h are reads =
     }
 
 pub changing_reported : (content uri : List ℕ) (version : ℕ) (cs : List Change) → version < 2 ^ 63 → ReadsContent content (Some (notification_message (codes "textDocument/didChange") (change_params uri version (map change_value cs))))
-    → IsNote (Changed uri (pos version) (map reported_change cs)) content
-changing_reported content uri version cs h reads = changed_so content uri version (map change_value cs) (map reported_change cs) h (changes_read_back cs) reads
+    → IsNote (Changed uri (pos version) (map change_in_text cs)) content
+changing_reported content uri version cs h reads = changed_so content uri version (map change_value cs) (map change_in_text cs) h (changes_read_back cs) reads
 
 pub rewriting_reported : (content uri : List ℕ) (version : ℕ) (text : List ℕ) → version < 2 ^ 63 → ReadsContent content (Some (notification_message (codes "textDocument/didChange") (change_params uri version (change_object None text ∷ []))))
     → IsNote (Changed uri (pos version) (whole_text (chars text) ∷ [])) content

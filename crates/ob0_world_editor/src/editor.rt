@@ -6,7 +6,7 @@
 //! an edit, so no invariant on units is needed.
 ghost use Rattle.std.specs.Prelude.{◌≡◌, IfOk, OnOk, OnErr, map, option_map, is_some, ◌<◌, ◌-◌, ◌^◌, string_bytes};
 ghost use Rattle.std.specs.Str.{chars};
-ghost use Rattle.ob0_text.specs.OpenDocuments.{reported_change};
+ghost use Rattle.ob0_text.specs.OpenDocuments.{change_in_text};
 ghost use Rattle.ob0_world_rules.specs.ClientAndServer.{answers, new_editor};
 ghost use Rattle.ob0_world_rules.specs.Editing as acts;
 ghost use Rattle.ob0_world_rules.specs.Editing.{change_document, close_document, ask_about, apply, applies, done_by, kept_answer, reads, without_answer};
@@ -118,7 +118,7 @@ impl Editor {
     pub fn change(&mut self, uri: &str, changes: &[Change]) -> Result<Option<Vec<u8>>, AllocError>
         requires { AreFew self.old }
         ensures ok { IfOk result (λ content. Acts
-            (done_by self.old (change_document uri.now (map reported_change changes.now))) content
+            (done_by self.old (change_document uri.now (map change_in_text changes.now))) content
             self.new) }
         ensures err { OnErr result (self.new ≡ self.old) }
     {

@@ -2,7 +2,7 @@
 ghost use Rattle.std.specs.Prelude.{◌≡◌, Some, map, IfOk, OnOk, string_bytes};
 ghost use Rattle.std.specs.Option.{option_map};
 ghost use Rattle.std.specs.Str.{chars};
-ghost use Rattle.ob0_text.specs.OpenDocuments.{reported_change, changed_text};
+ghost use Rattle.ob0_text.specs.OpenDocuments.{change_in_text, changed_text};
 ghost use Rattle.ob0_world_rules.specs.Edited.{edited, after_changes};
 ghost use Rattle.ob0_world_rules.specs.Edited.{replacements};
 
@@ -17,7 +17,7 @@ pub fn apply_changes<T: TextStore>(
     changes: &[Change],
 ) -> Result<String, AllocError>
     ensures { IfOk result (λ new. after_changes unit (Some (chars text.now))
-        (map reported_change changes.now)
+        (map change_in_text changes.now)
         ≡ Some (chars (string_bytes new))) }
 {
     let mut store = T::from_str_in(alloc, text, unit)?;
@@ -36,7 +36,7 @@ fn make_change<T: TextStore>(
     requires { T.unit_of store.old ≡ unit }
     ensures unit { OnOk result (T.unit_of store.new ≡ unit) }
     ensures ok { OnOk result (changed_text unit (Some (T.content store.old))
-        (reported_change change.now)
+        (change_in_text change.now)
         ≡ Some (T.content store.new)) }
 {
     match change.range {

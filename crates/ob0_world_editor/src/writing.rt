@@ -2,7 +2,7 @@
 ghost use Rattle.std.specs.Prelude.{◌≤◌, ◌<◌, ◌^◌, ◌∷◌, [], pos, IfOk, map};
 ghost use Rattle.std.specs.Str.{chars};
 ghost use Rattle.serde_json.specs.Data.{depth};
-ghost use Rattle.ob0_text.specs.OpenDocuments.{Opened, Changed, Closed, reported_change};
+ghost use Rattle.ob0_text.specs.OpenDocuments.{Opened, Changed, Closed, change_in_text};
 ghost use Rattle.ob0_rpc.specs.Writing.{Writes};
 ghost use Rattle.ob0_world_rules.specs.Edited.{whole_text};
 ghost use Rattle.ob0_world_editor.specs.Code.{ask_of};
@@ -38,7 +38,7 @@ pub fn did_change(
 ) -> Result<Vec<u8>, AllocError>
     requires { version < 2 ^ 63 }
     ensures { IfOk result (λ content. IsNote
-        (Changed uri.now (pos version) (map reported_change changes.now)) content.items) }
+        (Changed uri.now (pos version) (map change_in_text changes.now)) content.items) }
 {
     let changes = ContentChanges { changes };
     let document = DocumentVersion { uri, version };

@@ -144,7 +144,7 @@ impl<'t> Reporter<'t> {
         self.type_inside(t, 0)
     }
 
-    /// The same for a type that is inside of `around` words ARRAY and RECORD.
+    /// The type that is written inside of `around` words ARRAY and RECORD, with unknown parts where these have faults.
     #[cycle(types)]
     fn type_inside(&mut self, t: &WrittenType, around: usize) -> Result<TypeId, AllocError>
         ensures { IfOk result

@@ -19,16 +19,16 @@ found_by r q t x found holds same is = is ∙ (λ i. typed_field_by (λ k. holds
 pub returns-in-None : goal.returns-in-None
 returns-in-None c =
     let r = c.args.well_typed.now in
-    let shapes = shapes_of c.known-known.result.now in
+    let shapes = shapes_of c.declarations-known.result.now in
     ap (option_map (λ (f : TypedField). typed_hover r c.args.field.0 f.shape))
     (ap (option_map (typed_field_in shapes)) (sym c.in-None.is)
-    ∙ found_by r c.resolved-names.result.now c.known-known.result.now c.args.field c.typed_field.result c.known-known.ensures c.resolved-names.ensures.value c.typed_field.ensures)
+    ∙ found_by r c.resolved-names.result.now c.declarations-known.result.now c.args.field c.typed_field.result c.declarations-known.ensures c.resolved-names.ensures.value c.typed_field.ensures)
 
 pub returns-in_ok-typed_hover-in-Some : goal.returns-in_ok-typed_hover-in-Some
 returns-in_ok-typed_hover-in-Some c =
     let r = c.args.well_typed.now in
-    let shapes = shapes_of c.known-known.result.now in
+    let shapes = shapes_of c.declarations-known.result.now in
     ap Some (c.in_ok-typed_hover-in-Some.ensures ∙ ap (λ (q : Resolution). typed_hover q c.args.field.0 (type_shape shapes c.in-Some.found.of)) c.resolved-names.ensures.value)
     ∙ ap (option_map (λ (f : TypedField). typed_hover r c.args.field.0 f.shape))
     (ap (option_map (typed_field_in shapes)) (sym c.in-Some.is)
-    ∙ found_by r c.resolved-names.result.now c.known-known.result.now c.args.field c.typed_field.result c.known-known.ensures c.resolved-names.ensures.value c.typed_field.ensures)
+    ∙ found_by r c.resolved-names.result.now c.declarations-known.result.now c.args.field c.typed_field.result c.declarations-known.ensures c.resolved-names.ensures.value c.typed_field.ensures)

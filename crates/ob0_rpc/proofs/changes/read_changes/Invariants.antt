@@ -1,12 +1,12 @@
 use Rattle.std.proofs.Common.{◌≡◌, ◌++◌, length, map, option_map}
 use Rattle.std.specs.Vec.Iter.{into_iter_items, into_iter_len}
 use Rattle.serde_json.specs.View.{items_view}
-use Rattle.ob0_text.specs.OpenDocuments.{reported_change}
+use Rattle.ob0_text.specs.OpenDocuments.{change_in_text}
 use Rattle.ob0_rpc.specs.Notifications.{all_changes}
 use Rattle.ob0_rpc.proofs.changes.read_changes.Given as goal
 
 -- the changes so far, before those of the entries that are left
 abbrev pub invariant-loop-entry : goal.invariant-loop-entry
 invariant-loop-entry l =
-    (all_changes (items_view (into_iter_items l.initial.entry-iterator)) ≡ option_map (λ later. map reported_change l.changes.items ++ later) (all_changes (items_view (into_iter_items l.entry-iterator))))
+    (all_changes (items_view (into_iter_items l.initial.entry-iterator)) ≡ option_map (λ later. map change_in_text l.changes.items ++ later) (all_changes (items_view (into_iter_items l.entry-iterator))))
     × (into_iter_len l.entry-iterator ≡ length (into_iter_items l.entry-iterator))

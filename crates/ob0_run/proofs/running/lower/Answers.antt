@@ -18,9 +18,9 @@ returns c =
     let m : Tree Name module_text = named_tree_of c.args.checked.now.module_read in
     let well : WellTyped m = c.resolved.ensures.well_typed.well_typed in
     let Means : Resolution → Program → Type 0 =
-    λ z made. WellTyped (named_tree_of z.module_read) → ((k : ℕ) → declared_in c.known.result.now k ≡ declared_object (named_tree_of z.module_read) k) → MeansModule made.most_cells (named_tree_of z.module_read) (program_of made.code) in
+    λ z made. WellTyped (named_tree_of z.module_read) → ((k : ℕ) → declared_in c.declarations.result.now k ≡ declared_object (named_tree_of z.module_read) k) → MeansModule made.most_cells (named_tree_of z.module_read) (program_of made.code) in
     let of_module : (made : Program) → Means c.resolved.result.now made → MeansModule made.most_cells m (program_of made.code) =
-    λ made means. subst (λ (z : Resolution). Means z made) c.resolved.ensures.value means well c.known.ensures in
+    λ made means. subst (λ (z : Resolution). Means z made) c.resolved.ensures.value means well c.declarations.ensures in
     record {
       runs = IfOk-weaker c.lower.result (Means c.resolved.result.now) (RunsAs m)
           (λ made means input calls turns numbers room. c.runs_lowered.ensures m (program_of made.code) made.most_cells calls turns input well (of_module made means).means room numbers) c.lower.ensures;

@@ -10,5 +10,5 @@ pub returns-in-Some : goal.returns-in-Some
 returns-in-Some c = λ laid.
     let shapes = shapes_of c.args.known.now in
     let (k, fs, e, l) = c.in-Some.ensures shapes laid in
-    c.record_offset.ensures k fs c.args.name.now l (c.field_of.ensures ∙ ap (λ s. field_selected s c.args.name.now) e)
+    c.record_offset.ensures k fs c.args.name.now l (c.field.ensures ∙ ap (λ s. field_selected s c.args.name.now) e)
     ∙ sym (ap (λ s. step_offset s (at_field c.args.name.now)) (ap (type_shape shapes) c.in-Record.is ∙ e))

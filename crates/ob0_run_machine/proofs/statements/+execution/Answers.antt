@@ -11,11 +11,11 @@ branches-returns-in_err-evaluate_condition g t c = ending_by c.in_err-evaluate_c
     (if_fails c.args.machine.now c.args.turns (levels_of c.args.level.now) c.args.i.now c.in_err-evaluate_condition.field-0.0 c.in_err-evaluate_condition.ensures)
 
 pub branches-returns-then-branch : goal.branches-returns-then-branch
-branches-returns-then-branch g t c = if_taken c.args.turns (levels_of c.args.level.now) c.args.i.now c.sequence.result _ (settled c.in_ok-evaluate_condition.ensures c.if-branch.true) c.deref.ensures.value c.sequence.ensures
+branches-returns-then-branch g t c = if_taken c.args.turns (levels_of c.args.level.now) c.args.i.now c.run_called.result _ (settled c.in_ok-evaluate_condition.ensures c.if-branch.true) c.deref.ensures.value c.run_called.ensures
 
 pub branches-returns-then-count-eq0 : goal.branches-returns-then-count-eq0
-branches-returns-then-count-eq0 g t c = if_passed c.args.turns (levels_of c.args.level.now) c.args.i.now c.sequence_if_any.result (settled c.in_ok-evaluate_condition.ensures c.if-branch.false)
-    (branches_end {t = c.args.turns} {ls = levels_of c.args.level.now} c.sequence_if_any.result _ (branches_begin c.as_slice-others.ensures.value) (omega (arith, c.if-count-eq0.true)) c.deref-then-count-eq0.ensures.value c.sequence_if_any.ensures)
+branches-returns-then-count-eq0 g t c = if_passed c.args.turns (levels_of c.args.level.now) c.args.i.now c.run_unless_empty.result (settled c.in_ok-evaluate_condition.ensures c.if-branch.false)
+    (branches_end {t = c.args.turns} {ls = levels_of c.args.level.now} c.run_unless_empty.result _ (branches_begin c.as_slice-others.ensures.value) (omega (arith, c.if-count-eq0.true)) c.deref-then-count-eq0.ensures.value c.run_unless_empty.ensures)
 
 pub branches-returns : goal.branches-returns
 branches-returns g t c = if_passed c.args.turns (levels_of c.args.level.now) c.args.i.now c.other_branches.result (settled c.in_ok-evaluate_condition.ensures c.if-branch.false) c.other_branches.ensures
@@ -29,79 +29,79 @@ other_branches-returns-in_err-evaluate_condition g t c = ending_by c.in_err-eval
 
 pub other_branches-returns-then-branch : goal.other_branches-returns-then-branch
 other_branches-returns-then-branch g t c =
-    branch_taken c.sequence.result _ c.branch-item.result c.loop-branch.invariant c.loop-branch-test.true c.branch-item.is (settled c.in_ok-evaluate_condition.ensures c.if-branch.true) c.deref.ensures.value c.sequence.ensures
+    branch_taken c.run_called.result _ c.branch-item.result c.loop-branch.invariant c.loop-branch-test.true c.branch-item.is (settled c.in_ok-evaluate_condition.ensures c.if-branch.true) c.deref.ensures.value c.run_called.ensures
 
 pub other_branches-loop-branch-preserved : goal.other_branches-loop-branch-preserved
 other_branches-loop-branch-preserved g t c =
     branches_on c.branch-item.result c.loop-branch.invariant c.loop-branch-test.true c.branch-item.is (settled c.in_ok-evaluate_condition.ensures c.if-branch.false)
 
 pub other_branches-returns : goal.other_branches-returns
-other_branches-returns g t c = branches_end c.sequence_if_any.result _ c.loop-branch.invariant c.loop-branch-test.false c.deref-2.ensures.value c.sequence_if_any.ensures
+other_branches-returns g t c = branches_end c.run_unless_empty.result _ c.loop-branch.invariant c.loop-branch-test.false c.deref-2.ensures.value c.run_unless_empty.ensures
 
-pub run_loop-loop-left-init : goal.run_loop-loop-left-init
-run_loop-loop-left-init g t c = while_begins
+pub run_while-loop-left-init : goal.run_while-loop-left-init
+run_while-loop-left-init g t c = while_begins
 
-pub run_loop-returns-in_err-evaluate_condition : goal.run_loop-returns-in_err-evaluate_condition
-run_loop-returns-in_err-evaluate_condition g t c = ending_by c.in_err-evaluate_condition.field-0.0 (err_from_is_err_and c.from_residual.result c.from_residual.ensures.1)
+pub run_while-returns-in_err-evaluate_condition : goal.run_while-returns-in_err-evaluate_condition
+run_while-returns-in_err-evaluate_condition g t c = ending_by c.in_err-evaluate_condition.field-0.0 (err_from_is_err_and c.from_residual.result c.from_residual.ensures.1)
     (while_fails c.in_err-evaluate_condition.field-0.0 c.loop-left.invariant c.in_err-evaluate_condition.ensures)
 
-pub run_loop-returns-then-not-branch : goal.run_loop-returns-then-not-branch
-run_loop-returns-then-not-branch g t c = while_ends tt c.loop-left.invariant (settled c.in_ok-evaluate_condition.ensures c.if-not-branch.true)
+pub run_while-returns-then-not-branch : goal.run_while-returns-then-not-branch
+run_while-returns-then-not-branch g t c = while_ends tt c.loop-left.invariant (settled c.in_ok-evaluate_condition.ensures c.if-not-branch.true)
 
-pub run_loop-returns-then-left-eq0 : goal.run_loop-returns-then-left-eq0
-run_loop-returns-then-left-eq0 g t c = while_bound c.loop-left.invariant (settled c.in_ok-evaluate_condition.ensures c.if-not-branch.false) c.if-left-eq0.true
+pub run_while-returns-then-left-eq0 : goal.run_while-returns-then-left-eq0
+run_while-returns-then-left-eq0 g t c = while_bound c.loop-left.invariant (settled c.in_ok-evaluate_condition.ensures c.if-not-branch.false) c.if-left-eq0.true
 
-pub run_loop-loop-left-preserved : goal.run_loop-loop-left-preserved
-run_loop-loop-left-preserved g t c = while_on c.in_ok-in_order.field-0 _ c.loop-left.invariant (settled c.in_ok-evaluate_condition.ensures c.if-not-branch.false) c.if-left-eq0.false c.deref.ensures.value c.in_ok-in_order.ensures
+pub run_while-loop-left-preserved : goal.run_while-loop-left-preserved
+run_while-loop-left-preserved g t c = while_on c.in_ok-run_inlined.field-0 _ c.loop-left.invariant (settled c.in_ok-evaluate_condition.ensures c.if-not-branch.false) c.if-left-eq0.false c.deref.ensures.value c.in_ok-run_inlined.ensures
 
-pub run_loop-returns-in_err-in_order : goal.run_loop-returns-in_err-in_order
-run_loop-returns-in_err-in_order g t c = leaving (err_from_is_err_and c.from_residual-in_err-in_order.result c.from_residual-in_err-in_order.ensures.1)
-    (while_body_fails c.in_err-in_order.field-0.0 _ c.loop-left.invariant (settled c.in_ok-evaluate_condition.ensures c.if-not-branch.false) c.if-left-eq0.false c.deref.ensures.value c.in_err-in_order.ensures)
+pub run_while-returns-in_err-run_inlined : goal.run_while-returns-in_err-run_inlined
+run_while-returns-in_err-run_inlined g t c = leaving (err_from_is_err_and c.from_residual-in_err-run_inlined.result c.from_residual-in_err-run_inlined.ensures.1)
+    (while_body_fails c.in_err-run_inlined.field-0.0 _ c.loop-left.invariant (settled c.in_ok-evaluate_condition.ensures c.if-not-branch.false) c.if-left-eq0.false c.deref.ensures.value c.in_err-run_inlined.ensures)
 
-pub in_order-loop-s-init : goal.in_order-loop-s-init
-in_order-loop-s-init g t c = sequence_begins
+pub run_inlined-loop-s-init : goal.run_inlined-loop-s-init
+run_inlined-loop-s-init g t c = sequence_begins
 
-pub in_order-returns-in_err-statement : goal.in_order-returns-in_err-statement
-in_order-returns-in_err-statement g t c = leaving (err_from_is_err_and c.from_residual.result c.from_residual.ensures.1)
+pub run_inlined-returns-in_err-statement : goal.run_inlined-returns-in_err-statement
+run_inlined-returns-in_err-statement g t c = leaving (err_from_is_err_and c.from_residual.result c.from_residual.ensures.1)
     (sequence_fails c.in_err-statement.field-0.0 c.s-item.result c.loop-s.invariant c.loop-s-test.true c.s-item.is c.in_err-statement.ensures)
 
-pub in_order-loop-s-preserved : goal.in_order-loop-s-preserved
-in_order-loop-s-preserved g t c = sequence_on c.in_ok-statement.field-0 c.s-item.result c.loop-s.invariant c.loop-s-test.true c.s-item.is c.in_ok-statement.ensures
+pub run_inlined-loop-s-preserved : goal.run_inlined-loop-s-preserved
+run_inlined-loop-s-preserved g t c = sequence_on c.in_ok-statement.field-0 c.s-item.result c.loop-s.invariant c.loop-s-test.true c.s-item.is c.in_ok-statement.ensures
 
-pub in_order-returns : goal.in_order-returns
-in_order-returns g t c = sequence_ends tt c.loop-s.invariant c.loop-s-test.false
+pub run_inlined-returns : goal.run_inlined-returns
+run_inlined-returns g t c = sequence_ends tt c.loop-s.invariant c.loop-s-test.false
 
-pub sequence_if_any-returns-then-count-eq0 : goal.sequence_if_any-returns-then-count-eq0
-sequence_if_any-returns-then-count-eq0 g t c = sequence_ends {t = c.args.turns} {ls = levels_of c.args.level.now} {xs = c.args.statements.now} tt sequence_begins (omega (arith, c.if-count-eq0.true))
+pub run_unless_empty-returns-then-count-eq0 : goal.run_unless_empty-returns-then-count-eq0
+run_unless_empty-returns-then-count-eq0 g t c = sequence_ends {t = c.args.turns} {ls = levels_of c.args.level.now} {xs = c.args.statements.now} tt sequence_begins (omega (arith, c.if-count-eq0.true))
 
 pub statement-returns-in-If : goal.statement-returns-in-If
 statement-returns-in-If g t c = does_statement c.args.turns (levels_of c.args.level.now) (sym (ap statement_of c.in-If.is ∙ if_made c.in-If.i)) c.branches.ensures
 
 pub statement-returns-in-While : goal.statement-returns-in-While
-statement-returns-in-While g t c = does_statement c.args.turns (levels_of c.args.level.now) (sym (ap statement_of c.in-While.is ∙ while_made c.in-While.w)) c.run_loop.ensures
+statement-returns-in-While g t c = does_statement c.args.turns (levels_of c.args.level.now) (sym (ap statement_of c.in-While.is ∙ while_made c.in-While.w)) c.run_while.ensures
 
 pub statement-returns-in-Repeat : goal.statement-returns-in-Repeat
-statement-returns-in-Repeat g t c = does_statement c.args.turns (levels_of c.args.level.now) (sym (ap statement_of c.in-Repeat.is ∙ repeat_made c.in-Repeat.r)) c.until.ensures
+statement-returns-in-Repeat g t c = does_statement c.args.turns (levels_of c.args.level.now) (sym (ap statement_of c.in-Repeat.is ∙ repeat_made c.in-Repeat.r)) c.run_repeat.ensures
 
-pub until-loop-machine-init : goal.until-loop-machine-init
-until-loop-machine-init g t c = repeat_begins c.saturating_sub-further.ensures
+pub run_repeat-loop-machine-init : goal.run_repeat-loop-machine-init
+run_repeat-loop-machine-init g t c = repeat_begins c.saturating_sub-further.ensures
 
-pub until-returns-in_err-in_order : goal.until-returns-in_err-in_order
-until-returns-in_err-in_order g t c = leaving (err_from_is_err_and c.from_residual.result c.from_residual.ensures.1)
-    (repeat_body_fails c.in_err-in_order.field-0.0 _ c.loop-machine.invariant c.deref.ensures.value c.in_err-in_order.ensures)
+pub run_repeat-returns-in_err-run_inlined : goal.run_repeat-returns-in_err-run_inlined
+run_repeat-returns-in_err-run_inlined g t c = leaving (err_from_is_err_and c.from_residual.result c.from_residual.ensures.1)
+    (repeat_body_fails c.in_err-run_inlined.field-0.0 _ c.loop-machine.invariant c.deref.ensures.value c.in_err-run_inlined.ensures)
 
-pub until-returns-in_err-evaluate_condition : goal.until-returns-in_err-evaluate_condition
-until-returns-in_err-evaluate_condition g t c = ending_by c.in_err-evaluate_condition.field-0.0 (err_from_is_err_and c.from_residual-in_err-evaluate_condition.result c.from_residual-in_err-evaluate_condition.ensures.1)
-    (repeat_fails c.in_err-evaluate_condition.field-0.0 (turn_made c.in_ok-in_order.field-0 _ c.loop-machine.invariant c.deref.ensures.value c.in_ok-in_order.ensures) c.in_err-evaluate_condition.ensures)
+pub run_repeat-returns-in_err-evaluate_condition : goal.run_repeat-returns-in_err-evaluate_condition
+run_repeat-returns-in_err-evaluate_condition g t c = ending_by c.in_err-evaluate_condition.field-0.0 (err_from_is_err_and c.from_residual-in_err-evaluate_condition.result c.from_residual-in_err-evaluate_condition.ensures.1)
+    (repeat_fails c.in_err-evaluate_condition.field-0.0 (turn_made c.in_ok-run_inlined.field-0 _ c.loop-machine.invariant c.deref.ensures.value c.in_ok-run_inlined.ensures) c.in_err-evaluate_condition.ensures)
 
-pub until-returns-then-branch : goal.until-returns-then-branch
-until-returns-then-branch g t c =
-    repeat_ends tt (turn_made c.in_ok-in_order.field-0 _ c.loop-machine.invariant c.deref.ensures.value c.in_ok-in_order.ensures) (settled c.in_ok-evaluate_condition.ensures c.if-branch.true)
+pub run_repeat-returns-then-branch : goal.run_repeat-returns-then-branch
+run_repeat-returns-then-branch g t c =
+    repeat_ends tt (turn_made c.in_ok-run_inlined.field-0 _ c.loop-machine.invariant c.deref.ensures.value c.in_ok-run_inlined.ensures) (settled c.in_ok-evaluate_condition.ensures c.if-branch.true)
 
-pub until-returns-then-further-eq0 : goal.until-returns-then-further-eq0
-until-returns-then-further-eq0 g t c =
-    repeat_bound (turn_made c.in_ok-in_order.field-0 _ c.loop-machine.invariant c.deref.ensures.value c.in_ok-in_order.ensures) (settled c.in_ok-evaluate_condition.ensures c.if-branch.false) c.if-further-eq0.true
+pub run_repeat-returns-then-further-eq0 : goal.run_repeat-returns-then-further-eq0
+run_repeat-returns-then-further-eq0 g t c =
+    repeat_bound (turn_made c.in_ok-run_inlined.field-0 _ c.loop-machine.invariant c.deref.ensures.value c.in_ok-run_inlined.ensures) (settled c.in_ok-evaluate_condition.ensures c.if-branch.false) c.if-further-eq0.true
 
-pub until-loop-machine-preserved : goal.until-loop-machine-preserved
-until-loop-machine-preserved g t c =
-    repeat_on (turn_made c.in_ok-in_order.field-0 _ c.loop-machine.invariant c.deref.ensures.value c.in_ok-in_order.ensures) (settled c.in_ok-evaluate_condition.ensures c.if-branch.false) c.if-further-eq0.false
+pub run_repeat-loop-machine-preserved : goal.run_repeat-loop-machine-preserved
+run_repeat-loop-machine-preserved g t c =
+    repeat_on (turn_made c.in_ok-run_inlined.field-0 _ c.loop-machine.invariant c.deref.ensures.value c.in_ok-run_inlined.ensures) (settled c.in_ok-evaluate_condition.ensures c.if-branch.false) c.if-further-eq0.false

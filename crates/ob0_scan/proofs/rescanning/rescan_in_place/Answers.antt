@@ -52,9 +52,9 @@ returns-in_ok-tokens-in-Ok-clause-same c =
     let old : List Token = c.args.old.tokens in
     let new : Scanned = c.in_ok-tokens-in-Ok.tokens in
     let last : ℕ = b.following.tokens in
-    let s : SameTokens = record { front = b.front.tokens; old_back = last; back = length c.tokens-in-Ok-2.result.now - (length c.tokens-in-Ok.result.now - last) } in
+    let s : SameTokens = record { prefix = b.front.tokens; old_suffix = last; new_suffix = length c.tokens-in-Ok-2.result.now - (length c.tokens-in-Ok.result.now - last) } in
     let is : new.tokens ≡ joined_tokens old b.tokens.items b.front.tokens last c.args.removed c.args.added = ap (λ (s : Scanned). s.tokens) c.in_ok-tokens-in-Ok.ensures in
-    let counts : s.back ≡ length (joined_tokens old b.tokens.items b.front.tokens last c.args.removed c.args.added) - (length old - last) =
+    let counts : s.new_suffix ≡ length (joined_tokens old b.tokens.items b.front.tokens last c.args.removed c.args.added) - (length old - last) =
     ap₂ (λ (x y : List Token). length x - (length y - last)) (c.tokens-in-Ok-2.ensures ∙ is) c.tokens-in-Ok.ensures in
     subst (λ (l : List Token). HasSameTokens s old l) (sym is)
     (same_tokens old b.tokens.items b.front.tokens last c.args.removed c.args.added s c.in-Ok.ensures.ok.tokens_ordered c.in-Ok.ensures.ok.tokens_inside refl refl counts)
@@ -67,13 +67,13 @@ returns-in_ok-tokens-in-Ok-clause-written c =
     let whole = with_between old c.args.new_text.now c.args.removed c.args.added b in
     let w = c.in-Ok.ensures.ok in
     let last : ℕ = b.following.tokens in
-    let s : SameTokens = record { front = b.front.tokens; old_back = last; back = length c.tokens-in-Ok-2.result.now - (length c.tokens-in-Ok.result.now - last) } in
-    let counts : s.back ≡ length whole.tokens - (length old.tokens - last) =
+    let s : SameTokens = record { prefix = b.front.tokens; old_suffix = last; new_suffix = length c.tokens-in-Ok-2.result.now - (length c.tokens-in-Ok.result.now - last) } in
+    let counts : s.new_suffix ≡ length whole.tokens - (length old.tokens - last) =
     ap₂ (λ (x y : List Token). length x - (length y - last)) (c.tokens-in-Ok-2.ensures ∙ ap (λ (s : Scanned). s.tokens) c.in_ok-tokens-in-Ok.ensures) c.tokens-in-Ok.ensures in
     let inside : b.front.tokens ≤ length old.tokens = omega (arith, w.tokens_ordered, w.tokens_inside) in
-    let at : s.back ≡ b.front.tokens + length b.tokens.items = omega (arith, counts, joined_length old.tokens b.tokens.items b.front.tokens last c.args.removed c.args.added inside, w.tokens_inside) in
+    let at : s.new_suffix ≡ b.front.tokens + length b.tokens.items = omega (arith, counts, joined_length old.tokens b.tokens.items b.front.tokens last c.args.removed c.args.added inside, w.tokens_inside) in
     subst (λ (n : Scanned). HasSameWords s old n) (sym c.in_ok-tokens-in-Ok.ensures)
     (record {
       front = front_written old c.args.new_text.now c.args.from c.args.removed c.args.added b c.requires w;
-      back = back_written old c.args.new_text.now c.args.from c.args.removed c.args.added s.back b c.requires w at;
+      back = back_written old c.args.new_text.now c.args.from c.args.removed c.args.added s.new_suffix b c.requires w at;
     })

@@ -1,7 +1,7 @@
 use Rattle.std.proofs.Common.{Bor, List, ◌++◌, ◌-◌, refl, ◌≡◌, ◌∙◌, ℕ, ◌≤◌, ◌<◌, length, sym, ap, ap₂, subst, arith, eqb-true, false-eqb}
 use Rattle.ob0_scan.specs.declared.lexeme.Span.{Span}
 use Rattle.ob0_scan.specs.declared.lexeme.Token.{Token}
-use Rattle.ob0_scan.specs.declared.rescanning.Pieces.{Pieces}
+use Rattle.ob0_scan.specs.declared.old_lexemes.Pieces.{Pieces}
 use Rattle.ob0_scan.specs.Scanned.{IsScannable}
 use Rattle.ob0_scan.specs.Refused.{AreFaults}
 use Rattle.ob0_scan.specs.Progress.{IsCutTo}

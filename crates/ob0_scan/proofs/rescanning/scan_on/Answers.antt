@@ -1,7 +1,7 @@
 use Rattle.std.proofs.Common.{Bor, List, vec_len, ◌≡◌, ◌∙◌, ℕ, ◌+◌, ◌-◌, ◌||◌, refl, sym, ap, ap₂, subst, arith, false-eqb}
 use Rattle.ob0_scan.specs.declared.lexeme.Span.{Span}
 use Rattle.ob0_scan.specs.declared.lexeme.Token.{Token}
-use Rattle.ob0_scan.specs.declared.rescanning.Pieces.{Pieces}
+use Rattle.ob0_scan.specs.declared.old_lexemes.Pieces.{Pieces}
 use Rattle.ob0_scan.specs.Reused.{IsReplaced, NoOldBegins, back_tokens, back_comments}
 use Rattle.ob0_scan.specs.Rescanning.{token_begins, comment_begins}
 use Rattle.ob0_scan.proofs.AtLexemes.{back_again}

@@ -11,5 +11,5 @@ pub returns-else-declaration-lt-PREDECLARED : goal.returns-else-declaration-lt-P
 returns-else-declaration-lt-PREDECLARED c =
     let m = named_tree_of c.args.self.now.module_read in
     c.constant-value.ensures
-    ∙ ap constant_of (c.known.ensures c.args.declaration)
+    ∙ ap constant_of (c.declarations.ensures c.args.declaration)
     ∙ constant-declared m c.resolved-module.ensures.well_typed.well_typed c.args.declaration (omega (arith, c.if-declaration-lt-PREDECLARED.false))

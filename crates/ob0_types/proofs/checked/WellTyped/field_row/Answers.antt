@@ -20,12 +20,12 @@ found_by r q t x found holds same is = ap (option_map (at x.0)) (is ∙ (λ i. t
 
 pub returns-in-None : goal.returns-in-None
 returns-in-None c =
-    let shapes = shapes_of c.known-known.result.now in
+    let shapes = shapes_of c.declarations-known.result.now in
     ap (λ f. option_map (at c.args.identifier.0) (option_map (typed_field_in shapes) f)) (sym c.in-None.is)
-    ∙ found_by c.args.self.now c.resolved.result.now c.known-known.result.now c.args.identifier c.typed_field.result c.known-known.ensures c.resolved.ensures.value c.typed_field.ensures
+    ∙ found_by c.args.self.now c.resolved.result.now c.declarations-known.result.now c.args.identifier c.typed_field.result c.declarations-known.ensures c.resolved.ensures.value c.typed_field.ensures
 
 pub returns-in-Some : goal.returns-in-Some
 returns-in-Some c =
-    let shapes = shapes_of c.known-known.result.now in
+    let shapes = shapes_of c.declarations-known.result.now in
     ap (λ f. option_map (at c.args.identifier.0) (option_map (typed_field_in shapes) f)) (sym c.in-Some.is)
-    ∙ found_by c.args.self.now c.resolved.result.now c.known-known.result.now c.args.identifier c.typed_field.result c.known-known.ensures c.resolved.ensures.value c.typed_field.ensures
+    ∙ found_by c.args.self.now c.resolved.result.now c.declarations-known.result.now c.args.identifier c.typed_field.result c.declarations-known.ensures c.resolved.ensures.value c.typed_field.ensures
