@@ -1,9 +1,9 @@
 //! What is known of a module without faults: the shapes of its types, and what its declarations are.
 //!
 //! Types are places in a table: the entry of an ARRAY or RECORD is made over those before it (`AreEntriesInOrder`), and
-//! `shapes_of` computes the shapes of the table from its first entry on. The value of `DeclarationTable` is its two lists as the
-//! code has them, since the code of a value is found for types of the code and not for the definitions' `Shape`; shapes
-//! are functions of it.
+//! `shapes_of` computes the shapes of the table from its first entry on. The value of `DeclarationTable` is its two
+//! lists as the code has them, since the code of a value is found for types of the code and not for the definitions'
+//! `Shape`; shapes are functions of it.
 
 ghost use Rattle.std.specs.Prelude.{◌≡◌, List, option_map};
 ghost use Rattle.ob0_language_values.specs.Values as shape;
