@@ -25,14 +25,21 @@ def write(path: str, text: str) -> None:
         file.write(text)
 
 
-def library(name: str, stamp: str, body: str = "a body", contract: str = "a contract") -> None:
-    """A library, as `rt lib` leaves it: with the sum of each module that the checker made."""
-    write(f"crates/{name}/out/rlib/{name}.rlib/format", "")
-    modules = {"proofs/f/Lts": body, "proofs/f/Code/Mir": body, "specs/contracts/f": contract}
-    write(f"crates/{name}/out/rlib/{name}.rlib/toolchain/made.json", "".join(json.dumps([it, 0, 0, modules[it], False]) + "\n" for it in modules))
-    write(f"crates/{name}/out/rlib/{name}.rlib/lang/antt/made.json", body)
-    write(f"crates/{name}/out/rlib/{name}.rlib/lang/antt/proofs/f/Answers.antt", body)
-    write(f"crates/{name}/out/rlib/{name}.rlib/lang/antt/specs/Lib.antt", "a definition")
+def module(name: str, shows: str, *seen: str) -> str:
+    """A module as the checker keeps it: what others can see of it, and what it saw of others, are at its head."""
+    saw = "".join(f"--@ saw {it} part part\n" for it in seen)
+    return f"--@ module {name}\n--@ exports sha256:{shows.replace(' ', '-')}\n{saw}--@ axioms []\nwhat else is kept\n--@ saw Rattle-other-specs.Lib\n"
+
+
+def library(name: str, stamp: str, body: str = "a body", contract: str = "a contract", unseen: str = "a definition") -> None:
+    """A library, as `rt lib` leaves it: with each module that the checker made."""
+    folder = f"crates/{name}/out/rlib/{name}.rlib"
+    shows = {f"Rattle-{name}-proofs.f.Lts": body, f"Rattle-{name}-specs.contracts.f": contract, f"Rattle-{name}-specs.Unseen": unseen}
+    modules = {it: module(it, shows[it]) for it in shows}
+    starts = [sum(len(it) for it in [*modules.values()][:at]) for at in range(len(modules))]
+    write(f"{folder}/interface/lang/src/lib.rt", "pub fn f();")
+    write(f"{folder}/toolchain/checked.a", "".join(modules.values()))
+    write(f"{folder}/toolchain/checked.json", "".join(json.dumps([it, at, len(modules[it])]) + "\n" for it, at in zip(modules, starts)))
     write(f"crates/{name}/out/rlib/stamp", stamp)
 
 
@@ -43,7 +50,8 @@ def kept() -> Dict[str, build.Proved]:
 
 def keep_all(found: Dict[str, build.Proved]) -> None:
     for name, it in found.items():
-        it.keep(build.Sums(CRATES).of_shown(name))
+        build.keep_seen(name, it.rests[:-1])
+        it.keep(build.Sums(CRATES).of_read(name))
 
 
 def current() -> List[str]:
@@ -67,6 +75,8 @@ def repository() -> Iterator[str]:
             for name in CRATES:
                 write(f"crates/{name}/src/lib.rt", "")
                 library(name, "first")
+                seen = [f"Rattle-{it}-specs.contracts.f" for it in (*CRATES[name], name)]
+                write(f"crates/{name}/out/incremental/checker/g.Proof.oantt", module("g.Proof", "a proof", *seen))
             yield top
 
 
@@ -124,19 +134,29 @@ def bodies_alone() -> None:
         same(second.is_done, True, "and nothing else is")
 
 
-@test("kept: where a contract or a definition changed, or what is read of a library isn't known, the crates above are proved again")
+@test("kept: where a contract changed that the proofs of a crate have read, or that isn't known, the crate is proved again")
 def contracts_too() -> None:
     with repository():
         keep_all(kept())
         path = "crates/low/out/rlib/low.rlib/"
         changes: Dict[str, Callable[[], None]] = {
             "a contract": lambda: library("low", "second", contract="another contract"),
-            "a definition": lambda: write(f"{path}lang/antt/specs/Lib.antt", "another definition"),
-            "an unknown form": lambda: write(f"{path}toolchain/made.json", "modules\n"),
+            "what the compiler reads": lambda: write(f"{path}interface/lang/src/lib.rt", "pub fn g();"),
+            "a module less": lambda: write(f"{path}toolchain/checked.json", ""),
+            "an unknown form": lambda: write(f"{path}toolchain/checked.json", "modules\n"),
             "no library": lambda: shutil.rmtree(os.path.join(common.TOP, path)),
+            "not known what was read": lambda: os.remove(os.path.join(common.TOP, "crates/high/out/seen")),
         }
         for what, change in changes.items():
             library("low", "first")
-            holds(plan().kept["high"].has_read(build.Sums(CRATES).of_shown("high")), f"before {what}")
+            holds(plan().kept["high"].has_read(build.Sums(CRATES).of_read("high")), f"before {what}")
             change()
-            holds(not plan().kept["high"].has_read(build.Sums(CRATES).of_shown("high")), what)
+            holds(not plan().kept["high"].has_read(build.Sums(CRATES).of_read("high")), what)
+
+
+@test("kept: where a definition changed that no proof of a crate has read, the crate is left")
+def definitions_of_others() -> None:
+    with repository():
+        keep_all(kept())
+        library("low", "second", unseen="another definition")
+        holds(plan().kept["high"].has_read(build.Sums(CRATES).of_read("high")), "high has read none of it")

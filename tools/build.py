@@ -6,7 +6,9 @@
 
 It says which crate is being proved, how many are left and the time so far. A program that is up to date is left as it is, and so is
 a crate that was proved here of the same sources, over the same crates below, by the same kit. With --check it says of each crate
-how many modules were loaded and how many proved again; what is kept is trusted, so this is not the gate.
+how many modules were loaded and how many proved again; a crate is left too where nothing changed that its proofs have read of those
+below: each proof that is kept says at its head which modules the checker saw for it, and each module of a library a sum over what
+others can see of it. What is kept is trusted, so this is not the gate.
 
 Two runs of rt in one tree wait for each other where they depend on the same crate. So each crate is proved in a tree of
 its own, a room: a copy of its sources, and of each crate below hard links to its sources and its proved library."""
@@ -30,11 +32,9 @@ from common import TOP, BINARY
 
 STEP = 15  # seconds between two lines about a crate that takes long
 ROOMS = os.path.join(TOP, "bin", "rooms")
-# What rattle makes of a function's body and of its proof, by the last part of a module's name, and the files of its proof: no crate
-# above can name these. (It can name a function's Kinds, Met, Reads, Statement and Symbol. A program rests on TheLink too, by which it
-# knows all that it reaches: what its last line says of that is left to the gate.)
-OF_BODIES = frozenset({"Code", "Mir", "Layout", "Lts", "View", "Given", "Goals", "Named", "Proof", "Tie", "TheLink"})
-OF_PROOFS = frozenset({"Answers.antt", "Invariants.antt", "Proof.antt"})
+# How each line begins that the checker writes at the head of what it keeps of a module, and how many bytes of a module's head say
+# what others can see of it.
+HEAD, EXPORTS = b"--@ ", 2048
 
 
 def processors() -> int:
@@ -106,29 +106,38 @@ def command(name: str, named: dict[str, list[str]], is_check: bool) -> list[str]
 
 class Sums:
     """Of each crate sums over what its proof rests on: its sources, what it names, the kit, and of the crates below either all of
-    their sources or what they show."""
+    their sources or what its proofs have read of them."""
 
     def __init__(self, named: dict[str, list[str]]) -> None:
         self.named, self.lines, self.kit = named, common.listed(), common.kit()
         self.own = {it: common.sum_of(common.sources([it])[2:]) for it in named}
-        self.shown: dict[str, str] = {}
+        self.shown: dict[str, Shown | None] = {}
         with open(os.path.join(TOP, "HANDLES"), encoding="utf-8") as file:
             self.handles = file.read()
 
-    def sum_over(self, name: str, sum_of: Callable[[str], str]) -> str:
+    def sum_over(self, name: str, sum_of: Callable[[str], object]) -> str:
         rests = [(it, self.lines[it], sum_of(it)) for it in common.below(name, self.named)]
         return hashlib.sha256(repr((self.kit, self.handles, rests)).encode()).hexdigest()
 
     def of_sources(self, name: str) -> str:
         return self.sum_over(name, lambda it: self.own[it])
 
-    def of_shown(self, name: str) -> str:
-        """Nothing where a library below isn't there."""
-        below = common.below(name, self.named)[:-1]
-        self.shown.update((it, shown(it)) for it in below if it not in self.shown)
-        if not all(self.shown[it] for it in below):
+    def of_read(self, name: str) -> str:
+        """Nothing where a library below isn't there, or it isn't known what the crate's proofs have read."""
+        for it in common.below(name, self.named)[:-1]:
+            if it not in self.shown:
+                self.shown[it] = Shown.by(it)
+        seen = text_of(seen_path(name)).split()
+        if not seen or not all(self.shown[it] for it in common.below(name, self.named)[:-1]):
             return ""
-        return self.sum_over(name, lambda it: self.own[it] if it == name else self.shown[it])
+        return self.sum_over(name, lambda it: self.own[it] if it == name else self.shown_to(it, seen))
+
+    def shown_to(self, name: str, seen: list[str]) -> tuple[str, list[tuple[str, str]]]:
+        """What a crate shows to one whose proofs have seen these modules."""
+        shown = self.shown[name]
+        if not shown:
+            return "", []
+        return shown.face, [(it, shown.exports.get(it, "")) for it in seen if crate_of(it) == name]
 
 
 def marks(names: list[str]) -> list[tuple[str, int, int]]:
@@ -141,22 +150,64 @@ def library_of(name: str) -> str:
     return os.path.join(TOP, "crates", name, "out", "rlib", f"{name}.rlib")
 
 
-def shown(name: str) -> str:
-    """A sum over what crates above read of a crate, by its library: its public interface, its definitions and lemmas, and the
-    contract of each function. It is empty where there is no library, or one of another form."""
-    library = library_of(name)
-    try:
-        with open(os.path.join(library, "toolchain", "made.json"), encoding="utf-8") as file:
-            rows = [json.loads(line) for line in file]
-        modules = [(it[0], it[3]) for it in rows if it[0].rpartition("/")[2] not in OF_BODIES]
+class Shown(NamedTuple):
+    """What a library shows to the crates above: a sum over what the compiler reads of it, and by the names of its modules a sum over
+    what others can see of each, as the checker has worked it out."""
+
+    face: str
+    exports: dict[str, str]
+
+    @classmethod
+    def by(cls, name: str) -> Shown | None:
+        """None where a crate has no library, or one of another form."""
+        library = library_of(name)
         files = []
-        for part in ("interface", "below", os.path.join("lang", "antt")):
+        for part in ("interface", "below"):
             for at, folders, names in os.walk(os.path.join(library, part)):
                 folders.sort()
-                files += [os.path.join(at, it) for it in sorted(names) if it not in OF_PROOFS and it != "made.json"]
-        return hashlib.sha256(f"{common.sum_of(files)}\n{modules}".encode()).hexdigest()
-    except (OSError, ValueError, LookupError, TypeError):
-        return ""
+                files += [os.path.join(at, it) for it in sorted(names)]
+        exports = {}
+        try:
+            made = os.path.join(library, "toolchain", "checked")
+            with open(f"{made}.json", encoding="utf-8") as rows, open(f"{made}.a", "rb") as modules:
+                for module, start, length in map(json.loads, rows):
+                    modules.seek(start)
+                    exports[module] = " ".join(said_at_head(modules.read(min(length, EXPORTS)), "exports"))
+            return cls(common.sum_of(files), exports) if all(exports.values()) else None
+        except (OSError, ValueError, TypeError):
+            return None
+
+
+def said_at_head(text: bytes, word: str) -> list[str]:
+    """What the lines with this word say at the head of a module that the checker keeps."""
+    found, begin = [], HEAD + word.encode() + b" "
+    for line in text.split(b"\n"):
+        if not line.startswith(HEAD):
+            break
+        if line.startswith(begin):
+            found.append(line[len(begin) :].decode())
+    return found
+
+
+def crate_of(module: str) -> str:
+    """The crate of a module by the checker's name of it, as `Rattle-ob0_text-specs.Texts`."""
+    found = re.match(r"Rattle-(\w+)", module)
+    return found[1] if found else ""
+
+
+def seen_path(name: str) -> str:
+    return os.path.join(TOP, "crates", name, "out", "seen")
+
+
+def keep_seen(name: str, below: list[str]) -> None:
+    """Keeps which modules of the crates below the checker saw for the proofs of a crate, by what is kept of them."""
+    seen = {"none"}
+    for at, _, names in os.walk(os.path.join(TOP, "crates", name, "out", "incremental")):
+        for it in names:
+            with open(os.path.join(at, it), "rb") as file:
+                seen.update(line.split(" ")[0] for line in said_at_head(file.read(), "saw"))
+    with open(seen_path(name), "w", encoding="utf-8") as file:
+        file.write("\n".join(sorted(it for it in seen if it == "none" or crate_of(it) in below)) + "\n")
 
 
 class Proved:
@@ -327,7 +378,7 @@ class Plan:
         self.done: dict[str, Modules] = {}
         self.built: set[str] = set()  # of these, those whose library is made of the present sources
         self.again: set[str] = set()  # and those whose library is to be built again
-        self.alike: set[str] = set()  # those above crates of which bodies alone changed
+        self.alike: set[str] = set()  # those whose proofs have read nothing that changed
         self.open: set[str] = set()  # those of which kept work says nothing
 
     def command(self, name: str) -> list[str]:
@@ -341,7 +392,7 @@ class Plan:
             if kept.is_current():
                 self.built.add(name)
                 return True
-            if self.is_check and not self.is_exact and kept.has_read(self.sums.of_shown(name)):
+            if self.is_check and not self.is_exact and kept.has_read(self.sums.of_read(name)):
                 self.alike.add(name)
                 return True
         self.open.add(name)
@@ -369,7 +420,8 @@ class Plan:
         self.built.add(name)
         self.again.discard(name)
         self.sums.shown.pop(name, None)
-        self.kept[name].keep(self.sums.of_shown(name))
+        keep_seen(name, self.kept[name].rests[:-1])
+        self.kept[name].keep(self.sums.of_read(name))
 
     @property
     def is_done(self) -> bool:
@@ -420,7 +472,7 @@ def end(plan: Plan) -> int:
         total = Modules(*(sum(it) for it in zip(*found)))
         plan.say(f"{len(plan.all)} crates are proved over kept work: {total}, the latter in {again} of them")
         if plan.alike:
-            plan.say(f"{len(plan.alike)} were left, since of those below them bodies and proofs alone changed")
+            plan.say(f"{len(plan.alike)} were left, since nothing changed that their proofs have read of those below them")
         plan.say("this is not the gate: `make test` is")
         return 0
     common.keep(os.path.join(TOP, "crates", "ob0", "out", "ob0"))

@@ -39,6 +39,8 @@ COULD_NOT_TELL = 3
 # What a check reads beside the mutant's functions: the contracts of the others, what they call, or the whole crate.
 CONTRACTS, CALLED, WHOLE = range(3)
 OVER = ("contracts", "what its function calls", "the whole crate")
+# The files of a proof.
+OF_PROOF = ("Answers.antt", "Invariants.antt", "Proof.antt")
 # What is in place of a body that is not proved, and of its proof.
 NO_BODY = "unreachable!()"
 HOLE = """use Rattle.{crate}.proofs.{module}.Statement.{{statement}}
@@ -186,7 +188,7 @@ def take_body(lines: list[str], function: reading.Function) -> None:
 
 def remove_proof(folder: str) -> None:
     """Removes the files of a function's proof. (Its folder may have others below.)"""
-    for name in build.OF_PROOFS:
+    for name in OF_PROOF:
         if os.path.isfile(os.path.join(folder, name)):
             os.remove(os.path.join(folder, name))
 
