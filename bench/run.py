@@ -543,17 +543,18 @@ def commented_out() -> None:
                 said(f"{number + 1} of them: peak memory", megabytes(peak_until_now(talk.process.pid)))
 
 
-@measure("serve: documents of 8 KB that each become one bad character")
-def bad_characters() -> None:
-    """What a text without lexemes keeps of the text before counts too: the lines are about the same."""
+@measure("serve: documents of 8 KB that each become one character, a bad one or a name")
+def one_character() -> None:
+    """What is kept of the text before counts too, or is nothing: the lines are about the same."""
     text = corpus.module(8_000)
-    with Talk(text) as talk:
-        for number in range(2000):
-            uri = f"file:///{number}"
-            talk.after(did_open(text, uri))
-            talk.after(did_change("$", uri))
-            if number + 1 in (500, 1000, 2000):
-                said(f"{number + 1} of them: peak memory", megabytes(peak_until_now(talk.process.pid)))
+    for letter in ("$", "x"):
+        with Talk(text) as talk:
+            for number in range(2000):
+                uri = f"file:///{number}"
+                talk.after(did_open(text, uri))
+                talk.after(did_change(letter, uri))
+                if number + 1 in (500, 1000, 2000):
+                    said(f"{number + 1} of them, of {letter}: peak memory", megabytes(peak_until_now(talk.process.pid)))
 
 
 @measure("questions: references of one name, on 100 KB and 1 MB")

@@ -21,9 +21,9 @@
 //! found before the scan, by halving, and their spans are made again after it (`FaultPlaces`). A fault at no token is at
 //! the text's start, so this is done only where both texts begin with a token, or neither (`AreWrittenAlike`).
 //!
-//! A text with faults of lexemes keeps all that was known of the last text that had lexemes, unless that was much longer
-//! (`last_text`): the scan gives the tokens back (`IsRightRefusalOver`). The next scan that succeeds is over them, over
-//! however many such texts; so a bad character that comes and goes loses nothing.
+//! A text with faults of lexemes keeps all that was known of the last text that had lexemes: the scan gives the tokens
+//! back (`IsRightRefusalOver`). The next scan that succeeds is over them, over however many such texts; so a bad
+//! character that comes and goes loses nothing. Nothing is kept of a text that was much longer (`SPARED`).
 
 ghost use Rattle.std.specs.Prelude.{◌≡◌, ◌≤◌, IfErr, IfOk, MatchOption, length, map};
 ghost use Rattle.std.specs.Str.{IsUtf8};
@@ -39,7 +39,7 @@ use ob0_scan::{Fault, ScanRefusal, scan};
 use std::alloc::{AllocError, Global};
 use std::marker::Model;
 
-/// Tokens are kept unless their text is more than twice as long as the next one and this together.
+/// An analysis is gone on from unless its text is more than twice as long as the next one and this together.
 const SPARED: usize = 4096;
 
 /// A text without lexemes, with its faults, and what is kept of the last text before it that had lexemes.
@@ -127,18 +127,21 @@ impl Analysis {
         }
     }
 
-    /// The analysis of a text by another one that has lexemes.
+    /// The analysis of a text by another one that has lexemes. Of one that is much longer nothing is taken over, since
+    /// its lists would keep their capacity.
     fn after_read(alloc: Global, read: ReadText, text: &str) -> Result<Analysis, AllocError>
         ensures { IfOk result (λ a. a ≡ text.now) }
     {
+        if read.text().len() / 2 > text.len().saturating_add(SPARED) {
+            return Analysis::of(alloc, text);
+        }
         match read.after(alloc, text) {
             Ok(read) => Ok(Analysis {
                 found: Findings::Read(read),
             }),
             Err(refusal) => match refusal {
                 NotRead::Faults(faults, last) => {
-                    let last = last_text(text, last);
-                    Analysis::ill_lexed(alloc, text, faults, last)
+                    Analysis::ill_lexed(alloc, text, faults, Some(last))
                 }
                 NotRead::Memory => Err(AllocError),
             },
@@ -215,12 +218,4 @@ impl Analysis {
             Findings::Read(read) => read.diagnoses(alloc),
         }
     }
-}
-
-/// What a text without lexemes keeps of the last text that had some: nothing where that was much longer.
-fn last_text(text: &str, last: ReadText) -> Option<ReadText> {
-    if last.text().len() / 2 > text.len().saturating_add(SPARED) {
-        return None;
-    }
-    Some(last)
 }
