@@ -39,7 +39,8 @@ def library(name: str, stamp: str, body: str = "a body", contract: str = "a cont
     starts = [sum(len(it) for it in [*modules.values()][:at]) for at in range(len(modules))]
     write(f"{folder}/interface/lang/src/lib.rt", "pub fn f();")
     write(f"{folder}/toolchain/checked.a", "".join(modules.values()))
-    write(f"{folder}/toolchain/checked.json", "".join(json.dumps([it, at, len(modules[it])]) + "\n" for it, at in zip(modules, starts)))
+    rows = [*([it, at, len(modules[it])] for it, at in zip(modules, starts)), ["sum/all", 0, 4]]
+    write(f"{folder}/toolchain/checked.json", "".join(json.dumps(it) + "\n" for it in rows))
     write(f"crates/{name}/out/rlib/stamp", stamp)
 
 

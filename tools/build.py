@@ -171,8 +171,9 @@ class Shown(NamedTuple):
             made = os.path.join(library, "toolchain", "checked")
             with open(f"{made}.json", encoding="utf-8") as rows, open(f"{made}.a", "rb") as modules:
                 for module, start, length in map(json.loads, rows):
-                    modules.seek(start)
-                    exports[module] = " ".join(said_at_head(modules.read(min(length, EXPORTS)), "exports"))
+                    if crate_of(module):  # (the last row is of a sum over all)
+                        modules.seek(start)
+                        exports[module] = " ".join(said_at_head(modules.read(min(length, EXPORTS)), "exports"))
             return cls(common.sum_of(files), exports) if all(exports.values()) else None
         except (OSError, ValueError, TypeError):
             return None
