@@ -543,18 +543,18 @@ def commented_out() -> None:
                 said(f"{number + 1} of them: peak memory", megabytes(peak_until_now(talk.process.pid)))
 
 
-@measure("serve: documents of 8 KB that each become one character, a bad one or a name")
+@measure("serve: documents that each become one character: of 8 KB a bad one, of 100 KB a name")
 def one_character() -> None:
-    """What is kept of the text before counts too, or is nothing: the lines are about the same."""
-    text = corpus.module(8_000)
-    for letter in ("$", "x"):
+    """What is kept of the text before counts too, or is nothing: the lines of each are about the same."""
+    for letter, size, counts in (("$", 8_000, (500, 1000, 2000)), ("x", 100_000, (100, 200, 400))):
+        text = corpus.module(size)
         with Talk(text) as talk:
-            for number in range(2000):
+            for number in range(counts[-1]):
                 uri = f"file:///{number}"
                 talk.after(did_open(text, uri))
                 talk.after(did_change(letter, uri))
-                if number + 1 in (500, 1000, 2000):
-                    said(f"{number + 1} of them, of {letter}: peak memory", megabytes(peak_until_now(talk.process.pid)))
+                if number + 1 in counts:
+                    said(f"{number + 1} of them, now {letter}: peak memory", megabytes(peak_until_now(talk.process.pid)))
 
 
 @measure("questions: references of one name, on 100 KB and 1 MB")
