@@ -76,7 +76,7 @@ def repository() -> Iterator[str]:
             for name in CRATES:
                 write(f"crates/{name}/src/lib.rt", "")
                 library(name, "first")
-                seen = [f"Rattle-{it}-specs.contracts.f" for it in (*CRATES[name], name)]
+                seen = [f"Rattle-{it}-{part}" for it in (*CRATES[name], name) for part in ("specs.contracts.f", "proofs.f.Lts")]
                 write(f"crates/{name}/out/incremental/checker/g.Proof.oantt", module("g.Proof", "a proof", *seen))
             yield top
 

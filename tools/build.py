@@ -32,6 +32,9 @@ from common import TOP, BINARY
 
 STEP = 15  # seconds between two lines about a crate that takes long
 ROOMS = os.path.join(TOP, "bin", "rooms")
+# What rattle makes of a function's body and of its proof, by the last part of a module's name: no crate above can name these. (A
+# program and the tests see the code of all that they reach, and TheLink: what their last line says of that is left to the gate.)
+OF_BODIES = frozenset({"Code", "Mir", "Layout", "Lts", "View", "Given", "Goals", "Named", "Proof", "Tie", "TheLink"})
 # How each line begins that the checker writes at the head of what it keeps of a module, and how many bytes of a module's head say
 # what others can see of it.
 HEAD, EXPORTS = b"--@ ", 2048
@@ -201,14 +204,16 @@ def seen_path(name: str) -> str:
 
 
 def keep_seen(name: str, below: list[str]) -> None:
-    """Keeps which modules of the crates below the checker saw for the proofs of a crate, by what is kept of them."""
+    """Keeps which modules of the crates below the checker saw for the proofs of a crate, by what is kept of them, but for what it
+    makes of bodies."""
     seen = {"none"}
     for at, _, names in os.walk(os.path.join(TOP, "crates", name, "out", "incremental")):
         for it in names:
             with open(os.path.join(at, it), "rb") as file:
                 seen.update(line.split(" ")[0] for line in said_at_head(file.read(), "saw"))
     with open(seen_path(name), "w", encoding="utf-8") as file:
-        file.write("\n".join(sorted(it for it in seen if it == "none" or crate_of(it) in below)) + "\n")
+        rests = (it for it in seen if it == "none" or crate_of(it) in below and it.rpartition(".")[2] not in OF_BODIES)
+        file.write("\n".join(sorted(rests)) + "\n")
 
 
 class Proved:
