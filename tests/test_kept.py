@@ -25,17 +25,17 @@ def write(path: str, text: str) -> None:
         file.write(text)
 
 
-def module(name: str, shows: str, *seen: str) -> str:
-    """A module as the checker keeps it: what others can see of it, and what it saw of others, are at its head."""
+def module(name: str, says: str, *seen: str) -> str:
+    """A module as the checker keeps it: a sum over what it says, and what it saw of others, are at its head."""
     saw = "".join(f"--@ saw {it} part part\n" for it in seen)
-    return f"--@ module {name}\n--@ exports sha256:{shows.replace(' ', '-')}\n{saw}--@ axioms []\nwhat else is kept\n--@ saw Rattle-other-specs.Lib\n"
+    return f"--@ module {name}\n--@ content sha256:{says.replace(' ', '-')}\n--@ exports sha256:names\n{saw}--@ axioms []\nwhat else is kept\n--@ saw Rattle-other-specs.Lib\n"
 
 
 def library(name: str, stamp: str, body: str = "a body", contract: str = "a contract", unseen: str = "a definition") -> None:
     """A library, as `rt lib` leaves it: with each module that the checker made."""
     folder = f"crates/{name}/out/rlib/{name}.rlib"
-    shows = {f"Rattle-{name}-proofs.f.Lts": body, f"Rattle-{name}-specs.contracts.f": contract, f"Rattle-{name}-specs.Unseen": unseen}
-    modules = {it: module(it, shows[it]) for it in shows}
+    says = {f"Rattle-{name}-proofs.f.Lts": body, f"Rattle-{name}-specs.contracts.f": contract, f"Rattle-{name}-specs.Unseen": unseen}
+    modules = {it: module(it, says[it]) for it in says}
     starts = [sum(len(it) for it in [*modules.values()][:at]) for at in range(len(modules))]
     write(f"{folder}/interface/lang/src/lib.rt", "pub fn f();")
     write(f"{folder}/toolchain/checked.a", "".join(modules.values()))

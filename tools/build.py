@@ -8,7 +8,7 @@ It says which crate is being proved, how many are left and the time so far. A pr
 a crate that was proved here of the same sources, over the same crates below, by the same kit. With --check it says of each crate
 how many modules were loaded and how many proved again; a crate is left too where nothing changed that its proofs have read of those
 below: each proof that is kept says at its head which modules the checker saw for it, and each module of a library a sum over what
-others can see of it. What is kept is trusted, so this is not the gate.
+it says, comments apart. What is kept is trusted, so this is not the gate.
 
 Two runs of rt in one tree wait for each other where they depend on the same crate. So each crate is proved in a tree of
 its own, a room: a copy of its sources, and of each crate below hard links to its sources and its proved library."""
@@ -35,9 +35,9 @@ ROOMS = os.path.join(TOP, "bin", "rooms")
 # What rattle makes of a function's body and of its proof, by the last part of a module's name: no crate above can name these. (A
 # program and the tests see the code of all that they reach, and TheLink: what their last line says of that is left to the gate.)
 OF_BODIES = frozenset({"Code", "Mir", "Layout", "Lts", "View", "Given", "Goals", "Named", "Proof", "Tie", "TheLink"})
-# How each line begins that the checker writes at the head of what it keeps of a module, and how many bytes of a module's head say
-# what others can see of it.
-HEAD, EXPORTS = b"--@ ", 2048
+# How each line begins that the checker writes at the head of what it keeps of a module, and how many bytes of a module's head have
+# the sum over what it says.
+HEAD, CONTENT = b"--@ ", 2048
 
 
 def processors() -> int:
@@ -140,7 +140,7 @@ class Sums:
         shown = self.shown[name]
         if not shown:
             return "", []
-        return shown.face, [(it, shown.exports.get(it, "")) for it in seen if crate_of(it) == name]
+        return shown.face, [(it, shown.contents.get(it, "")) for it in seen if crate_of(it) == name]
 
 
 def marks(names: list[str]) -> list[tuple[str, int, int]]:
@@ -155,10 +155,11 @@ def library_of(name: str) -> str:
 
 class Shown(NamedTuple):
     """What a library shows to the crates above: a sum over what the compiler reads of it, and by the names of its modules a sum over
-    what others can see of each, as the checker has worked it out."""
+    what each says, as the checker has worked it out. (It works out one over the names and types of a module too, its `exports`,
+    which stays where the body of a definition changes: so it is of no use here.)"""
 
     face: str
-    exports: dict[str, str]
+    contents: dict[str, str]
 
     @classmethod
     def by(cls, name: str) -> Shown | None:
@@ -169,15 +170,15 @@ class Shown(NamedTuple):
             for at, folders, names in os.walk(os.path.join(library, part)):
                 folders.sort()
                 files += [os.path.join(at, it) for it in sorted(names)]
-        exports = {}
+        contents = {}
         try:
             made = os.path.join(library, "toolchain", "checked")
             with open(f"{made}.json", encoding="utf-8") as rows, open(f"{made}.a", "rb") as modules:
                 for module, start, length in map(json.loads, rows):
                     if crate_of(module):  # (the last row is of a sum over all)
                         modules.seek(start)
-                        exports[module] = " ".join(said_at_head(modules.read(min(length, EXPORTS)), "exports"))
-            return cls(common.sum_of(files), exports) if all(exports.values()) else None
+                        contents[module] = " ".join(said_at_head(modules.read(min(length, CONTENT)), "content"))
+            return cls(common.sum_of(files), contents) if all(contents.values()) else None
         except (OSError, ValueError, TypeError):
             return None
 
