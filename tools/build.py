@@ -133,14 +133,15 @@ class Sums:
         seen = text_of(seen_path(name)).split()
         if not seen or not all(self.shown[it] for it in common.below(name, self.named)[:-1]):
             return ""
-        return self.sum_over(name, lambda it: self.own[it] if it == name else self.shown_to(it, seen))
+        of_crate: dict[str, list[str]] = {}
+        for it in seen:
+            of_crate.setdefault(crate_of(it), []).append(it)
+        return self.sum_over(name, lambda it: self.own[it] if it == name else self.shown_to(it, of_crate.get(it, [])))
 
     def shown_to(self, name: str, seen: list[str]) -> tuple[str, list[tuple[str, str]]]:
-        """What a crate shows to one whose proofs have seen these modules."""
+        """What a crate shows to one whose proofs have seen these modules of it."""
         shown = self.shown[name]
-        if not shown:
-            return "", []
-        return shown.face, [(it, shown.contents.get(it, "")) for it in seen if crate_of(it) == name]
+        return (shown.face, [(it, shown.contents.get(it, "")) for it in seen]) if shown else ("", [])
 
 
 def marks(names: list[str]) -> list[tuple[str, int, int]]:
@@ -177,20 +178,21 @@ class Shown(NamedTuple):
                 for module, start, length in map(json.loads, rows):
                     if crate_of(module):  # (the last row is of a sum over all)
                         modules.seek(start)
-                        contents[module] = " ".join(said_at_head(modules.read(min(length, CONTENT)), "content"))
+                        head = modules.read(min(length, CONTENT)).splitlines()
+                        contents[module] = " ".join(said_at_head(head, "content"))
             return cls(common.sum_of(files), contents) if all(contents.values()) else None
         except (OSError, ValueError, TypeError):
             return None
 
 
-def said_at_head(text: bytes, word: str) -> list[str]:
-    """What the lines with this word say at the head of a module that the checker keeps."""
+def said_at_head(lines: Iterable[bytes], word: str) -> list[str]:
+    """What the lines with this word say at the head of a module that the checker keeps; no line after the head is read."""
     found, begin = [], HEAD + word.encode() + b" "
-    for line in text.split(b"\n"):
+    for line in lines:
         if not line.startswith(HEAD):
             break
         if line.startswith(begin):
-            found.append(line[len(begin) :].decode())
+            found.append(line[len(begin) :].decode().rstrip("\n"))
     return found
 
 
@@ -211,7 +213,7 @@ def keep_seen(name: str, below: list[str]) -> None:
     for at, _, names in os.walk(os.path.join(TOP, "crates", name, "out", "incremental")):
         for it in names:
             with open(os.path.join(at, it), "rb") as file:
-                seen.update(line.split(" ")[0] for line in said_at_head(file.read(), "saw"))
+                seen.update(line.split(" ")[0] for line in said_at_head(file, "saw"))
     with open(seen_path(name), "w", encoding="utf-8") as file:
         rests = (it for it in seen if it == "none" or crate_of(it) in below and it.rpartition(".")[2] not in OF_BODIES)
         file.write("\n".join(sorted(rests)) + "\n")
