@@ -331,7 +331,6 @@ parameters-kept edit w k f s seven (p ∷ ps) outside (a ∷ args) =
   where
     own : Outside edit k (suc k)
     own l m = let above : suc k ≤ after_names (suc k) (parameter_names ps) = le-after_names (suc k) (parameter_names ps) in outside l (omega (arith, m, above))
-parameters-kept edit w k f s seven _ outside _ = (None, refl, refl, tt)
 
     Result : MarkedFrame → Type 0
     Result = LeftFrame edit w (after_names (suc k) (parameter_names ps)) (declare_names (suc k) (parameter_names ps) ((p.name, k) ∷ scope_marked f.marks)) (Some (bind_names (parameter_names ps) no_constant ((p.name, no_constant) ∷ knowns f.marks)))
@@ -353,6 +352,7 @@ parameters-kept edit w k f s seven _ outside _ = (None, refl, refl, tt)
     go by_place (value_argument v) next = (None, refl, refl, tt)
     go by_value (place_argument place) next = (None, refl, refl, tt)
     go by_value (value_argument v) next = bound record { variable = length f.store; path = [] } (f.store ++ v ∷ []) (next record { variable = length f.store; path = [] } (f.store ++ v ∷ []))
+parameters-kept edit w k f s seven _ outside _ = (None, refl, refl, tt)
 
 -- calls
 
