@@ -11,8 +11,7 @@ joined-append (x ∷ xs) ys = ap (λ t. x.text ++ t) (joined-append xs ys) ∙ s
 -- only the first byte of what follows counts
 pub first_alone : (xs ys : List ℕ) → get_or (xs ++ (get_or ys 0 0 ∷ [])) 0 0 ≡ get_or (xs ++ ys) 0 0
 first_alone [] [] = refl
-first_alone [] (y ∷ ys) = refl
-first_alone (x ∷ xs) ys = refl
+first_alone _ _ = refl
 
 pub append_apart : (xs ys : List Lexeme) → AreApartBefore xs (get_or (joined ys) 0 0) → AreApart ys → AreApart (xs ++ ys)
 append_apart [] ys h k = k

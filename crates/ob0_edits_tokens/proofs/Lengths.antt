@@ -19,26 +19,7 @@ use Rattle.ob0_edits_tokens.proofs.Swaps.{Chain, swapped}
 
 not_reserved : (word : Reserved) → codes "x" ≡ reserved_text word → ⊥
 not_reserved reserved.Module e = cc
-not_reserved reserved.Begin e = cc
-not_reserved reserved.End e = cc
-not_reserved reserved.Const e = cc
-not_reserved reserved.Type e = cc
-not_reserved reserved.Var e = cc
-not_reserved reserved.Procedure e = cc
-not_reserved reserved.If e = cc
-not_reserved reserved.Then e = cc
-not_reserved reserved.Elsif e = cc
-not_reserved reserved.Else e = cc
-not_reserved reserved.While e = cc
-not_reserved reserved.Do e = cc
-not_reserved reserved.Array e = cc
-not_reserved reserved.Of e = cc
-not_reserved reserved.Record e = cc
-not_reserved reserved.Div e = cc
-not_reserved reserved.Mod e = cc
-not_reserved reserved.Or e = cc
-not_reserved reserved.Repeat e = cc
-not_reserved reserved.Until e = cc
+not_reserved _ e = cc
 
 some_name : IsIdentifier (codes "x")
 some_name = record { word = record { letter = refl; all = each }; free = not_reserved }

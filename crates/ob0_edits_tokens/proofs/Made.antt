@@ -52,11 +52,10 @@ module _ (unit : counting.Unit) (s : Scanned) (scan : IsScan s) (new : List ℕ)
 
   pub cuts_of_parts : (edits : List Edit) (qs : List ℕ) → map parts edits ≡ map (edit_at unit (chars s.text) s.tokens new) qs → cuts_of (width_of unit) (chars s.text) edits ≡ map char_cut qs
   cuts_of_parts [] [] e = refl
-  cuts_of_parts [] (q ∷ qs) e = absurd (cc)
-  cuts_of_parts (x ∷ xs) [] e = absurd (cc)
   cuts_of_parts (x ∷ xs) (q ∷ qs) e =
       let head : parts x ≡ edit_at unit (chars s.text) s.tokens new q = ap (λ t. get_or t 0 (parts x)) e in
       ap₂ (λ c cs. c ∷ cs) (ap (λ (p : Range × List ℕ). cut_at (width_of unit) (chars s.text) p.0 (chars p.1)) head) (cuts_of_parts xs qs (ap (drop 1) e))
+  cuts_of_parts _ _ e = absurd (cc)
 
   pub leaves_words : (edits : List Edit) → map parts edits ≡ map (edit_at unit (chars s.text) s.tokens new) places → length (with_text_at s places new) ≤ max_text
       → LeavesWords unit (chars s.text) edits (changed_words (at_each places ws) 0 (words_of s))

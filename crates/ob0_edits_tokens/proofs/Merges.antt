@@ -18,11 +18,8 @@ BeginsWithSpace (m ∷ ms) = m.kind ≡ lexeme.Space
 
 blank_kind : (k : LexemeKind) → family_of k ≡ Blank → k ≡ lexeme.Space
 blank_kind lexeme.Space e = refl
-blank_kind lexeme.Comment e = cc
 blank_kind (lexeme.Token token.Identifier) e = cc
-blank_kind (lexeme.Token (token.Reserved w)) e = cc
-blank_kind (lexeme.Token (token.Integer n)) e = cc
-blank_kind (lexeme.Token (token.Symbol s)) e = cc
+blank_kind _ e = cc
 
 -- lexemes whose first byte is white space begin with a lexeme of white space
 pub begins_with_space : (ns : List Lexeme) → AreApart ns → is_space (get_or (joined ns) 0 0) ≡ true → BeginsWithSpace ns

@@ -16,26 +16,11 @@ use Rattle.ob0_edits_tokens.specs.Replaced.{ReplacesName}
 
 -- a byte that is neither `=` nor `*` joins no symbol
 not_joined : (s : Symbol) (b : ℕ) → (b == 61) ≡ false → (b == 42) ≡ false → joins s b ≡ false
-not_joined symbol.And b e f = refl
-not_joined symbol.Times b e f = refl
-not_joined symbol.Plus b e f = refl
-not_joined symbol.Minus b e f = refl
-not_joined symbol.Equal b e f = refl
-not_joined symbol.NotEqual b e f = refl
 not_joined symbol.Less b e f = e
-not_joined symbol.LessEqual b e f = refl
 not_joined symbol.Greater b e f = e
-not_joined symbol.GreaterEqual b e f = refl
-not_joined symbol.Not b e f = refl
-not_joined symbol.Dot b e f = refl
-not_joined symbol.Comma b e f = refl
-not_joined symbol.Semicolon b e f = refl
 not_joined symbol.Colon b e f = e
-not_joined symbol.Becomes b e f = refl
 not_joined symbol.LeftParen b e f = f
-not_joined symbol.RightParen b e f = refl
-not_joined symbol.LeftBracket b e f = refl
-not_joined symbol.RightBracket b e f = refl
+not_joined _ b e f = refl
 
 -- a letter or digit is none of the bytes that end other lexemes
 not_this : (b c : ℕ) → is_ascii_alphanumeric c ≡ false → is_ascii_alphanumeric b ≡ true → (b == c) ≡ false
@@ -51,19 +36,13 @@ letter_goes_on b h = grind (arith, nat_tests)
 pub before_word : (b : ℕ) → is_ascii_alphanumeric b ≡ true → (kind : LexemeKind) (letter : ℕ) → IsTrue (is_ascii_alphabetic letter) → continues kind letter ≡ false → continues kind b ≡ false
 before_word b h lexeme.Space letter l e = not_space b h
 before_word b h lexeme.Comment letter l e = refl
-before_word b h (lexeme.Token token.Identifier) letter l e = let clash : true ≡ false = sym (letter_goes_on letter l) ∙ e in cc
-before_word b h (lexeme.Token (token.Reserved w)) letter l e = let clash : true ≡ false = sym (letter_goes_on letter l) ∙ e in cc
-before_word b h (lexeme.Token (token.Integer n)) letter l e = let clash : true ≡ false = sym (letter_goes_on letter l) ∙ e in cc
 before_word b h (lexeme.Token (token.Symbol s)) letter l e = not_joined s b (not_this b 61 refl h) (not_this b 42 refl h)
+before_word b h _ letter l e = let clash : true ≡ false = sym (letter_goes_on letter l) ∙ e in cc
 
 -- any lexeme ends before a `(`
 pub before_paren : (kind : LexemeKind) → continues kind 40 ≡ false
-before_paren lexeme.Space = refl
-before_paren lexeme.Comment = refl
-before_paren (lexeme.Token token.Identifier) = refl
-before_paren (lexeme.Token (token.Reserved w)) = refl
-before_paren (lexeme.Token (token.Integer n)) = refl
 before_paren (lexeme.Token (token.Symbol s)) = not_joined s 40 refl refl
+before_paren _ = refl
 
 -- an identifier may be wherever an identifier is
 pub a_name : (new : List ℕ) → IsIdentifier new → ReplacesName new (record { kind = token.Identifier; text = new } ∷ [])

@@ -27,12 +27,11 @@ use Rattle.ob0_edits_tokens.proofs.Merges.{begins_with_space, MeetsLoosely, merg
 
 -- what may be before a declaration in a CONST section
 abbrev pub OfBorder : LexemeKind → Type 0
-OfBorder lexeme.Space = Unit {0}
-OfBorder lexeme.Comment = Unit {0}
 OfBorder (lexeme.Token token.Identifier) = ⊥
 OfBorder (lexeme.Token (token.Reserved w)) = w ≡ reserved.Const
 OfBorder (lexeme.Token (token.Integer n)) = ⊥
 OfBorder (lexeme.Token (token.Symbol s)) = s ≡ symbol.Semicolon
+OfBorder _ = Unit {0}
 
 -- after the declaration only the other changes count
 pub past_last : (first last : ℕ) (ch : Changes) (j : ℕ) (xs : List Word) → last < j → changed_words (without_words first last ch) j xs ≡ changed_words ch j xs

@@ -128,17 +128,15 @@ module _ (unit : counting.Unit) (bytes : List ℕ) (u : IsUtf8 bytes) where
 
   unfoldable pub AreSame : List Cut → List Cut → Type 0
   AreSame [] [] = Unit {0}
-  AreSame [] (c ∷ cs) = ⊥
-  AreSame (b ∷ bs) [] = ⊥
   AreSame (b ∷ bs) (c ∷ cs) = IsSameCut b c × AreSame bs cs
+  AreSame _ _ = ⊥
 
   chain_in_chars : (at k : ℕ) (bs cs : List Cut) → IsPlace bytes at k → AreSame bs cs → Chain at bs → Chain k cs
   unfolding AreSame
   chain_in_chars at k [] [] p same chain = tt
-  chain_in_chars at k [] (c ∷ cs) p same chain = absurd same
-  chain_in_chars at k (b ∷ bs) [] p same chain = absurd same
   chain_in_chars at k (b ∷ bs) (c ∷ cs) p same chain =
       (up_in_chars at b.from k c.from p same.0.from chain.0, up_in_chars b.from b.to c.from c.to same.0.from same.0.to chain.1, chain_in_chars b.to c.to bs cs same.0.to same.1 chain.2)
+  chain_in_chars at k _ _ p same chain = absurd same
 
   -- the pieces in bytes and in characters
   pub record IsTextOf (made text : List ℕ) : Type 0 where
@@ -154,8 +152,6 @@ module _ (unit : counting.Unit) (bytes : List ℕ) (u : IsUtf8 bytes) where
     utf8 = IsUtf8-drop bytes at u (border at k p);
     same = (λ i. chars (drop (sym p.here i) (sym (encodes-chars bytes u) i))) ∙ last_chars (chars bytes) (scalars-chars bytes u) k;
   }
-  pieces at k [] (c ∷ cs) p same chain = absurd same
-  pieces at k (b ∷ bs) [] p same chain = absurd same
   pieces at k (b ∷ bs) (c ∷ cs) p same chain =
       let rest = pieces b.to c.to bs cs same.0.to same.1 chain.2 in
       let kept : IsUtf8 (take (b.from - at) (drop at bytes)) = IsUtf8-between bytes at b.from u chain.0 (border at k p) (border b.from c.from same.0.from) in
@@ -168,6 +164,7 @@ module _ (unit : counting.Unit) (bytes : List ℕ) (u : IsUtf8 bytes) where
         same = chars-append (take (b.from - at) (drop at bytes)) (b.new ++ pieced bytes b.to bs) kept
             ∙ ap₂ (λ xs ys. xs ++ ys) middle (chars-append b.new (pieced bytes b.to bs) same.0.utf8 ∙ ap₂ (λ xs ys. xs ++ ys) (sym same.0.new) rest.same);
       }
+  pieces at k _ _ p same chain = absurd same
 
 -- cuts that are in order are in the text's order, and apart
 first_stays : (c : Cut) (cs : List Cut) → c.from ≤ c.to → Chain c.to cs → put_in_order c cs ≡ c ∷ cs

@@ -1,7 +1,8 @@
 -- What is answered at a use.
 -- What the edits say is carried over to the module of the contract as one record (`Made`, `IsRefused`), by one `subst`.
-use Rattle.std.proofs.Common.{cond, zero, arith, eq-eqb, ◌≡◌, ◌⊎◌, ℕ, suc, ◌+◌, ◌==◌, ◌||◌, Bool, true, false, if◌then◌else◌, Option, Some, None, List, [], ◌∷◌, length, map, refl, sym, ap, ◌∙◌, subst, option_and_then, option_map, slice_get, eqb-true, true≢false}
+use Rattle.std.proofs.Common.{cond, zero, arith, eq-eqb, ◌≡◌, ◌⊎◌, ℕ, suc, ◌+◌, ◌==◌, Bool, true, false, if◌then◌else◌, Option, Some, None, List, [], ◌∷◌, length, map, refl, sym, ap, ◌∙◌, subst, option_and_then, option_map, slice_get, eqb-true, true≢false}
 use Rattle.std.specs.List.{flat_map, position_from}
+use Rattle.std.proofs.Math.Bool.{or-false}
 use Rattle.ob0_text.specs.declared.edits.Edit.{Edit}
 use Rattle.ob0_text.specs.declared.position_types.Unit as counting
 use Rattle.ob0_text.specs.declared.refusals.EditRefusal.{EditRefusal}
@@ -15,6 +16,8 @@ use Rattle.ob0_edits_tokens.specs.Replaced.{AreNames, edit_at, parts, with_text_
 use Rattle.ob0_language_names.specs.Inlining.{only}
 use Rattle.ob0_language_names.specs.Names.{Name}
 use Rattle.ob0_language_names.specs.Occurrences.{binds}
+use Rattle.ob0_language_types.proofs.Leaves.{same_ordinal-true}
+use Rattle.ob0_language_types.proofs.Literals.{some_inverse}
 use Rattle.ob0_scope_table.specs.Resolution.{IsResolution, Resolution, ordinal_in}
 use Rattle.ob0_scope_table.proofs.Bound.{bound_at}
 use Rattle.ob0_scope.specs.declared.naming.Named as named
@@ -36,19 +39,18 @@ use Rattle.ob0_inline.specs.Uses.{InlinesHere, IsUse, IsUseAt, inlined_here, is_
 use Rattle.ob0_inline.specs.Values.{value_factor, value_text, value_words}
 use Rattle.ob0_inline.proofs.ModuleTexts.{spelled_by_words, value_spelled}
 use Rattle.ob0_inline.proofs.Refusals.{MakeText, Refused, other_is_first, refused_first}
-use Rattle.ob0_inline.proofs.UsesAreIdentifiers.{AreBound, inside, one_identifier, one_place, same_true, uses_are_identifiers, uses_ascend, uses_spelled}
+use Rattle.ob0_inline.proofs.UsesAreIdentifiers.{AreBound, one_identifier, one_place, uses_are_identifiers, uses_ascend, uses_spelled}
 
 -- what is written for a value, and whether it is seen
 
 pub literal_of : (value : Scalar) → written_value (scalar_value value) ≡ Some (value_factor value)
-literal_of (scalar.Number n) = refl
 literal_of (scalar.Truth true) = refl
-literal_of (scalar.Truth false) = refl
+literal_of _ = refl
 
 pub shown_is : (m : Tree Name module_text) (k : ℕ) (value : Scalar) → is_predeclared_truth m k value ≡ true → IsPredeclaredTruth m k (scalar_value value)
 shown_is m k (scalar.Number n) e = tt
-shown_is m k (scalar.Truth true) e = same_true _ 2 e
-shown_is m k (scalar.Truth false) e = same_true _ 3 e
+shown_is m k (scalar.Truth true) e = same_ordinal-true _ 2 e
+shown_is m k (scalar.Truth false) e = same_ordinal-true _ 3 e
 
 -- a use that a place is on is a use
 
@@ -89,10 +91,6 @@ module _ (r : Resolution) (is : IsResolution r) (u : Use) (use_so : IsUse r.modu
   unfolding there
   are_bound = (((u.occurrence, there), bound_at r is u.occurrence (Some u.token) (sym there) ∙ use_so.bound), tt)
 
-  or_false : (b : Bool) → (b || false) ≡ b
-  or_false true = refl
-  or_false false = refl
-
   -- the words with those of the value at the use spell the inlined module
   pub here_spelled : IsAlone r.module_read u.constant
       → map word_lexeme (changed_words (at_each (u.token ∷ []) (value_words u.value)) 0 (words_of r.module_read.source)) ≡ spell (inlined_here r.module_read u)
@@ -102,7 +100,7 @@ module _ (r : Resolution) (is : IsResolution r) (u : Use) (use_so : IsUse r.modu
       let vs = value_words u.value in
       sym (all_put s places vs are_names) ∙ ap (flat_map (put s places vs)) (sym (spelled_by_words r.module_read is.parsed))
       ∙ uses_spelled r is u.constant (value_factor u.value) places are_bound (only u.occurrence)
-      (λ j i e. or_false (i == u.token) ∙ one_place 0 (length s.tokens) r.uses j u.occurrence i u.token (uses_ascend r is) e there) alone vs (value_spelled u.value)
+      (λ j i e. or-false (i == u.token) ∙ one_place 0 (length s.tokens) r.uses j u.occurrence i u.token (uses_ascend r is) e there) alone vs (value_spelled u.value)
 
 module _ (r : Resolution) (well : IsWellTyped r) (u : Use) (use_so : IsUse r.module_read u) where
   written : IsScalar (scalar_value u.value) → IsConstantWritten (named_tree_of r.module_read) u.constant (scalar_value u.value) (value_factor u.value)
@@ -173,7 +171,7 @@ found_there token j k (i ∷ is) e = by_test (i == token) refl e (found_there to
   where
     by_test : (b : Bool) → (i == token) ≡ b → cond b (Some j) (position_from (λ i. i == token) (j + 1) is) ≡ Some k
         → (position_from (λ i. i == token) (j + 1) is ≡ Some k → (n : ℕ) × (k ≡ j + 1 + n) × (slice_get is n ≡ Some token)) → (n : ℕ) × (k ≡ j + n) × (slice_get (i ∷ is) n ≡ Some token)
-    by_test true q e later = let same : j ≡ k = inside e in (0, omega (arith, same), ap Some (eqb-true i token q))
+    by_test true q e later = let same : j ≡ k = some_inverse e in (0, omega (arith, same), ap Some (eqb-true i token q))
     by_test false q e later = let h = later e in (suc h.0, omega (arith, h.1), h.2)
 
 pub not_there : (token j n : ℕ) (is : List ℕ) → position_from (λ i. i == token) j is ≡ None → slice_get is n ≡ Some token → ⊥
@@ -183,7 +181,7 @@ not_there token j n (i ∷ is) e f = by_test (i == token) refl e n f (λ m. not_
     by_test : (b : Bool) → (i == token) ≡ b → cond b (Some j) (position_from (λ i. i == token) (j + 1) is) ≡ None → (n : ℕ) → slice_get (i ∷ is) n ≡ Some token
         → ((m : ℕ) → position_from (λ i. i == token) (j + 1) is ≡ None → slice_get is m ≡ Some token → ⊥) → ⊥
     by_test true q e n f later = cc
-    by_test false q e zero f later = true≢false (sym (eq-eqb i token (inside f)) ∙ q)
+    by_test false q e zero f later = true≢false (sym (eq-eqb i token (some_inverse f)) ∙ q)
     by_test false q e (suc n) f later = later n e f
 
 -- the use at a name that a place is on

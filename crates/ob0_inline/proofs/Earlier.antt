@@ -1,6 +1,6 @@
 -- Names are bound to what is declared before them: of the labels of a part each is below the first ordinal after it.
 use Rattle.std.proofs.Common.{ℕ, suc, ◌<◌, ◌≤◌, true, false, Option, Some, None, List, [], ◌∷◌, ◌++◌, map, sym, subst, arith}
-use Rattle.ob0_tree.specs.Tree.{Sort, Tree, block, constant, constants, declares, declares_constant, declares_constants, declares_procedure, declares_type, declares_types, declares_variable, declares_variables, end, formals, further_section, has_body, item, items, maybe, more, no_formals, none, occurrences, one, procedure, section, some_formals, then_section, type_name, type_names, value_section, variable, variable_section, variables}
+use Rattle.ob0_tree.specs.Tree.{Sort, Tree, block, constant, constants, declares, declares_constant, declares_constants, declares_procedure, declares_type, declares_types, declares_variable, declares_variables, end, formals, further_section, has_body, item, items, maybe, more, none, occurrences, one, procedure, section, some_formals, then_section, type_name, type_names, value_section, variable, variable_section, variables}
 use Rattle.ob0_language_names.specs.Names.{Name, as_names, same_name}
 use Rattle.ob0_language_names.specs.Parts.{constant_names, formal_names, formal_sections, named_types, names_listed, procedure_name, section_constants, section_names, section_types, section_variables, variable_names}
 use Rattle.ob0_language_names.specs.Scopes.{Labels, Scope, after_block, after_names, after_procedure, after_procedures, body_scope, declare_names, declare_procedure_names, first_procedure, first_type, first_variable, label_of, ordinal_of, procedures_scope, relabel_block, relabel_constant_section, relabel_constants, relabel_formals, relabel_procedure, relabel_procedures, relabel_section, relabel_sections, relabel_type_section, relabel_types, relabel_uses, relabel_variable_section, relabel_variables, types_scope, variables_scope}
@@ -102,9 +102,8 @@ sections_low scope k (more (then_section s) fs) h =
     (sections_low (declare_names k xs scope) n fs (declared_low k xs scope h)))
 
 pub formals_low : (scope : Scope Name) (k : ℕ) (fs : Tree Name (maybe formals)) → ScopeLow k scope → AllLow (after_names k (formal_names (formal_sections fs))) (occurrences (relabel_formals as_names forget scope k fs))
-formals_low scope k none h = tt
-formals_low scope k (one no_formals) h = tt
 formals_low scope k (one (some_formals s fs)) h = sections_low scope k (more (then_section s) fs) h
+formals_low scope k _ h = tt
 
 pub constant_section_low : (scope : Scope Name) (k : ℕ) (cs : Tree Name (maybe constants)) → ScopeLow k scope → AllLow (after_names k (constant_names (section_constants cs))) (occurrences (relabel_constant_section as_names forget scope k cs))
 constant_section_low scope k none h = tt

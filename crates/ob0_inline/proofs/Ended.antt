@@ -24,6 +24,7 @@ use Rattle.ob0_edits_tokens.specs.Words.{word_lexeme}
 use Rattle.ob0_language_names.specs.Names.{Label, Name, as_names, declared, same_label}
 use Rattle.ob0_language_names.specs.Occurrences.{bindings}
 use Rattle.ob0_language_names.specs.Parts.{module_block}
+use Rattle.ob0_language_types.proofs.Literals.{some_inverse}
 use Rattle.ob0_scope_table.specs.Resolution.{IsResolution, Resolution, declaring_only, label_at, ordinal_in, token_declaring}
 use Rattle.ob0_language_names.specs.Scopes.{as_label, same_ordinal}
 use Rattle.ob0_scope_table.proofs.Bound.{bindings_by_table}
@@ -38,8 +39,8 @@ use Rattle.ob0_inline.specs.Everywhere.{IsConstant, IsAlone, inlined_all, uses_o
 use Rattle.ob0_inline.specs.Values.{value_factor, value_words}
 use Rattle.ob0_inline.proofs.EverywhereAt.{bound_tokens, late_here, uses_are_names, words_everywhere}
 use Rattle.ob0_inline.proofs.ModuleTexts.{spelled_by_words, value_spelled}
-use Rattle.ob0_inline.proofs.TakenOut.{NoEnd, Taken, block_declares, gone_module, module_declared}
-use Rattle.ob0_inline.proofs.UsesAreIdentifiers.{inside}
+use Rattle.ob0_scope_table.proofs.Declared.{module_declared, names_in}
+use Rattle.ob0_inline.proofs.TakenOut.{NoEnd, Taken, gone_module}
 use Rattle.ob0_inline.proofs.WordsLeft.{first_token, is_declaration, last_token, mark_kind, name_is_first}
 
 -- the uses by the table of ordinals
@@ -77,16 +78,12 @@ as_many_bindings r is =
 -- the first `;` among tokens
 
 not_end : (k : ℕ) (q : TokenKind) (x : Terminal ℕ) (xs : List (Terminal ℕ)) → lexeme_of k q ≡ x → NoEnd (x ∷ xs) → is_semicolon q ≡ false
-not_end k kind.Identifier x xs e n = refl
-not_end k (kind.Reserved r) x xs e n = refl
-not_end k (kind.Integer v) x xs e n = refl
 not_end k (kind.Symbol s) x xs e n = (subst (λ y. NoEnd (y ∷ xs)) (sym e) n).0
+not_end k _ x xs e n = refl
 
 others_no_end : (x : Terminal ℕ) (xs : List (Terminal ℕ)) → NoEnd (x ∷ xs) → NoEnd xs
 others_no_end (Mark k) xs n = n.1
-others_no_end (lexeme.Name i) xs n = n
-others_no_end (lexeme.Number i) xs n = n
-others_no_end lexeme.EndOfText xs n = n
+others_no_end _ xs n = n
 
 first_end : (text : List ℕ) (k j : ℕ) (ts : List Token) (xs ys : List (Terminal ℕ)) → numbered_tokens k (map (read_in text) ts) ≡ xs ++ (Mark (kind.Symbol symbol.Semicolon) ∷ ys) → NoEnd xs
     → position_from (λ t. is_semicolon t.kind) j ts ≡ Some (j + length xs)
@@ -116,10 +113,10 @@ token_of : (labels : List ℕ) (d place : ℕ) → d ≡ 7 + place → token_dec
 token_of labels d place e =
     ap (λ b. if b then None else slice_get labels (d - 7)) (le-ltb d 7 (omega (arith, e))) ∙ ap (slice_get labels) (let z : d - 7 ≡ place = omega (arith, e) in z)
 
-module _ (m : Parsed) (d : ℕ) (left : List (Terminal ℕ)) (t : Taken d 7 (block_declares (module_block (tree_of m))) (numbered_tokens 0 (words_of m.source)) left) where
+module _ (m : Parsed) (d : ℕ) (left : List (Terminal ℕ)) (t : Taken d 7 (names_in (module_block (tree_of m))) (numbered_tokens 0 (words_of m.source)) left) where
   pub begins_there : token_declaring (declaring_only (identifiers role.Declaring (tree_of m))) d ≡ Some (first_token t)
   begins_there =
-      let labels = block_declares (module_block (tree_of m)) in
+      let labels = names_in (module_block (tree_of m)) in
       ap (λ (xs : List ℕ). token_declaring xs d) (module_declared (tree_of m))
       ∙ (token_of labels d t.place t.ordinal_is ∙ (t.named_there ∙ ap Some (name_is_first m.source d 7 labels left t)))
 
@@ -140,7 +137,7 @@ module _ (r : Resolution) (is : IsResolution r) (d : ℕ) (w : Value) (has_value
   abbrev spelled : spell (tree_of r.module_read) ≡ numbered_tokens 0 (words_of r.module_read.source)
   spelled = spelled_by_words r.module_read is.parsed
 
-  abbrev taken : Taken d 7 (block_declares (module_block (tree_of r.module_read))) (numbered_tokens 0 (words_of r.module_read.source)) (spell (gone_module d (tree_of r.module_read)))
+  abbrev taken : Taken d 7 (names_in (module_block (tree_of r.module_read))) (numbered_tokens 0 (words_of r.module_read.source)) (spell (gone_module d (tree_of r.module_read)))
   taken = (late_here r is d w has_value spelled).taken
 
   abbrev pub name_token : ℕ
@@ -160,10 +157,10 @@ module _ (r : Resolution) (is : IsResolution r) (d : ℕ) (w : Value) (has_value
   token_known = ap (λ (xs : List ℕ). token_declaring xs d) is.declaring ∙ begins_at
 
   pub end_known : (first : ℕ) → Some first ≡ token_declaring r.declarations d → position_from (λ x. is_semicolon x.kind) first (drop first r.module_read.source.tokens) ≡ Some end_token
-  end_known first e = ap (λ n. position_from (λ (x : Token). is_semicolon x.kind) n (drop n r.module_read.source.tokens)) (inside (e ∙ token_known)) ∙ ends_at
+  end_known first e = ap (λ n. position_from (λ (x : Token). is_semicolon x.kind) n (drop n r.module_read.source.tokens)) (some_inverse (e ∙ token_known)) ∙ ends_at
 
   pub declaration_at : IsDeclaration r.module_read.source.tokens name_token end_token
-  declaration_at = is_declaration r.module_read.source d 7 (block_declares (module_block (tree_of r.module_read))) (spell (gone_module d (tree_of r.module_read))) taken
+  declaration_at = is_declaration r.module_read.source d 7 (names_in (module_block (tree_of r.module_read))) (spell (gone_module d (tree_of r.module_read))) taken
 
   pub names_at : AreNames r.module_read.source.tokens (suc end_token) (uses_of r.module_read d)
   names_at =
@@ -172,11 +169,11 @@ module _ (r : Resolution) (is : IsResolution r) (d : ℕ) (w : Value) (has_value
 
 module _ (r : Resolution) (is : IsResolution r) (c : NamedConstant) (constant : IsConstant r.module_read c) where
   first_is : name_token r is c.ordinal (scalar_value c.value) constant.has_value ≡ c.first
-  first_is = inside (sym (begins_at r is c.ordinal (scalar_value c.value) constant.has_value) ∙ constant.begins)
+  first_is = some_inverse (sym (begins_at r is c.ordinal (scalar_value c.value) constant.has_value) ∙ constant.begins)
 
   last_is : end_token r is c.ordinal (scalar_value c.value) constant.has_value ≡ c.last
   last_is =
-      inside (sym (ends_at r is c.ordinal (scalar_value c.value) constant.has_value)
+      some_inverse (sym (ends_at r is c.ordinal (scalar_value c.value) constant.has_value)
       ∙ (ap (λ n. position_from (λ (x : Token). is_semicolon x.kind) n (drop n r.module_read.source.tokens)) first_is ∙ constant.ends))
 
   pub is_taken : IsDeclaration r.module_read.source.tokens c.first c.last

@@ -14,6 +14,7 @@ use Rattle.ob0_edits_tokens.specs.Words.{word_lexeme}
 use Rattle.ob0_language_names.specs.Inlining.{all_bound_to, inlined_everywhere}
 use Rattle.ob0_language_names.specs.Names.{Name}
 use Rattle.ob0_language_names.specs.Parts.{module_block}
+use Rattle.ob0_language_types.proofs.Leaves.{same_ordinal-true}
 use Rattle.ob0_scope_table.specs.Resolution.{IsResolution, Resolution, ordinal_in}
 use Rattle.ob0_language_names.specs.Scopes.{same_ordinal}
 use Rattle.ob0_scope_table.proofs.Bound.{bound_at}
@@ -22,8 +23,9 @@ use Rattle.ob0_language_values.specs.Values.{Value}
 use Rattle.ob0_inline.specs.Everywhere.{IsAlone}
 use Rattle.ob0_inline.proofs.UsesFollow.{late_of, uses_following}
 use Rattle.ob0_inline.proofs.Late.{Late}
-use Rattle.ob0_inline.proofs.TakenOut.{block_declares, gone_module}
-use Rattle.ob0_inline.proofs.UsesAreIdentifiers.{AreBound, lowered, names_from, others_spelled, same_true, uses_are_identifiers, uses_ascend}
+use Rattle.ob0_scope_table.proofs.Declared.{names_in}
+use Rattle.ob0_inline.proofs.TakenOut.{gone_module}
+use Rattle.ob0_inline.proofs.UsesAreIdentifiers.{AreBound, lowered, names_from, others_spelled, uses_are_identifiers, uses_ascend}
 use Rattle.ob0_inline.proofs.WordsLeft.{first_token, last_token, words_left}
 
 -- the tokens that are bound to d
@@ -49,13 +51,13 @@ from_there ordinals d low high last [] a inside h = omega (arith, inside)
 from_there ordinals d low high last (i ∷ is) a inside h =
     (elim (same_ordinal (ordinal_in ordinals i) d) as (λ b. same_ordinal (ordinal_in ordinals i) d ≡ b → Ascending low (cond b (i ∷ bound_tokens ordinals d is) (bound_tokens ordinals d is)) high
     → Ascending (suc last) (cond b (i ∷ bound_tokens ordinals d is) (bound_tokens ordinals d is)) high)
-    [ true ↦ (λ e a. let over = h 0 i refl (same_true (ordinal_in ordinals i) d e) in (omega (arith, over), a.1)) | false ↦ (λ e a. from_there ordinals d low high last is a inside (λ j x f. h (suc j) x f)) ]) refl a
+    [ true ↦ (λ e a. let over = h 0 i refl (same_ordinal-true (ordinal_in ordinals i) d e) in (omega (arith, over), a.1)) | false ↦ (λ e a. from_there ordinals d low high last is a inside (λ j x f. h (suc j) x f)) ]) refl a
 
 are_bound : (r : Resolution) (d : ℕ) (is : List ℕ) → ((j i : ℕ) → slice_get is j ≡ Some i → (k : ℕ) × (slice_get r.uses k ≡ Some i)) → AreBound r d (bound_tokens r.ordinals d is)
 are_bound r d [] h = tt
 are_bound r d (i ∷ is) h =
     (elim (same_ordinal (ordinal_in r.ordinals i) d) as (λ b. same_ordinal (ordinal_in r.ordinals i) d ≡ b → AreBound r d (cond b (i ∷ bound_tokens r.ordinals d is) (bound_tokens r.ordinals d is))) [
-      | true ↦ (λ e. ((h 0 i refl, same_true (ordinal_in r.ordinals i) d e), are_bound r d is (λ j x f. h (suc j) x f)))
+      | true ↦ (λ e. ((h 0 i refl, same_ordinal-true (ordinal_in r.ordinals i) d e), are_bound r d is (λ j x f. h (suc j) x f)))
       | false ↦ (λ e. are_bound r d is (λ j x f. h (suc j) x f))
     ]) refl
 
@@ -100,7 +102,7 @@ agree r is d j i e =
 
 module _ (r : Resolution) (is : IsResolution r) (d : ℕ) (w : Value) (has_value : value_of_constant (named_tree_of r.module_read) d ≡ Some w) (spelled : spell (tree_of r.module_read) ≡ numbered_tokens 0 (words_of r.module_read.source)) where
   -- the declaration of the constant
-  abbrev pub late_here : Late d 7 (block_declares (module_block (tree_of r.module_read))) (numbered_tokens 0 (words_of r.module_read.source)) (spell (gone_module d (tree_of r.module_read))) (occurrences (tree_of r.module_read))
+  abbrev pub late_here : Late d 7 (names_in (module_block (tree_of r.module_read))) (numbered_tokens 0 (words_of r.module_read.source)) (spell (gone_module d (tree_of r.module_read))) (occurrences (tree_of r.module_read))
       (map (ordinal_in r.ordinals) (occurrences (tree_of r.module_read)))
   late_here = late_of r is d w has_value spelled
 
@@ -110,7 +112,7 @@ module _ (r : Resolution) (is : IsResolution r) (d : ℕ) (w : Value) (has_value
       let ts = r.module_read.source.tokens in
       names_from ts (suc (last_token late_here.taken)) (length ts) (bound_tokens r.ordinals d r.uses)
       (from_there r.ordinals d 0 (length ts) (last_token late_here.taken) r.uses (bound_ascend r.ordinals d 0 (length ts) r.uses (uses_ascend r is)) inside
-      (λ j i e o. uses_following r d (block_declares (module_block (tree_of r.module_read))) (spell (gone_module d (tree_of r.module_read))) late_here j i (ap (λ us. slice_get us j) (sym is.occurring) ∙ e) o))
+      (λ j i e o. uses_following r d (names_in (module_block (tree_of r.module_read))) (spell (gone_module d (tree_of r.module_read))) late_here j i (ap (λ us. slice_get us j) (sym is.occurring) ∙ e) o))
       (bound_are_identifiers ts r.ordinals d r.uses (uses_are_identifiers r is))
 
   -- the words that are left spell the module with the factor in place of all uses, without the declaration
@@ -121,5 +123,5 @@ module _ (r : Resolution) (is : IsResolution r) (d : ℕ) (w : Value) (has_value
   words_everywhere v vs same alone are_names =
       let m = r.module_read in
       let places = bound_tokens r.ordinals d r.uses in
-      words_left m.source (suc (last_token late_here.taken)) places are_names vs d 7 (block_declares (module_block (tree_of m))) (spell (gone_module d (tree_of m))) late_here.taken
+      words_left m.source (suc (last_token late_here.taken)) places are_names vs d 7 (names_in (module_block (tree_of m))) (spell (gone_module d (tree_of m))) late_here.taken
       ∙ others_spelled r is d v places (are_bound r d r.uses (λ j i e. (j, e))) (all_bound_to (named_tree_of m) d) (agree r is d) alone vs same

@@ -29,7 +29,8 @@ use Rattle.ob0_language_types.specs.WellTyped.{bind_names}
 use Rattle.ob0_language_values.specs.Values.{Value}
 use Rattle.ob0_inline.proofs.Earlier.{AllLow, ScopeLow, constant_section_low, declared_low, forget, formals_low, low_append, procedure_low, raised, scope_raised, type_section_low, uses_low, variable_section_low}
 use Rattle.ob0_inline.proofs.Spelled.{as_many}
-use Rattle.ob0_inline.proofs.TakenOut.{Taken, among_others, block_declares, expression_no_end, first_procedure_count, first_type_count, formals_count, get_first, get_later, gone_block, gone_constants, gone_here, gone_module, gone_procedure, gone_procedures, gone_section, kept_procedure, kept_procedures, kept_section, names_counted, procedure_count, procedure_counted, procedure_declares, procedures_declare, put_before, put_following}
+use Rattle.ob0_scope_table.proofs.Declared.{after_count, after_names_in_procedure, names_in, names_in_procedure, names_in_procedures}
+use Rattle.ob0_inline.proofs.TakenOut.{Taken, among_others, expression_no_end, first_procedure_count, first_type_count, formals_count, get_first, get_later, gone_block, gone_constants, gone_here, gone_module, gone_procedure, gone_procedures, gone_section, kept_procedure, kept_procedures, kept_section, procedure_count, put_before, put_following}
 
 abbrev pub AllIn : List ℕ → List ℕ → Type 0
 AllIn [] xs = Unit {0}
@@ -66,10 +67,7 @@ all_joined (i ∷ is) js xs h g = (h.0, all_joined is js xs h.1 g)
 looked_up_in : (xs : List (Role × ℕ)) → AllIn (looked_up_only xs) (names_only xs)
 looked_up_in [] = tt
 looked_up_in ((role.LookedUp, i) ∷ xs) = (ap (λ b. b || is_among i (names_only xs)) (eq-eqb i i refl), all_second (looked_up_only xs) (i ∷ []) (names_only xs) (looked_up_in xs))
-looked_up_in ((role.Declaring, i) ∷ xs) = all_second (looked_up_only xs) (i ∷ []) (names_only xs) (looked_up_in xs)
-looked_up_in ((role.ClosingName, i) ∷ xs) = all_second (looked_up_only xs) (i ∷ []) (names_only xs) (looked_up_in xs)
-looked_up_in ((role.FieldName, i) ∷ xs) = all_second (looked_up_only xs) (i ∷ []) (names_only xs) (looked_up_in xs)
-looked_up_in ((role.ModuleName, i) ∷ xs) = all_second (looked_up_only xs) (i ∷ []) (names_only xs) (looked_up_in xs)
+looked_up_in ((_, i) ∷ xs) = all_second (looked_up_only xs) (i ∷ []) (names_only xs) (looked_up_in xs)
 
 occurrences_in : {s : Sort} (t : Tree ℕ s) → AllIn (occurrences t) (lexeme_names (spell t))
 occurrences_in t =
@@ -258,16 +256,16 @@ module _ (f : ℕ → Name) (g : ℕ → ℕ) (d : ℕ) (w : Value) where
   -- from a part of a block, where n is the ordinal of its first declaration
   late_by_section : (cs : Tree ℕ (maybe constants)) (ts : Tree ℕ (maybe type_names)) (vs : Tree ℕ (maybe variables)) (ps : Tree ℕ (items procedure)) (statements : Tree ℕ (maybe body)) (k : ℕ) (lc rest_bound ls : List (Option ℕ))
       → d < first_type k (has_body (declares cs ts vs ps) statements) → Late d k (constant_names (section_constants cs)) (spell cs) (spell (gone_section d k cs)) (occurrences cs) lc
-      → Late d k (block_declares (has_body (declares cs ts vs ps) statements)) (spell (has_body (declares cs ts vs ps) statements)) (spell (gone_block d k (has_body (declares cs ts vs ps) statements)))
+      → Late d k (names_in (has_body (declares cs ts vs ps) statements)) (spell (has_body (declares cs ts vs ps) statements)) (spell (gone_block d k (has_body (declares cs ts vs ps) statements)))
       (occurrences (has_body (declares cs ts vs ps) statements)) ((lc ++ rest_bound) ++ ls)
   late_by_section cs ts vs ps statements k lc rest_bound ls h t =
       let b : Tree ℕ block = has_body (declares cs ts vs ps) statements in
-      let labels = block_declares b in
+      let labels = names_in b in
       let up2 = le-after_names (after_names k (constant_names (section_constants cs))) (named_types (section_types ts)) in
       let up3 = le-after_names (after_names (after_names k (constant_names (section_constants cs))) (named_types (section_types ts))) (variable_names (section_variables vs)) in
       let kept = kept_procedures d (first_procedure k b) ps (λ j l u. omega (arith, h, up2, up3, l)) in
       let there = late_among d k k (constant_names (section_constants cs)) labels (spell cs) (spell (gone_section d k cs)) (occurrences cs) lc t t.taken.place t.taken.ordinal_is
-      (get_first (constant_names (section_constants cs)) (named_types (section_types ts) ++ (variable_names (section_variables vs) ++ procedures_declare ps)) t.taken.place t.taken.name t.taken.named_there) in
+      (get_first (constant_names (section_constants cs)) (named_types (section_types ts) ++ (variable_names (section_variables vs) ++ names_in_procedures ps)) t.taken.place t.taken.name t.taken.named_there) in
       let rest : List (Terminal ℕ) = spell ts ++ (spell vs ++ spell ps) in
       let l1 : List (Terminal ℕ) = (spell (gone_section d k cs) ++ rest) ++ spell statements in
       late_move d k labels (spell b) (spell b) l1 (spell (gone_block d k b)) (occurrences b) ((lc ++ rest_bound) ++ ls) refl
@@ -279,21 +277,21 @@ module _ (f : ℕ → Name) (g : ℕ → ℕ) (d : ℕ) (w : Value) where
   late_by_procedures : (cs : Tree ℕ (maybe constants)) (ts : Tree ℕ (maybe type_names)) (vs : Tree ℕ (maybe variables)) (ps : Tree ℕ (items procedure)) (statements : Tree ℕ (maybe body)) (k : ℕ) (lc lt lv lp ls : List (Option ℕ))
       → first_type k (has_body (declares cs ts vs ps) statements) ≤ d
       → length lc ≡ length (occurrences cs) → length lt ≡ length (occurrences ts) → length lv ≡ length (occurrences vs) → AllLow d lc → AllLow d lt → AllLow d lv
-      → Late d (first_procedure k (has_body (declares cs ts vs ps) statements)) (procedures_declare ps) (spell ps) (spell (gone_procedures d (first_procedure k (has_body (declares cs ts vs ps) statements)) ps)) (occurrences ps) lp
-      → Late d k (block_declares (has_body (declares cs ts vs ps) statements)) (spell (has_body (declares cs ts vs ps) statements)) (spell (gone_block d k (has_body (declares cs ts vs ps) statements)))
+      → Late d (first_procedure k (has_body (declares cs ts vs ps) statements)) (names_in_procedures ps) (spell ps) (spell (gone_procedures d (first_procedure k (has_body (declares cs ts vs ps) statements)) ps)) (occurrences ps) lp
+      → Late d k (names_in (has_body (declares cs ts vs ps) statements)) (spell (has_body (declares cs ts vs ps) statements)) (spell (gone_block d k (has_body (declares cs ts vs ps) statements)))
       (occurrences (has_body (declares cs ts vs ps) statements)) ((lc ++ (lt ++ (lv ++ lp))) ++ ls)
   late_by_procedures cs ts vs ps statements k lc lt lv lp ls h nc nt nv hc ht hv t =
       let b : Tree ℕ block = has_body (declares cs ts vs ps) statements in
-      let labels = block_declares b in
+      let labels = names_in b in
       let left = spell (gone_procedures d (first_procedure k b) ps) in
       let xs = constant_names (section_constants cs) in
       let ys = named_types (section_types ts) in
       let zs = variable_names (section_variables vs) in
-      let e1 = names_counted k xs in
-      let e2 = names_counted (after_names k xs) ys in
-      let e3 = names_counted (after_names (after_names k xs) ys) zs in
-      let there = late_among d k (first_procedure k b) (procedures_declare ps) labels (spell ps) left (occurrences ps) lp t (length xs + (length ys + (length zs + t.taken.place))) (omega (arith, t.taken.ordinal_is, e1, e2, e3))
-      (get_later xs (ys ++ (zs ++ procedures_declare ps)) (length ys + (length zs + t.taken.place)) ∙ (get_later ys (zs ++ procedures_declare ps) (length zs + t.taken.place) ∙ get_later zs (procedures_declare ps) t.taken.place)) in
+      let e1 = after_count k xs in
+      let e2 = after_count (after_names k xs) ys in
+      let e3 = after_count (after_names (after_names k xs) ys) zs in
+      let there = late_among d k (first_procedure k b) (names_in_procedures ps) labels (spell ps) left (occurrences ps) lp t (length xs + (length ys + (length zs + t.taken.place))) (omega (arith, t.taken.ordinal_is, e1, e2, e3))
+      (get_later xs (ys ++ (zs ++ names_in_procedures ps)) (length ys + (length zs + t.taken.place)) ∙ (get_later ys (zs ++ names_in_procedures ps) (length zs + t.taken.place) ∙ get_later zs (names_in_procedures ps) t.taken.place)) in
       let l1 : List (Terminal ℕ) = (spell cs ++ (spell ts ++ (spell vs ++ left))) ++ spell statements in
       late_move d k labels (spell b) (spell b) l1 (spell (gone_block d k b)) (occurrences b) ((lc ++ (lt ++ (lv ++ lp))) ++ ls) refl
       (ap (λ (qs : Tree ℕ (maybe constants)). (spell qs ++ (spell ts ++ (spell vs ++ left))) ++ spell statements) (kept_section d k cs (λ j l u. omega (arith, h, u))))
@@ -303,40 +301,40 @@ module _ (f : ℕ → Name) (g : ℕ → ℕ) (d : ℕ) (w : Value) where
       (late_before d k labels (spell vs) (spell ps) left (occurrences vs) (occurrences ps) lv lp nv hv there))))
 
   late_by_procedure : (q : Tree ℕ (item procedure)) (rest : Tree ℕ (items procedure)) (k : ℕ) (lq lr : List (Option ℕ)) → d < after_procedure (suc k) q
-      → Late d (suc k) (procedure_declares q) (spell q) (spell (gone_procedure d (suc k) q)) (occurrences q) lq
-      → Late d k (procedures_declare (more q rest)) (spell (more q rest)) (spell (gone_procedures d k (more q rest))) (occurrences (more q rest)) (lq ++ lr)
+      → Late d k (names_in_procedure q) (spell q) (spell (gone_procedure d (suc k) q)) (occurrences q) lq
+      → Late d k (names_in_procedures (more q rest)) (spell (more q rest)) (spell (gone_procedures d k (more q rest))) (occurrences (more q rest)) (lq ++ lr)
   late_by_procedure q rest k lq lr h t =
-      let labels = procedures_declare (more q rest) in
-      let there = late_among d k (suc k) (procedure_declares q) labels (spell q) (spell (gone_procedure d (suc k) q)) (occurrences q) lq t (suc t.taken.place) (omega (arith, t.taken.ordinal_is))
-      (get_first (procedure_declares q) (procedures_declare rest) t.taken.place t.taken.name t.taken.named_there) in
+      let labels = names_in_procedures (more q rest) in
+      let there = late_among d k k (names_in_procedure q) labels (spell q) (spell (gone_procedure d (suc k) q)) (occurrences q) lq t t.taken.place t.taken.ordinal_is
+      (get_first (names_in_procedure q) (names_in_procedures rest) t.taken.place t.taken.name t.taken.named_there) in
       late_move d k labels (spell (more q rest)) (spell (more q rest)) (spell (gone_procedure d (suc k) q) ++ spell rest) (spell (gone_procedures d k (more q rest))) (occurrences (more q rest)) (lq ++ lr) refl
       (ap (λ (qs : Tree ℕ (items procedure)). spell (gone_procedure d (suc k) q) ++ spell qs) (kept_procedures d (after_procedure (suc k) q) rest (λ j l u. omega (arith, h, l))))
       (late_suffix d k labels (spell q) (spell (gone_procedure d (suc k) q)) rest (occurrences q) lq lr there)
 
   late_by_rest : (q : Tree ℕ (item procedure)) (rest : Tree ℕ (items procedure)) (k : ℕ) (lq lr : List (Option ℕ)) → after_procedure (suc k) q ≤ d → length lq ≡ length (occurrences q) → AllLow d lq
-      → Late d (after_procedure (suc k) q) (procedures_declare rest) (spell rest) (spell (gone_procedures d (after_procedure (suc k) q) rest)) (occurrences rest) lr
-      → Late d k (procedures_declare (more q rest)) (spell (more q rest)) (spell (gone_procedures d k (more q rest))) (occurrences (more q rest)) (lq ++ lr)
+      → Late d (after_procedure (suc k) q) (names_in_procedures rest) (spell rest) (spell (gone_procedures d (after_procedure (suc k) q) rest)) (occurrences rest) lr
+      → Late d k (names_in_procedures (more q rest)) (spell (more q rest)) (spell (gone_procedures d k (more q rest))) (occurrences (more q rest)) (lq ++ lr)
   late_by_rest q rest k lq lr h n hq t =
-      let labels = procedures_declare (more q rest) in
-      let front = procedure_name q ∷ procedure_declares q in
-      let count = procedure_counted (suc k) q in
+      let labels = names_in_procedures (more q rest) in
+      let front = names_in_procedure q in
+      let count = after_names_in_procedure k q ∙ after_count k front in
       let left = spell (gone_procedures d (after_procedure (suc k) q) rest) in
-      let there = late_among d k (after_procedure (suc k) q) (procedures_declare rest) labels (spell rest) left (occurrences rest) lr t (length front + t.taken.place) (omega (arith, t.taken.ordinal_is, count))
-      (get_later front (procedures_declare rest) t.taken.place) in
+      let there = late_among d k (after_procedure (suc k) q) (names_in_procedures rest) labels (spell rest) left (occurrences rest) lr t (length front + t.taken.place) (omega (arith, t.taken.ordinal_is, count))
+      (get_later front (names_in_procedures rest) t.taken.place) in
       late_move d k labels (spell (more q rest)) (spell (more q rest)) (spell q ++ left) (spell (gone_procedures d k (more q rest))) (occurrences (more q rest)) (lq ++ lr) refl
       (ap (λ (p : Tree ℕ (item procedure)). spell p ++ left) (kept_procedure d (suc k) q (λ j l u. omega (arith, h, u))))
       (late_before d k labels (spell q) (spell rest) left (occurrences q) (occurrences rest) lq lr n hq there)
 
   late_in_procedure : (x closing : ℕ) (fs : Tree ℕ (maybe formals)) (b : Tree ℕ block) (k : ℕ) (lf lb : List (Option ℕ)) → length lf ≡ length (occurrences fs) → AllLow d lf
-      → Late d (after_names k (formal_names (formal_sections fs))) (block_declares b) (spell b) (spell (gone_block d (after_names k (formal_names (formal_sections fs))) b)) (occurrences b) lb
-      → Late d k (procedure_declares (declares_procedure x fs b closing)) (spell (declares_procedure x fs b closing)) (spell (gone_procedure d k (declares_procedure x fs b closing))) (occurrences (declares_procedure x fs b closing)) (lf ++ lb)
+      → Late d (after_names (suc k) (formal_names (formal_sections fs))) (names_in b) (spell b) (spell (gone_block d (after_names (suc k) (formal_names (formal_sections fs))) b)) (occurrences b) lb
+      → Late d k (names_in_procedure (declares_procedure x fs b closing)) (spell (declares_procedure x fs b closing)) (spell (gone_procedure d (suc k) (declares_procedure x fs b closing))) (occurrences (declares_procedure x fs b closing)) (lf ++ lb)
   late_in_procedure x closing fs b k lf lb n hf t =
       let xs = formal_names (formal_sections fs) in
-      let labels = xs ++ block_declares b in
-      let left = spell (gone_block d (after_names k xs) b) in
+      let labels = x ∷ (xs ++ names_in b) in
+      let left = spell (gone_block d (after_names (suc k) xs) b) in
       let tail : List (Terminal ℕ) = Mark (kind.Reserved reserved.End) ∷ lexeme.Name closing ∷ (Mark (kind.Symbol symbol.Semicolon) ∷ []) in
-      let count = names_counted k xs in
-      let there = late_among d k (after_names k xs) (block_declares b) labels (spell b) left (occurrences b) lb t (length xs + t.taken.place) (omega (arith, t.taken.ordinal_is, count)) (get_later xs (block_declares b) t.taken.place) in
+      let count = after_count (suc k) xs in
+      let there = late_among d k (after_names (suc k) xs) (names_in b) labels (spell b) left (occurrences b) lb t (suc (length xs + t.taken.place)) (omega (arith, t.taken.ordinal_is, count)) (get_later xs (names_in b) t.taken.place) in
       let ended : Late d k labels (spell b ++ tail) (left ++ tail) (occurrences b ++ []) (lb ++ []) = late_following d k labels (spell b) left tail (occurrences b) [] lb [] tt there in
       let ended_so : Late d k labels (spell b ++ tail) (left ++ tail) (occurrences b) lb = subst (λ (o : List ℕ). Late d k labels (spell b ++ tail) (left ++ tail) o lb) (append-nil (occurrences b))
       (subst (λ (l : List (Option ℕ)). Late d k labels (spell b ++ tail) (left ++ tail) (occurrences b ++ []) l) (append-nil lb) ended) in
@@ -348,7 +346,7 @@ module _ (f : ℕ → Name) (g : ℕ → ℕ) (d : ℕ) (w : Value) where
     unfolding value_in_block
 
     late_block : (known : Known) (scope : Scope Name) (k n : ℕ) → n ≡ k → ScopeLow n scope → (b : Tree ℕ block) → value_in_block known d n (mapped f g b) ≡ Some w
-        → Late d k (block_declares b) (spell b) (spell (gone_block d k b)) (occurrences b) (occurrences (relabel_block as_names forget scope n (mapped f g b)))
+        → Late d k (names_in b) (spell b) (spell (gone_block d k b)) (occurrences b) (occurrences (relabel_block as_names forget scope n (mapped f g b)))
     late_block known scope k n same below (has_body (declares cs ts vs ps) statements) e =
         let b : Tree ℕ block = has_body (declares cs ts vs ps) statements in
         let b' = mapped f g b in
@@ -370,7 +368,7 @@ module _ (f : ℕ → Name) (g : ℕ → ℕ) (d : ℕ) (w : Value) where
         else if nat_lt d (first_procedure n b') then None
         else option_and_then (λ inner. value_in_procedures (bind_names (named_types (section_types (mapped f g ts)) ++ variable_names (section_variables (mapped f g vs))) no_constant inner) d (first_procedure n b') (mapped f g ps))
         (declare_constants as_names known (section_constants (mapped f g cs)))) ≡ Some w
-        → Late d k (block_declares b) (spell b) (spell (gone_block d k b)) (occurrences b) ((lc ++ (lt ++ (lv ++ lp))) ++ ls)) [
+        → Late d k (names_in b) (spell b) (spell (gone_block d k b)) (occurrences b) ((lc ++ (lt ++ (lv ++ lp))) ++ ls)) [
           | true ↦ λ q h.
               late_by_section cs ts vs ps statements k lc (lt ++ (lv ++ lp)) ls (subst (λ m. d < m) (first_type_count f g n b ∙ ap (λ m. first_type m b) same) (ltb-true d (first_type n b') q))
               (subst (λ m. Late d m (constant_names (section_constants cs)) (spell cs) (spell (gone_section d m cs)) (occurrences cs) lc) same (late_section known scope n cs below h))
@@ -379,12 +377,12 @@ module _ (f : ℕ → Name) (g : ℕ → ℕ) (d : ℕ) (w : Value) where
               elim (nat_lt d (first_procedure n b')) as (λ y. nat_lt d (first_procedure n b') ≡ y → (if y then None
               else option_and_then (λ inner. value_in_procedures (bind_names (named_types (section_types (mapped f g ts)) ++ variable_names (section_variables (mapped f g vs))) no_constant inner) d (first_procedure n b') (mapped f g ps))
               (declare_constants as_names known (section_constants (mapped f g cs)))) ≡ Some w
-              → Late d k (block_declares b) (spell b) (spell (gone_block d k b)) (occurrences b) ((lc ++ (lt ++ (lv ++ lp))) ++ ls)) [
+              → Late d k (names_in b) (spell b) (spell (gone_block d k b)) (occurrences b) ((lc ++ (lt ++ (lv ++ lp))) ++ ls)) [
                 | true ↦ λ r g0. absurd (cc)
                 | false ↦ λ r.
                     let all = ltb-false d (first_procedure n b') r in
                     elim (declare_constants as_names known (section_constants (mapped f g cs))) as (λ o. option_and_then (λ inner. value_in_procedures (bind_names (named_types (section_types (mapped f g ts)) ++ variable_names (section_variables (mapped f g vs))) no_constant inner) d (first_procedure n b') (mapped f g ps)) o ≡ Some w
-                    → Late d k (block_declares b) (spell b) (spell (gone_block d k b)) (occurrences b) ((lc ++ (lt ++ (lv ++ lp))) ++ ls)) [
+                    → Late d k (names_in b) (spell b) (spell (gone_block d k b)) (occurrences b) ((lc ++ (lt ++ (lv ++ lp))) ++ ls)) [
                       | None ↦ λ g0. absurd (cc)
                       | Some inner ↦ λ g0.
                           late_by_procedures cs ts vs ps statements k lc lt lv lp ls (subst (λ m. m ≤ d) (first_type_count f g n b ∙ ap (λ m. first_type m b) same) high)
@@ -401,7 +399,7 @@ module _ (f : ℕ → Name) (g : ℕ → ℕ) (d : ℕ) (w : Value) where
         ] refl e
 
     late_procedures : (known : Known) (scope : Scope Name) (k n : ℕ) → n ≡ k → ScopeLow n scope → (ps : Tree ℕ (items procedure)) → value_in_procedures known d n (mapped f g ps) ≡ Some w
-        → Late d k (procedures_declare ps) (spell ps) (spell (gone_procedures d k ps)) (occurrences ps) (occurrences (relabel_procedures as_names forget scope n (mapped f g ps)))
+        → Late d k (names_in_procedures ps) (spell ps) (spell (gone_procedures d k ps)) (occurrences ps) (occurrences (relabel_procedures as_names forget scope n (mapped f g ps)))
     late_procedures known scope k n same below end e = absurd (cc)
     late_procedures known scope k n same below (more q rest) e =
         let q' = mapped f g q in
@@ -412,7 +410,7 @@ module _ (f : ℕ → Name) (g : ℕ → ℕ) (d : ℕ) (w : Value) where
         elim (nat_lt d (after_procedure (suc n) q')) as (λ x. nat_lt d (after_procedure (suc n) q') ≡ x
         → (if x then value_in_procedure ((procedure_name q', no_constant) ∷ known) d (suc n) q'
         else value_in_procedures ((procedure_name q', no_constant) ∷ known) d (after_procedure (suc n) q') (mapped f g rest)) ≡ Some w
-        → Late d k (procedures_declare (more q rest)) (spell (more q rest)) (spell (gone_procedures d k (more q rest))) (occurrences (more q rest)) (lq ++ lr)) [
+        → Late d k (names_in_procedures (more q rest)) (spell (more q rest)) (spell (gone_procedures d k (more q rest))) (occurrences (more q rest)) (lq ++ lr)) [
           | true ↦ λ t h.
               late_by_procedure q rest k lq lr (subst (λ m. d < m) counted (ltb-true d (after_procedure (suc n) q') t))
               (late_procedure ((procedure_name q', no_constant) ∷ known) scope k n same below q h)
@@ -425,7 +423,7 @@ module _ (f : ℕ → Name) (g : ℕ → ℕ) (d : ℕ) (w : Value) where
         ] refl e
 
     late_procedure : (known : Known) (scope : Scope Name) (k n : ℕ) → n ≡ k → ScopeLow n scope → (q : Tree ℕ (item procedure)) → value_in_procedure known d (suc n) (mapped f g q) ≡ Some w
-        → Late d (suc k) (procedure_declares q) (spell q) (spell (gone_procedure d (suc k) q)) (occurrences q) (occurrences (relabel_procedure as_names forget scope n (mapped f g q)))
+        → Late d k (names_in_procedure q) (spell q) (spell (gone_procedure d (suc k) q)) (occurrences q) (occurrences (relabel_procedure as_names forget scope n (mapped f g q)))
     late_procedure known scope k n same below (declares_procedure x fs b closing) e =
         let xs = formal_names (formal_sections (mapped f g fs)) in
         let first = after_names (suc n) xs in
@@ -434,12 +432,12 @@ module _ (f : ℕ → Name) (g : ℕ → ℕ) (d : ℕ) (w : Value) where
         let h2 = declared_low (suc n) xs ((f x, n) ∷ scope) (omega arith, h1) in
         elim (nat_lt d first) as (λ y. nat_lt d first ≡ y → (if y then None
         else value_in_block (bind_names xs no_constant known) d first (mapped f g b)) ≡ Some w
-        → Late d (suc k) (procedure_declares (declares_procedure x fs b closing)) (spell (declares_procedure x fs b closing)) (spell (gone_procedure d (suc k) (declares_procedure x fs b closing))) (occurrences (declares_procedure x fs b closing))
+        → Late d k (names_in_procedure (declares_procedure x fs b closing)) (spell (declares_procedure x fs b closing)) (spell (gone_procedure d (suc k) (declares_procedure x fs b closing))) (occurrences (declares_procedure x fs b closing))
         (lf ++ occurrences (relabel_block as_names forget (declare_names (suc n) xs ((f x, n) ∷ scope)) first (mapped f g b)))) [
           | true ↦ λ r h. absurd (cc)
           | false ↦ λ r h.
               let high = ltb-false d first r in
-              late_in_procedure x closing fs b (suc k) lf (occurrences (relabel_block as_names forget (declare_names (suc n) xs ((f x, n) ∷ scope)) first (mapped f g b)))
+              late_in_procedure x closing fs b k lf (occurrences (relabel_block as_names forget (declare_names (suc n) xs ((f x, n) ∷ scope)) first (mapped f g b)))
               (as_many-formals as_names forget scope (suc n) (mapped f g fs) ∙ as_many f g fs)
               (raised first d lf high (formals_low scope (suc n) (mapped f g fs) h1))
               (late_block (bind_names xs no_constant known) (declare_names (suc n) xs ((f x, n) ∷ scope)) (after_names (suc k) (formal_names (formal_sections fs))) first
@@ -447,10 +445,10 @@ module _ (f : ℕ → Name) (g : ℕ → ℕ) (d : ℕ) (w : Value) where
         ] refl e
 
   pub late_module : (m : Tree ℕ module_text) → value_of_constant (mapped f g m) d ≡ Some w
-      → Late d 7 (block_declares (module_block m)) (spell m) (spell (gone_module d m)) (occurrences m) (occurrences (relabelled as_names forget (mapped f g m)))
+      → Late d 7 (names_in (module_block m)) (spell m) (spell (gone_module d m)) (occurrences m) (occurrences (relabelled as_names forget (mapped f g m)))
   unfolding value_of_constant
   late_module (is_module x b closing) e =
-      let labels = block_declares b in
+      let labels = names_in b in
       let left = spell (gone_block d 7 b) in
       let tail : List (Terminal ℕ) = Mark (kind.Reserved reserved.End) ∷ lexeme.Name closing ∷ (Mark (kind.Symbol symbol.Dot) ∷ []) in
       let lb = occurrences (relabel_block as_names forget (predeclared_scope as_names) 7 (mapped f g b)) in

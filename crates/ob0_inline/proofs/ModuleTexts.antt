@@ -1,5 +1,5 @@
 -- The words that are in a text once a value is written in place of identifiers are those of the inlined module.
-use Rattle.std.specs.Prelude.{pos, negsuc}
+use Rattle.std.specs.Prelude.{negsuc}
 use Rattle.std.proofs.Common.{◌≡◌, ℕ, suc, ◌+◌, ◌≤◌, Bool, true, false, if◌then◌else◌, nat_lt, List, [], ◌∷◌, ◌++◌, map, refl, ap, ◌∙◌, arith}
 use Rattle.std.proofs.lemmas.List.{append_cancel_right}
 use Rattle.ob0_scan.specs.declared.lexeme.Token.{Token}
@@ -37,9 +37,8 @@ either_spelled true vs ws v w e f = e
 either_spelled false vs ws v w e f = f
 
 pub value_spelled : (value : Scalar) → map word_lexeme (value_words value) ≡ spell (value_factor value)
-value_spelled (scalar.Number (pos n)) = refl
 value_spelled (scalar.Number (negsuc n)) = either_spelled (nat_lt n 2147483647) _ _ _ _ refl refl
-value_spelled (scalar.Truth b) = refl
+value_spelled _ = refl
 
 -- where the tree that they spell isn't too deep, edits that leave these words leave its text
 pub leaves_module : (unit : counting.Unit) (text : List ℕ) (edits : List Edit) (ws : List Word) (t : Tree (List ℕ) module_text)

@@ -2,10 +2,10 @@
 -- So the new text is parsed only where the module is nested as deep as a module may be; taking a declaration out makes
 -- no tree deeper.
 use Rattle.std.proofs.Common.{◌≡◌, ℕ, suc, ◌+◌, ◌≤◌, ◌==◌, Bool, true, false, length, if◌then◌else◌, nat_lt, arith}
-use Rattle.std.specs.Prelude.{pos, negsuc}
+use Rattle.std.specs.Prelude.{negsuc}
 use Rattle.ob0_tree.specs.Parsed.{Parsed, named_tree_of, tree_of}
 use Rattle.ob0_tree.specs.Places as leaf
-use Rattle.ob0_tree.specs.Tree.{Sort, Tree, block, constant, constants, factor, item, items, maybe, module_text, nesting, occurrences, procedure, adds, array_type, assigns, begins, branches, calls, compares, declares, declares_constant, declares_constants, declares_procedure, declares_type, declares_types, declares_variable, declares_variables, designator, else_branch, elsif_branch, empty, end, field, has_body, index, integer, is_module, listed, more, multiplies, named_type, negation, no_arguments, no_fields, no_formals, none, one, parenthesised, product, record_type, relates, repeat_loop, runs, some_arguments, some_fields, some_formals, sum, then_argument, then_fields, then_name, then_section, then_statement, value_section, variable_section, while_loop}
+use Rattle.ob0_tree.specs.Tree.{Sort, Tree, block, constant, constants, factor, item, items, maybe, module_text, nesting, occurrences, procedure, adds, array_type, assigns, begins, branches, calls, compares, declares, declares_constant, declares_constants, declares_procedure, declares_type, declares_types, declares_variable, declares_variables, designator, else_branch, elsif_branch, end, has_body, index, is_module, more, multiplies, negation, none, one, parenthesised, product, record_type, relates, repeat_loop, runs, some_arguments, some_fields, some_formals, sum, then_argument, then_fields, then_section, then_statement, value_section, variable_section, while_loop}
 use Rattle.ob0_tree.proofs.Mapped.{nesting_mapped}
 use Rattle.ob0_language_names.specs.Inlining.{Uses, all_bound_to, block_without, inline_in, inlined, module_without, procedure_without, procedures_without, section_without, without}
 use Rattle.ob0_language_names.specs.Names.{Name}
@@ -22,9 +22,8 @@ either_shallow true v w h g = h
 either_shallow false v w h g = g
 
 value_shallow : (value : Scalar) → nesting (value_factor value) ≤ 1
-value_shallow (scalar.Number (pos n)) = omega arith
 value_shallow (scalar.Number (negsuc n)) = either_shallow (nat_lt n 2147483647) _ _ (omega arith) (omega arith)
-value_shallow (scalar.Truth b) = omega arith
+value_shallow _ = omega arith
 
 module _ (uses : Uses) (v : Tree Name factor) where
   name_low : (x : Name) (b : Bool) → nesting (if b then v else designator x end) ≤ nesting v
@@ -33,9 +32,7 @@ module _ (uses : Uses) (v : Tree Name factor) where
 
   -- a factor in place of names makes a tree deeper by no more than its own nesting
   inlined_low : {s : Sort} (k : ℕ) (t : Tree Name s) → nesting (inline_in uses v k t) ≤ nesting t + nesting v
-  inlined_low k none = omega arith
   inlined_low k (one t) = omega (arith, inlined_low k t)
-  inlined_low k end = omega arith
   inlined_low k (more t u) = omega (arith, inlined_low k t, inlined_low (k + length (occurrences t)) u)
   inlined_low k (compares t u) = omega (arith, inlined_low k t, inlined_low (k + length (occurrences t)) u)
   inlined_low k (relates o t) = omega (arith, inlined_low k t)
@@ -45,33 +42,24 @@ module _ (uses : Uses) (v : Tree Name factor) where
   inlined_low k (multiplies o t) = omega (arith, inlined_low k t)
   inlined_low k (designator x end) = omega (arith, name_low x (uses k))
   inlined_low k (designator x (more t u)) = omega (arith, inlined_low (suc k) t, inlined_low (suc k + length (occurrences t)) u)
-  inlined_low k (integer n) = omega arith
   inlined_low k (parenthesised t) = omega (arith, inlined_low k t)
   inlined_low k (negation t) = omega (arith, inlined_low k t)
-  inlined_low k (field x) = omega arith
   inlined_low k (index t) = omega (arith, inlined_low k t)
-  inlined_low k empty = omega arith
   inlined_low k (assigns x t u) = omega (arith, inlined_low (suc k) t, inlined_low (suc k + length (occurrences t)) u)
   inlined_low k (calls x t) = omega (arith, inlined_low (suc k) t)
   inlined_low k (branches t u w z) = omega (arith, inlined_low k t, inlined_low (k + length (occurrences t)) u, inlined_low (k + length (occurrences t) + length (occurrences u)) w, inlined_low (k + length (occurrences t) + length (occurrences u) + length (occurrences w)) z)
   inlined_low k (while_loop t u) = omega (arith, inlined_low k t, inlined_low (k + length (occurrences t)) u)
   inlined_low k (repeat_loop t u) = omega (arith, inlined_low k t, inlined_low (k + length (occurrences t)) u)
-  inlined_low k no_arguments = omega arith
   inlined_low k (some_arguments t u) = omega (arith, inlined_low k t, inlined_low (k + length (occurrences t)) u)
   inlined_low k (then_argument t) = omega (arith, inlined_low k t)
   inlined_low k (runs t u) = omega (arith, inlined_low k t, inlined_low (k + length (occurrences t)) u)
   inlined_low k (then_statement t) = omega (arith, inlined_low k t)
   inlined_low k (elsif_branch t u) = omega (arith, inlined_low k t, inlined_low (k + length (occurrences t)) u)
   inlined_low k (else_branch t) = omega (arith, inlined_low k t)
-  inlined_low k (listed x rest) = omega arith
-  inlined_low k (then_name x) = omega arith
-  inlined_low k (named_type x) = omega arith
   inlined_low k (array_type t u) = omega (arith, inlined_low k t, inlined_low (k + length (occurrences t)) u)
   inlined_low k (record_type t u) = omega (arith, inlined_low k t, inlined_low (k + length (occurrences t)) u)
-  inlined_low k no_fields = omega arith
   inlined_low k (some_fields ns t) = omega (arith, inlined_low k t)
   inlined_low k (then_fields t) = omega (arith, inlined_low k t)
-  inlined_low k no_formals = omega arith
   inlined_low k (some_formals t u) = omega (arith, inlined_low k t, inlined_low (k + length (occurrences t)) u)
   inlined_low k (value_section ns t) = omega (arith, inlined_low k t)
   inlined_low k (variable_section ns t) = omega (arith, inlined_low k t)
@@ -87,6 +75,7 @@ module _ (uses : Uses) (v : Tree Name factor) where
   inlined_low k (begins t) = omega (arith, inlined_low k t)
   inlined_low k (has_body t u) = omega (arith, inlined_low k t, inlined_low (k + length (occurrences t)) u)
   inlined_low k (is_module x t y) = omega (arith, inlined_low k t)
+  inlined_low k _ = omega arith
 
 pub inlined_shallow : (m : Parsed) (uses : Uses) (value : Scalar) → nesting (inlined (named_tree_of m) uses (value_factor value)) ≤ nesting (tree_of m) + 1
 inlined_shallow m uses value =

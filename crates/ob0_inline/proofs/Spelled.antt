@@ -7,7 +7,7 @@ use Rattle.std.specs.List.{flat_map}
 use Rattle.ob0_tree.specs.declared.tree.Role.{Role}
 use Rattle.ob0_tree.specs.declared.tree.Role.TheVariants as role
 use Rattle.ob0_tree.specs.Lexeme.{Terminal, Name}
-use Rattle.ob0_tree.specs.Tree.{Sort, Tree, block, constant, constants, factor, further_name, identifiers, item, items, mapped, maybe, module_text, names, occurrences, procedure, spell, adds, array_type, assigns, begins, branches, calls, compares, declares, declares_constant, declares_constants, declares_procedure, declares_type, declares_types, declares_variable, declares_variables, designator, else_branch, elsif_branch, empty, end, field, has_body, index, integer, is_module, listed, more, multiplies, named_type, negation, no_arguments, no_fields, no_formals, none, one, parenthesised, product, record_type, relates, repeat_loop, runs, some_arguments, some_fields, some_formals, sum, then_argument, then_fields, then_name, then_section, then_statement, value_section, variable_section, while_loop}
+use Rattle.ob0_tree.specs.Tree.{Sort, Tree, block, constant, constants, factor, further_name, identifiers, item, items, mapped, maybe, module_text, names, occurrences, procedure, spell, adds, array_type, assigns, begins, branches, calls, compares, declares, declares_constant, declares_constants, declares_procedure, declares_type, declares_types, declares_variable, declares_variables, designator, else_branch, elsif_branch, end, field, has_body, index, is_module, listed, more, multiplies, named_type, negation, none, one, parenthesised, product, record_type, relates, repeat_loop, runs, some_arguments, some_fields, some_formals, sum, then_argument, then_fields, then_name, then_section, then_statement, value_section, variable_section, while_loop}
 use Rattle.ob0_edits_tokens.proofs.OfTrees.{replaced}
 use Rattle.ob0_language_names.specs.Elsewhere.{names_elsewhere}
 use Rattle.ob0_language_names.specs.Inlining.{Uses, inline_in, module_without}
@@ -103,9 +103,7 @@ module _ (gives : ℕ → Bool) (uses : Uses) (v : Tree naming.Name factor) (f :
 
   -- r is the role of the names in a list
   pub spelled : {s : Sort} (k : ℕ) (r : Role) → Plain r → (t : Tree ℕ s) → Fits k r t → spell (inline_in uses v k (mapped f g t)) ≡ flat_map put (spell t)
-  spelled k r plain none h = refl
   spelled k r plain (one t) h = simp (spelled k r plain t h)
-  spelled k r plain end h = refl
   spelled k r plain (more t u) h = let s = both k r t u h in simp (flat_map-append, spelled k r plain t s.0, spelled (past k t) r plain u s.1)
   spelled k r plain (compares t u) h = let s = both k r t u h in simp (flat_map-append, spelled k r plain t s.0, spelled (past k t) r plain u s.1)
   spelled k r plain (relates o t) h = simp (spelled k r plain t h)
@@ -116,12 +114,10 @@ module _ (gives : ℕ → Bool) (uses : Uses) (v : Tree naming.Name factor) (f :
   spelled k r plain (multiplies o t) h = simp (spelled k r plain t h)
   spelled k r plain (designator x end) h = alone x (uses k) h.0.0
   spelled k r plain (designator x (more t u)) h = let s = both (suc k) r t u (h.0.1, h.1.1, h.2.1) in simp (flat_map-append, apart x h.2.0, spelled (suc k) r plain t s.0, spelled (past (suc k) t) r plain u s.1)
-  spelled k r plain (integer n) h = refl
   spelled k r plain (parenthesised t) h = simp (flat_map-append, spelled k r plain t h)
   spelled k r plain (negation t) h = simp (spelled k r plain t h)
   spelled k r plain (field x) h = simp (others x h.1.0)
   spelled k r plain (index t) h = simp (flat_map-append, spelled k r plain t h)
-  spelled k r plain empty h = refl
   spelled k r plain (assigns x t u) h = let s = both (suc k) r t u (h.0.1, h.1.1, h.2.1) in simp (flat_map-append, apart x h.2.0, spelled (suc k) r plain t s.0, spelled (past (suc k) t) r plain u s.1)
   spelled k r plain (calls x t) h = simp (apart x h.2.0, spelled (suc k) r plain t (h.0.1, h.1.1, h.2.1))
   spelled k r plain (branches t u w z) h =
@@ -131,7 +127,6 @@ module _ (gives : ℕ → Bool) (uses : Uses) (v : Tree naming.Name factor) (f :
       simp (flat_map-append, spelled k r plain t a.0, spelled (past k t) r plain u b.0, spelled (past (past k t) u) r plain w c.0, spelled (past (past (past k t) u) w) r plain z c.1)
   spelled k r plain (while_loop t u) h = let s = both k r t u h in simp (flat_map-append, spelled k r plain t s.0, spelled (past k t) r plain u s.1)
   spelled k r plain (repeat_loop t u) h = let s = both k r t u h in simp (flat_map-append, spelled k r plain t s.0, spelled (past k t) r plain u s.1)
-  spelled k r plain no_arguments h = refl
   spelled k r plain (some_arguments t u) h = let s = both k r t u h in simp (flat_map-append, spelled k r plain t s.0, spelled (past k t) r plain u s.1)
   spelled k r plain (then_argument t) h = simp (spelled k r plain t h)
   spelled k r plain (runs t u) h = let s = both k r t u h in simp (flat_map-append, spelled k r plain t s.0, spelled (past k t) r plain u s.1)
@@ -143,10 +138,8 @@ module _ (gives : ℕ → Bool) (uses : Uses) (v : Tree naming.Name factor) (f :
   spelled k r plain (named_type x) h = simp (apart x h.2.0)
   spelled k r plain (array_type t u) h = let s = both k r t u h in simp (flat_map-append, spelled k r plain t s.0, spelled (past k t) r plain u s.1)
   spelled k r plain (record_type t u) h = let s = both k r t u h in simp (flat_map-append, spelled k r plain t s.0, spelled (past k t) r plain u s.1)
-  spelled k r plain no_fields h = refl
   spelled k r plain (some_fields ns t) h = let s = cut_roles table (identifiers role.FieldName ns) (identifiers r t) h.1 in simp (flat_map-append, names_spelled role.FieldName others ns s.0, spelled k r plain t (h.0, s.1, h.2))
   spelled k r plain (then_fields t) h = simp (spelled k r plain t h)
-  spelled k r plain no_formals h = refl
   spelled k r plain (some_formals t u) h = let s = both k r t u h in simp (flat_map-append, spelled k r plain t s.0, spelled (past k t) r plain u s.1)
   spelled k r plain (value_section ns t) h = let s = cut_roles table (identifiers role.Declaring ns) (identifiers r t) h.1 in simp (flat_map-append, names_spelled role.Declaring others ns s.0, spelled k r plain t (h.0, s.1, h.2))
   spelled k r plain (variable_section ns t) h = let s = cut_roles table (identifiers role.Declaring ns) (identifiers r t) h.1 in simp (flat_map-append, names_spelled role.Declaring others ns s.0, spelled k r plain t (h.0, s.1, h.2))
@@ -171,6 +164,7 @@ module _ (gives : ℕ → Bool) (uses : Uses) (v : Tree naming.Name factor) (f :
   spelled k r plain (is_module x t y) h =
       let b = cut_roles table (identifiers r t) ((role.ModuleName, y) ∷ []) h.1.1 in
       simp (flat_map-append, others x h.1.0, others y b.1.0, spelled k r plain t (h.0, b.0, h.2))
+  spelled k r plain _ h = refl
 
   joined : {xs' ys' : List (Terminal naming.Name)} (xs ys : List (Terminal ℕ)) → xs' ≡ flat_map put xs → ys' ≡ flat_map put ys → xs' ++ ys' ≡ flat_map put (xs ++ ys)
   joined xs ys p q = (λ i. p i ++ q i) ∙ sym (flat_map-append put xs ys)

@@ -1,7 +1,7 @@
 -- The declaration of a constant taken out of a tree: what is left, over any names, and which tokens are gone.
 -- `gone_module` is the module without the declaration over any names. `Taken`: the tokens of the tree are those before
 -- (with CONST or a semicolon), then the declaration from its name to its semicolon, then the rest; no semicolon is inside.
-use Rattle.std.proofs.Common.{zero, slice_get, length-append, ◌≡◌, ◌≢◌, ◌⊎◌, ℕ, suc, ◌+◌, ◌<◌, ◌≤◌, ◌==◌, Bool, true, false, if◌then◌else◌, Option, Some, None, List, [], ◌∷◌, ◌++◌, length, refl, sym, ap, ◌∙◌, arith, append_assoc, append-nil, ne_eqb}
+use Rattle.std.proofs.Common.{zero, slice_get, ◌≡◌, ◌≢◌, ◌⊎◌, ℕ, suc, ◌+◌, ◌<◌, ◌≤◌, ◌==◌, Bool, true, false, if◌then◌else◌, Option, Some, None, List, [], ◌∷◌, ◌++◌, length, refl, sym, ap, ◌∙◌, arith, append_assoc, ne_eqb}
 use Rattle.ob0_scan.specs.declared.lexeme.Reserved.TheVariants as reserved
 use Rattle.ob0_scan.specs.declared.lexeme.Symbol.TheVariants as symbol
 use Rattle.ob0_scan.specs.declared.lexeme.TokenKind.{TokenKind}
@@ -16,13 +16,9 @@ use Rattle.ob0_tree.specs.declared.tree.Sign.{Sign}
 use Rattle.ob0_tree.specs.declared.tree.Sign.TheVariants as sign
 use Rattle.ob0_tree.specs.Lexeme.{Terminal, Mark, add_mark, multiply_mark, relation_mark, sign_marks}
 use Rattle.ob0_tree.specs.Lexeme as lexeme
-use Rattle.ob0_tree.specs.Tree.{Sort, Tree, identifiers, addend, adds, compares, designator, expression, factor, field, index, integer, multiplier, multiplies, negation, parenthesised, product, relates, selector, simple, sum, term, block, constant, constants, declares, declares_constant, declares_constants, declares_procedure, declares_type, declares_types, declares_variable, declares_variables, end, formals, further_name, further_section, has_body, is_module, item, items, listed, mapped, maybe, module_text, more, names, no_formals, none, one, procedure, some_formals, spell, then_name, then_section, type_name, type_names, value_section, variable, variable_section, variables}
+use Rattle.ob0_tree.specs.Tree.{Tree, addend, adds, compares, designator, expression, factor, field, index, integer, multiplier, multiplies, negation, parenthesised, product, relates, selector, simple, sum, term, block, constant, constants, declares, declares_constant, declares_constants, declares_procedure, end, formals, has_body, is_module, item, items, mapped, maybe, module_text, more, none, one, procedure, spell}
 use Rattle.ob0_language_names.specs.Names.{Name}
-use Rattle.ob0_language_names.specs.Parts.{constant_names, formal_names, formal_sections, further_names, named_types, names_listed, section_constants, section_types, section_variables, variable_names, procedure_name, module_block}
-use Rattle.ob0_tree.specs.declared.tree.Role.{Role}
-use Rattle.ob0_tree.specs.declared.tree.Role.TheVariants as role
-use Rattle.ob0_scope_table.specs.Resolution.{declaring_only}
-use Rattle.ob0_scope_table.proofs.Plain.{IsPlain, declares_nothing, declaring_only-append}
+use Rattle.ob0_language_names.specs.Parts.{constant_names, formal_names, formal_sections, named_types, section_constants, section_types, section_variables, variable_names}
 use Rattle.ob0_language_names.specs.Scopes.{after_block, after_names, after_procedure, after_procedures, first_procedure, first_type}
 use Rattle.ob0_types_check.proofs.DeclaredNames.{after_block-mapped, after_names-map, after_procedure-mapped, formals-names}
 use Rattle.ob0_language_names.proofs.Ordinals.{le-after_names, le-after_procedure, le-after_procedures}
@@ -68,30 +64,12 @@ module _ (f : ℕ → Name) (g : ℕ → ℕ) where
 -- no `;` among these tokens
 abbrev pub is_end : TokenKind → Bool
 is_end (kind.Symbol s) = elim s [ symbol.Semicolon ↦ true | _ ↦ false ]
-is_end kind.Identifier = false
-is_end (kind.Reserved r) = false
-is_end (kind.Integer n) = false
+is_end _ = false
 
 abbrev pub NoEnd : {N : Type 0} → List (Terminal N) → Type 0
 NoEnd [] = Unit {0}
 NoEnd (Mark k ∷ xs) = (is_end k ≡ false) × NoEnd xs
-NoEnd (lexeme.Name n ∷ xs) = NoEnd xs
-NoEnd (lexeme.Number n ∷ xs) = NoEnd xs
-NoEnd (lexeme.EndOfText ∷ xs) = NoEnd xs
-
--- the names that a block declares with all that is in it, in text order
-abbrev mutual
-  pub block_declares : {N : Type 0} → Tree N block → List N
-  block_declares (has_body (declares cs ts vs ps) statements) =
-      constant_names (section_constants cs) ++ (named_types (section_types ts) ++ (variable_names (section_variables vs) ++ procedures_declare ps))
-
-  pub procedures_declare : {N : Type 0} → Tree N (items procedure) → List N
-  procedures_declare end = []
-  procedures_declare (more p rest) = (procedure_name p ∷ procedure_declares p) ++ procedures_declare rest
-
-  -- without its own name
-  pub procedure_declares : {N : Type 0} → Tree N (item procedure) → List N
-  procedure_declares (declares_procedure x fs b closing) = formal_names (formal_sections fs) ++ block_declares b
+NoEnd (_ ∷ xs) = NoEnd xs
 
 -- A declaration is among the tokens of a whole, from a constant's name to its `;`, and not among those that are left.
 -- The constant has the ordinal d, where the first of these names has k.
@@ -174,31 +152,6 @@ pub get_later : (xs ys : List ℕ) (j : ℕ) → slice_get (xs ++ ys) (length xs
 get_later [] ys j = ap (slice_get ys) (let e : 0 + j ≡ j = omega arith in e)
 get_later (x ∷ xs) ys j = ap (slice_get (x ∷ (xs ++ ys))) (let e : suc (length xs) + j ≡ suc (length xs + j) = omega arith in e) ∙ get_later xs ys j
 
--- ordinals count these names
-pub names_counted : {N : Type 0} (k : ℕ) (xs : List N) → after_names k xs ≡ k + length xs
-names_counted k [] = omega arith
-names_counted k (x ∷ xs) = let e = names_counted (suc k) xs in omega (arith, e)
-
-mutual
-  block_counted : {N : Type 0} (k : ℕ) (b : Tree N block) → after_block k b ≡ k + length (block_declares b)
-  block_counted k (has_body (declares cs ts vs ps) statements) =
-      let xs = constant_names (section_constants cs) in
-      let ys = named_types (section_types ts) in
-      let zs = variable_names (section_variables vs) in
-      let e = procedures_counted (after_names (after_names (after_names k xs) ys) zs) ps in
-      omega (arith, e, names_counted k xs, names_counted (after_names k xs) ys, names_counted (after_names (after_names k xs) ys) zs, length-append xs (ys ++ (zs ++ procedures_declare ps)), length-append ys (zs ++ procedures_declare ps), length-append zs (procedures_declare ps))
-
-  procedures_counted : {N : Type 0} (k : ℕ) (ps : Tree N (items procedure)) → after_procedures k ps ≡ k + length (procedures_declare ps)
-  procedures_counted k end = omega arith
-  procedures_counted k (more p rest) =
-      let e = procedures_counted (after_procedure (suc k) p) rest in
-      omega (arith, e, procedure_counted (suc k) p, length-append (procedure_name p ∷ procedure_declares p) (procedures_declare rest))
-
-  pub procedure_counted : {N : Type 0} (k : ℕ) (p : Tree N (item procedure)) → after_procedure k p ≡ k + length (procedure_declares p)
-  procedure_counted k (declares_procedure x fs b closing) =
-      let xs = formal_names (formal_sections fs) in
-      omega (arith, block_counted (after_names k xs) b, names_counted k xs, length-append xs (block_declares b))
-
 -- a declaration that isn't there leaves the tree as it is: none of the ordinals from one on up to another is that
 abbrev pub Outside : ℕ → ℕ → ℕ → Type 0
 Outside d k after = (j : ℕ) → k ≤ j → j < after → j ≢ d
@@ -244,28 +197,19 @@ mutual
 no_end_append : {N : Type 0} (xs ys : List (Terminal N)) → NoEnd xs → NoEnd ys → NoEnd (xs ++ ys)
 no_end_append [] ys p q = q
 no_end_append (Mark k ∷ xs) ys p q = (p.0, no_end_append xs ys p.1 q)
-no_end_append (lexeme.Name n ∷ xs) ys p q = no_end_append xs ys p q
-no_end_append (lexeme.Number n ∷ xs) ys p q = no_end_append xs ys p q
-no_end_append (lexeme.EndOfText ∷ xs) ys p q = no_end_append xs ys p q
+no_end_append (_ ∷ xs) ys p q = no_end_append xs ys p q
 
 relation_no_end : (r : Relation) → is_end (relation_mark r) ≡ false
 relation_no_end relation.Equal = refl
-relation_no_end relation.NotEqual = refl
-relation_no_end relation.Less = refl
-relation_no_end relation.LessEqual = refl
-relation_no_end relation.Greater = refl
-relation_no_end relation.GreaterEqual = refl
+relation_no_end _ = refl
 
 add_no_end : (o : AddOperator) → is_end (add_mark o) ≡ false
 add_no_end add_operator.Add = refl
-add_no_end add_operator.Subtract = refl
-add_no_end add_operator.Or = refl
+add_no_end _ = refl
 
 multiply_no_end : (o : MultiplyOperator) → is_end (multiply_mark o) ≡ false
 multiply_no_end multiply_operator.Multiply = refl
-multiply_no_end multiply_operator.Divide = refl
-multiply_no_end multiply_operator.Modulo = refl
-multiply_no_end multiply_operator.And = refl
+multiply_no_end _ = refl
 
 sign_no_end : (s : Option Sign) → NoEnd {N = ℕ} (sign_marks s)
 sign_no_end None = tt
@@ -307,84 +251,3 @@ mutual
 
 pub gone_here : (d k : ℕ) (c : Tree ℕ (item constant)) (cs : Tree ℕ (items constant)) (b : Bool) → (k == d) ≡ b → gone_constants d k (more c cs) ≡ (if b then cs else more c (gone_constants d (suc k) cs))
 gone_here d k c cs b e = ap (λ v. if v then cs else more c (gone_constants d (suc k) cs)) e
-
--- these names are those of the identifiers that declare
-
-plain_part : {s : Sort} → IsPlain s → (t : Tree ℕ s) (xs : List (Role × ℕ)) → declaring_only (identifiers role.Declaring t ++ xs) ≡ declaring_only xs
-plain_part h t xs = declaring_only-append (identifiers role.Declaring t) xs ∙ ap (λ l. l ++ declaring_only xs) (declares_nothing h t).plain
-
-further_declared : (ns : Tree ℕ (items further_name)) → declaring_only (identifiers role.Declaring ns) ≡ further_names ns
-further_declared end = refl
-further_declared (more (then_name x) rest) = λ i. x ∷ further_declared rest i
-
-names_declared : (ns : Tree ℕ names) → declaring_only (identifiers role.Declaring ns) ≡ names_listed ns
-names_declared (listed x rest) = λ i. x ∷ further_declared rest i
-
-group_declared : {s : Sort} → IsPlain s → (ns : Tree ℕ names) (t : Tree ℕ s) (xs : List (Role × ℕ)) → declaring_only ((identifiers role.Declaring ns ++ identifiers role.Declaring t) ++ xs) ≡ names_listed ns ++ declaring_only xs
-group_declared h ns t xs =
-    declaring_only-append (identifiers role.Declaring ns ++ identifiers role.Declaring t) xs
-    ∙ (ap (λ l. l ++ declaring_only xs) (declaring_only-append (identifiers role.Declaring ns) (identifiers role.Declaring t) ∙ ((λ i. names_declared ns i ++ (declares_nothing h t).plain i) ∙ append-nil (names_listed ns))))
-
-constants_declared : (cs : Tree ℕ (items constant)) → declaring_only (identifiers role.Declaring cs) ≡ constant_names cs
-constants_declared end = refl
-constants_declared (more (declares_constant x e) cs) = λ i. x ∷ (plain_part tt e (identifiers role.Declaring cs) ∙ constants_declared cs) i
-
-types_declared : (ts : Tree ℕ (items type_name)) → declaring_only (identifiers role.Declaring ts) ≡ named_types ts
-types_declared end = refl
-types_declared (more (declares_type x t) ts) = λ i. x ∷ (plain_part tt t (identifiers role.Declaring ts) ∙ types_declared ts) i
-
-variables_declared : (vs : Tree ℕ (items variable)) → declaring_only (identifiers role.Declaring vs) ≡ variable_names vs
-variables_declared end = refl
-variables_declared (more (declares_variable ns t) vs) = group_declared tt ns t (identifiers role.Declaring vs) ∙ ap (λ l. names_listed ns ++ l) (variables_declared vs)
-
-sections_declared : (fs : Tree ℕ (items further_section)) → declaring_only (identifiers role.Declaring fs) ≡ formal_names fs
-sections_declared end = refl
-sections_declared (more (then_section (value_section ns t)) fs) = group_declared tt ns t (identifiers role.Declaring fs) ∙ ap (λ l. names_listed ns ++ l) (sections_declared fs)
-sections_declared (more (then_section (variable_section ns t)) fs) = group_declared tt ns t (identifiers role.Declaring fs) ∙ ap (λ l. names_listed ns ++ l) (sections_declared fs)
-
-formals_declared : (fs : Tree ℕ (maybe formals)) → declaring_only (identifiers role.Declaring fs) ≡ formal_names (formal_sections fs)
-formals_declared none = refl
-formals_declared (one no_formals) = refl
-formals_declared (one (some_formals s fs)) = sections_declared (more (then_section s) fs)
-
-constant_section_declared : (cs : Tree ℕ (maybe constants)) → declaring_only (identifiers role.Declaring cs) ≡ constant_names (section_constants cs)
-constant_section_declared none = refl
-constant_section_declared (one (declares_constants cs)) = constants_declared cs
-
-type_section_declared : (ts : Tree ℕ (maybe type_names)) → declaring_only (identifiers role.Declaring ts) ≡ named_types (section_types ts)
-type_section_declared none = refl
-type_section_declared (one (declares_types ts)) = types_declared ts
-
-variable_section_declared : (vs : Tree ℕ (maybe variables)) → declaring_only (identifiers role.Declaring vs) ≡ variable_names (section_variables vs)
-variable_section_declared none = refl
-variable_section_declared (one (declares_variables vs)) = variables_declared vs
-
-mutual
-  block_declared : (b : Tree ℕ block) → declaring_only (identifiers role.Declaring b) ≡ block_declares b
-  block_declared (has_body (declares cs ts vs ps) statements) =
-      let xs = identifiers role.Declaring cs in
-      let ys = identifiers role.Declaring ts in
-      let zs = identifiers role.Declaring vs in
-      let us = identifiers role.Declaring ps in
-      declaring_only-append (xs ++ (ys ++ (zs ++ us))) (identifiers role.Declaring statements)
-      ∙ ((λ i. declaring_only (xs ++ (ys ++ (zs ++ us))) ++ (declares_nothing tt statements).plain i)
-      ∙ (append-nil (declaring_only (xs ++ (ys ++ (zs ++ us))))
-      ∙ (declaring_only-append xs (ys ++ (zs ++ us))
-      ∙ (λ i. constant_section_declared cs i
-      ++ ((declaring_only-append ys (zs ++ us) ∙ (λ j. type_section_declared ts j ++ ((declaring_only-append zs us ∙ (λ l. variable_section_declared vs l ++ procedures_declared ps l)) j))) i)))))
-
-  procedures_declared : (ps : Tree ℕ (items procedure)) → declaring_only (identifiers role.Declaring ps) ≡ procedures_declare ps
-  procedures_declared end = refl
-  procedures_declared (more p rest) =
-      declaring_only-append (identifiers role.Declaring p) (identifiers role.Declaring rest) ∙ (λ i. procedure_declared p i ++ procedures_declared rest i)
-
-  procedure_declared : (p : Tree ℕ (item procedure)) → declaring_only (identifiers role.Declaring p) ≡ procedure_name p ∷ procedure_declares p
-  procedure_declared (declares_procedure x fs b closing) =
-      let us = identifiers role.Declaring fs in
-      let vs = identifiers role.Declaring b in
-      λ i. x ∷ (declaring_only-append us (vs ++ ((role.ClosingName, closing) ∷ []))
-      ∙ (λ j. formals_declared fs j ++ ((declaring_only-append vs ((role.ClosingName, closing) ∷ []) ∙ (append-nil (declaring_only vs) ∙ block_declared b)) j))) i
-
-pub module_declared : (m : Tree ℕ module_text) → declaring_only (identifiers role.Declaring m) ≡ block_declares (module_block m)
-module_declared (is_module x b closing) =
-    declaring_only-append (identifiers role.Declaring b) ((role.ModuleName, closing) ∷ []) ∙ (append-nil (declaring_only (identifiers role.Declaring b)) ∙ block_declared b)

@@ -22,8 +22,9 @@ use Rattle.ob0_edits_tokens.proofs.OfTrees.{put, replaced}
 use Rattle.ob0_language_names.specs.Elsewhere.{names_elsewhere}
 use Rattle.ob0_language_names.specs.Inlining.{Uses, inline_in, module_without}
 use Rattle.ob0_language_names.specs.Names.{Label, Name, as_names, declared}
+use Rattle.ob0_language_types.proofs.Literals.{some_inverse}
 use Rattle.ob0_scope_table.specs.Resolution.{IsResolution, Resolution, label_at, ordinal_in}
-use Rattle.ob0_language_names.specs.Scopes.{as_label, same_ordinal}
+use Rattle.ob0_language_names.specs.Scopes.{as_label}
 use Rattle.ob0_scope.proofs.SeenInPlaces.{AllMarked, occurrence_table, uses_reported}
 use Rattle.ob0_inline.specs.Everywhere.{IsAlone}
 use Rattle.ob0_inline.proofs.Spelled.{Agrees, NoneIs, agrees_each, module_spelled, spelled}
@@ -44,18 +45,12 @@ lowered low higher high (x ∷ xs) le a = (omega (arith, le, a.0), a.1)
 looked_up_ascend : (low high : ℕ) (xs : List (Role × ℕ)) → Ascending low (names_only xs) high → Ascending low (looked_up_only xs) high
 looked_up_ascend low high [] a = a
 looked_up_ascend low high ((role.LookedUp, i) ∷ xs) a = (a.0, looked_up_ascend (i + 1) high xs a.1)
-looked_up_ascend low high ((role.Declaring, i) ∷ xs) a = lowered low (i + 1) high _ (omega (arith, a.0)) (looked_up_ascend (i + 1) high xs a.1)
-looked_up_ascend low high ((role.ClosingName, i) ∷ xs) a = lowered low (i + 1) high _ (omega (arith, a.0)) (looked_up_ascend (i + 1) high xs a.1)
-looked_up_ascend low high ((role.FieldName, i) ∷ xs) a = lowered low (i + 1) high _ (omega (arith, a.0)) (looked_up_ascend (i + 1) high xs a.1)
-looked_up_ascend low high ((role.ModuleName, i) ∷ xs) a = lowered low (i + 1) high _ (omega (arith, a.0)) (looked_up_ascend (i + 1) high xs a.1)
+looked_up_ascend low high ((_, i) ∷ xs) a = lowered low (i + 1) high _ (omega (arith, a.0)) (looked_up_ascend (i + 1) high xs a.1)
 
 looked_up_are_identifiers : (ts : List Token) (xs : List (Role × ℕ)) → AreIdentifiers ts (names_only xs) → AreIdentifiers ts (looked_up_only xs)
 looked_up_are_identifiers ts [] h = tt
 looked_up_are_identifiers ts ((role.LookedUp, i) ∷ xs) h = (h.0, looked_up_are_identifiers ts xs h.1)
-looked_up_are_identifiers ts ((role.Declaring, i) ∷ xs) h = looked_up_are_identifiers ts xs h.1
-looked_up_are_identifiers ts ((role.ClosingName, i) ∷ xs) h = looked_up_are_identifiers ts xs h.1
-looked_up_are_identifiers ts ((role.FieldName, i) ∷ xs) h = looked_up_are_identifiers ts xs h.1
-looked_up_are_identifiers ts ((role.ModuleName, i) ∷ xs) h = looked_up_are_identifiers ts xs h.1
+looked_up_are_identifiers ts ((_, i) ∷ xs) h = looked_up_are_identifiers ts xs h.1
 
 found_looked_up : (r : Resolution) → IsResolution r → looked_up_only (identifiers role.Declaring (tree_of r.module_read)) ≡ r.uses
 found_looked_up r is = looked_up-occurrences role.Declaring (λ n xs. refl) (tree_of r.module_read) ∙ sym is.occurring
@@ -71,16 +66,9 @@ uses_are_identifiers r is =
     let m = r.module_read in
     subst (AreIdentifiers m.source.tokens) (found_looked_up r is) (looked_up_are_identifiers m.source.tokens (identifiers role.Declaring (tree_of m)) (leaves_are_identifiers m is.parsed))
 
-pub inside : {a b : ℕ} → Some a ≡ Some b → a ≡ b
-inside {a} e = ap (λ (o : Option ℕ). elim o [ Some n ↦ n | None ↦ a ]) e
-
-pub same_true : (o : Option ℕ) (d : ℕ) → same_ordinal o d ≡ true → o ≡ Some d
-same_true None d e = absurd (true≢false (sym e))
-same_true (Some j) d e = ap Some (eqb-true j d e)
-
 pub one_identifier : (ts : List Token) (is : List ℕ) (k i : ℕ) → AreIdentifiers ts is → slice_get is k ≡ Some i → IsIdentifierToken ts i
 one_identifier ts [] k i h e = absurd (cc)
-one_identifier ts (x ∷ is) zero i h e = subst (IsIdentifierToken ts) (inside e) h.0
+one_identifier ts (x ∷ is) zero i h e = subst (IsIdentifierToken ts) (some_inverse e) h.0
 one_identifier ts (x ∷ is) (suc k) i h e = one_identifier ts is k i h.1 e
 
 -- the places are tokens of occurrences that are bound to d
@@ -90,12 +78,9 @@ AreBound r d (p ∷ ps) = (((k : ℕ) × (slice_get r.uses k ≡ Some p)) × (or
 
 in_table : (table : List (Option ℕ)) (xs : List (Role × ℕ)) (k i : ℕ) → AllMarked table xs → slice_get (looked_up_only xs) k ≡ Some i → ordinal_in table i ≡ Some 0
 in_table table [] k i a e = absurd (cc)
-in_table table ((role.LookedUp, x) ∷ xs) zero i a e = ap (ordinal_in table) (sym (inside e)) ∙ a.0
+in_table table ((role.LookedUp, x) ∷ xs) zero i a e = ap (ordinal_in table) (sym (some_inverse e)) ∙ a.0
 in_table table ((role.LookedUp, x) ∷ xs) (suc k) i a e = in_table table xs k i a.1 e
-in_table table ((role.Declaring, x) ∷ xs) k i a e = in_table table xs k i a.1 e
-in_table table ((role.ClosingName, x) ∷ xs) k i a e = in_table table xs k i a.1 e
-in_table table ((role.FieldName, x) ∷ xs) k i a e = in_table table xs k i a.1 e
-in_table table ((role.ModuleName, x) ∷ xs) k i a e = in_table table xs k i a.1 e
+in_table table ((_, x) ∷ xs) k i a e = in_table table xs k i a.1 e
 
 -- a token among the places is that of an occurrence, and bound to d
 record AtBound (r : Resolution) (d i : ℕ) : Type 0 where
@@ -126,14 +111,12 @@ none_is d (l ∷ ls) a = (All-head (λ (m : Label). m ≢ declared d) l ls a, no
 
 -- the words of a text and its tokens
 word_text : (text : List ℕ) (ts : List Token) (k : ℕ) → text_of_word (map (read_in text) ts) k ≡ leaf.text_in text (slice_get ts k)
-word_text text [] k = refl
-word_text text (t ∷ ts) zero = refl
 word_text text (t ∷ ts) (suc k) = word_text text ts k
+word_text text _ _ = refl
 
 word_number : (text : List ℕ) (ts : List Token) (k : ℕ) → number_at (map (read_in text) ts) k ≡ leaf.value_in (slice_get ts k)
-word_number text [] k = refl
-word_number text (t ∷ ts) zero = refl
 word_number text (t ∷ ts) (suc k) = word_number text ts k
+word_number text _ _ = refl
 
 -- With words at the tokens of uses of a constant, which are alone as factors, the tokens are those of the tree with the
 -- factor of these words in place of the uses.
@@ -177,7 +160,7 @@ module _ (r : Resolution) (is : IsResolution r) (d : ℕ) (v : Tree Name factor)
 -- tokens of occurrences ascend, so each is that of one occurrence
 pub above : (low high : ℕ) (is : List ℕ) (j i : ℕ) → Ascending low is high → slice_get is j ≡ Some i → low ≤ i
 above low high [] j i a e = absurd (cc)
-above low high (x ∷ is) zero i a e = subst (λ n. low ≤ n) (inside e) a.0
+above low high (x ∷ is) zero i a e = subst (λ n. low ≤ n) (some_inverse e) a.0
 above low high (x ∷ is) (suc j) i a e = let more = above (x + 1) high is j i a.1 e in omega (arith, more, a.0)
 
 pub not_equal : (i p : ℕ) → i ≢ p → (i == p) ≡ false
@@ -192,14 +175,14 @@ next_same j k =
 
 pub one_place : (low high : ℕ) (is : List ℕ) (j k i p : ℕ) → Ascending low is high → slice_get is j ≡ Some i → slice_get is k ≡ Some p → (i == p) ≡ (j == k)
 one_place low high [] j k i p a e f = absurd (cc)
-one_place low high (x ∷ is) zero zero i p a e f = eq-eqb i p (inside (sym e ∙ f))
+one_place low high (x ∷ is) zero zero i p a e f = eq-eqb i p (some_inverse (sym e ∙ f))
 one_place low high (x ∷ is) zero (suc k) i p a e f =
-    let here : x ≡ i = inside e in
+    let here : x ≡ i = some_inverse e in
     let later = above (x + 1) high is k p a.1 f in
     let apart : i ≢ p = omega (arith, here, later) in
     not_equal i p apart ∙ sym (not_equal 0 (suc k) (omega arith))
 one_place low high (x ∷ is) (suc j) zero i p a e f =
-    let here : x ≡ p = inside f in
+    let here : x ≡ p = some_inverse f in
     let later = above (x + 1) high is j i a.1 e in
     let apart : i ≢ p = omega (arith, here, later) in
     not_equal i p apart ∙ sym (not_equal (suc j) 0 (omega arith))

@@ -24,7 +24,8 @@ use Rattle.ob0_language_types.specs.ConstantValues.{value_of_constant}
 use Rattle.ob0_language_values.specs.Values.{Value}
 use Rattle.ob0_inline.proofs.Earlier.{AllLow, IsLow, forget}
 use Rattle.ob0_inline.proofs.Late.{AllIn, Late, late_module, late_move}
-use Rattle.ob0_inline.proofs.TakenOut.{Taken, block_declares, gone_module}
+use Rattle.ob0_scope_table.proofs.Declared.{names_in}
+use Rattle.ob0_inline.proofs.TakenOut.{Taken, gone_module}
 use Rattle.ob0_inline.proofs.WordsLeft.{cut_words, last_token}
 
 -- what the occurrences are bound to, by the table
@@ -37,14 +38,14 @@ bound_by_table r is =
 
 -- the declaration taken out of a module's tokens, where a constant has a value
 pub late_of : (r : Resolution) → IsResolution r → (d : ℕ) (w : Value) → value_of_constant (named_tree_of r.module_read) d ≡ Some w → spell (tree_of r.module_read) ≡ numbered_tokens 0 (words_of r.module_read.source)
-    → Late d 7 (block_declares (module_block (tree_of r.module_read))) (numbered_tokens 0 (words_of r.module_read.source)) (spell (gone_module d (tree_of r.module_read))) (occurrences (tree_of r.module_read))
+    → Late d 7 (names_in (module_block (tree_of r.module_read))) (numbered_tokens 0 (words_of r.module_read.source)) (spell (gone_module d (tree_of r.module_read))) (occurrences (tree_of r.module_read))
     (map (ordinal_in r.ordinals) (occurrences (tree_of r.module_read)))
 late_of r is d w has_value spelled =
     let m = r.module_read in
     let f = leaf.text_at m.source in
     let g = leaf.value_at m.source in
     let t = tree_of m in
-    let labels = block_declares (module_block t) in
+    let labels = names_in (module_block t) in
     let h = late_module f g d w t has_value in
     let named = subst (λ (l : List (Option ℕ)). Late d 7 labels (spell t) (spell (gone_module d t)) (occurrences t) l) (bound_by_table r is) h in
     late_move d 7 labels (spell t) (numbered_tokens 0 (words_of m.source)) (spell (gone_module d t)) (spell (gone_module d t)) (occurrences t) (map (ordinal_in r.ordinals) (occurrences t)) (sym spelled) refl named
@@ -67,12 +68,11 @@ names_above i k (w ∷ ws) e = by_kind w.kind e (names_above i (suc k) ws)
 -- of two lists joined, of which the first ones are as long
 first_same : (a b c d : List (Option ℕ)) → a ++ b ≡ c ++ d → length a ≡ length c → a ≡ c
 first_same [] b [] d e n = refl
-first_same [] b (z ∷ c) d e n = absurd (omega (arith, n))
-first_same (x ∷ a) b [] d e n = absurd (omega (arith, n))
 first_same (x ∷ a) b (z ∷ c) d e n =
     let head : x ≡ z = ap (λ (l : List (Option ℕ)). elim l [ [] ↦ x | y ∷ ys ↦ y ]) e in
     let tail : a ++ b ≡ c ++ d = ap (λ (l : List (Option ℕ)). elim l [ [] ↦ a ++ b | y ∷ ys ↦ ys ]) e in
     λ i. head i ∷ first_same a b c d tail (omega (arith, n)) i
+first_same _ b _ d e n = absurd (omega (arith, n))
 
 map_joined : (ordinals : List (Option ℕ)) (xs ys : List ℕ) → map (ordinal_in ordinals) (xs ++ ys) ≡ map (ordinal_in ordinals) xs ++ map (ordinal_in ordinals) ys
 map_joined ordinals [] ys = refl

@@ -58,15 +58,12 @@ lexeme_at k (w ∷ ws) (x ∷ xs) l ys e =
 
 pub name_kind : (i n : ℕ) (k : TokenKind) → lexeme_of i k ≡ lexeme.Name n → (k ≡ kind.Identifier) × (n ≡ i)
 name_kind i n kind.Identifier e = (refl, cc)
-name_kind i n (kind.Reserved r) e = absurd (cc)
-name_kind i n (kind.Integer v) e = absurd (cc)
-name_kind i n (kind.Symbol s) e = absurd (cc)
+name_kind i n _ e = absurd (cc)
 
 pub mark_kind : (i : ℕ) (k l : TokenKind) → lexeme_of i k ≡ Mark l → k ≡ l
-mark_kind i kind.Identifier l e = absurd (cc)
 mark_kind i (kind.Reserved r) l e = cc
-mark_kind i (kind.Integer v) l e = absurd (cc)
 mark_kind i (kind.Symbol s) l e = cc
+mark_kind i _ l e = absurd (cc)
 
 -- the first and the last token of a declaration
 abbrev pub first_token : {d k : ℕ} {labels : List ℕ} {whole left : List (Terminal ℕ)} → Taken d k labels whole left → ℕ

@@ -9,10 +9,10 @@ use Rattle.ob0_tree.specs.declared.tree.AddOperator.TheVariants as add_operator
 use Rattle.ob0_tree.specs.declared.tree.MultiplyOperator.{MultiplyOperator}
 use Rattle.ob0_tree.specs.declared.tree.MultiplyOperator.TheVariants as multiply_operator
 use Rattle.ob0_language_names.specs.Names.{Name, same_name}
-use Rattle.ob0_language_types.specs.Expressions.{Object, a_constant, a_procedure, a_standard, a_type, a_variable, reads, writes, writes_line}
+use Rattle.ob0_language_types.specs.Expressions.{Object, a_constant, a_procedure, a_standard, a_type, a_variable, reads}
 use Rattle.ob0_language_types.specs.Typing.{add_type, complement_type, constant_of, depth, field_depth, field_scalars, field_type, multiply_type, object_type, relation_type, scalars, shape_of_field, sign_type, type_of_name, value_type, with_fields, within_limits}
 use Rattle.ob0_language_types.specs.WellTyped.{Formal, Signature, Typed, agree, same_fields, same_shape, signature_of}
-use Rattle.ob0_language_values.specs.Values.{FieldShapes, Shape, Value, array_shape, boolean_shape, elements, integer_shape, members, next_field_shape, no_field_shape, number, record_shape, truth}
+use Rattle.ob0_language_values.specs.Values.{FieldShapes, Shape, Value, array_shape, boolean_shape, integer_shape, next_field_shape, no_field_shape, number, record_shape}
 use Rattle.ob0_language_fields.specs.Fields.{FieldNames, selected_record}
 use Rattle.ob0_language_fields.proofs.NamesMeant.{named}
 use Rattle.ob0_language_field_laws.specs.FieldLaws.{KeepsApart}
@@ -87,9 +87,7 @@ shape_of_field-by l apart k (next_field_shape y s rest) x =
 
 pub field_type-by : (l : FieldNames) → KeepsApart l → (s : Shape) (x : Name) → field_type (shape_by l s) (l (selected_record (Some s)) x) ≡ option_map (shape_by l) (field_type s x)
 field_type-by l apart (record_shape k fs) x = shape_of_field-by l apart k fs x
-field_type-by l apart integer_shape x = refl
-field_type-by l apart boolean_shape x = refl
-field_type-by l apart (array_shape k n s) x = refl
+field_type-by l apart _ x = refl
 
 pub with_fields-by : (l : FieldNames) (k : ℕ) (xs : List Name) (s : Shape) (rest : FieldShapes) → with_fields (map (l (Some k)) xs) (shape_by l s) (fields_by l k rest) ≡ fields_by l k (with_fields xs s rest)
 with_fields-by l k [] s rest = refl
@@ -99,10 +97,9 @@ with_fields-by l k (x ∷ xs) s rest = λ i. next_field_shape (l (Some k) x) (sh
 
 mutual
   pub scalars-by : (l : FieldNames) (s : Shape) → scalars (shape_by l s) ≡ scalars s
-  scalars-by l integer_shape = refl
-  scalars-by l boolean_shape = refl
   scalars-by l (array_shape k n s) = λ i. n * scalars-by l s i
   scalars-by l (record_shape k fs) = λ i. max 1 (field_scalars-by l k fs i)
+  scalars-by l _ = refl
 
   pub field_scalars-by : (l : FieldNames) (k : ℕ) (fs : FieldShapes) → field_scalars (fields_by l k fs) ≡ field_scalars fs
   field_scalars-by l k no_field_shape = refl
@@ -110,10 +107,9 @@ mutual
 
 mutual
   pub depth-by : (l : FieldNames) (s : Shape) → depth (shape_by l s) ≡ depth s
-  depth-by l integer_shape = refl
-  depth-by l boolean_shape = refl
   depth-by l (array_shape k n s) = λ i. suc (depth-by l s i)
   depth-by l (record_shape k fs) = λ i. suc (field_depth-by l k fs i)
+  depth-by l _ = refl
 
   pub field_depth-by : (l : FieldNames) (k : ℕ) (fs : FieldShapes) → field_depth (fields_by l k fs) ≡ field_depth fs
   field_depth-by l k no_field_shape = refl
@@ -167,40 +163,20 @@ named_by l objects = named (λ x. option_map (object_by l) (objects x))
 
 pub value_type-by : (l : FieldNames) (v : Value) → value_type v ≡ option_map (shape_by l) (value_type v)
 value_type-by l (number n) = refl
-value_type-by l (truth b) = refl
-value_type-by l (elements vs) = refl
-value_type-by l (members k ms) = refl
+value_type-by l _ = refl
 
 pub object_type-by : (l : FieldNames) (o : Option (Object Shape Signature)) → object_type (option_map (object_by l) o) ≡ option_map (shape_by l) (object_type o)
-object_type-by l None = refl
-object_type-by l (Some (a_type s)) = refl
 object_type-by l (Some (a_constant v)) = value_type-by l v
-object_type-by l (Some (a_variable s)) = refl
-object_type-by l (Some (a_procedure signature)) = refl
-object_type-by l (Some (a_standard p)) = refl
+object_type-by l _ = refl
 
 pub constant_of-by : (l : FieldNames) (o : Option (Object Shape Signature)) → constant_of (option_map (object_by l) o) ≡ constant_of o
-constant_of-by l None = refl
 constant_of-by l (Some (a_type s)) = refl
-constant_of-by l (Some (a_constant v)) = refl
-constant_of-by l (Some (a_variable s)) = refl
-constant_of-by l (Some (a_procedure signature)) = refl
-constant_of-by l (Some (a_standard p)) = refl
+constant_of-by l _ = refl
 
 pub type_of_name-by : (l : FieldNames) (o : Option (Object Shape Signature)) → type_of_name (option_map (object_by l) o) ≡ option_map (shape_by l) (type_of_name o)
-type_of_name-by l None = refl
 type_of_name-by l (Some (a_type s)) = refl
-type_of_name-by l (Some (a_constant v)) = refl
-type_of_name-by l (Some (a_variable s)) = refl
-type_of_name-by l (Some (a_procedure signature)) = refl
-type_of_name-by l (Some (a_standard p)) = refl
+type_of_name-by l _ = refl
 
 pub signature_of-by : (l : FieldNames) (o : Option (Object Shape Signature)) → signature_of (option_map (object_by l) o) ≡ option_map (map (formal_by l)) (signature_of o)
-signature_of-by l None = refl
-signature_of-by l (Some (a_type s)) = refl
-signature_of-by l (Some (a_constant v)) = refl
-signature_of-by l (Some (a_variable s)) = refl
-signature_of-by l (Some (a_procedure signature)) = refl
 signature_of-by l (Some (a_standard reads)) = refl
-signature_of-by l (Some (a_standard writes)) = refl
-signature_of-by l (Some (a_standard writes_line)) = refl
+signature_of-by l _ = refl

@@ -5,6 +5,7 @@
 use Rattle.std.proofs.Common.{◌≡◌, ℕ, Bool, true, false, not, ◌&&◌, ◌||◌, List, [], ◌∷◌, if◌then◌else◌, ◌==◌, sym, refl, ap, ◌∙◌, subst}
 use Rattle.std.specs.List.{list_any}
 use Rattle.std.proofs.lemmas.Slice.Eq.{bytes_eq-Decides}
+use Rattle.std.proofs.lemmas.Bool.{or_parts}
 use Rattle.ob0_tree.specs.Tree.{Tree, module_text}
 use Rattle.ob0_language_names.specs.Names.{Name, same_name}
 use Rattle.ob0_language_names.specs.Scopes.{same_ordinal}
@@ -49,10 +50,9 @@ exchange-twice f new x = go (same_name x f) (same_name x new) refl refl
     go false false e₁ e₂ = ap (exchange f new) (exchange-at f new x false false e₁ e₂) ∙ exchange-at f new x false false e₁ e₂
 
 both-ways : (a b : Bool) → (a ≡ true → b ≡ true) → (b ≡ true → a ≡ true) → a ≡ b
-both-ways true true h k = refl
 both-ways true false h k = sym (h refl)
 both-ways false true h k = k refl
-both-ways false false h k = refl
+both-ways _ _ h k = refl
 
 exchange-apart : (f new x y : Name) → same_name (exchange f new x) (exchange f new y) ≡ same_name x y
 exchange-apart f new x y =
@@ -70,19 +70,13 @@ exchanged-apart r f new k x y =
 -- a field that isn't a second one of the new name is written alike
 
 agree-cases : (f new x : Name) (c a b : Bool) → (c && (b && not a)) ≡ false → (if c && a then new else x) ≡ (if c then (if a then new else if b then f else x) else x)
-agree-cases f new x true true b h = refl
 agree-cases f new x true false true h = absurd (cc)
-agree-cases f new x true false false h = refl
-agree-cases f new x false a b h = refl
+agree-cases f new x _ _ _ h = refl
 
 and-or-false : (c p q : Bool) → (c && (p || q)) ≡ false → ((c && p) ≡ false) × ((c && q) ≡ false)
 and-or-false true true q h = absurd (cc)
 and-or-false true false q h = (refl, h)
 and-or-false false p q h = (refl, refl)
-
-or-false : (p q : Bool) → (p || q) ≡ false → (p ≡ false) × (q ≡ false)
-or-false true q h = absurd (cc)
-or-false false q h = (refl, h)
 
 names-agree : (r : ℕ) (f new : Name) (k : ℕ) (xs : List Name) → ((k == r) && names_another_field xs f new) ≡ false → NamesAgree (one_renamed r f new) (exchanged r f new) k xs
 names-agree r f new k [] h = tt
@@ -93,7 +87,7 @@ names-agree r f new k (x ∷ xs) h =
 records-agree : (r : ℕ) (f new : Name) (ts : List RecordFields) → list_any (λ t. (t.ordinal == r) && names_another_field t.declared f new) ts ≡ false → RecordsAgree (one_renamed r f new) (exchanged r f new) ts
 records-agree r f new [] h = tt
 records-agree r f new (t ∷ ts) h =
-    let g = or-false ((t.ordinal == r) && names_another_field t.declared f new) (list_any (λ t. (t.ordinal == r) && names_another_field t.declared f new) ts) h in
+    let g = or_parts ((t.ordinal == r) && names_another_field t.declared f new) (list_any (λ t. (t.ordinal == r) && names_another_field t.declared f new) ts) h in
     (names-agree r f new t.ordinal t.declared g.0, records-agree r f new ts g.1)
 
 pub renamed-exchanged : (m : Tree Name module_text) (r : ℕ) (f new : Name) → FieldFree m r f new → WellTyped m → field_renamed m r f new ≡ refielded (exchanged r f new) m

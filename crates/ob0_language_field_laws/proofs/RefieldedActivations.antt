@@ -9,7 +9,7 @@ use Rattle.ob0_language_types.specs.Environments.{from_binding, meanings, newest
 use Rattle.ob0_language_types.specs.Expressions.{Object, a_constant, a_procedure, a_standard, a_type, a_variable}
 use Rattle.ob0_language_types.specs.Typing.{constant_of, constant_value, constructors, denoted, type_of_name}
 use Rattle.ob0_language_types.specs.WellTyped.{Mode, TypeEnvironment, bind_typed, by_place, by_value}
-use Rattle.ob0_language_values.specs.Values.{FieldShapes, Shape, Store, Value, array_shape, boolean_shape, copies, elements, initial, initial_members, integer_shape, members, next_field_shape, next_member, next_value, no_field_shape, record_shape}
+use Rattle.ob0_language_values.specs.Values.{FieldShapes, Shape, Store, Value, array_shape, copies, elements, initial, initial_members, members, next_field_shape, next_member, next_value, no_field_shape, record_shape}
 use Rattle.ob0_language_runs.specs.Runs.{Activation, ProcedureText, Frame, Parameter, allocate, bind_parameter, bind_parameters, declare_block, declare_procedures, declare_variables, formal_modes, parameters, passing, statement_meanings, with_procedures}
 use Rattle.ob0_language_fields.specs.Fields.{FieldNames, types_after_heading, types_after_variables, parameters_of, refield_block, refield_procedure, refield_procedures, refield_sections, refield_type, refield_types, refield_variables}
 use Rattle.ob0_language_fields.proofs.NamesMeant.{named}
@@ -76,12 +76,8 @@ abbrev pub things_in : Scene → Things Modes
 things_in scene x = option_map thing_modes (newest_thing (scene_from scene x))
 
 passing-as : (l : FieldNames) (o : Option (Thing Text)) → passing (option_map (thing_by l (code_by l)) o) ≡ option_map (thing_by l (λ p. p)) (option_map thing_modes o)
-passing-as l None = refl
-passing-as l (Some (type_thing s)) = refl
-passing-as l (Some (constant_thing c)) = refl
-passing-as l (Some (variable_thing p)) = refl
 passing-as l (Some (procedure_thing c)) = λ i. Some (a_procedure ((ap formal_modes (procedure_formals-refield l c.checked c.first c.text) ∙ formal_modes-refield l c.first (procedure_formals c.text)) i))
-passing-as l (Some (standard_thing p)) = refl
+passing-as l _ = refl
 
 pub meanings-as : (l : FieldNames) (scene : Scene) → statement_meanings as_names (env_as l scene) ≡ active l (things_in scene)
 meanings-as l scene = λ i. named (λ x. (ap passing (object-as l scene x) ∙ passing-as l (newest_thing (scene_from scene x))) i)
@@ -99,20 +95,12 @@ abbrev pub objects_in : Scene → Name → Option (Object Spot Text)
 objects_in scene x = option_map bare_object (newest_thing (scene_from scene x))
 
 constant-as : (l : FieldNames) (o : Option (Thing Text)) → constant_of (option_map (thing_by l (code_by l)) o) ≡ constant_of (option_map bare_object o)
-constant-as l None = refl
 constant-as l (Some (type_thing s)) = refl
-constant-as l (Some (constant_thing c)) = refl
-constant-as l (Some (variable_thing p)) = refl
-constant-as l (Some (procedure_thing c)) = refl
-constant-as l (Some (standard_thing p)) = refl
+constant-as l _ = refl
 
 type-as : (l : FieldNames) (o : Option (Thing Text)) → type_of_name (option_map (thing_by l (code_by l)) o) ≡ option_map (shape_by l) (type_of_name (option_map bare_object o))
-type-as l None = refl
 type-as l (Some (type_thing s)) = refl
-type-as l (Some (constant_thing c)) = refl
-type-as l (Some (variable_thing p)) = refl
-type-as l (Some (procedure_thing c)) = refl
-type-as l (Some (standard_thing p)) = refl
+type-as l _ = refl
 
 pub constants-as : (l : FieldNames) (scene : Scene) (x : Name) → constant_of (newest (from_binding as_names (env_as l scene) x)) ≡ constant_of (objects_in scene x)
 constants-as l scene x = ap constant_of (object-as l scene x) ∙ constant-as l (newest_thing (scene_from scene x))
@@ -147,19 +135,12 @@ both-made {A} f g f' g' n₁ n₂ n o₁ o₂ h e₁ e₂ = subst₂ (λ p q. Bo
     go (Some a) = (Some (n a), ap Some (e₁ a), ap Some (e₂ a))
 
 abbrev scalar_of : Thing Text → Option Scalar
-scalar_of (type_thing s) = None
 scalar_of (constant_thing c) = Some c
-scalar_of (variable_thing p) = None
-scalar_of (procedure_thing c) = None
-scalar_of (standard_thing p) = None
+scalar_of _ = None
 
 scalar-in : (o : Option (Thing Text)) → constant_of (option_map bare_object o) ≡ option_map scalar_value (option_and_then scalar_of o)
-scalar-in None = refl
 scalar-in (Some (type_thing s)) = refl
-scalar-in (Some (constant_thing c)) = refl
-scalar-in (Some (variable_thing p)) = refl
-scalar-in (Some (procedure_thing c)) = refl
-scalar-in (Some (standard_thing p)) = refl
+scalar-in _ = refl
 
 value-both : (l : FieldNames) (scene : Scene) (e : Tree Name expression) → Both scalar_value scalar_value (constant_value (meanings as_names (env_as tagged scene)) e) (constant_value (meanings as_names (env_as l scene)) e)
 value-both l scene e =
@@ -197,10 +178,9 @@ copies-by l (suc n) v = λ i. next_value (value_by l v) (copies-by l n v i)
 
 mutual
   pub initial-by : (l : FieldNames) (s : Shape) → initial (shape_by l s) ≡ value_by l (initial s)
-  initial-by l integer_shape = refl
-  initial-by l boolean_shape = refl
   initial-by l (array_shape k n s) = (λ i. elements (copies n (initial-by l s i))) ∙ ap elements (copies-by l n (initial s))
   initial-by l (record_shape k fs) = λ i. members k (initial_members-by l k fs i)
+  initial-by l _ = refl
 
   pub initial_members-by : (l : FieldNames) (k : ℕ) (fs : FieldShapes) → initial_members (fields_by l k fs) ≡ members_by l k (initial_members fs)
   initial_members-by l k no_field_shape = refl
@@ -307,13 +287,11 @@ parameters-refield l k (more (then_section f) fs) = λ i. map (λ x. record { mo
 bind_parameter-both : (l : FieldNames) (m : Mode) (x : Name) (a : Given) (f : Stage) → FramesBoth l (bind_parameter m x (argument_by tagged a) (frame_by tagged f)) (bind_parameter m x (argument_by l a) (frame_by l f))
 bind_parameter-both l by_place x (place_given p) f = (Some record { scene = (x, variable_thing p) ∷ f.scene; store = f.store }, refl, refl)
 bind_parameter-both l by_value x (value_given v) f = (Some (allocated (x ∷ []) v f), ap Some (allocate-by tagged (x ∷ []) v f), ap Some (allocate-by l (x ∷ []) v f))
-bind_parameter-both l by_place x (value_given v) f = (None, refl, refl)
-bind_parameter-both l by_value x (place_given p) f = (None, refl, refl)
+bind_parameter-both l _ x _ f = (None, refl, refl)
 
 pub bind_parameters-both : (l : FieldNames) (ps : List (Parameter Name)) (args : List Given) (f : Stage) → FramesBoth l (bind_parameters ps (map (argument_by tagged) args) (frame_by tagged f)) (bind_parameters ps (map (argument_by l) args) (frame_by l f))
 bind_parameters-both l [] [] f = (Some f, refl, refl)
-bind_parameters-both l [] (a ∷ args) f = (None, refl, refl)
-bind_parameters-both l (p ∷ ps) [] f = (None, refl, refl)
 bind_parameters-both l (p ∷ ps) (a ∷ args) f =
     both-then (frame_by tagged) (frame_by l) (frame_by tagged) (frame_by l) (bind_parameters ps (map (argument_by tagged) args)) (bind_parameters ps (map (argument_by l) args))
     (bind_parameter p.mode p.name (argument_by tagged a) (frame_by tagged f)) (bind_parameter p.mode p.name (argument_by l a) (frame_by l f)) (bind_parameter-both l p.mode p.name a f) (λ g. bind_parameters-both l ps args g)
+bind_parameters-both l _ _ f = (None, refl, refl)

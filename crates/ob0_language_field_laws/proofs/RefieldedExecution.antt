@@ -6,12 +6,12 @@ use Rattle.ob0_language_types.specs.Arguments.{arguments_listed}
 use Rattle.ob0_language_types.specs.Expressions.{designate, evaluate, reads, writes, writes_line}
 use Rattle.ob0_language_types.specs.Typing.{lone_designator, object_type}
 use Rattle.ob0_language_types.specs.WellTyped.{Mode, Typed, by_place, by_value}
-use Rattle.ob0_language_values.specs.Values.{Outcome, Store, Stuck, TurnBound, Value, elements, ends, gives, members, number, or_stuck, truth, write_place, ◌>>=◌}
+use Rattle.ob0_language_values.specs.Values.{Outcome, Store, Stuck, TurnBound, Value, ends, gives, number, or_stuck, truth, write_place, ◌>>=◌}
 use Rattle.ob0_language_runs.specs.Runs.{Argument, Calls, Progress, State, choose, evaluate_argument, evaluate_arguments, execute, execute_all, execute_else, execute_elsifs, execute_further, continue_with, line_out, modes_of, number_out, perform, place_argument, append_output, read_number, running, stopped, store_at, turns, turns_until, use_in, value_argument}
 use Rattle.ob0_language_fields.specs.Fields.{FieldNames, refield}
 use Rattle.ob0_language_field_laws.specs.FieldLaws.{KeepsApart}
 use Rattle.ob0_language_field_laws.proofs.Outcomes.{Follows, ValuesFollow, follows-then, or_stuck-follows}
-use Rattle.ob0_language_field_laws.proofs.RefieldedExpressions.{Thing, Things, active, constant_thing, designate-follows, evaluate-follows, procedure_thing, standard_thing, thing_by, type_thing, variable_thing}
+use Rattle.ob0_language_field_laws.proofs.RefieldedExpressions.{Thing, Things, active, designate-follows, evaluate-follows, procedure_thing, standard_thing, thing_by}
 use Rattle.ob0_language_field_laws.proofs.RefieldedStatements.{arguments-refield, lone_designator-refield, refield_designator}
 use Rattle.ob0_language_field_laws.proofs.Values.{Spot, place_by, store_by, tagged, value_by, write_place-finds}
 
@@ -53,9 +53,7 @@ pub choose-goes : (l : FieldNames) (s : State) (v : Value) (when₁ when₂ else
     → Goes l (choose (state_by tagged s) (value_by tagged v) when₁ else₁) (choose (state_by l s) (value_by l v) when₂ else₂)
 choose-goes l s (truth true) when₁ when₂ else₁ else₂ h k = h s
 choose-goes l s (truth false) when₁ when₂ else₁ else₂ h k = k s
-choose-goes l s (number n) when₁ when₂ else₁ else₂ h k = inl refl
-choose-goes l s (elements vs) when₁ when₂ else₁ else₂ h k = inl refl
-choose-goes l s (members j ms) when₁ when₂ else₁ else₂ h k = inl refl
+choose-goes l s _ when₁ when₂ else₁ else₂ h k = inl refl
 
 -- a condition that both runs evaluate alike
 abbrev pub Conditions : FieldNames → (State → Outcome Value) → (State → Outcome Value) → Type 0
@@ -117,14 +115,13 @@ pub evaluate_arguments-follows : {P : Type 0} (l : FieldNames) → KeepsApart l 
     → Follows (map (argument_by tagged)) (map (argument_by l)) (evaluate_arguments (active tagged things) (store_by tagged store) ms (map (refield tagged checked None) es)) (evaluate_arguments (active l things) (store_by l store) ms (map (refield l checked None) es))
 unfolding evaluate_arguments
 evaluate_arguments-follows l apart things checked store [] [] = ([], refl, refl)
-evaluate_arguments-follows l apart things checked store [] (e ∷ es) = inl refl
-evaluate_arguments-follows l apart things checked store (m ∷ ms) [] = inl refl
 evaluate_arguments-follows l apart things checked store (m ∷ ms) (e ∷ es) =
     follows-then (argument_by tagged) (argument_by l) (map (argument_by tagged)) (map (argument_by l)) _ _
     (λ a. evaluate_arguments (active tagged things) (store_by tagged store) ms (map (refield tagged checked None) es) >>= (λ rest. gives (a ∷ rest))) (λ a. evaluate_arguments (active l things) (store_by l store) ms (map (refield l checked None) es) >>= (λ rest. gives (a ∷ rest)))
     (evaluate_argument-follows l apart things checked store m e)
     (λ a. follows-then (map (argument_by tagged)) (map (argument_by l)) (map (argument_by tagged)) (map (argument_by l)) _ _ (λ rest. gives (argument_by tagged a ∷ rest)) (λ rest. gives (argument_by l a ∷ rest))
     (evaluate_arguments-follows l apart things checked store ms es) (λ rest. (a ∷ rest, refl, refl)))
+evaluate_arguments-follows l apart things checked store _ _ = inl refl
 
 -- calls
 
@@ -132,14 +129,11 @@ abbrev pub Modes : Type 0
 Modes = List Mode
 
 modes_of-follows : (l : FieldNames) (o : Option (Thing Modes)) → Follows (λ ms. ms) (λ ms. ms) (modes_of (option_map (thing_by tagged (λ p. p)) o)) (modes_of (option_map (thing_by l (λ p. p)) o))
-modes_of-follows l None = inl refl
-modes_of-follows l (Some (type_thing s)) = inl refl
-modes_of-follows l (Some (constant_thing c)) = inl refl
-modes_of-follows l (Some (variable_thing p)) = inl refl
 modes_of-follows l (Some (procedure_thing ms)) = (ms, refl, refl)
 modes_of-follows l (Some (standard_thing reads)) = (by_place ∷ [], refl, refl)
 modes_of-follows l (Some (standard_thing writes)) = (by_value ∷ [], refl, refl)
 modes_of-follows l (Some (standard_thing writes_line)) = ([], refl, refl)
+modes_of-follows l _ = inl refl
 
 read_number-goes : (l : FieldNames) → KeepsApart l → (s : State) (p : Spot) (input : List ℤ) → Goes l (read_number (state_by tagged s) (place_by tagged p) input) (read_number (state_by l s) (place_by l p) input)
 read_number-goes l apart s p [] = inr refl
@@ -147,20 +141,13 @@ read_number-goes l apart s p (n ∷ rest) = store_at-goes l apart record { store
 
 reads-goes : (l : FieldNames) → KeepsApart l → (e₁ e₂ : List Argument → State → Progress) (args : List Given) (s : State)
     → Goes l (perform (option_map (thing_by {P = Modes} {Q = Modes} tagged (λ p. p)) (Some (standard_thing reads))) e₁ (map (argument_by tagged) args) (state_by tagged s)) (perform (option_map (thing_by {P = Modes} {Q = Modes} l (λ p. p)) (Some (standard_thing reads))) e₂ (map (argument_by l) args) (state_by l s))
-reads-goes l apart e₁ e₂ [] s = inl refl
-reads-goes l apart e₁ e₂ (value_given v ∷ args) s = inl refl
 reads-goes l apart e₁ e₂ (place_given p ∷ []) s = read_number-goes l apart s p s.input
-reads-goes l apart e₁ e₂ (place_given p ∷ a ∷ args) s = inl refl
+reads-goes l apart e₁ e₂ _ s = inl refl
 
 writes-goes : (l : FieldNames) (e₁ e₂ : List Argument → State → Progress) (args : List Given) (s : State)
     → Goes l (perform (option_map (thing_by {P = Modes} {Q = Modes} tagged (λ p. p)) (Some (standard_thing writes))) e₁ (map (argument_by tagged) args) (state_by tagged s)) (perform (option_map (thing_by {P = Modes} {Q = Modes} l (λ p. p)) (Some (standard_thing writes))) e₂ (map (argument_by l) args) (state_by l s))
-writes-goes l e₁ e₂ [] s = inl refl
-writes-goes l e₁ e₂ (place_given p ∷ args) s = inl refl
 writes-goes l e₁ e₂ (value_given (number n) ∷ []) s = (append_output s (number_out n), refl, refl)
-writes-goes l e₁ e₂ (value_given (number n) ∷ a ∷ args) s = inl refl
-writes-goes l e₁ e₂ (value_given (truth b) ∷ args) s = inl refl
-writes-goes l e₁ e₂ (value_given (elements vs) ∷ args) s = inl refl
-writes-goes l e₁ e₂ (value_given (members k ms) ∷ args) s = inl refl
+writes-goes l e₁ e₂ _ s = inl refl
 
 -- two runs enter a procedure alike
 abbrev pub EntersAlike : FieldNames → (List Argument → State → Progress) → (List Argument → State → Progress) → Type 0
@@ -171,15 +158,11 @@ CallsAlike l e₁ e₂ = (x : Name) → EntersAlike l (e₁ x) (e₂ x)
 
 pub perform-goes : (l : FieldNames) → KeepsApart l → (o : Option (Thing Modes)) (e₁ e₂ : List Argument → State → Progress) → EntersAlike l e₁ e₂ → (args : List Given) (s : State)
     → Goes l (perform (option_map (thing_by {Q = Modes} tagged (λ p. p)) o) e₁ (map (argument_by tagged) args) (state_by tagged s)) (perform (option_map (thing_by {Q = Modes} l (λ p. p)) o) e₂ (map (argument_by l) args) (state_by l s))
-perform-goes l apart None e₁ e₂ enters args s = inl refl
-perform-goes l apart (Some (type_thing t)) e₁ e₂ enters args s = inl refl
-perform-goes l apart (Some (constant_thing c)) e₁ e₂ enters args s = inl refl
-perform-goes l apart (Some (variable_thing p)) e₁ e₂ enters args s = inl refl
 perform-goes l apart (Some (procedure_thing ms)) e₁ e₂ enters args s = enters args s
 perform-goes l apart (Some (standard_thing reads)) e₁ e₂ enters args s = reads-goes l apart e₁ e₂ args s
 perform-goes l apart (Some (standard_thing writes)) e₁ e₂ enters args s = writes-goes l e₁ e₂ args s
 perform-goes l apart (Some (standard_thing writes_line)) e₁ e₂ enters [] s = (append_output s line_out, refl, refl)
-perform-goes l apart (Some (standard_thing writes_line)) e₁ e₂ enters (a ∷ args) s = inl refl
+perform-goes l apart _ e₁ e₂ enters _ s = inl refl
 
 -- statements
 

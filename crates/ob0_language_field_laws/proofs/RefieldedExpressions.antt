@@ -50,13 +50,10 @@ scalar-follows l (logical b) = (truth b, refl, refl)
 
 pub object_value-follows : {P : Type 0} (l : FieldNames) → KeepsApart l → (store : Store) (o : Option (Thing P))
     → ValuesFollow l (object_value (store_by tagged store) (option_map (thing_by {Q = P} tagged (λ p. p)) o)) (object_value (store_by l store) (option_map (thing_by {Q = P} l (λ p. p)) o))
-object_value-follows l apart store None = inl refl
-object_value-follows l apart store (Some (type_thing s)) = inl refl
 object_value-follows l apart store (Some (constant_thing c)) = scalar-follows l c
 object_value-follows l apart store (Some (variable_thing p)) =
     or_stuck-follows (value_by tagged) (value_by l) (read_place (store_by tagged store) (place_by tagged p)) (read_place (store_by l store) (place_by l p)) (read_place-finds l apart store p)
-object_value-follows l apart store (Some (procedure_thing p)) = inl refl
-object_value-follows l apart store (Some (standard_thing p)) = inl refl
+object_value-follows l apart store _ = inl refl
 
 -- paths
 abbrev pub PathsFollow : FieldNames → Outcome (List Step) → Outcome (List Step) → Type 0
@@ -167,12 +164,8 @@ abbrev pub PlacesFollow : FieldNames → Outcome Place → Outcome Place → Typ
 PlacesFollow l = Follows (place_by tagged) (place_by l)
 
 object_place-follows : {P : Type 0} (l : FieldNames) (o : Option (Thing P)) → PlacesFollow l (object_place (option_map (thing_by {Q = P} tagged (λ p. p)) o)) (object_place (option_map (thing_by {Q = P} l (λ p. p)) o))
-object_place-follows l None = inl refl
-object_place-follows l (Some (type_thing s)) = inl refl
-object_place-follows l (Some (constant_thing c)) = inl refl
 object_place-follows l (Some (variable_thing p)) = (p, refl, refl)
-object_place-follows l (Some (procedure_thing p)) = inl refl
-object_place-follows l (Some (standard_thing p)) = inl refl
+object_place-follows l _ = inl refl
 
 abbrev spot_further : Spot → List Move → Spot
 spot_further p moves = record { variable = p.variable; moves = p.moves ++ moves }

@@ -1,6 +1,6 @@
 -- A module fits exactly where it fits with its fields under other names.
 use Rattle.std.proofs.Common.{◌≡◌, ℕ, ◌+◌, true, false, ◌&&◌, List, [], ◌∷◌, ◌++◌, map, Some, None, Option, option_map, option_and_then, unwrap_or, refl, ap, ◌∙◌}
-use Rattle.ob0_tree.specs.Tree.{Tree, begins, block, body, constant, declares, declares_constant, declares_procedure, declares_type, declares_types, declares_variable, declares_variables, end, formals, further_section, has_body, is_module, item, items, maybe, more, no_formals, none, one, procedure, section, some_formals, then_section, type_name, type_names, value_section, variable, variable_section, variables, written_type}
+use Rattle.ob0_tree.specs.Tree.{Tree, begins, block, body, constant, declares, declares_constant, declares_procedure, declares_type, declares_types, declares_variable, declares_variables, end, formals, further_section, has_body, is_module, item, items, maybe, more, no_formals, none, one, procedure, section, then_section, type_name, type_names, value_section, variable, variable_section, variables, written_type}
 use Rattle.ob0_language_names.specs.Names.{Name, as_names, same_name}
 use Rattle.ob0_language_names.specs.Parts.{formal_sections, names_listed, procedure_formals, procedure_name, section_constants, section_names, section_type, section_types, section_variables}
 use Rattle.ob0_language_types.specs.Declarations.{after_formals, after_types, after_variables, block_constructors, declare_constants, declare_first, declare_types, formals_constructors, procedure_constructors, procedures_constructors, types_constructors, variables_constructors}
@@ -66,9 +66,8 @@ section_variables-refield l k none = refl
 section_variables-refield l k (one (declares_variables vs)) = refl
 
 pub formal_sections-refield : (l : FieldNames) (k : ℕ) (fs : Tree Name (maybe formals)) → formal_sections (refield_formals l k fs) ≡ refield_sections l k (formal_sections fs)
-formal_sections-refield l k none = refl
 formal_sections-refield l k (one no_formals) = refl
-formal_sections-refield l k (one (some_formals f fs)) = refl
+formal_sections-refield l k _ = refl
 
 pub section_type-refield : (l : FieldNames) (k : ℕ) (f : Tree Name section) → section_type (refield_section l k f) ≡ refield_type l k (section_type f)
 section_type-refield l k (value_section ns u) = refl

@@ -14,7 +14,7 @@ use Rattle.ob0_language_fields.specs.Fields.{FieldNames, types_after_procedures,
 use Rattle.ob0_language_field_laws.specs.FieldLaws.{KeepsApart}
 use Rattle.ob0_language_field_laws.proofs.RefieldedActivations.{FramesBoth, Scene, Stage, bind_parameters-both, both-then, declare_block-both, env_as, frame_by, from_binding-as, meanings-as, parameters-refield, scene_from, things_in}
 use Rattle.ob0_language_field_laws.proofs.RefieldedExecution.{Alike, CallsAlike, Given, Goes, argument_by, execute_all-alike, state_by}
-use Rattle.ob0_language_field_laws.proofs.RefieldedExpressions.{constant_thing, logical, procedure_thing, standard_thing, type_thing, variable_thing}
+use Rattle.ob0_language_field_laws.proofs.RefieldedExpressions.{constant_thing, logical, procedure_thing, standard_thing, type_thing}
 use Rattle.ob0_language_field_laws.proofs.RefieldedModules.{formal_sections-refield, formals_count-refield, refielding_keeps_fitting-holds}
 use Rattle.ob0_language_field_laws.proofs.Values.{store_by, tagged, tagged-apart}
 
@@ -86,11 +86,6 @@ activate-parts l j checked x y closing fs b enter t args scene s = λ i.
 activate-goes : (l : FieldNames) → KeepsApart l → (e₁ e₂ : Activation Name → Calls Name) → AllCallsAlike l e₁ e₂ → (t : ℕ) (scene : Scene) (args : List Given) (s : State)
     → Goes l (activate as_names e₁ t (env_as tagged scene) (map (argument_by tagged) args) (state_by tagged s)) (activate as_names e₂ t (env_as l scene) (map (argument_by l) args) (state_by l s))
 unfolding activate
-activate-goes l apart e₁ e₂ calls t [] args s = inl refl
-activate-goes l apart e₁ e₂ calls t ((y, type_thing r) ∷ scene) args s = inl refl
-activate-goes l apart e₁ e₂ calls t ((y, constant_thing c) ∷ scene) args s = inl refl
-activate-goes l apart e₁ e₂ calls t ((y, variable_thing p) ∷ scene) args s = inl refl
-activate-goes l apart e₁ e₂ calls t ((y, standard_thing p) ∷ scene) args s = inl refl
 activate-goes l apart e₁ e₂ calls t ((y, procedure_thing c) ∷ scene) args s = go c.first c.checked c.text
   where
     go : (j : ℕ) (checked : TypeEnvironment Name) (p : Tree Name (item procedure))
@@ -99,6 +94,7 @@ activate-goes l apart e₁ e₂ calls t ((y, procedure_thing c) ∷ scene) args 
     go j checked (declares_procedure x fs b closing) =
         subst₂ (λ p q. Goes l p q) (sym (activate-parts tagged j checked x y closing fs b e₁ t args scene s)) (sym (activate-parts l j checked x y closing fs b e₂ t args scene s))
         (activated-goes l apart j checked fs b e₁ e₂ calls t args record { scene = (y, procedure_thing record { first = j; checked = checked; text = declares_procedure x fs b closing }) ∷ scene; store = s.store } s)
+activate-goes l apart e₁ e₂ calls t _ args s = inl refl
 
 -- calls, by induction on how many may be open
 calls-alike : (l : FieldNames) → KeepsApart l → (c t : ℕ) → AllCallsAlike l (call as_names c t) (call as_names c t)

@@ -1,6 +1,6 @@
 -- Which statements fit, with fields under other names.
 use Rattle.std.proofs.Common.{◌≡◌, ◌&&◌, List, [], ◌∷◌, map, Some, None, Option, option_map, refl, ap, ◌∙◌}
-use Rattle.ob0_tree.specs.Tree.{Tree, arguments, assigns, branches, calls, compares, designator, else_branch, else_part, elsif_branch, elsif_part, empty, end, expression, further_argument, further_statement, items, maybe, more, no_arguments, none, one, product, repeat_loop, runs, selector, sequence, some_arguments, statement, sum, then_argument, then_statement, while_loop}
+use Rattle.ob0_tree.specs.Tree.{Tree, arguments, assigns, branches, calls, compares, designator, else_branch, else_part, elsif_branch, elsif_part, empty, end, expression, further_argument, further_statement, items, maybe, more, none, one, product, repeat_loop, runs, selector, sequence, some_arguments, statement, sum, then_argument, then_statement, while_loop}
 use Rattle.ob0_language_names.specs.Names.{Name}
 use Rattle.ob0_language_types.specs.Arguments.{arguments_listed, further_arguments}
 use Rattle.ob0_language_types.specs.Expressions.{Object, a_constant, a_procedure, a_standard, a_type, a_variable}
@@ -25,9 +25,8 @@ further_arguments-refield l meaning end = refl
 further_arguments-refield l meaning (more (then_argument e) es) = λ i. refield l meaning None e ∷ further_arguments-refield l meaning es i
 
 pub arguments-refield : (l : FieldNames) (meaning : Typed Name) (es : Tree Name (maybe arguments)) → arguments_listed (refield l meaning None es) ≡ map (refield l meaning None) (arguments_listed es)
-arguments-refield l meaning none = refl
-arguments-refield l meaning (one no_arguments) = refl
 arguments-refield l meaning (one (some_arguments e es)) = λ i. refield l meaning None e ∷ further_arguments-refield l meaning es i
+arguments-refield l meaning _ = refl
 
 pub variable_type-refield : (l : FieldNames) → KeepsApart l → (objects : Name → Option (Object Shape Signature)) (d : Option (Name × Tree Name (items selector)))
     → variable_type (named_by l objects) (option_map (refield_designator l (named objects)) d) ≡ option_map (shape_by l) (variable_type (named objects) d)
@@ -60,9 +59,8 @@ pub arguments_fit-refield : (l : FieldNames) → KeepsApart l → (objects : Nam
     → arguments_fit (named_by l objects) (map (formal_by l) fs) (map (refield l (named objects) None) es) ≡ arguments_fit (named objects) fs es
 unfolding arguments_fit
 arguments_fit-refield l apart objects [] [] = refl
-arguments_fit-refield l apart objects [] (e ∷ es) = refl
-arguments_fit-refield l apart objects (f ∷ fs) [] = refl
 arguments_fit-refield l apart objects (f ∷ fs) (e ∷ es) = λ i. argument_fits-refield l apart objects f e i && arguments_fit-refield l apart objects fs es i
+arguments_fit-refield l apart objects _ _ = refl
 
 pub call_fits-refield : (l : FieldNames) → KeepsApart l → (objects : Name → Option (Object Shape Signature)) (signature : Option Signature) (es : Tree Name (maybe arguments))
     → call_fits (named_by l objects) (option_map (map (formal_by l)) signature) (arguments_listed (refield l (named objects) None es)) ≡ call_fits (named objects) signature (arguments_listed es)

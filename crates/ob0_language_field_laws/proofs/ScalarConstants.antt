@@ -17,10 +17,9 @@ use Rattle.ob0_language_field_laws.proofs.RefieldedExpressions.{Scalar, logical,
 use Rattle.ob0_language_fields.proofs.NamesMeant.{named}
 
 abbrev pub IsScalarValue : Value → Type 0
-IsScalarValue (number n) = Unit {0}
-IsScalarValue (truth b) = Unit {0}
 IsScalarValue (elements vs) = ⊥
 IsScalarValue (members k ms) = ⊥
+IsScalarValue _ = Unit {0}
 
 abbrev pub Holds : {A : Type 0} → (A → Type 0) → Outcome A → Type 0
 Holds P (gives a) = P a
@@ -78,10 +77,9 @@ settled-scalar false v o h k = k
 -- a scalar has no parts
 at_path-scalar : (steps : List Step) (v : Value) → IsScalarValue v → Holds IsScalarValue (or_stuck (at_path steps v))
 at_path-scalar [] v h = h
-at_path-scalar (s ∷ steps) (number n) h = tt
-at_path-scalar (s ∷ steps) (truth b) h = tt
 at_path-scalar (s ∷ steps) (elements vs) h = absurd h
 at_path-scalar (s ∷ steps) (members k ms) h = absurd h
+at_path-scalar _ _ h = tt
 
 abbrev pub Constants : Type 0
 Constants = Name → Option Scalar
@@ -90,9 +88,8 @@ abbrev pub constant_meaning : Constants → Meanings Name Place (Unit {0})
 constant_meaning constants = named (λ x. option_map (λ c. a_constant (scalar_value c)) (constants x))
 
 object_value-scalar : (o : Option Scalar) → Holds IsScalarValue (object_value {P = Unit {0}} [] (option_map (λ c. a_constant (scalar_value c)) o))
-object_value-scalar None = tt
 object_value-scalar (Some (whole n)) = tt
-object_value-scalar (Some (logical b)) = tt
+object_value-scalar _ = tt
 
 mutual
   unfolding evaluate
@@ -137,8 +134,7 @@ mutual
 scalar_is : (v : Value) → IsScalarValue v → (c : Scalar) × (v ≡ scalar_value c)
 scalar_is (number n) h = (whole n, refl)
 scalar_is (truth b) h = (logical b, refl)
-scalar_is (elements vs) h = absurd h
-scalar_is (members k ms) h = absurd h
+scalar_is _ h = absurd h
 
 given-scalar : (o : Outcome Value) → Holds IsScalarValue o → (c : Option Scalar) × (given_value o ≡ option_map scalar_value c)
 given-scalar (gives v) h = let s = scalar_is v h in (Some s.0, ap Some s.1)

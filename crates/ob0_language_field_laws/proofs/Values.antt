@@ -4,7 +4,7 @@
 -- the tagged module fits, so its run is never stuck. A module as written and a module with fields under other names are
 -- each compared with the tagged one; so no typing of the store is carried along. What both runs hold is a function of
 -- one thing (`value_by`, `place_by`, `state_by`).
-use Rattle.std.proofs.Common.{◌≡◌, ℕ, zero, suc, Bool, true, false, ◌&&◌, List, [], ◌∷◌, map, ◌⊎◌, inl, inr, if◌then◌else◌, ◌==◌, slice_get, slice_set, Some, None, Option, option_map, option_and_then, sym, refl, ap, ◌∙◌, subst, subst₂, eq-eqb}
+use Rattle.std.proofs.Common.{◌≡◌, ℕ, suc, Bool, true, false, ◌&&◌, List, [], ◌∷◌, map, ◌⊎◌, inl, inr, if◌then◌else◌, ◌==◌, slice_get, slice_set, Some, None, Option, option_map, option_and_then, sym, refl, ap, ◌∙◌, subst, subst₂, eq-eqb}
 use Rattle.std.proofs.Math.Dec.{eqb-suc-suc, eqb-zero-suc}
 use Rattle.std.proofs.lemmas.Bool.{eqb-true}
 use Rattle.std.proofs.lemmas.Option.{slice_get-map}
@@ -83,14 +83,12 @@ finds-made f g f' g' (Some x) (Some y) n₁ n₂ n h e₁ e₂ = (n h.0, ap n₁
 -- parts of a value
 
 pub nth_value-by : (l : FieldNames) (vs : Values) (i : ℕ) → nth_value (values_by l vs) i ≡ option_map (value_by l) (nth_value vs i)
-nth_value-by l no_value i = refl
-nth_value-by l (next_value v rest) zero = refl
 nth_value-by l (next_value v rest) (suc i) = nth_value-by l rest i
+nth_value-by l _ _ = refl
 
 pub with_nth_value-by : (l : FieldNames) (vs : Values) (i : ℕ) (new : Value) → with_nth_value (values_by l vs) i (value_by l new) ≡ values_by l (with_nth_value vs i new)
-with_nth_value-by l no_value i new = refl
-with_nth_value-by l (next_value v rest) zero new = refl
 with_nth_value-by l (next_value v rest) (suc i) new = λ j. next_value (value_by l v) (with_nth_value-by l rest i new j)
+with_nth_value-by l _ _ new = refl
 
 pub count_values-by : (l : FieldNames) (vs : Values) → count_values (values_by l vs) ≡ count_values vs
 count_values-by l no_value = refl
@@ -181,9 +179,8 @@ with_at_path-finds l apart (m ∷ moves) new v =
 -- the store
 
 pub slice_set-by : (l : FieldNames) (store : Store) (n : ℕ) (new : Value) → slice_set (store_by l store) n (value_by l new) ≡ store_by l (slice_set store n new)
-slice_set-by l [] n new = refl
-slice_set-by l (v ∷ store) zero new = refl
 slice_set-by l (v ∷ store) (suc n) new = λ i. value_by l v ∷ slice_set-by l store n new i
+slice_set-by l _ _ new = refl
 
 pub slice_get-finds : (l : FieldNames) (store : Store) (n : ℕ) → Finds (value_by tagged) (value_by l) (slice_get (store_by tagged store) n) (slice_get (store_by l store) n)
 slice_get-finds l store n =

@@ -6,7 +6,7 @@ use Rattle.ob0_language_names.specs.Parts.{block_statements, constant_names, for
 use Rattle.ob0_language_names.proofs.EditedTrees.{Edit, SameAt, edited, edited_block, edited_procedure, edited_procedures, inline-nothing, leaf, leaving_out, left-module, with_names-same, writing, written-module}
 use Rattle.ob0_language_names.proofs.Ordinals.{after_names-append, le-after_names, le-after_procedure}
 use Rattle.ob0_language_names.proofs.Places.{EachBlock, EachProcedure, EachVariable, OneProcedure}
-use Rattle.ob0_language_values.specs.Values.{Place, Store, Stuck, Value, elements, initial, members, number, truth}
+use Rattle.ob0_language_values.specs.Values.{Place, Store, Stuck, Value, initial, truth}
 use Rattle.ob0_language_types.specs.ConstantValues.{Known, no_constant, value_in_block, value_in_procedure, value_in_procedures}
 use Rattle.ob0_language_types.specs.Declarations.{after_types, after_variables, declare_constants, declare_first, formals_constructors, procedure_constructors, types_constructors, variables_constructors}
 use Rattle.ob0_language_types.specs.Environments.{meanings}
@@ -85,9 +85,7 @@ meanings_before marks = statement_meanings as_names (read before marks)
 pub seen-passing : (env : Activation Name) (w : Value) → IsSeen (meanings as_names env) w → IsSeen (statement_meanings as_names env) w
 seen-passing env (truth true) e = ap passing e
 seen-passing env (truth false) e = ap passing e
-seen-passing env (number n) e = tt
-seen-passing env (elements vs) e = tt
-seen-passing env (members k ms) e = tt
+seen-passing env _ e = tt
 
 -- a name with what it means and what it does where it is called
 pub record RunTag : Type 0 where
@@ -327,8 +325,6 @@ pub parameters-kept : (edit : Edit) (w : Value) (k : ℕ) (f : MarkedFrame) → 
     → Agree frame_before (frame_after edit) (LeftFrame edit w (after_names k (parameter_names ps)) (declare_names k (parameter_names ps) (scope_marked f.marks)) (Some (bind_names (parameter_names ps) no_constant (knowns f.marks))))
     (bind_parameters ps args (frame_before f)) (bind_parameters ps args (frame_after edit f))
 parameters-kept edit w k f s seven [] outside [] = (Some f, refl, refl, record { scoped = refl; sound = s; value = refl })
-parameters-kept edit w k f s seven [] outside (a ∷ args) = (None, refl, refl, tt)
-parameters-kept edit w k f s seven (p ∷ ps) outside [] = (None, refl, refl, tt)
 parameters-kept edit w k f s seven (p ∷ ps) outside (a ∷ args) =
     go p.mode a (λ place store. parameters-kept edit w (suc k) record { marks = record { name = p.name; ordinal = k; object = a_variable place } ∷ f.marks; store = store }
     (le_refl (suc k), outside-right edit w p.name k (a_variable place) seven own, tt, s) (omega (arith, seven)) ps (λ l m. outside (omega (arith, l)) m) args)
@@ -356,6 +352,7 @@ parameters-kept edit w k f s seven (p ∷ ps) outside (a ∷ args) =
     go by_place (value_argument v) next = (None, refl, refl, tt)
     go by_value (place_argument place) next = (None, refl, refl, tt)
     go by_value (value_argument v) next = bound record { variable = length f.store; path = [] } (f.store ++ v ∷ []) (next record { variable = length f.store; path = [] } (f.store ++ v ∷ []))
+parameters-kept edit w k f s seven _ outside _ = (None, refl, refl, tt)
 
 -- calls
 

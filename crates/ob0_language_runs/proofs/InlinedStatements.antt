@@ -1,11 +1,11 @@
 -- A constant's value in place of its uses keeps what a statement does.
 use Rattle.std.proofs.Common.{List, None, Option, Some, [], ap, false, if◌then◌else◌, length, refl, suc, sym, true, ℕ, ◌++◌, ◌+◌, ◌-◌, ◌∙◌, ◌∷◌, ◌≡◌}
-use Rattle.ob0_tree.specs.Tree.{Tree, arguments, assigns, branches, calls, compares, designator, else_branch, else_part, elsif_branch, elsif_part, empty, end, expression, factor, further_argument, further_statement, integer, items, maybe, more, negation, no_arguments, none, occurrences, one, parenthesised, product, repeat_loop, runs, selector, sequence, some_arguments, statement, sum, then_argument, then_statement, while_loop}
+use Rattle.ob0_tree.specs.Tree.{Tree, arguments, assigns, branches, calls, compares, designator, else_branch, else_part, elsif_branch, elsif_part, empty, end, expression, factor, further_argument, further_statement, items, maybe, more, no_arguments, none, occurrences, one, product, repeat_loop, runs, selector, sequence, some_arguments, statement, sum, then_argument, then_statement, while_loop}
 use Rattle.ob0_language_names.specs.Inlining.{Uses, inline_in}
 use Rattle.ob0_language_names.specs.Names.{Name}
 use Rattle.ob0_language_values.specs.Values.{Outcome, Place, Store, Stuck, Value, at_path, ends, gives, or_stuck, read_place, ◌>>=◌}
 use Rattle.ob0_language_types.specs.Arguments.{arguments_listed, further_arguments}
-use Rattle.ob0_language_types.specs.Expressions.{Meanings, Object, a_constant, a_procedure, a_standard, a_type, a_variable, designate, evaluate, evaluate_factor, follow, object_place, object_value}
+use Rattle.ob0_language_types.specs.Expressions.{Meanings, Object, a_constant, a_variable, designate, evaluate, evaluate_factor, follow, object_place, object_value}
 use Rattle.ob0_language_types.specs.Laws.{UsesAre}
 use Rattle.ob0_language_types.specs.Typing.{lone_designator}
 use Rattle.ob0_language_types.specs.WellTyped.{Mode, by_place, by_value}
@@ -41,21 +41,15 @@ constant-no_place o w e = ap object_place e
 
 -- a name that evaluates to a value in every store is no variable
 pub has_value-no_place : (o : Option (Object Place (List Mode))) (next : Value → Outcome Value) (w : Value) → object_value {P = List Mode} [] o >>= next ≡ gives w → object_place o ≡ ends Stuck
-has_value-no_place None next w e = refl
-has_value-no_place (Some (a_type s)) next w e = refl
-has_value-no_place (Some (a_constant s)) next w e = refl
 has_value-no_place (Some (a_variable p)) next w e = absurd (cc)
-has_value-no_place (Some (a_procedure s)) next w e = refl
-has_value-no_place (Some (a_standard s)) next w e = refl
+has_value-no_place _ next w e = refl
 
 pub written-no_place : (meaning : Meanings Name Place (List Mode)) (v : Tree Name factor) (w : Value) → EvaluatesTo meaning v w → (store : Store) → place_at meaning store (lone_designator (alone v)) ≡ ends Stuck
 unfolding designate evaluate
 written-no_place meaning (designator x path) w h store =
     ap (λ o. o >>= (λ p. or_stuck (read_place store p) >>= (λ z. follow meaning store z path >>= (λ steps. gives record { variable = p.variable; path = p.path ++ steps }))))
     (has_value-no_place (meaning.object_for x) (λ z. follow meaning [] z path >>= (λ steps. or_stuck (at_path steps z))) w (h.in_store []))
-written-no_place meaning (integer n) w h store = refl
-written-no_place meaning (parenthesised e) w h store = refl
-written-no_place meaning (negation f) w h store = refl
+written-no_place meaning _ w h store = refl
 
 pub use-no_place : (meaning : Meanings Name Place (List Mode)) (x : Name) (w : Value) (store : Store) → meaning.object_for x ≡ Some (a_constant w) → place_at meaning store (Some (x, end)) ≡ ends Stuck
 unfolding designate
@@ -91,22 +85,20 @@ argument-written meaning uses v w h store by_place k e u =
 pub further-written : (meaning : Meanings Name Place (List Mode)) (uses : Uses) (v : Tree Name factor) (w : Value) → EvaluatesTo meaning v w → (store : Store) (ms : List Mode) (k : ℕ) (es : Tree Name (items further_argument))
     → IsUse meaning w uses k (occurrences es) → evaluate_arguments meaning store ms (further_arguments (inline_in uses v k es)) ≡ evaluate_arguments meaning store ms (further_arguments es)
 unfolding evaluate_arguments
-further-written meaning uses v w h store [] k end u = refl
-further-written meaning uses v w h store (m ∷ ms) k end u = refl
 further-written meaning uses v w h store [] k (more (then_argument e) es) u = refl
 further-written meaning uses v w h store (m ∷ ms) k (more (then_argument e) es) u =
     let s = uses-split uses (IsConstantOf meaning w) k (occurrences e) (occurrences es) u in
     λ i. argument-written meaning uses v w h store m k e s.0 i >>= (λ a. further-written meaning uses v w h store ms (k + length (occurrences e)) es s.1 i >>= (λ rest. gives (a ∷ rest)))
+further-written meaning uses v w h store _ k _ u = refl
 
 pub arguments-written : (meaning : Meanings Name Place (List Mode)) (uses : Uses) (v : Tree Name factor) (w : Value) → EvaluatesTo meaning v w → (store : Store) (ms : List Mode) (k : ℕ) (es : Tree Name (maybe arguments))
     → IsUse meaning w uses k (occurrences es) → evaluate_arguments meaning store ms (arguments_listed (inline_in uses v k es)) ≡ evaluate_arguments meaning store ms (arguments_listed es)
 unfolding evaluate_arguments
-arguments-written meaning uses v w h store ms k none u = refl
 arguments-written meaning uses v w h store ms k (one no_arguments) u = refl
-arguments-written meaning uses v w h store [] k (one (some_arguments e es)) u = refl
 arguments-written meaning uses v w h store (m ∷ ms) k (one (some_arguments e es)) u =
     let s = uses-split uses (IsConstantOf meaning w) k (occurrences e) (occurrences es) u in
     λ i. argument-written meaning uses v w h store m k e s.0 i >>= (λ a. further-written meaning uses v w h store ms (k + length (occurrences e)) es s.1 i >>= (λ rest. gives (a ∷ rest)))
+arguments-written meaning uses v w h store _ k _ u = refl
 
 mutual
   unfolding execute

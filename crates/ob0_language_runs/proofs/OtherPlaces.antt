@@ -5,9 +5,9 @@ use Rattle.ob0_language_types.specs.Arguments.{arguments_listed}
 use Rattle.ob0_language_types.specs.Expressions.{Meanings, Object, Standard, a_constant, a_procedure, a_standard, a_type, a_variable, designate, element_step, evaluate, evaluate_addends, evaluate_factor, evaluate_multipliers, evaluate_simple, evaluate_term, follow, object_place, reads, object_value, writes, writes_line}
 use Rattle.ob0_language_types.specs.Typing.{lone_designator}
 use Rattle.ob0_language_types.specs.WellTyped.{Mode, by_place, by_value}
+use Rattle.ob0_language_types.proofs.Literals.{some_inverse}
 use Rattle.ob0_language_values.specs.Values.{Outcome, Place, Store, TurnBound, Value, add, add_is_settled, at_field, at_path, elements, ends, gives, members, multiply, multiply_is_settled, negate, number, or_stuck, part, read_place, relate, apply_sign, truth, with_at_path, ◌>>=◌}
 use Rattle.ob0_language_runs.specs.Runs.{Argument, Calls, Progress, State, Written, choose, evaluate_argument, evaluate_arguments, execute, execute_all, execute_else, execute_elsifs, execute_further, continue_with, line_out, modes_of, number_out, perform, place_argument, append_output, read_number, running, stopped, store_at, turns, turns_until, use_in, value_argument}
-use Rattle.ob0_language_runs.proofs.SoundCalls.{some-inverse}
 use Rattle.ob0_language_runs.proofs.SoundStatements.{slice_get-grows}
 
 -- lists
@@ -26,11 +26,9 @@ get-set (y ∷ xs) zero old new e = refl
 get-set (y ∷ xs) (suc n) old new e = get-set xs n old new e
 
 get-set_other : {A : Type 0} (xs : List A) (n k : ℕ) (new : A) → k ≢ n → slice_get (slice_set xs n new) k ≡ slice_get xs k
-get-set_other [] n k new apart = refl
 get-set_other (y ∷ xs) zero zero new apart = absurd (apart refl)
-get-set_other (y ∷ xs) zero (suc k) new apart = refl
-get-set_other (y ∷ xs) (suc n) zero new apart = refl
 get-set_other (y ∷ xs) (suc n) (suc k) new apart = get-set_other xs n k new (λ e. apart (ap suc e))
+get-set_other _ _ _ new apart = refl
 
 -- where the variables of a store are in a larger one: each at a place of its own
 
@@ -45,13 +43,13 @@ StoreIs _ _ large = ⊥
 
 apart-at : (r : ℕ) (at : List ℕ) (n k : ℕ) → NotAmong r at → slice_get at n ≡ Some k → r ≢ k
 apart-at r [] n k h e = absurd (cc)
-apart-at r (j ∷ at) zero k h e = λ q. h.0 (q ∙ sym (some-inverse e))
+apart-at r (j ∷ at) zero k h e = λ q. h.0 (q ∙ sym (some_inverse e))
 apart-at r (j ∷ at) (suc n) k h e = apart-at r at n k h.1 e
 
 variable-found : (at : List ℕ) (small large : Store) (n k : ℕ) → StoreIs at small large → slice_get at n ≡ Some k → slice_get small n ≡ slice_get large k
 variable-found [] small large n k h e = absurd (cc)
 variable-found (r ∷ at) [] large n k h e = absurd h
-variable-found (r ∷ at) (v ∷ small) large zero k h e = sym h.0 ∙ ap (slice_get large) (some-inverse e)
+variable-found (r ∷ at) (v ∷ small) large zero k h e = sym h.0 ∙ ap (slice_get large) (some_inverse e)
 variable-found (r ∷ at) (v ∷ small) large (suc n) k h e = variable-found at small large n k h.2 e
 
 written-elsewhere : (at : List ℕ) (small large : Store) (k : ℕ) (new : Value) → NotAmong k at → StoreIs at small large → StoreIs at small (slice_set large k new)
@@ -64,7 +62,7 @@ variable-written : (at : List ℕ) (small large : Store) (n k : ℕ) (old new : 
 variable-written [] small large n k old new h e g = absurd (cc)
 variable-written (r ∷ at) [] large n k old new h e g = absurd h
 variable-written (r ∷ at) (v ∷ small) large zero k old new h e g =
-    let same : r ≡ k = some-inverse e in (
+    let same : r ≡ k = some_inverse e in (
       ap (slice_get (slice_set large k new)) same ∙ get-set large k old new g,
       h.1,
       written-elsewhere at small large k new (subst (λ r. NotAmong r at) same h.1) h.2,
@@ -248,13 +246,12 @@ argument-is at here there small large names h by_place e =
 arguments-are : {N P : Type 0} (at : List ℕ) (here there : Meanings N Place P) (small large : Store) → NamesAre at here there → StoreIs at small large → (ms : List Mode) (es : List (Tree N expression)) → OutcomeIs (ArgumentsAre at) (evaluate_arguments here small ms es) (evaluate_arguments there large ms es)
 unfolding evaluate_arguments
 arguments-are at here there small large names h [] [] = tt
-arguments-are at here there small large names h [] (e ∷ es) = refl
-arguments-are at here there small large names h (m ∷ ms) [] = refl
 arguments-are at here there small large names h (m ∷ ms) (e ∷ es) =
     outcome-then (ArgumentIs at) (ArgumentsAre at) (evaluate_argument here small m e) (evaluate_argument there large m e)
     (λ a. evaluate_arguments here small ms es >>= (λ rest. gives (a ∷ rest))) (λ a. evaluate_arguments there large ms es >>= (λ rest. gives (a ∷ rest))) (argument-is at here there small large names h m e)
     (λ a b is. outcome-then (ArgumentsAre at) (ArgumentsAre at) (evaluate_arguments here small ms es) (evaluate_arguments there large ms es) (λ rest. gives (a ∷ rest)) (λ rest. gives (b ∷ rest)) (arguments-are at here there small large names h ms es)
     (λ args others are. (is, are)))
+arguments-are at here there small large names h _ _ = refl
 
 -- states
 
@@ -287,9 +284,7 @@ use_same {A} at s u o q f g out e each = subst (λ q. ProgressIs at (use_in s o 
 choose-is : (at : List ℕ) (s u : State) (v : Value) (f g f' g' : State → Progress) → StateIs at s u → ProgressIs at (f s) (f' u) → ProgressIs at (g s) (g' u) → ProgressIs at (choose s v f g) (choose u v f' g')
 choose-is at s u (truth true) f g f' g' h is is' = is
 choose-is at s u (truth false) f g f' g' h is is' = is'
-choose-is at s u (number n) f g f' g' h is is' = (refl, h.same_output)
-choose-is at s u (elements vs) f g f' g' h is is' = (refl, h.same_output)
-choose-is at s u (members k ms) f g f' g' h is is' = (refl, h.same_output)
+choose-is at s u _ f g f' g' h is is' = (refl, h.same_output)
 
 pub go_on-is : (at : List ℕ) (p q : Progress) (f g : State → Progress) → ProgressIs at p q → Alike at f g → ProgressIs at (continue_with p f) (continue_with q g)
 go_on-is at (running s) (running u) f g h alike = alike s u h
@@ -353,9 +348,7 @@ reads-alike at enter enter' _ _ s u are h = absurd are
 
 written-alike : (at : List ℕ) (enter enter' : List Argument → State → Progress) (v : Value) (s u : State) → StateIs at s u → ProgressIs at (perform (Some (a_standard writes)) enter (value_argument v ∷ []) s) (perform (Some (a_standard writes)) enter' (value_argument v ∷ []) u)
 written-alike at enter enter' (number n) s u h = put_out-is at s u (number_out n) h
-written-alike at enter enter' (truth b) s u h = (refl, h.same_output)
-written-alike at enter enter' (elements vs) s u h = (refl, h.same_output)
-written-alike at enter enter' (members k ms) s u h = (refl, h.same_output)
+written-alike at enter enter' _ s u h = (refl, h.same_output)
 
 not-written : (at : List ℕ) (enter enter' : List Argument → State → Progress) (v w : Value) (a b : Argument) (args others : List Argument) (s u : State) → StateIs at s u → ProgressIs at (perform (Some (a_standard writes)) enter (value_argument v ∷ a ∷ args) s) (perform (Some (a_standard writes)) enter' (value_argument w ∷ b ∷ others) u)
 not-written at enter enter' v w a b args others s u h = go v w

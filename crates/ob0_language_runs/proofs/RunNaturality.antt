@@ -24,10 +24,9 @@ evaluate_argument-map {N} f h meaning store by_place e =
 pub evaluate_arguments-map : {N M P : Type 0} (f h : N → M) (meaning : Meanings M Place P) (store : Store) (ms : List Mode) (es : List (Tree N expression)) → evaluate_arguments meaning store ms (map (with_names f h) es) ≡ evaluate_arguments (through f h meaning) store ms es
 unfolding evaluate_arguments
 evaluate_arguments-map f h meaning store [] [] = refl
-evaluate_arguments-map f h meaning store [] (e ∷ es) = refl
-evaluate_arguments-map f h meaning store (m ∷ ms) [] = refl
 evaluate_arguments-map f h meaning store (m ∷ ms) (e ∷ es) = λ i.
     evaluate_argument-map f h meaning store m e i >>= (λ a. evaluate_arguments-map f h meaning store ms es i >>= (λ rest. gives (a ∷ rest)))
+evaluate_arguments-map f h meaning store _ _ = refl
 
 mutual
   unfolding execute

@@ -8,8 +8,9 @@ use Rattle.ob0_language_types.specs.Declarations.{after_types, after_variables, 
 use Rattle.ob0_language_types.specs.Environments.{from_binding, meanings, newest, outermost}
 use Rattle.ob0_language_types.specs.Expressions.{Object, a_constant, a_procedure, a_standard, a_type, a_variable}
 use Rattle.ob0_language_types.specs.Typing.{constant_of, constant_value, constructors, denoted, type_of_name}
-use Rattle.ob0_language_values.specs.Values.{FieldShapes, Place, Shape, Store, Stuck, Value, array_shape, boolean_shape, copies, count_values, fits, initial, initial_members, integer_shape, next_field_shape, no_field_shape, record_shape}
+use Rattle.ob0_language_values.specs.Values.{FieldShapes, Place, Shape, Store, Stuck, Value, array_shape, copies, count_values, fits, initial, initial_members, next_field_shape, no_field_shape, record_shape}
 use Rattle.ob0_language_types.specs.WellTyped.{Formal, Mode, Signature, TypeEnvironment, TypedParameter, WellTyped, bind_names, bind_typed, block_fits, body_fits, declare_typed, fits_over, heading, procedure_fits, procedures_fit, section_mode, signature_of, typed_parameters}
+use Rattle.ob0_language_types.proofs.Literals.{some_inverse}
 use Rattle.ob0_language_types.proofs.TypeNaturality.{constant_value-map, denoted-map}
 use Rattle.ob0_language_types.proofs.TypesByOrdinal.{typed_parameter}
 use Rattle.ob0_language_types.proofs.Conditions.{both_true, hold-true}
@@ -23,9 +24,6 @@ use Rattle.ob0_language_runs.proofs.Soundness.{CallsFit, ProgressFits}
 
 -- environments that fit
 
-pub some-inverse : {A : Type 0} {a b : A} → Some a ≡ Some b → a ≡ b
-some-inverse {A} {a} {b} e = ap (λ o. unwrap_or o a) e
-
 -- the modes of checked parameters are those of the heading
 pub modes-of_parameters : {N : Type 0} (f : Formal) (xs : List N) (ps : List (TypedParameter N)) → modes_in (map (λ p. p.formal) (map (typed_parameter f) xs ++ ps)) ≡ map (λ x. f.mode) xs ++ modes_in (map (λ p. p.formal) ps)
 modes-of_parameters f [] ps = refl
@@ -33,12 +31,12 @@ modes-of_parameters f (x ∷ xs) ps = λ i. f.mode ∷ modes-of_parameters f xs 
 
 pub modes-typed : {N : Type 0} (naming : Naming N) (env : TypeEnvironment N) (k : ℕ) (fs : Tree N (items further_section)) (ps : List (TypedParameter N)) → typed_parameters naming env k fs ≡ Some ps → formal_modes fs ≡ modes_in (map (λ p. p.formal) ps)
 unfolding typed_parameters
-modes-typed naming env k end ps e = ap (λ ps. modes_in (map (λ p. p.formal) ps)) (some-inverse e)
+modes-typed naming env k end ps e = ap (λ ps. modes_in (map (λ p. p.formal) ps)) (some_inverse e)
 modes-typed naming env k (more (then_section f) fs) ps e =
     let (s, es, e₁) = some-gives (denoted (meanings naming env) k (section_type f)) (λ s. option_and_then (λ rest. Some (map (typed_parameter record { mode = (section_mode f); shape = s }) (section_names f) ++ rest)) (typed_parameters naming (bind_names (section_names f) (a_variable s) env) (k + constructors (section_type f)) fs)) ps e in
     let (rest, er, e₂) = some-gives (typed_parameters naming (bind_names (section_names f) (a_variable s) env) (k + constructors (section_type f)) fs) (λ rest. Some (map (typed_parameter record { mode = (section_mode f); shape = s }) (section_names f) ++ rest)) ps e₁ in
     ap (λ ms. map (λ x. (section_mode f)) (section_names f) ++ ms) (modes-typed naming (bind_names (section_names f) (a_variable s) env) (k + constructors (section_type f)) fs rest er)
-    ∙ (sym (modes-of_parameters record { mode = (section_mode f); shape = s } (section_names f) rest) ∙ ap (λ ps. modes_in (map (λ p. p.formal) ps)) (some-inverse e₂))
+    ∙ (sym (modes-of_parameters record { mode = (section_mode f); shape = s } (section_names f) rest) ∙ ap (λ ps. modes_in (map (λ p. p.formal) ps)) (some_inverse e₂))
 
 pub binding-object : {N : Type 0} (naming : Naming N) (typing : StoreTyping) (checked : TypeEnvironment N) (x : N) (o : Object Shape Signature) (r : Object Place (ProcedureText N)) → BindingFits naming typing checked x o r → ObjectFits typing (Some o) (passing (Some r))
 binding-object naming typing checked x (a_procedure signature) (a_procedure code) h =
@@ -70,20 +68,16 @@ from-fit naming typing _ _ z h = absurd h
 
 pub binding-grows : {N : Type 0} (naming : Naming N) (typing others : StoreTyping) (checked : TypeEnvironment N) (x : N) (o : Object Shape Signature) (r : Object Place (ProcedureText N)) → BindingFits naming typing checked x o r → BindingFits naming (typing ++ others) checked x o r
 binding-grows naming typing others checked x (a_procedure signature) (a_procedure code) h = h
-binding-grows naming typing others checked x (a_procedure signature) (a_type s) h = h
-binding-grows naming typing others checked x (a_procedure signature) (a_constant s) h = h
-binding-grows naming typing others checked x (a_procedure signature) (a_variable s) h = h
-binding-grows naming typing others checked x (a_procedure signature) (a_standard s) h = h
 binding-grows naming typing others checked x (a_type s) r h = ObjectFits-grows typing others (Some (a_type s)) (passing (Some r)) h
 binding-grows naming typing others checked x (a_constant s) r h = ObjectFits-grows typing others (Some (a_constant s)) (passing (Some r)) h
 binding-grows naming typing others checked x (a_variable s) r h = ObjectFits-grows typing others (Some (a_variable s)) (passing (Some r)) h
 binding-grows naming typing others checked x (a_standard s) r h = ObjectFits-grows typing others (Some (a_standard s)) (passing (Some r)) h
+binding-grows naming typing others checked x _ _ h = h
 
 pub environments-grow : {N : Type 0} (naming : Naming N) (typing others : StoreTyping) (checked : TypeEnvironment N) (active : Activation N) → EnvironmentsFit naming typing checked active → EnvironmentsFit naming (typing ++ others) checked active
 environments-grow naming typing others [] [] h = tt
-environments-grow naming typing others [] (d ∷ active) h = h
-environments-grow naming typing others (b ∷ checked) [] h = h
 environments-grow naming typing others (b ∷ checked) (d ∷ active) h = (h.0, binding-grows naming typing others checked b.0 b.1 d.1 h.1, environments-grow naming typing others checked active h.2)
+environments-grow naming typing others _ _ h = h
 
 -- values that variables begin with
 
@@ -93,10 +87,9 @@ copies-fit (suc n) v s h = let g = copies-fit n v s h in (ap suc g.0, (h, g.1))
 
 mutual
   pub initial-fits : (s : Shape) → HasShape (initial s) s
-  initial-fits integer_shape = tt
-  initial-fits boolean_shape = tt
   initial-fits (array_shape k n s) = copies-fit n (initial s) s (initial-fits s)
   initial-fits (record_shape k fs) = (refl, initial_members-fit fs)
+  initial-fits _ = tt
 
   pub initial_members-fit : (fs : FieldShapes) → HaveShapes (initial_members fs) fs
   initial_members-fit no_field_shape = tt
@@ -117,20 +110,12 @@ last-shape _ _ s h = absurd h
 -- declarations
 
 pub passing-constant : {N : Type 0} (o : Option (Object Place (ProcedureText N))) → constant_of (passing o) ≡ constant_of o
-passing-constant None = refl
 passing-constant (Some (a_type s)) = refl
-passing-constant (Some (a_constant s)) = refl
-passing-constant (Some (a_variable s)) = refl
-passing-constant (Some (a_procedure s)) = refl
-passing-constant (Some (a_standard s)) = refl
+passing-constant _ = refl
 
 pub passing-type : {N : Type 0} (o : Option (Object Place (ProcedureText N))) → type_of_name (passing o) ≡ type_of_name o
-passing-type None = refl
 passing-type (Some (a_type s)) = refl
-passing-type (Some (a_constant s)) = refl
-passing-type (Some (a_variable s)) = refl
-passing-type (Some (a_procedure s)) = refl
-passing-type (Some (a_standard s)) = refl
+passing-type _ = refl
 
 pub fit-constant : (typing : StoreTyping) (checked : Option (Object Shape Signature)) (active : Option (Object Place (List Mode))) → ObjectFits typing checked active → constant_of active ≡ constant_of checked
 fit-constant typing None None h = refl
@@ -169,7 +154,7 @@ denoted-same naming typing checked active h k t =
 pub constants-run : {N : Type 0} (naming : Naming N) (typing : StoreTyping) (checked : TypeEnvironment N) (active : Activation N) (cs : Tree N (items constant)) (after : TypeEnvironment N)
     → EnvironmentsFit naming typing checked active → declare_constants naming checked cs ≡ Some after → (d : Activation N) × (declare_constants naming active cs ≡ Some d) × EnvironmentsFit naming typing after d
 unfolding declare_constants
-constants-run naming typing checked active end after h e = (active, refl, subst (λ c. EnvironmentsFit naming typing c active) (some-inverse {a = checked} {b = after} e) h)
+constants-run naming typing checked active end after h e = (active, refl, subst (λ c. EnvironmentsFit naming typing c active) (some_inverse {a = checked} {b = after} e) h)
 constants-run {N} naming typing checked active (more (declares_constant x v₀) cs) after h e =
     let (v, ev, e₁) = some-gives (constant_value (meanings naming checked) v₀) (λ v. declare_constants naming ((x, a_constant v) ∷ checked) cs) after e in
     let (d, ed, fit) = constants-run naming typing ((x, a_constant v) ∷ checked) ((x, a_constant v) ∷ active) cs after (refl, refl, h) e₁ in
@@ -178,7 +163,7 @@ constants-run {N} naming typing checked active (more (declares_constant x v₀) 
 pub types-run : {N : Type 0} (naming : Naming N) (typing : StoreTyping) (checked : TypeEnvironment N) (active : Activation N) (k : ℕ) (ds : Tree N (items type_name)) (after : TypeEnvironment N)
     → EnvironmentsFit naming typing checked active → declare_types naming checked k ds ≡ Some after → (d : Activation N) × (declare_types naming active k ds ≡ Some d) × EnvironmentsFit naming typing after d
 unfolding declare_types
-types-run naming typing checked active k end after h e = (active, refl, subst (λ c. EnvironmentsFit naming typing c active) (some-inverse {a = checked} {b = after} e) h)
+types-run naming typing checked active k end after h e = (active, refl, subst (λ c. EnvironmentsFit naming typing c active) (some_inverse {a = checked} {b = after} e) h)
 types-run {N} naming typing checked active k (more (declares_type x u) cs) after h e =
     let (s, es, e₁) = some-gives (denoted (meanings naming checked) k u) (λ s. declare_types naming ((x, a_type s) ∷ checked) (k + constructors u) cs) after e in
     let (d, ed, fit) = types-run naming typing ((x, a_type s) ∷ checked) ((x, a_type s) ∷ active) (k + constructors u) cs after (refl, refl, h) e₁ in
@@ -208,7 +193,7 @@ allocate-fits {N} naming typing checked (x ∷ xs) s v f hv store env =
 pub variables-run : {N : Type 0} (naming : Naming N) (typing : StoreTyping) (checked : TypeEnvironment N) (k : ℕ) (gs : Tree N (items variable)) (after : TypeEnvironment N) (f : Frame N)
     → StoreFits typing f.store → EnvironmentsFit naming typing checked f.env → declare_typed naming k gs checked ≡ Some after → (g : Frame N) × (declare_variables naming k gs f ≡ Some g) × FrameFits naming typing after g
 unfolding declare_typed declare_variables
-variables-run naming typing checked k end after f store env e = (f, refl, frame-here naming typing after f store (subst (λ c. EnvironmentsFit naming typing c f.env) (some-inverse {a = checked} {b = after} e) env))
+variables-run naming typing checked k end after f store env e = (f, refl, frame-here naming typing after f store (subst (λ c. EnvironmentsFit naming typing c f.env) (some_inverse {a = checked} {b = after} e) env))
 variables-run {N} naming typing checked k (more (declares_variable ns u) ds) after f store env e =
     let (s, es, e₁) = some-gives (denoted (meanings naming checked) k u) (λ s. declare_typed naming (k + constructors u) ds (bind_names (names_listed ns) (a_variable s) checked)) after e in
     let inner = allocate-fits naming typing checked (names_listed ns) s (initial s) f (initial-fits s) store env in
@@ -255,19 +240,18 @@ parameters-append f (x ∷ xs) ps = λ i. record { mode = f.mode; name = x } ∷
 
 pub parameters-of_typed : {N : Type 0} (naming : Naming N) (env : TypeEnvironment N) (k : ℕ) (fs : Tree N (items further_section)) (ps : List (TypedParameter N)) → typed_parameters naming env k fs ≡ Some ps → parameters fs ≡ map as_parameter ps
 unfolding typed_parameters
-parameters-of_typed naming env k end ps e = ap (map as_parameter) (some-inverse {a = []} {b = ps} e)
+parameters-of_typed naming env k end ps e = ap (map as_parameter) (some_inverse {a = []} {b = ps} e)
 parameters-of_typed naming env k (more (then_section f) fs) ps e =
     let (s, es, e₁) = some-gives (denoted (meanings naming env) k (section_type f)) (λ s. option_and_then (λ rest. Some (map (typed_parameter record { mode = (section_mode f); shape = s }) (section_names f) ++ rest)) (typed_parameters naming (bind_names (section_names f) (a_variable s) env) (k + constructors (section_type f)) fs)) ps e in
     let (rest, er, e₂) = some-gives (typed_parameters naming (bind_names (section_names f) (a_variable s) env) (k + constructors (section_type f)) fs) (λ rest. Some (map (typed_parameter record { mode = (section_mode f); shape = s }) (section_names f) ++ rest)) ps e₁ in
     ap (λ l. map (with_mode (section_mode f)) (section_names f) ++ l) (parameters-of_typed naming (bind_names (section_names f) (a_variable s) env) (k + constructors (section_type f)) fs rest er)
-    ∙ (sym (parameters-append record { mode = (section_mode f); shape = s } (section_names f) rest) ∙ ap (map as_parameter) (some-inverse e₂))
+    ∙ (sym (parameters-append record { mode = (section_mode f); shape = s } (section_names f) rest) ∙ ap (map as_parameter) (some_inverse e₂))
 
 pub ArgumentsFit-grows : (typing others : StoreTyping) (fs : Signature) (args : List Argument) → ArgumentsFit typing fs args → ArgumentsFit (typing ++ others) fs args
 ArgumentsFit-grows typing others [] [] h = tt
-ArgumentsFit-grows typing others [] (a ∷ args) h = h
-ArgumentsFit-grows typing others (f ∷ fs) [] h = h
 ArgumentsFit-grows typing others (f ∷ fs) (place_argument p ∷ args) h = (h.0, PlaceFits-grows typing others p f.shape h.1, ArgumentsFit-grows typing others fs args h.2)
 ArgumentsFit-grows typing others (f ∷ fs) (value_argument v ∷ args) h = (h.0, h.1, ArgumentsFit-grows typing others fs args h.2)
+ArgumentsFit-grows typing others _ _ h = h
 
 pub parameters-run : {N : Type 0} (naming : Naming N) (typing : StoreTyping) (checked : TypeEnvironment N) (ps : List (TypedParameter N)) (args : List Argument) (f : Frame N) → StoreFits typing f.store → EnvironmentsFit naming typing checked f.env
     → ArgumentsFit typing (map (λ p. p.formal) ps) args → (g : Frame N) × (bind_parameters (map as_parameter ps) args f ≡ Some g) × FrameFits naming typing (bind_typed ps checked) g
@@ -303,7 +287,7 @@ pub activate-run : {N : Type 0} (naming : Naming N) (enter : Activation N → Ca
 unfolding activate block_fits
 activate-run naming enter known t typing [] active signature args s env e fit store = absurd (cc)
 activate-run naming enter known t typing (b ∷ checked) [] signature args s env e fit store = absurd env
-activate-run {N} naming enter known t typing ((x, o) ∷ checked) ((y, r) ∷ active) signature args s env e fit store = of_objects o r env.1 (some-inverse {a = o} {b = a_procedure signature} e)
+activate-run {N} naming enter known t typing ((x, o) ∷ checked) ((y, r) ∷ active) signature args s env e fit store = of_objects o r env.1 (some_inverse {a = o} {b = a_procedure signature} e)
   where
     of_text : (j : ℕ) (p : Tree N (item procedure)) (ps : List (TypedParameter N)) → typed_parameters naming checked j (procedure_formals p) ≡ Some ps → signature ≡ map (λ p. p.formal) ps → procedure_fits naming (bind_typed ps (heading x ps checked)) j p ≡ true
         → ProgressFits typing (activate naming enter t ((y, a_procedure record { first_constructor = j; text = p }) ∷ active) args s)

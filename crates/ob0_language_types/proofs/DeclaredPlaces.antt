@@ -1,17 +1,18 @@
 -- Where statements are checked, names are bound to what their declarations are.
 -- `Has k n all xs` says that of a range of ordinals all bindings have what these have, `Includes all env` that they
--- have what an environment has.
-use Rattle.std.proofs.Common.{◌≡◌, ℕ, suc, ◌+◌, ◌<◌, ◌≤◌, Bool, true, false, nat_lt, List, [], ◌∷◌, ◌++◌, All, Some, None, refl, sym, ap, ◌∙◌, subst, arith, le_refl, le_of_lt}
+-- have what an environment has. What holds of each environment of noted bindings that all of a module's include holds
+-- wherever procedures and statements of the module are checked (`module-has`).
+use Rattle.std.proofs.Common.{◌≡◌, ℕ, suc, ◌+◌, ◌<◌, ◌≤◌, Bool, true, false, nat_lt, List, [], ◌∷◌, ◌++◌, All, Some, None, refl, sym, ap, ◌∙◌, subst, arith, le_refl, le_of_lt, Option}
 use Rattle.std.proofs.lemmas.Bool.{ltb-false, ltb-true}
 use Rattle.std.proofs.lemmas.List.{append-nil}
-use Rattle.std.proofs.lemmas.List.Elements.{All-append, All-cons}
-use Rattle.ob0_tree.specs.Tree.{Tree, block, body, declares, declares_procedure, end, formals, has_body, is_module, items, maybe, more, procedure}
+use Rattle.std.proofs.lemmas.List.Elements.{All-append, All-cons, All-nil}
+use Rattle.ob0_tree.specs.Tree.{Tree, block, body, declares, declares_procedure, end, formals, has_body, is_module, items, maybe, module_text, more, procedure, item}
 use Rattle.ob0_language_names.specs.Names.{Label, Name, as_labels, as_names, declared}
-use Rattle.ob0_language_names.specs.Parts.{block_procedures, block_statements, formal_names, formal_sections, named_types, section_types, section_variables, variable_names}
+use Rattle.ob0_language_names.specs.Parts.{block_procedures, block_statements, formal_names, formal_sections, named_types, section_types, section_variables, variable_names, module_block, procedure_formals, procedure_name}
 use Rattle.ob0_language_names.specs.Scopes.{Scope, after_block, after_names, after_procedure, after_procedures, as_label, declare_names, first_procedure, numbered, relabel_block, relabel_formals, relabel_procedures}
 use Rattle.ob0_language_names.proofs.Ordinals.{le-after_names, le-after_block, le-after_procedure, le-after_procedures}
-use Rattle.ob0_language_types.specs.Bindings.{block_bindings, for_some, object_bound, procedures_bindings}
-use Rattle.ob0_language_types.specs.Bodies.{BodyAt, NamesAreDeclared, block_bodies, procedures_bodies}
+use Rattle.ob0_language_types.specs.Bindings.{block_bindings, for_some, module_bindings, object_bound, procedures_bindings}
+use Rattle.ob0_language_types.specs.Bodies.{BlockHas, BodyAt, NamesAreDeclared, ProcedureHas, ProceduresHave, block_bodies, procedure_bodies, procedures_bodies}
 use Rattle.ob0_language_types.specs.Declaring.{declare_block}
 use Rattle.ob0_language_types.specs.ConstantValues.{Known, no_constant}
 use Rattle.ob0_language_types.specs.Declarations.{after_variables, formals_constructors, procedure_constructors}
@@ -21,25 +22,26 @@ use Rattle.ob0_language_types.specs.WellTyped.{Signature, TypeEnvironment, Typed
 use Rattle.ob0_language_values.specs.Values.{Shape}
 use Rattle.ob0_language_types.proofs.ConstantsDeclared.{Binds, Entered, FitParts, Knows, Opened, binds-append, binds-wider, block-listed, block-opened, block-parts, block-evaluates, bound-elsewhere, bound-first, knows-all, all_known, opened-above, opened-binds, opened-grown, opened-since, outermost-binds, predeclared-below, procedure-entered, procedure-parts, procedures-listed, procedures-evaluate}
 use Rattle.ob0_language_types.proofs.Bound.{bind_typed-append}
+use Rattle.ob0_language_types.proofs.Literals.{some_inverse}
 use Rattle.ob0_language_types.proofs.Proved.{fits_by_ordinal-holds}
 use Rattle.ob0_language_types.proofs.TypesByOrdinal.{TypeNoted, TypedBelow, TypedBelow-weaken, typed_by_ordinal, typed_outermost, typed_scope}
 
 -- what an environment has, a list of bindings has too
-abbrev Includes : TypeEnvironment Label → TypeEnvironment Label → Type 0
+abbrev pub Includes : TypeEnvironment Label → TypeEnvironment Label → Type 0
 Includes all env = (d : ℕ) (o : Object Shape Signature) → object_bound env d ≡ Some o → object_bound all d ≡ Some o
 
 -- of ordinals from k on and below n a list of bindings has what another has
 abbrev Has : ℕ → ℕ → TypeEnvironment Label → TypeEnvironment Label → Type 0
 Has k n all xs = (d : ℕ) → k ≤ d → d < n → object_bound all d ≡ object_bound xs d
 
-noted-binds : (n : ℕ) (noted : TypeNoted Name) → TypedBelow n noted → Binds 0 n (typed_by_ordinal noted)
+pub noted-binds : (n : ℕ) (noted : TypeNoted Name) → TypedBelow n noted → Binds 0 n (typed_by_ordinal noted)
 noted-binds n [] below = tt
 noted-binds n (b ∷ noted) below = ((b.ordinal, refl, omega arith, below.0), binds-wider 0 b.ordinal 0 n (typed_by_ordinal noted) (omega arith) (le_of_lt below.0) (noted-binds b.ordinal noted below.1))
 
-bound-none : (k n d : ℕ) (xs : TypeEnvironment Label) → Binds k n xs → (k ≤ d → d < n → ⊥) → object_bound xs d ≡ None
+pub bound-none : (k n d : ℕ) (xs : TypeEnvironment Label) → Binds k n xs → (k ≤ d → d < n → ⊥) → object_bound xs d ≡ None
 bound-none k n d xs b h = ap (λ e. object_bound e d) (sym (append-nil xs)) ∙ bound-elsewhere k n d xs [] b h
 
-nothing : {A : Type 0} (o : A) → None ≡ Some o → ⊥
+pub nothing : {A : Type 0} (o : A) → None ≡ Some o → ⊥
 nothing o e = cc
 
 holds-grown : (all env own : TypeEnvironment Label) (k n : ℕ) → k ≤ n → Includes all env → Binds 0 k env → Binds k n own → Has k n all own → Includes all (own ++ env)
@@ -51,123 +53,112 @@ holds-grown all env own k n le st envb ownb has = λ d o h. by d o h (nat_lt d k
     by d o h false above false e =
         absurd (nothing o (sym (bound-first 0 k d own env envb (λ a z. omega (arith, z, ltb-false d k above)) ∙ bound-none k n d own ownb (λ a z. omega (arith, z, ltb-false d n e))) ∙ h))
 
-block-bodied : (env : TypeEnvironment Label) (j : ℕ) (b : Tree Label block) (inner : TypeEnvironment Label) → declare_block as_labels env j b ≡ Some inner
-    → block_bodies as_labels env j b ≡ procedures_bodies as_labels inner (after_variables j b) (block_statements b) (block_procedures b)
-unfolding block_bodies
-block-bodied env j (has_body (declares cs ts vs ps) statements) inner e =
-    ap (λ o. for_some o (λ z. procedures_bodies as_labels z (after_variables j (has_body (declares cs ts vs ps) statements)) statements ps)) e
+-- a property that environments of noted bindings have where a list of bindings includes them
+module _ (all : TypeEnvironment Label) (Q : TypeEnvironment Label → Type 0) (so : (n : ℕ) (noted : TypeNoted Name) → TypedBelow n noted → Includes all (typed_by_ordinal noted) → Q (typed_by_ordinal noted)) where
+  mutual
+    block-has : (known : Known) (noted : TypeNoted Name) (j k : ℕ) → Knows known noted → TypedBelow k noted → Includes all (typed_by_ordinal noted) → (b : Tree Name block)
+        → block_fits as_labels (typed_by_ordinal noted) j (relabel_block as_names (as_label as_names) (typed_scope noted) k b) ≡ true
+        → Has k (after_block k b) all (block_bindings as_labels (typed_by_ordinal noted) j (relabel_block as_names (as_label as_names) (typed_scope noted) k b))
+        → BlockHas Q (typed_by_ordinal noted) j (relabel_block as_names (as_label as_names) (typed_scope noted) k b)
+    block-has known noted j k knows below st (has_body (declares cs ts vs ps) statements) h has = λ inner' given.
+        let b : Tree Name block = has_body (declares cs ts vs ps) statements in
+        let env : TypeEnvironment Label = typed_by_ordinal noted in
+        let b' : Tree Label block = relabel_block as_names (as_label as_names) (typed_scope noted) k b in
+        let kp : ℕ = first_procedure k b in
+        let jv : ℕ = after_variables j b' in
+        let n : ℕ = after_block k b in
+        let parts = block-parts env j b' h in
+        let o : Opened known noted k b parts.0 = block-opened known noted j k knows below b parts.0 parts.1 in
+        let names : List Name = named_types (section_types ts) ++ variable_names (section_variables vs) in
+        let known' : Known = bind_names names no_constant o.constants.known_after in
+        let fits = (λ i. procedures_fit as_labels (sym o.reads i) jv (block_statements b') (relabel_procedures as_names (as_label as_names) (o.scoped i) kp ps)) ∙ parts.2 in
+        let p = procedures-evaluate known' o.last jv kp (o.others.knows o.constants.known_after o.constants.knows) o.below (block_statements b') ps fits in
+        let P : TypeEnvironment Label = procedures_bindings as_labels (typed_by_ordinal o.last) jv (relabel_procedures as_names (as_label as_names) (typed_scope o.last) kp ps) in
+        let own : TypeEnvironment Label = o.others.bound ++ o.constants.bound in
+        let own_binds : Binds k kp own = opened-binds known noted k b parts.0 o in
+        let first : k ≤ kp = opened-above k b in
+        let last : kp ≤ n = le-after_procedures kp ps in
+        let listed : block_bindings as_labels env j b' ≡ P ++ own =
+        block-listed env j b' parts.0 parts.1
+        ∙ (λ i. procedures_bindings as_labels (o.reads i) jv (relabel_procedures as_names (as_label as_names) (sym o.scoped i) kp ps) ++ opened-since known noted k b parts.0 o i) in
+        let each : Has k n all (P ++ own) = λ d l m. has d l m ∙ ap (λ e. object_bound e d) listed in
+        let inner : Includes all (typed_by_ordinal o.last) = subst (Includes all) (sym (opened-grown known noted k b parts.0 o) ∙ o.reads)
+        (holds-grown all env own k kp first st (noted-binds k noted below) own_binds (λ d l m. each d l (omega (arith, m, last)) ∙ bound-elsewhere kp n d P own p.binds (λ a z. omega (arith, a, m)))) in
+        let same : parts.0 ≡ inner' = some_inverse (sym parts.1 ∙ given) in (
+          subst Q (sym o.reads ∙ same) (so kp o.last o.below inner),
+          subst (λ e. ProceduresHave Q e jv (block_procedures b')) same
+              (subst (λ e. e) (λ i. ProceduresHave Q (sym o.reads i) jv (relabel_procedures as_names (as_label as_names) (o.scoped i) kp ps))
+              (procedures-have known' o.last jv kp (o.others.knows o.constants.known_after o.constants.knows) o.below inner (block_statements b') ps fits
+              (λ d l m. each d (omega (arith, l, first)) m ∙ bound-first k kp d P own own_binds (λ a z. omega (arith, l, z))))),
+        )
 
-procedures-bodied : (env : TypeEnvironment Label) (j : ℕ) (statements : Tree Label (maybe body)) (x : Label) (fs : Tree Label (maybe formals)) (b : Tree Label block) (closing : Label) (rest : Tree Label (items procedure)) (qs : List (TypedParameter Label))
-    → typed_parameters as_labels env j (formal_sections fs) ≡ Some qs
-    → procedures_bodies as_labels env j statements (more (declares_procedure x fs b closing) rest)
-    ≡ block_bodies as_labels (bind_typed qs (heading x qs env)) (j + formals_constructors (formal_sections fs)) b ++ procedures_bodies as_labels (heading x qs env) (j + procedure_constructors (declares_procedure x fs b closing)) statements rest
-unfolding block_bodies
-procedures-bodied env j statements x fs b closing rest qs e =
-    ap (λ o. for_some o (λ ps. block_bodies as_labels (bind_typed ps (heading x ps env)) (j + formals_constructors (formal_sections fs)) b ++ procedures_bodies as_labels (heading x ps env) (j + procedure_constructors (declares_procedure x fs b closing)) statements rest)) e
+    procedures-have : (known : Known) (noted : TypeNoted Name) (j k : ℕ) → Knows known noted → TypedBelow k noted → Includes all (typed_by_ordinal noted) → (statements : Tree Label (maybe body)) (ps : Tree Name (items procedure))
+        → procedures_fit as_labels (typed_by_ordinal noted) j statements (relabel_procedures as_names (as_label as_names) (typed_scope noted) k ps) ≡ true
+        → Has k (after_procedures k ps) all (procedures_bindings as_labels (typed_by_ordinal noted) j (relabel_procedures as_names (as_label as_names) (typed_scope noted) k ps))
+        → ProceduresHave Q (typed_by_ordinal noted) j (relabel_procedures as_names (as_label as_names) (typed_scope noted) k ps)
+    procedures-have known noted j k knows below st statements end h has = so k noted below st
+    procedures-have known noted j k knows below st statements (more (declares_procedure x fs b closing) rest) h has = λ qs' typed.
+        let scope : Scope Name = typed_scope noted in
+        let env : TypeEnvironment Label = typed_by_ordinal noted in
+        let xs : List Name = formal_names (formal_sections fs) in
+        let m : ℕ = after_names (suc k) xs in
+        let q : ℕ = after_procedure (suc k) (declares_procedure x fs b closing) in
+        let n : ℕ = after_procedures q rest in
+        let fs' : Tree Label (maybe formals) = relabel_formals as_names (as_label as_names) scope (suc k) fs in
+        let b' : Tree Label block = relabel_block as_names (as_label as_names) (declare_names (suc k) xs ((x, k) ∷ scope)) m b in
+        let rest' : Tree Label (items procedure) = relabel_procedures as_names (as_label as_names) ((x, k) ∷ scope) q rest in
+        let jb : ℕ = j + formals_constructors (formal_sections fs') in
+        let jr : ℕ = j + procedure_constructors (declares_procedure (declared k) fs' b' (declared k)) in
+        let f : FitParts env j statements (declared k) fs' b' (declared k) rest' = procedure-parts env j statements (declared k) fs' b' (declared k) rest' h in
+        let qs : List (TypedParameter Label) = f.listed in
+        let e : Entered known noted k x xs qs = procedure-entered known noted j k knows below x fs qs f.typed in
+        let inside_fits = (λ i. block_fits as_labels (e.opened i) jb (relabel_block as_names (as_label as_names) (e.scoped i) m b)) ∙ f.block_right in
+        let inside_block = block-evaluates (bind_names xs no_constant ((x, no_constant) ∷ known)) e.inner jb m e.knows e.below b inside_fits in
+        let later_below : TypedBelow q e.own = TypedBelow-weaken (suc k) q e.own (le-after_procedure (suc k) (declares_procedure x fs b closing)) e.own_below in
+        let later_fits = (λ i. procedures_fit as_labels (e.headed i) jr statements (relabel_procedures as_names (as_label as_names) (e.own_scope i) q rest)) ∙ f.rest_right in
+        let later = procedures-evaluate ((x, no_constant) ∷ known) e.own jr q e.own_knows later_below statements rest later_fits in
+        let B : TypeEnvironment Label = block_bindings as_labels (typed_by_ordinal e.inner) jb (relabel_block as_names (as_label as_names) (typed_scope e.inner) m b) in
+        let top : TypeEnvironment Label = heading (declared k) qs [] in
+        let H : TypeEnvironment Label = bind_typed qs top in
+        let R : TypeEnvironment Label = procedures_bindings as_labels (typed_by_ordinal e.own) jr (relabel_procedures as_names (as_label as_names) (typed_scope e.own) q rest) in
+        let above : suc k ≤ m = le-after_names (suc k) xs in
+        let inside : m ≤ q = le-after_block m b in
+        let last : q ≤ n = le-after_procedures q rest in
+        let one_binds : Binds k q (B ++ H) = binds-append k q B H (binds-wider m q k q B (omega (arith, above)) (le_refl q) inside_block.binds) (binds-wider k m k q H (le_refl k) inside e.binds) in
+        let listed : procedures_bindings as_labels env j (more (declares_procedure (declared k) fs' b' (declared k)) rest') ≡ R ++ (B ++ H) =
+        procedures-listed env j statements (declared k) fs' b' (declared k) rest' f
+        ∙ (λ i. procedures_bindings as_labels (sym e.headed i) jr (relabel_procedures as_names (as_label as_names) (sym e.own_scope i) q rest) ++ (block_bindings as_labels (sym e.opened i) jb (relabel_block as_names (as_label as_names) (sym e.scoped i) m b) ++ H)) in
+        let each : Has k n all (R ++ (B ++ H)) = λ d l u. has d l u ∙ ap (λ z. object_bound z d) listed in
+        let each_H : Has k m all H = λ d l u.
+        each d l (omega (arith, u, inside, last)) ∙ bound-elsewhere q n d R (B ++ H) later.binds (λ a z. omega (arith, a, u, inside)) ∙ bound-elsewhere m q d B H inside_block.binds (λ a z. omega (arith, a, u)) in
+        let each_top : Has k (suc k) all top = λ d l u.
+        each_H d l (omega (arith, u, above)) ∙ ap (λ z. object_bound z d) (bind_typed-append qs [] top) ∙ bound-elsewhere (suc k) m d (bind_typed qs []) top e.parameters_bind (λ a z. omega (arith, a, u)) in
+        let inner : Includes all (typed_by_ordinal e.inner) = subst (Includes all) (sym (bind_typed-append qs top env) ∙ sym e.opened)
+        (holds-grown all env H k m (omega (arith, above)) st (noted-binds k noted below) e.binds each_H) in
+        let following : Includes all (typed_by_ordinal e.own) = subst (Includes all) (sym e.headed)
+        (holds-grown all env top k (suc k) (omega arith) st (noted-binds k noted below) ((k, refl, le_refl k, le_refl (suc k)), tt) each_top) in
+        let same : qs ≡ qs' = some_inverse (sym f.typed ∙ typed) in
+        subst (λ ps. Q (bind_typed ps (heading (declared k) ps env)) × BlockHas Q (bind_typed ps (heading (declared k) ps env)) jb b' × ProceduresHave Q (heading (declared k) ps env) jr rest') same (
+          subst Q e.opened (so m e.inner e.below inner),
+          subst (λ z. z) (λ i. BlockHas Q (e.opened i) jb (relabel_block as_names (as_label as_names) (e.scoped i) m b))
+              (block-has (bind_names xs no_constant ((x, no_constant) ∷ known)) e.inner jb m e.knows e.below inner b inside_fits
+              (λ d l u. each d (omega (arith, l, above)) (omega (arith, u, last)) ∙ bound-elsewhere q n d R (B ++ H) later.binds (λ a z. omega (arith, a, u)) ∙ bound-first k m d B H e.binds (λ a z. omega (arith, l, z)))),
+          subst (λ z. z) (λ i. ProceduresHave Q (e.headed i) jr (relabel_procedures as_names (as_label as_names) (e.own_scope i) q rest))
+              (procedures-have ((x, no_constant) ∷ known) e.own jr q e.own_knows later_below following statements rest later_fits
+              (λ d l u. each d (omega (arith, l, inside, above)) u ∙ bound-first k q d R (B ++ H) one_binds (λ a z. omega (arith, l, z)))),
+        )
 
-last-body : (all env : TypeEnvironment Label) (j : ℕ) (statements : Tree Label (maybe body)) → Includes all env → All (λ (place : BodyAt Label). Includes all place.environment) (procedures_bodies as_labels env j statements end)
-unfolding block_bodies
-last-body all env j statements st = All-cons (λ (place : BodyAt Label). Includes all place.environment) (record { environment = env; statements = statements }) [] st (λ k d l. absurd (omega (arith, l)))
-
-mutual
-  block-holds : (known : Known) (noted : TypeNoted Name) (j k : ℕ) → Knows known noted → TypedBelow k noted → (all : TypeEnvironment Label) → Includes all (typed_by_ordinal noted) → (b : Tree Name block)
-      → block_fits as_labels (typed_by_ordinal noted) j (relabel_block as_names (as_label as_names) (typed_scope noted) k b) ≡ true
-      → Has k (after_block k b) all (block_bindings as_labels (typed_by_ordinal noted) j (relabel_block as_names (as_label as_names) (typed_scope noted) k b))
-      → All (λ (place : BodyAt Label). Includes all place.environment) (block_bodies as_labels (typed_by_ordinal noted) j (relabel_block as_names (as_label as_names) (typed_scope noted) k b))
-  block-holds known noted j k knows below all st (has_body (declares cs ts vs ps) statements) h has =
-      let b : Tree Name block = has_body (declares cs ts vs ps) statements in
-      let env : TypeEnvironment Label = typed_by_ordinal noted in
-      let b' : Tree Label block = relabel_block as_names (as_label as_names) (typed_scope noted) k b in
-      let kp : ℕ = first_procedure k b in
-      let jv : ℕ = after_variables j b' in
-      let n : ℕ = after_block k b in
-      let parts = block-parts env j b' h in
-      let o : Opened known noted k b parts.0 = block-opened known noted j k knows below b parts.0 parts.1 in
-      let names : List Name = named_types (section_types ts) ++ variable_names (section_variables vs) in
-      let known' : Known = bind_names names no_constant o.constants.known_after in
-      let fits = (λ i. procedures_fit as_labels (sym o.reads i) jv (block_statements b') (relabel_procedures as_names (as_label as_names) (o.scoped i) kp ps)) ∙ parts.2 in
-      let p = procedures-evaluate known' o.last jv kp (o.others.knows o.constants.known_after o.constants.knows) o.below (block_statements b') ps fits in
-      let P : TypeEnvironment Label = procedures_bindings as_labels (typed_by_ordinal o.last) jv (relabel_procedures as_names (as_label as_names) (typed_scope o.last) kp ps) in
-      let own : TypeEnvironment Label = o.others.bound ++ o.constants.bound in
-      let own_binds : Binds k kp own = opened-binds known noted k b parts.0 o in
-      let first : k ≤ kp = opened-above k b in
-      let last : kp ≤ n = le-after_procedures kp ps in
-      let listed : block_bindings as_labels env j b' ≡ P ++ own =
-      block-listed env j b' parts.0 parts.1
-      ∙ (λ i. procedures_bindings as_labels (o.reads i) jv (relabel_procedures as_names (as_label as_names) (sym o.scoped i) kp ps) ++ opened-since known noted k b parts.0 o i) in
-      let each : Has k n all (P ++ own) = λ d l m. has d l m ∙ ap (λ e. object_bound e d) listed in
-      let inner : Includes all (typed_by_ordinal o.last) = subst (Includes all) (sym (opened-grown known noted k b parts.0 o) ∙ o.reads)
-      (holds-grown all env own k kp first st (noted-binds k noted below) own_binds (λ d l m. each d l (omega (arith, m, last)) ∙ bound-elsewhere kp n d P own p.binds (λ a z. omega (arith, a, m)))) in
-      subst (All (λ (place : BodyAt Label). Includes all place.environment))
-      ((λ i. procedures_bodies as_labels (sym o.reads i) jv (block_statements b') (relabel_procedures as_names (as_label as_names) (o.scoped i) kp ps)) ∙ sym (block-bodied env j b' parts.0 parts.1))
-      (procedures-hold known' o.last jv kp (o.others.knows o.constants.known_after o.constants.knows) o.below all inner (block_statements b') ps fits
-      (λ d l m. each d (omega (arith, l, first)) m ∙ bound-first k kp d P own own_binds (λ a z. omega (arith, l, z))))
-
-  procedures-hold : (known : Known) (noted : TypeNoted Name) (j k : ℕ) → Knows known noted → TypedBelow k noted → (all : TypeEnvironment Label) → Includes all (typed_by_ordinal noted) → (statements : Tree Label (maybe body)) (ps : Tree Name (items procedure))
-      → procedures_fit as_labels (typed_by_ordinal noted) j statements (relabel_procedures as_names (as_label as_names) (typed_scope noted) k ps) ≡ true
-      → Has k (after_procedures k ps) all (procedures_bindings as_labels (typed_by_ordinal noted) j (relabel_procedures as_names (as_label as_names) (typed_scope noted) k ps))
-      → All (λ (place : BodyAt Label). Includes all place.environment) (procedures_bodies as_labels (typed_by_ordinal noted) j statements (relabel_procedures as_names (as_label as_names) (typed_scope noted) k ps))
-  procedures-hold known noted j k knows below all st statements end h has = last-body all (typed_by_ordinal noted) j statements st
-  procedures-hold known noted j k knows below all st statements (more (declares_procedure x fs b closing) rest) h has =
-      let scope : Scope Name = typed_scope noted in
-      let env : TypeEnvironment Label = typed_by_ordinal noted in
-      let xs : List Name = formal_names (formal_sections fs) in
-      let m : ℕ = after_names (suc k) xs in
-      let q : ℕ = after_procedure (suc k) (declares_procedure x fs b closing) in
-      let n : ℕ = after_procedures q rest in
-      let fs' : Tree Label (maybe formals) = relabel_formals as_names (as_label as_names) scope (suc k) fs in
-      let b' : Tree Label block = relabel_block as_names (as_label as_names) (declare_names (suc k) xs ((x, k) ∷ scope)) m b in
-      let rest' : Tree Label (items procedure) = relabel_procedures as_names (as_label as_names) ((x, k) ∷ scope) q rest in
-      let jb : ℕ = j + formals_constructors (formal_sections fs') in
-      let jr : ℕ = j + procedure_constructors (declares_procedure (declared k) fs' b' (declared k)) in
-      let f : FitParts env j statements (declared k) fs' b' (declared k) rest' = procedure-parts env j statements (declared k) fs' b' (declared k) rest' h in
-      let qs : List (TypedParameter Label) = f.listed in
-      let e : Entered known noted k x xs qs = procedure-entered known noted j k knows below x fs qs f.typed in
-      let inside_fits = (λ i. block_fits as_labels (e.opened i) jb (relabel_block as_names (as_label as_names) (e.scoped i) m b)) ∙ f.block_right in
-      let inside_block = block-evaluates (bind_names xs no_constant ((x, no_constant) ∷ known)) e.inner jb m e.knows e.below b inside_fits in
-      let later_below : TypedBelow q e.own = TypedBelow-weaken (suc k) q e.own (le-after_procedure (suc k) (declares_procedure x fs b closing)) e.own_below in
-      let later_fits = (λ i. procedures_fit as_labels (e.headed i) jr statements (relabel_procedures as_names (as_label as_names) (e.own_scope i) q rest)) ∙ f.rest_right in
-      let later = procedures-evaluate ((x, no_constant) ∷ known) e.own jr q e.own_knows later_below statements rest later_fits in
-      let B : TypeEnvironment Label = block_bindings as_labels (typed_by_ordinal e.inner) jb (relabel_block as_names (as_label as_names) (typed_scope e.inner) m b) in
-      let top : TypeEnvironment Label = heading (declared k) qs [] in
-      let H : TypeEnvironment Label = bind_typed qs top in
-      let R : TypeEnvironment Label = procedures_bindings as_labels (typed_by_ordinal e.own) jr (relabel_procedures as_names (as_label as_names) (typed_scope e.own) q rest) in
-      let above : suc k ≤ m = le-after_names (suc k) xs in
-      let inside : m ≤ q = le-after_block m b in
-      let last : q ≤ n = le-after_procedures q rest in
-      let one_binds : Binds k q (B ++ H) = binds-append k q B H (binds-wider m q k q B (omega (arith, above)) (le_refl q) inside_block.binds) (binds-wider k m k q H (le_refl k) inside e.binds) in
-      let listed : procedures_bindings as_labels env j (more (declares_procedure (declared k) fs' b' (declared k)) rest') ≡ R ++ (B ++ H) =
-      procedures-listed env j statements (declared k) fs' b' (declared k) rest' f
-      ∙ (λ i. procedures_bindings as_labels (sym e.headed i) jr (relabel_procedures as_names (as_label as_names) (sym e.own_scope i) q rest) ++ (block_bindings as_labels (sym e.opened i) jb (relabel_block as_names (as_label as_names) (sym e.scoped i) m b) ++ H)) in
-      let each : Has k n all (R ++ (B ++ H)) = λ d l u. has d l u ∙ ap (λ z. object_bound z d) listed in
-      let each_H : Has k m all H = λ d l u.
-      each d l (omega (arith, u, inside, last)) ∙ bound-elsewhere q n d R (B ++ H) later.binds (λ a z. omega (arith, a, u, inside)) ∙ bound-elsewhere m q d B H inside_block.binds (λ a z. omega (arith, a, u)) in
-      let each_top : Has k (suc k) all top = λ d l u.
-      each_H d l (omega (arith, u, above)) ∙ ap (λ z. object_bound z d) (bind_typed-append qs [] top) ∙ bound-elsewhere (suc k) m d (bind_typed qs []) top e.parameters_bind (λ a z. omega (arith, a, u)) in
-      let inner : Includes all (typed_by_ordinal e.inner) = subst (Includes all) (sym (bind_typed-append qs top env) ∙ sym e.opened)
-      (holds-grown all env H k m (omega (arith, above)) st (noted-binds k noted below) e.binds each_H) in
-      let following : Includes all (typed_by_ordinal e.own) = subst (Includes all) (sym e.headed)
-      (holds-grown all env top k (suc k) (omega arith) st (noted-binds k noted below) ((k, refl, le_refl k, le_refl (suc k)), tt) each_top) in
-      subst (All (λ (place : BodyAt Label). Includes all place.environment))
-      ((λ i. block_bodies as_labels (e.opened i) jb (relabel_block as_names (as_label as_names) (e.scoped i) m b) ++ procedures_bodies as_labels (e.headed i) jr statements (relabel_procedures as_names (as_label as_names) (e.own_scope i) q rest))
-      ∙ sym (procedures-bodied env j statements (declared k) fs' b' (declared k) rest' qs f.typed))
-      (All-append (λ (place : BodyAt Label). Includes all place.environment)
-      (block_bodies as_labels (typed_by_ordinal e.inner) jb (relabel_block as_names (as_label as_names) (typed_scope e.inner) m b))
-      (procedures_bodies as_labels (typed_by_ordinal e.own) jr statements (relabel_procedures as_names (as_label as_names) (typed_scope e.own) q rest))
-      (block-holds (bind_names xs no_constant ((x, no_constant) ∷ known)) e.inner jb m e.knows e.below all inner b inside_fits
-      (λ d l u. each d (omega (arith, l, above)) (omega (arith, u, last)) ∙ bound-elsewhere q n d R (B ++ H) later.binds (λ a z. omega (arith, a, u)) ∙ bound-first k m d B H e.binds (λ a z. omega (arith, l, z))))
-      (procedures-hold ((x, no_constant) ∷ known) e.own jr q e.own_knows later_below all following statements rest later_fits
-      (λ d l u. each d (omega (arith, l, inside, above)) u ∙ bound-first k q d R (B ++ H) one_binds (λ a z. omega (arith, l, z)))))
-
-pub names_are_declared-holds : NamesAreDeclared
+pub module-has : (Q : TypeEnvironment Label → Type 0) (m : Tree Name module_text)
+    → ((n : ℕ) (noted : TypeNoted Name) → TypedBelow n noted → Includes (module_bindings as_labels (numbered m)) (typed_by_ordinal noted) → Q (typed_by_ordinal noted))
+    → WellTyped m → BlockHas Q (outermost as_labels) 0 (module_block (numbered m))
 unfolding WellTyped fits_over all_known
-names_are_declared-holds (is_module x b closing) well =
+module-has Q (is_module x b closing) so well =
     let h : fits_over as_labels (numbered (is_module x b closing)) ≡ true = sym (fits_by_ordinal-holds (is_module x b closing)) ∙ well.1 in
     let noted : TypeNoted Name = typed_outermost as_names in
     let b' : Tree Label block = relabel_block as_names (as_label as_names) (typed_scope noted) 7 b in
     let B : TypeEnvironment Label = block_bindings as_labels (outermost as_labels) 0 b' in
     let w = block-evaluates (all_known noted) noted 0 7 (knows-all noted) predeclared-below b h in
-    block-holds (all_known noted) noted 0 7 (knows-all noted) predeclared-below (B ++ outermost as_labels)
+    block-has (B ++ outermost as_labels) Q so (all_known noted) noted 0 7 (knows-all noted) predeclared-below
     (λ d o e. first d o e (nat_lt d 7) refl w.binds) b h
     (λ d l m. bound-first 0 7 d B (outermost as_labels) outermost-binds (λ a z. omega (arith, l, z)))
   where
@@ -176,3 +167,39 @@ names_are_declared-holds (is_module x b closing) well =
         → object_bound (block_bindings as_labels (outermost as_labels) 0 (relabel_block as_names (as_label as_names) (typed_scope (typed_outermost as_names)) 7 b) ++ outermost as_labels) d ≡ Some o
     first d o e true t binds = bound-elsewhere 7 (after_block 7 b) d (block_bindings as_labels (outermost as_labels) 0 (relabel_block as_names (as_label as_names) (typed_scope (typed_outermost as_names)) 7 b)) (outermost as_labels) binds (λ a z. omega (arith, a, ltb-true d 7 t)) ∙ e
     first d o e false t binds = absurd (nothing o (sym (bound-none 0 7 d (outermost as_labels) outermost-binds (λ a z. omega (arith, z, ltb-false d 7 t))) ∙ e))
+
+-- so it holds where bodies are checked
+
+for_some-all : {A B : Type 0} (P : B → Type 0) (o : Option A) (list : A → List B) → ((a : A) → o ≡ Some a → All P (list a)) → All P (for_some o list)
+for_some-all P None list h = All-nil P
+for_some-all P (Some a) list h = h a refl
+
+module _ (Q : TypeEnvironment Label → Type 0) where
+  abbrev At : BodyAt Label → Type 0
+  At place = Q place.environment
+
+  mutual
+    unfolding block_bodies
+
+    block_bodies-have : (env : TypeEnvironment Label) (j : ℕ) (b : Tree Label block) → BlockHas Q env j b → All At (block_bodies as_labels env j b)
+    block_bodies-have env j (has_body (declares cs ts vs ps) statements) h =
+        let b : Tree Label block = has_body (declares cs ts vs ps) statements in
+        for_some-all At (declare_block as_labels env j b) (λ inner. procedures_bodies as_labels inner (after_variables j b) statements ps)
+        (λ inner e. procedures_bodies-have inner (after_variables j b) statements ps (h inner e).1)
+
+    procedures_bodies-have : (env : TypeEnvironment Label) (j : ℕ) (statements : Tree Label (maybe body)) (ps : Tree Label (items procedure)) → ProceduresHave Q env j ps → All At (procedures_bodies as_labels env j statements ps)
+    procedures_bodies-have env j statements end h = All-cons At (record { environment = env; statements = statements }) [] h (All-nil At)
+    procedures_bodies-have env j statements (more p rest) h =
+        for_some-all At (typed_parameters as_labels env j (procedure_formals p))
+        (λ ps. procedure_bodies as_labels (bind_typed ps (heading (procedure_name p) ps env)) j p ++ procedures_bodies as_labels (heading (procedure_name p) ps env) (j + procedure_constructors p) statements rest)
+        (λ ps e. All-append At (procedure_bodies as_labels (bind_typed ps (heading (procedure_name p) ps env)) j p) (procedures_bodies as_labels (heading (procedure_name p) ps env) (j + procedure_constructors p) statements rest)
+        (procedure_bodies-have (bind_typed ps (heading (procedure_name p) ps env)) j p (h ps e).1)
+        (procedures_bodies-have (heading (procedure_name p) ps env) (j + procedure_constructors p) statements rest (h ps e).2))
+
+    procedure_bodies-have : (env : TypeEnvironment Label) (j : ℕ) (p : Tree Label (item procedure)) → ProcedureHas Q env j p → All At (procedure_bodies as_labels env j p)
+    procedure_bodies-have env j (declares_procedure x fs b closing) h = block_bodies-have env (j + formals_constructors (formal_sections fs)) b h
+
+pub names_are_declared-holds : NamesAreDeclared
+names_are_declared-holds m well =
+    block_bodies-have (Includes (module_bindings as_labels (numbered m))) (outermost as_labels) 0 (module_block (numbered m))
+    (module-has (Includes (module_bindings as_labels (numbered m))) m (λ n noted below st. st) well)

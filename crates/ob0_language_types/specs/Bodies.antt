@@ -2,7 +2,7 @@
 -- Rule: docs/LANGUAGE.md, Scopes 2.
 use Rattle.std.specs.Prelude.{◌≡◌, ℕ, ◌+◌, List, [], ◌∷◌, ◌++◌, Some, All}
 use Rattle.ob0_tree.specs.Tree.{Tree, block, body, declares, declares_procedure, end, has_body, item, items, maybe, module_text, more, procedure}
-use Rattle.ob0_language_names.specs.Names.{Name, Naming, as_labels}
+use Rattle.ob0_language_names.specs.Names.{Label, Name, Naming, as_labels}
 use Rattle.ob0_language_names.specs.Parts.{formal_sections, module_block, procedure_formals, procedure_name}
 use Rattle.ob0_language_names.specs.Scopes.{numbered}
 use Rattle.ob0_language_types.specs.Bindings.{declared_object, for_some, object_bound}
@@ -10,7 +10,7 @@ use Rattle.ob0_language_types.specs.Declaring.{declare_block}
 use Rattle.ob0_language_types.specs.Declarations.{after_variables, formals_constructors, procedure_constructors}
 use Rattle.ob0_language_types.specs.Environments.{outermost}
 use Rattle.ob0_language_types.specs.Expressions.{Object}
-use Rattle.ob0_language_types.specs.WellTyped.{Signature, TypeEnvironment, WellTyped, bind_typed, heading, typed_parameters}
+use Rattle.ob0_language_types.specs.WellTyped.{Signature, TypeEnvironment, TypedParameter, WellTyped, bind_typed, heading, typed_parameters}
 use Rattle.ob0_language_values.specs.Values.{Shape}
 
 -- what is checked, and the environment there
@@ -63,6 +63,44 @@ unfoldable mutual
 -- the bodies of a module, each with its environment
 abbrev pub module_bodies : {N : Type 0} → Naming N → Tree N module_text → List (BodyAt N)
 module_bodies naming m = block_bodies naming (outermost naming) 0 (module_block m)
+
+-- a property of the environments in which the procedures and the statements of a block are checked,
+-- and those of the blocks in it
+abbrev mutual
+  -- after a block's constants, types and variables, and in its procedures
+  pub BlockHas : (TypeEnvironment Label → Type 0)
+      → TypeEnvironment Label
+      → ℕ
+      → Tree Label block
+      → Type 0
+  BlockHas Q env k (has_body (declares cs ts vs ps) statements) =
+      (inner : TypeEnvironment Label)
+      → declare_block as_labels env k (has_body (declares cs ts vs ps) statements) ≡ Some inner
+      → Q inner
+      × ProceduresHave Q inner (after_variables k (has_body (declares cs ts vs ps) statements)) ps
+
+  -- in each procedure, with its parameters, its name and what was bound before it, and after all
+  pub ProceduresHave : (TypeEnvironment Label → Type 0)
+      → TypeEnvironment Label
+      → ℕ
+      → Tree Label (items procedure)
+      → Type 0
+  ProceduresHave Q env k end = Q env
+  ProceduresHave Q env k (more p rest) =
+      (ps : List (TypedParameter Label))
+      → typed_parameters as_labels env k (procedure_formals p) ≡ Some ps
+      → Q (bind_typed ps (heading (procedure_name p) ps env))
+      × ProcedureHas Q (bind_typed ps (heading (procedure_name p) ps env)) k p
+      × ProceduresHave Q (heading (procedure_name p) ps env) (k + procedure_constructors p) rest
+
+  -- in the block of a procedure
+  pub ProcedureHas : (TypeEnvironment Label → Type 0)
+      → TypeEnvironment Label
+      → ℕ
+      → Tree Label (item procedure)
+      → Type 0
+  ProcedureHas Q env k (declares_procedure x fs b closing) =
+      BlockHas Q env (k + formals_constructors (formal_sections fs)) b
 
 -- in a well-typed module, what a name is bound to where statements are checked is what its
 -- declaration is

@@ -5,6 +5,7 @@ use Rattle.std.proofs.Math.Seq.{take-append-add}
 use Rattle.std.proofs.lemmas.Bool.Decides.{nat_tests}
 use Rattle.std.proofs.lemmas.List.{map-append}
 use Rattle.std.specs.Prelude.{nat_lt, if◌then◌else◌, ◌==◌}
+use Rattle.std.proofs.Math.Bool.{or-false}
 use Rattle.ob0_text.proofs.StableSort.{first_same}
 use Rattle.ob0_text.specs.declared.edits.Indent.{Indent}
 use Rattle.ob0_text.specs.declared.edits.Indent.TheVariants as indent_by
@@ -42,15 +43,10 @@ or_assoc : (a b c : Bool) → ((a || b) || c) ≡ (a || (b || c))
 or_assoc true b c = refl
 or_assoc false b c = refl
 
-or_false : (a : Bool) → (a || false) ≡ a
-or_false true = refl
-or_false false = refl
-
 first_token_kind : (k : LexemeKind) (at size : ℕ) (ls : List Lexeme) (t : Token) (ts : List Token) → (tokens_from (at + size) ls ≡ t ∷ ts → at + size ≤ t.span.start)
     → token_at k (span_from at size) ++ tokens_from (at + size) ls ≡ t ∷ ts → at ≤ t.span.start
-first_token_kind lexeme.Space at size ls t ts more e = omega (arith, more e)
-first_token_kind lexeme.Comment at size ls t ts more e = omega (arith, more e)
 first_token_kind (lexeme.Token k) at size ls t ts more e = let same : record { kind = k; span = span_from at size } ≡ t = first_same e in omega (arith, ap (λ (x : Token). x.span.start) same)
+first_token_kind _ at size ls t ts more e = omega (arith, more e)
 
 -- tokens and comments from a place on begin there or later
 first_token : (at : ℕ) (ls : List Lexeme) (t : Token) (ts : List Token) → tokens_from at ls ≡ t ∷ ts → at ≤ t.span.start
@@ -59,9 +55,8 @@ first_token at (l ∷ ls) t ts e = first_token_kind l.kind at (length l.text) ls
 
 first_comment_kind : (k : LexemeKind) (at size : ℕ) (ls : List Lexeme) (c : Span) (cs : List Span) → (comments_from (at + size) ls ≡ c ∷ cs → at + size ≤ c.start)
     → comment_at k (span_from at size) ++ comments_from (at + size) ls ≡ c ∷ cs → at ≤ c.start
-first_comment_kind lexeme.Space at size ls c cs more e = omega (arith, more e)
-first_comment_kind (lexeme.Token k) at size ls c cs more e = omega (arith, more e)
 first_comment_kind lexeme.Comment at size ls c cs more e = let same : span_from at size ≡ c = first_same e in omega (arith, ap (λ (x : Span). x.start) same)
+first_comment_kind _ at size ls c cs more e = omega (arith, more e)
 
 first_comment : (at : ℕ) (ls : List Lexeme) (c : Span) (cs : List Span) → comments_from at ls ≡ c ∷ cs → at ≤ c.start
 first_comment at [] c cs e = absurd (cc)
@@ -154,7 +149,7 @@ module _ (text : List ℕ) where
         lexemes_from = s;
         tokens = refl;
         comments = refl;
-        found = λ level broken ss. ap (λ b. placed at level b ss (record { kind = k; text = t } ∷ ls)) (sym (ap (λ g. broken || has_break g) nothing ∙ or_false broken));
+        found = λ level broken ss. ap (λ b. placed at level b ss (record { kind = k; text = t } ∷ ls)) (sym (ap (λ g. broken || has_break g) nothing ∙ or-false broken));
       }
 
   over_kind : (k : LexemeKind) (at : ℕ) (t : List ℕ) (ls : List Lexeme) → LexemesFrom text at (record { kind = k; text = t } ∷ ls) []

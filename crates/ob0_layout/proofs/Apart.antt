@@ -45,42 +45,22 @@ record Quiet (x : ℕ) : Type 0 where
   starless : (x == 42) ≡ false
 
 quiet_joins : (s : Symbol) (x : ℕ) → Quiet x → joins s x ≡ false
-quiet_joins symbol.And x q = refl
-quiet_joins symbol.Times x q = refl
-quiet_joins symbol.Plus x q = refl
-quiet_joins symbol.Minus x q = refl
-quiet_joins symbol.Equal x q = refl
-quiet_joins symbol.NotEqual x q = refl
 quiet_joins symbol.Less x q = q.unequal
-quiet_joins symbol.LessEqual x q = refl
 quiet_joins symbol.Greater x q = q.unequal
-quiet_joins symbol.GreaterEqual x q = refl
-quiet_joins symbol.Not x q = refl
-quiet_joins symbol.Dot x q = refl
-quiet_joins symbol.Comma x q = refl
-quiet_joins symbol.Semicolon x q = refl
 quiet_joins symbol.Colon x q = q.unequal
-quiet_joins symbol.Becomes x q = refl
 quiet_joins symbol.LeftParen x q = q.starless
-quiet_joins symbol.RightParen x q = refl
-quiet_joins symbol.LeftBracket x q = refl
-quiet_joins symbol.RightBracket x q = refl
+quiet_joins _ x q = refl
 
 quiet_ends : (k : LexemeKind) (x : ℕ) → IsSolid k → Quiet x → continues k x ≡ false
 quiet_ends lexeme.Space x solid q = absurd solid
 quiet_ends lexeme.Comment x solid q = refl
-quiet_ends (lexeme.Token token.Identifier) x solid q = q.alone
-quiet_ends (lexeme.Token (token.Reserved r)) x solid q = q.alone
-quiet_ends (lexeme.Token (token.Integer n)) x solid q = q.alone
 quiet_ends (lexeme.Token (token.Symbol s)) x solid q = quiet_joins s x q
+quiet_ends _ x solid q = q.alone
 
 not_blank : (k : LexemeKind) → IsSolid k → Blank ≡ family_of k → ⊥
 not_blank lexeme.Space solid e = solid
-not_blank lexeme.Comment solid e = cc
 not_blank (lexeme.Token token.Identifier) solid e = cc
-not_blank (lexeme.Token (token.Reserved r)) solid e = cc
-not_blank (lexeme.Token (token.Integer n)) solid e = cc
-not_blank (lexeme.Token (token.Symbol s)) solid e = cc
+not_blank _ solid e = cc
 
 -- its first byte is no white space
 pub solid_first : (k : LexemeKind) (text : List ℕ) → IsSolid k → Belongs k text → is_space (get_or text 0 0) ≡ false
@@ -91,94 +71,42 @@ differ e = cc
 
 -- what follows directly goes on with nothing
 quiet_symbol : (s : Symbol) (role : LineRole) → follows_directly (lexeme.Token (token.Symbol s)) role ≡ true → Quiet (get_or (symbol_text s) 0 0)
-quiet_symbol symbol.And role h = absurd (differ h)
-quiet_symbol symbol.Times role h = absurd (differ h)
-quiet_symbol symbol.Plus role h = absurd (differ h)
-quiet_symbol symbol.Minus role h = absurd (differ h)
-quiet_symbol symbol.Equal role h = absurd (differ h)
-quiet_symbol symbol.NotEqual role h = absurd (differ h)
-quiet_symbol symbol.Less role h = absurd (differ h)
-quiet_symbol symbol.LessEqual role h = absurd (differ h)
-quiet_symbol symbol.Greater role h = absurd (differ h)
-quiet_symbol symbol.GreaterEqual role h = absurd (differ h)
-quiet_symbol symbol.Not role h = absurd (differ h)
 quiet_symbol symbol.Dot role h = record { alone = refl; unequal = refl; starless = refl }
 quiet_symbol symbol.Comma role h = record { alone = refl; unequal = refl; starless = refl }
 quiet_symbol symbol.Semicolon role h = record { alone = refl; unequal = refl; starless = refl }
 quiet_symbol symbol.Colon role h = record { alone = refl; unequal = refl; starless = refl }
-quiet_symbol symbol.Becomes role h = absurd (differ h)
 quiet_symbol symbol.LeftParen role h = record { alone = refl; unequal = refl; starless = refl }
 quiet_symbol symbol.RightParen role h = record { alone = refl; unequal = refl; starless = refl }
 quiet_symbol symbol.LeftBracket role h = record { alone = refl; unequal = refl; starless = refl }
 quiet_symbol symbol.RightBracket role h = record { alone = refl; unequal = refl; starless = refl }
+quiet_symbol _ role h = absurd (differ h)
 
 quiet_first : (k : LexemeKind) (text : List ℕ) (role : LineRole) → Belongs k text → follows_directly k role ≡ true → Quiet (get_or text 0 0)
-quiet_first lexeme.Space text role b h = absurd (differ h)
-quiet_first lexeme.Comment text role b h = absurd (differ h)
-quiet_first (lexeme.Token token.Identifier) text role b h = absurd (differ h)
-quiet_first (lexeme.Token (token.Reserved r)) text role b h = absurd (differ h)
-quiet_first (lexeme.Token (token.Integer n)) text role b h = absurd (differ h)
 quiet_first (lexeme.Token (token.Symbol s)) text role b h = subst (λ t. Quiet (get_or t 0 0)) (sym b) (quiet_symbol s role h)
+quiet_first _ text role b h = absurd (differ h)
 
 -- what follows directly is continued at most by a `*` after a `(`
 abbrev left_paren : LexemeKind
 left_paren = lexeme.Token (token.Symbol symbol.LeftParen)
 
 direct_symbol : (s : Symbol) (role : LineRole) (x : ℕ) → precedes_directly (lexeme.Token (token.Symbol s)) role ≡ true → (lexeme.Token (token.Symbol s) ≡ left_paren → (x == 42) ≡ false) → joins s x ≡ false
-direct_symbol symbol.And role x h star = refl
-direct_symbol symbol.Times role x h star = refl
-direct_symbol symbol.Plus role x h star = refl
-direct_symbol symbol.Minus role x h star = refl
-direct_symbol symbol.Equal role x h star = refl
-direct_symbol symbol.NotEqual role x h star = refl
 direct_symbol symbol.Less role x h star = absurd (differ h)
-direct_symbol symbol.LessEqual role x h star = refl
 direct_symbol symbol.Greater role x h star = absurd (differ h)
-direct_symbol symbol.GreaterEqual role x h star = refl
-direct_symbol symbol.Not role x h star = refl
-direct_symbol symbol.Dot role x h star = refl
-direct_symbol symbol.Comma role x h star = refl
-direct_symbol symbol.Semicolon role x h star = refl
 direct_symbol symbol.Colon role x h star = absurd (differ h)
-direct_symbol symbol.Becomes role x h star = refl
 direct_symbol symbol.LeftParen role x h star = star refl
-direct_symbol symbol.RightParen role x h star = refl
-direct_symbol symbol.LeftBracket role x h star = refl
-direct_symbol symbol.RightBracket role x h star = refl
+direct_symbol _ role x h star = refl
 
 direct_ends : (k : LexemeKind) (role : LineRole) (x : ℕ) → precedes_directly k role ≡ true → (k ≡ left_paren → (x == 42) ≡ false) → continues k x ≡ false
-direct_ends lexeme.Space role x h star = absurd (differ h)
-direct_ends lexeme.Comment role x h star = absurd (differ h)
-direct_ends (lexeme.Token token.Identifier) role x h star = absurd (differ h)
-direct_ends (lexeme.Token (token.Reserved r)) role x h star = absurd (differ h)
-direct_ends (lexeme.Token (token.Integer n)) role x h star = absurd (differ h)
 direct_ends (lexeme.Token (token.Symbol s)) role x h star = direct_symbol s role x h star
+direct_ends _ role x h star = absurd (differ h)
 
 -- only the token `*` begins with `*`
 other_family : (text : List ℕ) (f : Family) → family (get_or text 0 0) ≡ f → (families.Mark ≡ f → ⊥) → (get_or text 0 0 == 42) ≡ false
 other_family text f e other = false_from_ne_true (get_or text 0 0 == 42) (λ h. other (sym (ap family (eqb-true (get_or text 0 0) 42 h)) ∙ e))
 
 symbol_first : (s : Symbol) → is_star {N = List ℕ} (spelled_as.Mark (token.Symbol s)) ≡ false → (get_or (symbol_text s) 0 0 == 42) ≡ false
-symbol_first symbol.And h = refl
 symbol_first symbol.Times h = absurd (differ (sym h))
-symbol_first symbol.Plus h = refl
-symbol_first symbol.Minus h = refl
-symbol_first symbol.Equal h = refl
-symbol_first symbol.NotEqual h = refl
-symbol_first symbol.Less h = refl
-symbol_first symbol.LessEqual h = refl
-symbol_first symbol.Greater h = refl
-symbol_first symbol.GreaterEqual h = refl
-symbol_first symbol.Not h = refl
-symbol_first symbol.Dot h = refl
-symbol_first symbol.Comma h = refl
-symbol_first symbol.Semicolon h = refl
-symbol_first symbol.Colon h = refl
-symbol_first symbol.Becomes h = refl
-symbol_first symbol.LeftParen h = refl
-symbol_first symbol.RightParen h = refl
-symbol_first symbol.LeftBracket h = refl
-symbol_first symbol.RightBracket h = refl
+symbol_first _ h = refl
 
 token_first : (k : TokenKind) (text : List ℕ) → Belongs (lexeme.Token k) text → is_star (kind_lexeme text k) ≡ false → (get_or text 0 0 == 42) ≡ false
 token_first token.Identifier text b h = other_family text Letter (head_family (lexeme.Token token.Identifier) text b) (λ e. cc)
@@ -226,9 +154,8 @@ joined_fits a b n uncommented h = directly (⊎_elim
 in_line_fits : (indent : Indent) (a b : PlacedLexeme) → Neighbours a b → (c d : Bool) → (is_comment a.lexeme.kind || is_comment b.lexeme.kind) ≡ c
     → (follows_directly b.lexeme.kind b.role || precedes_directly a.lexeme.kind a.role) ≡ d
     → Fits a.lexeme.kind (get_or b.lexeme.text 0 0) (gap_text indent (cond c Space (cond d Nothing Space)))
-in_line_fits indent a b n true d e f = space_fits a.lexeme.kind (get_or b.lexeme.text 0 0)
 in_line_fits indent a b n false true e f = joined_fits a b n (both_false (is_comment a.lexeme.kind) (is_comment b.lexeme.kind) e) f
-in_line_fits indent a b n false false e f = space_fits a.lexeme.kind (get_or b.lexeme.text 0 0)
+in_line_fits indent a b n _ _ e f = space_fits a.lexeme.kind (get_or b.lexeme.text 0 0)
 
 gap_in_line_fits : (indent : Indent) (a b : PlacedLexeme) → Neighbours a b
     → Fits a.lexeme.kind (get_or b.lexeme.text 0 0) (gap_text indent (gap_in_line a.lexeme.kind a.role b.lexeme.kind b.role))

@@ -1,10 +1,9 @@
 -- No token or comment ends with CR.
-use Rattle.std.proofs.Common.{◌≡◌, ℕ, zero, suc, ◌+◌, ◌-◌, ◌<◌, Bool, true, false, List, [], ◌∷◌, length, get_or, take, refl, sym, ap, ◌∙◌, subst, arith, inl, inr, eqb-true, count_by, cond, ◌==◌}
+use Rattle.std.proofs.Common.{◌≡◌, ℕ, zero, suc, ◌-◌, ◌<◌, Bool, true, false, List, [], ◌∷◌, length, get_or, take, refl, sym, ap, ◌∙◌, subst, arith, inl, inr, eqb-true, ◌==◌}
 use Rattle.std.specs.List.{AllPass}
 use Rattle.std.specs.Char.{is_ascii_alphanumeric, is_ascii_digit}
-use Rattle.std.proofs.lemmas.Bool.{cond-true, cond-false, cases_Bool, and_parts}
+use Rattle.std.proofs.lemmas.Bool.{cases_Bool, and_parts}
 use Rattle.std.proofs.lemmas.List.Elements.{All-get_or}
-use Rattle.std.proofs.lemmas.List.Sums.{sum_by-cons}
 use Rattle.ob0_scan.specs.declared.lexeme.Reserved.{Reserved}
 use Rattle.ob0_scan.specs.declared.lexeme.Reserved.TheVariants as reserved
 use Rattle.ob0_scan.specs.declared.lexeme.Symbol.{Symbol}
@@ -13,8 +12,8 @@ use Rattle.ob0_scan.specs.declared.lexeme.TokenKind.TheVariants as token
 use Rattle.ob0_scan.specs.declared.lexeme.LexemeKind.{LexemeKind}
 use Rattle.ob0_scan.specs.declared.lexeme.LexemeKind.TheVariants as lexeme
 use Rattle.ob0_scan.specs.Classes.{Belongs, reserved_text, symbol_text}
-use Rattle.ob0_scan.specs.Comments.{Mark, Opens, Closes, Other, opens, closes, is_opening_pair, is_closing_pair, marks, IsComment}
-use Rattle.ob0_scan.proofs.Closings.{Ends, ends_from_comment}
+use Rattle.ob0_scan.specs.Comments.{Closes, is_opening_pair, is_closing_pair, marks, IsComment}
+use Rattle.ob0_scan.proofs.Closings.{Ends, ends_from_comment, counts_other, after_opens, after_closes, after_other, marks_opening, marks_closing, marks_other}
 use Rattle.ob0_scan.proofs.Cuts.{nonempty}
 use Rattle.ob0_layout.proofs.Apart.{IsSolid}
 
@@ -37,86 +36,16 @@ over_some a b (c ∷ v) e = e
 
 symbol_last : (s : Symbol) → last_byte (symbol_text s) ≡ 13 → ⊥
 symbol_last symbol.And e = omega (arith, e)
-symbol_last symbol.Times e = omega (arith, e)
-symbol_last symbol.Plus e = omega (arith, e)
-symbol_last symbol.Minus e = omega (arith, e)
-symbol_last symbol.Equal e = omega (arith, e)
-symbol_last symbol.NotEqual e = omega (arith, e)
-symbol_last symbol.Less e = omega (arith, e)
-symbol_last symbol.LessEqual e = omega (arith, e)
-symbol_last symbol.Greater e = omega (arith, e)
-symbol_last symbol.GreaterEqual e = omega (arith, e)
-symbol_last symbol.Not e = omega (arith, e)
-symbol_last symbol.Dot e = omega (arith, e)
-symbol_last symbol.Comma e = omega (arith, e)
-symbol_last symbol.Semicolon e = omega (arith, e)
-symbol_last symbol.Colon e = omega (arith, e)
-symbol_last symbol.Becomes e = omega (arith, e)
-symbol_last symbol.LeftParen e = omega (arith, e)
-symbol_last symbol.RightParen e = omega (arith, e)
-symbol_last symbol.LeftBracket e = omega (arith, e)
-symbol_last symbol.RightBracket e = omega (arith, e)
+symbol_last _ e = omega (arith, e)
 
 reserved_last : (r : Reserved) → last_byte (reserved_text r) ≡ 13 → ⊥
 reserved_last reserved.Module e = omega (arith, e)
-reserved_last reserved.Begin e = omega (arith, e)
-reserved_last reserved.End e = omega (arith, e)
-reserved_last reserved.Const e = omega (arith, e)
-reserved_last reserved.Type e = omega (arith, e)
-reserved_last reserved.Var e = omega (arith, e)
-reserved_last reserved.Procedure e = omega (arith, e)
-reserved_last reserved.If e = omega (arith, e)
-reserved_last reserved.Then e = omega (arith, e)
-reserved_last reserved.Elsif e = omega (arith, e)
-reserved_last reserved.Else e = omega (arith, e)
-reserved_last reserved.While e = omega (arith, e)
-reserved_last reserved.Do e = omega (arith, e)
-reserved_last reserved.Array e = omega (arith, e)
-reserved_last reserved.Of e = omega (arith, e)
-reserved_last reserved.Record e = omega (arith, e)
-reserved_last reserved.Div e = omega (arith, e)
-reserved_last reserved.Mod e = omega (arith, e)
-reserved_last reserved.Or e = omega (arith, e)
-reserved_last reserved.Repeat e = omega (arith, e)
-reserved_last reserved.Until e = omega (arith, e)
+reserved_last _ e = omega (arith, e)
 
 passing_last : (passes : ℕ → Bool) (t : List ℕ) → 0 < length t → AllPass passes t → passes 13 ≡ false → last_byte t ≡ 13 → ⊥
 passing_last passes t some all none e =
     let here : passes (last_byte t) ≡ true = sym (ap passes (last_at t)) ∙ All-get_or (λ x. passes x ≡ true) t (length t - 1) 0 (omega arith) all in
     let never : false ≡ true = sym none ∙ ap passes (sym e) ∙ here in cc
-
-count_first : (p : Mark → Bool) (m : Mark) (ms : List Mark) → count_by p (m ∷ ms) ≡ cond (p m) 1 0 + count_by p ms
-count_first p m ms = sum_by-cons (λ x. cond (p x) 1 0) m ms
-
-counts_opens : (ms : List Mark) → (count_by opens (Opens ∷ ms) ≡ 1 + count_by opens ms) × (count_by closes (Opens ∷ ms) ≡ 0 + count_by closes ms)
-counts_opens ms = (count_first opens Opens ms, count_first closes Opens ms)
-
-counts_closes : (ms : List Mark) → (count_by opens (Closes ∷ ms) ≡ 0 + count_by opens ms) × (count_by closes (Closes ∷ ms) ≡ 1 + count_by closes ms)
-counts_closes ms = (count_first opens Closes ms, count_first closes Closes ms)
-
-counts_other : (ms : List Mark) → (count_by opens (Other ∷ ms) ≡ 0 + count_by opens ms) × (count_by closes (Other ∷ ms) ≡ 0 + count_by closes ms)
-counts_other ms = (count_first opens Other ms, count_first closes Other ms)
-
-after_opens : (depth : ℕ) (ms : List Mark) → Ends depth (Opens ∷ ms) → Ends (suc depth) ms
-after_opens depth ms h = record { balanced = omega (arith, h.balanced, counts_opens ms); open_before = λ n less. omega (arith, h.open_before (suc n) (omega arith), counts_opens (take n ms)) }
-
-after_closes : (depth : ℕ) (ms : List Mark) → Ends (suc depth) (Closes ∷ ms) → Ends depth ms
-after_closes depth ms h = record { balanced = omega (arith, h.balanced, counts_closes ms); open_before = λ n less. omega (arith, h.open_before (suc n) (omega arith), counts_closes (take n ms)) }
-
-after_other : (depth : ℕ) (ms : List Mark) → Ends depth (Other ∷ ms) → Ends depth ms
-after_other depth ms h = record { balanced = omega (arith, h.balanced, counts_other ms); open_before = λ n less. omega (arith, h.open_before (suc n) (omega arith), counts_other (take n ms)) }
-
-marks_opening : (a b : ℕ) (w : List ℕ) → is_opening_pair a b ≡ true → marks (a ∷ b ∷ w) ≡ Opens ∷ marks w
-unfolding marks
-marks_opening a b w h = cond-true (is_opening_pair a b) _ _ h
-
-marks_closing : (a b : ℕ) (w : List ℕ) → is_opening_pair a b ≡ false → is_closing_pair a b ≡ true → marks (a ∷ b ∷ w) ≡ Closes ∷ marks w
-unfolding marks
-marks_closing a b w h g = cond-false (is_opening_pair a b) _ _ h ∙ cond-true (is_closing_pair a b) _ _ g
-
-marks_other : (a b : ℕ) (w : List ℕ) → is_opening_pair a b ≡ false → is_closing_pair a b ≡ false → marks (a ∷ b ∷ w) ≡ Other ∷ marks (b ∷ w)
-unfolding marks
-marks_other a b w h g = cond-false (is_opening_pair a b) _ _ h ∙ cond-false (is_closing_pair a b) _ _ g
 
 marks_some : (c : ℕ) (v : List ℕ) → 0 < length (marks (c ∷ v))
 unfolding marks

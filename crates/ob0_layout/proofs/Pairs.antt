@@ -11,7 +11,7 @@ use Rattle.ob0_tree.specs.declared.tree.MultiplyOperator.{MultiplyOperator}
 use Rattle.ob0_tree.specs.declared.tree.MultiplyOperator.TheVariants as multiply_operator
 use Rattle.ob0_scan.specs.declared.lexeme.TokenKind.TheVariants as kind
 use Rattle.ob0_tree.specs.Lexeme.{Terminal, Mark, relation_mark, sign_marks, add_mark, multiply_mark}
-use Rattle.ob0_tree.specs.Tree.{Sort, Tree, expression, simple, term, factor, section, names, spell, none, one, end, more, compares, relates, sum, adds, product, multiplies, designator, integer, parenthesised, negation, field, index, empty, assigns, calls, branches, while_loop, repeat_loop, no_arguments, some_arguments, then_argument, runs, then_statement, elsif_branch, else_branch, listed, then_name, named_type, array_type, record_type, no_fields, some_fields, then_fields, no_formals, some_formals, value_section, variable_section, then_section, declares_constant, declares_constants, declares_type, declares_types, declares_variable, declares_variables, declares_procedure, declares, begins, has_body, is_module}
+use Rattle.ob0_tree.specs.Tree.{Sort, Tree, expression, simple, term, factor, section, names, spell, one, more, compares, relates, sum, adds, product, multiplies, designator, integer, parenthesised, negation, field, index, assigns, calls, branches, while_loop, repeat_loop, no_arguments, some_arguments, then_argument, runs, then_statement, elsif_branch, else_branch, listed, then_name, named_type, array_type, record_type, some_fields, then_fields, no_formals, some_formals, value_section, variable_section, then_section, declares_constant, declares_constants, declares_type, declares_types, declares_variable, declares_variables, declares_procedure, declares, begins, has_body, is_module}
 
 abbrev pub is_paren : {N : Type 0} → Terminal N → Bool
 is_paren (Mark (kind.Symbol symbol.LeftParen)) = true
@@ -50,9 +50,7 @@ calm_open x s p = subst (λ xs. Calm (x ∷ xs)) (sym s.split) (calm_paren s.sta
 
 factor_starts : {N : Type 0} (t : Tree N factor) → Starts (spell t)
 factor_starts (designator name selectors) = starts_with _ _ refl
-factor_starts (integer n) = starts_with _ _ refl
-factor_starts (parenthesised e) = starts_with _ _ refl
-factor_starts (negation f) = starts_with _ _ refl
+factor_starts _ = starts_with _ _ refl
 
 term_starts : {N : Type 0} (t : Tree N term) → Starts (spell t)
 term_starts (product first factors) = starts_append _ (factor_starts first)
@@ -79,27 +77,18 @@ calm_sign N (Some sign.Minus) = calm_next refl calm_end
 
 no_paren_relation : (N : Type 0) (o : Relation) → is_paren {N = N} (Mark (relation_mark o)) ≡ false
 no_paren_relation N relation.Equal = refl
-no_paren_relation N relation.NotEqual = refl
-no_paren_relation N relation.Less = refl
-no_paren_relation N relation.LessEqual = refl
-no_paren_relation N relation.Greater = refl
-no_paren_relation N relation.GreaterEqual = refl
+no_paren_relation N _ = refl
 
 no_paren_add : (N : Type 0) (o : AddOperator) → is_paren {N = N} (Mark (add_mark o)) ≡ false
 no_paren_add N add_operator.Add = refl
-no_paren_add N add_operator.Subtract = refl
-no_paren_add N add_operator.Or = refl
+no_paren_add N _ = refl
 
 no_paren_multiply : (N : Type 0) (o : MultiplyOperator) → is_paren {N = N} (Mark (multiply_mark o)) ≡ false
 no_paren_multiply N multiply_operator.Multiply = refl
-no_paren_multiply N multiply_operator.Divide = refl
-no_paren_multiply N multiply_operator.Modulo = refl
-no_paren_multiply N multiply_operator.And = refl
+no_paren_multiply N _ = refl
 
 pub calm_spelled : {N : Type 0} {s : Sort} (t : Tree N s) → Calm (spell t)
-calm_spelled none = calm_end
 calm_spelled (one t) = calm_spelled t
-calm_spelled end = calm_end
 calm_spelled (more t ts) = calm_append (calm_spelled t) (calm_spelled ts)
 calm_spelled (compares left compared) = calm_append (calm_spelled left) (calm_spelled compared)
 calm_spelled {N = N} (relates relation right) = calm_next (no_paren_relation N relation) (calm_spelled right)
@@ -113,7 +102,6 @@ calm_spelled (parenthesised e) = calm_open _ (starts_append _ (expression_starts
 calm_spelled (negation f) = calm_next refl (calm_spelled f)
 calm_spelled (field name) = calm_next refl (calm_next refl calm_end)
 calm_spelled (index e) = calm_next refl (calm_append (calm_spelled e) (calm_next refl calm_end))
-calm_spelled empty = calm_end
 calm_spelled (assigns name selectors e) = calm_next refl (calm_append (calm_spelled selectors) (calm_next refl (calm_spelled e)))
 calm_spelled (calls name args) = calm_next refl (calm_spelled args)
 calm_spelled (branches condition s elsifs rest) = calm_next refl (calm_append (calm_spelled condition) (calm_next refl (calm_append (calm_spelled s) (calm_append (calm_spelled elsifs) (calm_append (calm_spelled rest) (calm_next refl calm_end))))))
@@ -131,7 +119,6 @@ calm_spelled (then_name name) = calm_next refl (calm_next refl calm_end)
 calm_spelled (named_type name) = calm_next refl calm_end
 calm_spelled (array_type size t) = calm_next refl (calm_append (calm_spelled size) (calm_next refl (calm_spelled t)))
 calm_spelled (record_type first others) = calm_next refl (calm_append (calm_spelled first) (calm_append (calm_spelled others) (calm_next refl calm_end)))
-calm_spelled no_fields = calm_end
 calm_spelled (some_fields ns t) = calm_append (calm_spelled ns) (calm_next refl (calm_spelled t))
 calm_spelled (then_fields f) = calm_next refl (calm_spelled f)
 calm_spelled no_formals = calm_paren refl (calm_next refl calm_end)
@@ -150,3 +137,4 @@ calm_spelled (declares cs ts vs ps) = calm_append (calm_spelled cs) (calm_append
 calm_spelled (begins s) = calm_next refl (calm_spelled s)
 calm_spelled (has_body ds b) = calm_append (calm_spelled ds) (calm_spelled b)
 calm_spelled (is_module name b closing) = calm_next refl (calm_next refl (calm_next refl (calm_append (calm_spelled b) (calm_next refl (calm_next refl (calm_next refl calm_end))))))
+calm_spelled _ = calm_end

@@ -37,14 +37,13 @@ same_cuts : (unit : counting.Unit) (text : List ℕ) (u : IsUtf8 text) (at : ℕ
     → map edit_text edits ≡ map (edit_of (width_of unit) (chars text)) cs → AreSame unit text u cs (cuts_of (width_of unit) (chars text) edits)
 unfolding AreGaps AreSame
 same_cuts unit text u at [] [] are e = tt
-same_cuts unit text u at [] (x ∷ edits) are e = absurd (cc)
-same_cuts unit text u at (c ∷ cs) [] are e = absurd (cc)
 same_cuts unit text u at (c ∷ cs) (x ∷ edits) are e =
     let first = first_same e in
     let new : string_bytes x.text ≡ c.new = ap (λ y. y.text) first in
     let old = are.0.old in
     let made = same_cut unit text u c.from c.to c.new (white_utf8 c.new are.0.new) old.start old.end old.ordered x.range (ap (λ y. y.range.start) first) (ap (λ y. y.range.end) first) in
     (subst (λ t. IsSameCut unit text u c (cut_at (width_of unit) (chars text) x.range (chars t))) (sym new) made, same_cuts unit text u c.to cs edits are.1 (rest_same e))
+same_cuts unit text u at _ _ are e = absurd (cc)
 
 pub gaps_patched : (unit : counting.Unit) (indent : Indent) (s : Scanned) (scan : IsScan s) (ss : List LineRole) (edits : List Edit)
     → map edit_text edits ≡ map (edit_of (width_of unit) (chars s.text)) (changed_gaps s.text (all_gaps indent s.text ss scan.lexemes))

@@ -1,13 +1,11 @@
 -- The line roles of a tree don't depend on its names.
 use Rattle.std.proofs.Common.{◌≡◌, ℕ, [], ◌∷◌, ◌++◌, refl}
-use Rattle.ob0_tree.specs.Tree.{Sort, Tree, none, one, end, more, compares, relates, sum, adds, product, multiplies, designator, integer, parenthesised, negation, field, index, empty, assigns, calls, branches, while_loop, repeat_loop, no_arguments, some_arguments, then_argument, runs, then_statement, elsif_branch, else_branch, listed, then_name, named_type, array_type, record_type, no_fields, some_fields, then_fields, no_formals, some_formals, value_section, variable_section, then_section, declares_constant, declares_constants, declares_type, declares_types, declares_variable, declares_variables, declares_procedure, declares, begins, has_body, is_module, mapped}
+use Rattle.ob0_tree.specs.Tree.{Sort, Tree, one, more, compares, relates, sum, adds, product, multiplies, designator, parenthesised, negation, index, assigns, calls, branches, while_loop, repeat_loop, some_arguments, then_argument, runs, then_statement, elsif_branch, else_branch, listed, array_type, record_type, some_fields, then_fields, some_formals, value_section, variable_section, then_section, declares_constant, declares_constants, declares_type, declares_types, declares_variable, declares_variables, declares_procedure, declares, begins, has_body, is_module, mapped}
 use Rattle.ob0_layout.specs.declared.line_role.LineRole.TheVariants.{Begins, Opening, Plain}
 use Rattle.ob0_layout.specs.LineRoles.{line_roles, deeper, in_line, sign_role}
 
 pub roles_mapped : {N M : Type 0} {s : Sort} (u : N → M) (v : ℕ → ℕ) (k : ℕ) (t : Tree N s) → line_roles k (mapped u v t) ≡ line_roles k t
-roles_mapped u v k none = refl
 roles_mapped u v k (one t) = λ j. roles_mapped u v k t j
-roles_mapped u v k end = refl
 roles_mapped u v k (more t ts) = λ j. roles_mapped u v k t j ++ roles_mapped u v k ts j
 roles_mapped u v k (compares left compared) = λ j. roles_mapped u v k left j ++ roles_mapped u v k compared j
 roles_mapped u v k (relates relation right) = λ j. Plain ∷ roles_mapped u v k right j
@@ -16,18 +14,14 @@ roles_mapped u v k (adds operator t) = λ j. Plain ∷ roles_mapped u v k t j
 roles_mapped u v k (product first factors) = λ j. roles_mapped u v k first j ++ roles_mapped u v k factors j
 roles_mapped u v k (multiplies operator f) = λ j. Plain ∷ roles_mapped u v k f j
 roles_mapped u v k (designator name selectors) = λ j. Plain ∷ roles_mapped u v k selectors j
-roles_mapped u v k (integer n) = refl
 roles_mapped u v k (parenthesised e) = λ j. Plain ∷ (roles_mapped u v k e j ++ (Plain ∷ []))
 roles_mapped u v k (negation f) = λ j. Plain ∷ roles_mapped u v k f j
-roles_mapped u v k (field name) = refl
 roles_mapped u v k (index e) = λ j. Plain ∷ (roles_mapped u v k e j ++ (Plain ∷ []))
-roles_mapped u v k empty = refl
 roles_mapped u v k (assigns name selectors e) = λ j. Begins k ∷ (roles_mapped u v 0 selectors j ++ (Plain ∷ roles_mapped u v 0 e j))
 roles_mapped u v k (calls name args) = λ j. Begins k ∷ roles_mapped u v 0 args j
 roles_mapped u v k (branches condition s elsifs rest) = λ j. Begins k ∷ (roles_mapped u v 0 condition j ++ (Plain ∷ (roles_mapped u v (deeper k) s j ++ (roles_mapped u v k elsifs j ++ (roles_mapped u v k rest j ++ (Begins k ∷ []))))))
 roles_mapped u v k (while_loop condition s) = λ j. Begins k ∷ (roles_mapped u v 0 condition j ++ (Plain ∷ (roles_mapped u v (deeper k) s j ++ (Begins k ∷ []))))
 roles_mapped u v k (repeat_loop s condition) = λ j. Begins k ∷ (roles_mapped u v (deeper k) s j ++ (Begins k ∷ roles_mapped u v 0 condition j))
-roles_mapped u v k no_arguments = refl
 roles_mapped u v k (some_arguments e es) = λ j. Opening ∷ (roles_mapped u v k e j ++ (roles_mapped u v k es j ++ (Plain ∷ [])))
 roles_mapped u v k (then_argument e) = λ j. Plain ∷ roles_mapped u v k e j
 roles_mapped u v k (runs first statements) = λ j. roles_mapped u v k first j ++ roles_mapped u v k statements j
@@ -35,14 +29,10 @@ roles_mapped u v k (then_statement s) = λ j. Plain ∷ roles_mapped u v k s j
 roles_mapped u v k (elsif_branch condition s) = λ j. Begins k ∷ (roles_mapped u v 0 condition j ++ (Plain ∷ roles_mapped u v (deeper k) s j))
 roles_mapped u v k (else_branch s) = λ j. Begins k ∷ roles_mapped u v (deeper k) s j
 roles_mapped u v k (listed name others) = λ j. Plain ∷ roles_mapped u v k others j
-roles_mapped u v k (then_name name) = refl
-roles_mapped u v k (named_type name) = refl
 roles_mapped u v k (array_type size t) = λ j. Plain ∷ (roles_mapped u v k size j ++ (Plain ∷ roles_mapped u v k t j))
 roles_mapped u v k (record_type first others) = λ j. Plain ∷ (roles_mapped u v k first j ++ (roles_mapped u v k others j ++ (Plain ∷ [])))
-roles_mapped u v k no_fields = refl
 roles_mapped u v k (some_fields ns t) = λ j. roles_mapped u v k ns j ++ (Plain ∷ roles_mapped u v k t j)
 roles_mapped u v k (then_fields f) = λ j. Plain ∷ roles_mapped u v k f j
-roles_mapped u v k no_formals = refl
 roles_mapped u v k (some_formals first others) = λ j. Opening ∷ (roles_mapped u v k first j ++ (roles_mapped u v k others j ++ (Plain ∷ [])))
 roles_mapped u v k (value_section ns t) = λ j. roles_mapped u v k ns j ++ (Plain ∷ roles_mapped u v k t j)
 roles_mapped u v k (variable_section ns t) = λ j. Plain ∷ (roles_mapped u v k ns j ++ (Plain ∷ roles_mapped u v k t j))
@@ -58,3 +48,4 @@ roles_mapped u v k (declares cs ts vs ps) = λ j. roles_mapped u v k cs j ++ (ro
 roles_mapped u v k (begins s) = λ j. Begins k ∷ roles_mapped u v (deeper k) s j
 roles_mapped u v k (has_body ds b) = λ j. roles_mapped u v k ds j ++ roles_mapped u v k b j
 roles_mapped u v k (is_module name b closing) = λ j. Begins k ∷ Plain ∷ Plain ∷ (roles_mapped u v k b j ++ (Begins k ∷ Plain ∷ Plain ∷ []))
+roles_mapped u v k _ = refl

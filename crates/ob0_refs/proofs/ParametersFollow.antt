@@ -1,43 +1,16 @@
 -- The declaring identifiers after that of a procedure are those of its parameters.
-use Rattle.std.proofs.Common.{◌≡◌, ℕ, suc, ◌+◌, ◌-◌, false, if◌then◌else◌, List, [], ◌∷◌, ◌++◌, map, length, take, drop, nat_lt, slice_get, Some, None, refl, sym, ap, ◌∙◌, subst, arith, append_assoc, append-nil, All, le-ltb}
+use Rattle.std.proofs.Common.{◌≡◌, ℕ, suc, ◌+◌, ◌-◌, false, if◌then◌else◌, List, [], ◌∷◌, ◌++◌, map, length, take, drop, nat_lt, slice_get, Some, None, refl, sym, ap, ◌∙◌, subst, arith, append_assoc, All, le-ltb}
 use Rattle.std.proofs.lemmas.List.Elements.{All-append, All-cons, All-nil, All-weaker}
 use Rattle.ob0_tree.specs.declared.tree.Role.{Role}
 use Rattle.ob0_tree.specs.declared.tree.Role.TheVariants as role
 use Rattle.ob0_tree.specs.Parsed.{Parsed, tree_of}
 use Rattle.ob0_tree.specs.Places.{text_at}
-use Rattle.ob0_tree.specs.Tree.{Sort, Tree, block, declares, declares_procedure, end, formals, further_name, further_section, has_body, identifiers, is_module, item, items, listed, maybe, module_text, more, names, no_formals, none, one, procedure, section, some_formals, then_name, then_section, value_section, variable_section, written_type}
-use Rattle.ob0_language_names.specs.Parts.{formal_names, formal_sections, further_names, module_block, names_listed, section_names}
+use Rattle.ob0_tree.specs.Tree.{Sort, Tree, block, declares, declares_procedure, end, has_body, identifiers, is_module, item, items, module_text, more, procedure}
+use Rattle.ob0_language_names.specs.Parts.{formal_names, formal_sections, module_block}
 use Rattle.ob0_scope_table.specs.Resolution.{declaring_only}
-use Rattle.ob0_scope_table.proofs.Plain.{declares_nothing, declaring_only-append}
+use Rattle.ob0_scope_table.proofs.Declared.{formals_declared}
+use Rattle.ob0_scope_table.proofs.Plain.{declaring_only-append}
 use Rattle.ob0_refs.specs.HoverLaws.{HasParametersAfter, ParametersFollow, block_headings, headings, procedure_headings}
-
--- ---- the identifiers of formal parameters
-
-further_declared : (ns : Tree ℕ (items further_name)) → declaring_only (identifiers role.Declaring ns) ≡ further_names ns
-further_declared end = refl
-further_declared (more (then_name x) rest) = λ i. x ∷ further_declared rest i
-
-listed_declared : (ns : Tree ℕ names) → declaring_only (identifiers role.Declaring ns) ≡ names_listed ns
-listed_declared (listed x rest) = λ i. x ∷ further_declared rest i
-
-group_declared : (ns : Tree ℕ names) (t : Tree ℕ written_type) → declaring_only (identifiers role.Declaring ns ++ identifiers role.Declaring t) ≡ names_listed ns
-group_declared ns t =
-    declaring_only-append (identifiers role.Declaring ns) (identifiers role.Declaring t)
-    ∙ ((λ i. listed_declared ns i ++ (declares_nothing tt t).plain i) ∙ append-nil (names_listed ns))
-
-section_declared : (s : Tree ℕ section) → declaring_only (identifiers role.Declaring s) ≡ section_names s
-section_declared (value_section ns t) = group_declared ns t
-section_declared (variable_section ns t) = group_declared ns t
-
-sections_declared : (fs : Tree ℕ (items further_section)) → declaring_only (identifiers role.Declaring fs) ≡ formal_names fs
-sections_declared end = refl
-sections_declared (more (then_section s) fs) =
-    declaring_only-append (identifiers role.Declaring s) (identifiers role.Declaring fs) ∙ (λ i. section_declared s i ++ sections_declared fs i)
-
-formals_declared : (fs : Tree ℕ (maybe formals)) → declaring_only (identifiers role.Declaring fs) ≡ formal_names (formal_sections fs)
-formals_declared none = refl
-formals_declared (one no_formals) = refl
-formals_declared (one (some_formals s fs)) = sections_declared (more (then_section s) fs)
 
 -- ---- a heading among declaring identifiers
 

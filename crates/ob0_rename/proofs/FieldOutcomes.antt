@@ -75,14 +75,12 @@ field_there r k f new well by_tokens = one (same_name new f) refl
 -- ---- another field of the name
 
 pub other_some : (b : Bool) (o : Option ℕ) (token : ℕ) → (if b then None else o) ≡ Some token → ((not b && is_some o) ≡ true) × (o ≡ Some token)
-other_some true o token e = absurd (cc)
 other_some false (Some t) token e = (refl, e)
-other_some false None token e = absurd (cc)
+other_some _ _ token e = absurd (cc)
 
 pub other_none : (b : Bool) (o : Option ℕ) → (if b then None else o) ≡ None → (not b && is_some o) ≡ false
-other_none true o e = refl
 other_none false (Some t) e = absurd (cc)
-other_none false None e = refl
+other_none _ _ e = refl
 
 module _ (unit : counting.Unit) (text : List ℕ) (place : Position) (new : Name) (k : ℕ) (f : Name) where
   abbrev pub requested_field : Resolution → Renaming
@@ -133,16 +131,10 @@ module _ (unit : counting.Unit) (text : List ℕ) (place : Position) (new : Name
 -- ---- an answer for the field that is named at the place is the answer
 
 field_refused_there : (a : Renaming) (k : ℕ) (f : Name) → MeansField a k f → (why : EditRefusal) → IsRefusedToField a k f why → IsRefused a why
-field_refused_there a k f means refusal.NoName h = absurd h
-field_refused_there a k f means refusal.Predeclared h = absurd h
 field_refused_there a k f means refusal.BadName h = inr (k, (f, means, h))
 field_refused_there a k f means (refusal.Duplicate range) h = inr (k, (f, means, h))
-field_refused_there a k f means (refusal.Captures range) h = absurd h
 field_refused_there a k f means refusal.TooLong h = inr (k, (f, means, h))
-field_refused_there a k f means refusal.TooDeep h = absurd h
-field_refused_there a k f means refusal.Shadowed h = absurd h
-field_refused_there a k f means refusal.CommentInside h = absurd h
-field_refused_there a k f means refusal.Memory h = absurd h
+field_refused_there a k f means _ h = absurd h
 
 pub field_answered_there : (a : Renaming) (k : ℕ) (f : Name) → MeansField a k f → (result : Result (Vec Edit Global) EditRefusal) → AnswersForField a k f result → RenameAnswers a result
 field_answered_there a k f means (Ok edits) h = inr (k, (f, means, h))

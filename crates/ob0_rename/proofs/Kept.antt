@@ -2,7 +2,7 @@
 use Rattle.std.proofs.Common.{◌≡◌, ℕ, suc, ◌+◌, ◌≤◌, ◌<◌, ◌==◌, ◌&&◌, Bool, true, false, if◌then◌else◌, Some, List, [], ◌∷◌, ◌++◌, slice_get, refl, sym, ◌∙◌, subst, arith, eqb-true}
 use Rattle.std.proofs.lemmas.Bool.{and_parts}
 use Rattle.std.proofs.lemmas.Slice.Eq.{bytes_eq-Decides}
-use Rattle.ob0_tree.specs.Tree.{Sort, Tree, block, constant, constants, declares, declares_constant, declares_constants, declares_procedure, declares_type, declares_types, declares_variable, declares_variables, end, formals, further_name, further_section, has_body, is_module, item, items, listed, maybe, module_text, more, names, no_formals, none, one, procedure, section, some_formals, then_name, then_section, type_name, type_names, value_section, variable, variable_section, variables}
+use Rattle.ob0_tree.specs.Tree.{Sort, Tree, block, constant, constants, declares, declares_constant, declares_constants, declares_procedure, declares_type, declares_types, declares_variable, declares_variables, end, formals, further_name, further_section, has_body, is_module, item, items, listed, maybe, module_text, more, names, none, one, procedure, section, some_formals, then_name, then_section, type_name, type_names, value_section, variable, variable_section, variables}
 use Rattle.ob0_language_names.specs.DeclaredOnce.{are_distinct, block_names, block_once, declared_once, formals_once, procedure_once, procedures_once, types_once, variables_once}
 use Rattle.ob0_language_names.specs.Mapping.{with_names}
 use Rattle.ob0_language_names.specs.Names.{Name, as_names, same_name}
@@ -10,7 +10,7 @@ use Rattle.ob0_language_names.specs.Parts.{constant_names, formal_names, formal_
 use Rattle.ob0_language_names.specs.Scopes.{Labels, Scope, after_names, after_procedure, declare_names, declare_procedure_names, first_procedure, first_type, first_variable, ordinal_of, predeclared_scope, procedures_scope, relabel_block, relabel_constant_section, relabel_constants, relabel_formals, relabel_further, relabel_names, relabel_procedure, relabel_procedures, relabel_section, relabel_sections, relabel_type_section, relabel_types, relabel_uses, relabel_variable_section, relabel_variables, renamed, types_scope, variables_scope, body_scope}
 use Rattle.ob0_language_names.proofs.DistinctNames.{new_name}
 use Rattle.ob0_language_names.proofs.SameNames.{with_names-id}
-use Rattle.ob0_rename.proofs.Declared.{after_names_in_procedure, names_in, names_in_procedure, names_in_procedures}
+use Rattle.ob0_scope_table.proofs.Declared.{after_names_in_procedure, names_in, names_in_procedure, names_in_procedures}
 
 module _ (d : ℕ) (new : Name) where
   -- what has the ordinal d has the name
@@ -102,12 +102,11 @@ module _ (d : ℕ) (new : Name) where
       (sections-kept (declare_names k (section_names f) scope) (after_names k (section_names f)) fs (in_scope-names k (section_names f) scope parts.0 s) parts.1 i)
 
   formals-kept : (scope : Scope Name) (k : ℕ) (fs : Tree Name (maybe formals)) → InScope scope → AreSo k (formal_names (formal_sections fs)) → relabel_formals as_names ren scope k fs ≡ fs
-  formals-kept scope k none s h = refl
-  formals-kept scope k (one no_formals) s h = refl
   formals-kept scope k (one (some_formals f fs)) s h =
       let parts = so-append k (section_names f) (formal_names fs) h in
       λ i. one (some_formals (section-kept scope k f s parts.0 i)
       (sections-kept (declare_names k (section_names f) scope) (after_names k (section_names f)) fs (in_scope-names k (section_names f) scope parts.0 s) parts.1 i))
+  formals-kept scope k _ s h = refl
 
   mutual
     block-kept : (scope : Scope Name) (k : ℕ) (own : List Name) (b : Tree Name block) → InScope scope → AreSo k (names_in b) → block_once own b ≡ true → relabel_block as_names ren scope k b ≡ b

@@ -1,4 +1,3 @@
-pub mod Declared
 pub mod Kept
 pub mod Unrefused
 pub mod Named

@@ -1,5 +1,5 @@
 -- The tokens at which a refusal is reported.
-use Rattle.std.proofs.Common.{◌≡◌, ℕ, suc, ◌<◌, Bool, true, false, if◌then◌else◌, Option, Some, None, List, [], ◌∷◌, length, slice_get, get_or, option_map, refl, ap, ◌∙◌, arith}
+use Rattle.std.proofs.Common.{◌≡◌, ℕ, suc, ◌<◌, Bool, true, false, if◌then◌else◌, Option, Some, None, List, ◌∷◌, length, slice_get, get_or, option_map, refl, ap, ◌∙◌, arith}
 use Rattle.std.proofs.lemmas.List.{length-map}
 use Rattle.std.proofs.lemmas.Option.{slice_get-get_or}
 use Rattle.ob0_tree.specs.Parsed.{named_tree_of, tree_of}
@@ -10,14 +10,13 @@ use Rattle.ob0_scope_table.specs.Resolution.{IsResolution, Resolution, label_at}
 use Rattle.ob0_scope_table.proofs.Bound.{bindings_by_table}
 
 first_inside : (xs ys : List Label) (k : ℕ) → first_difference xs ys ≡ Some k → k < length ys
-first_inside [] ys k e = absurd (cc)
-first_inside (x ∷ xs) [] k e = absurd (cc)
 first_inside (x ∷ xs) (y ∷ ys) k e = one (same_binding x y) (first_difference xs ys) refl e (first_inside xs ys)
   where
     one : (b : Bool) (o : Option ℕ) → first_difference xs ys ≡ o → (if b then option_map suc o else Some 0) ≡ Some k → ((j : ℕ) → first_difference xs ys ≡ Some j → j < length ys) → k < suc (length ys)
     one true (Some j) is e later = let low = later j is in let same : suc j ≡ k = cc in omega (arith, low, same)
     one true None is e later = absurd (cc)
     one false o is e later = let same : 0 ≡ k = cc in omega (arith, same)
+first_inside _ _ k e = absurd (cc)
 
 -- an occurrence that is bound elsewhere has a token
 pub occurrence_is_there : (r : Resolution) (bound : List Label) (k : ℕ) → IsResolution r → first_difference bound (bindings (named_tree_of r.module_read)) ≡ Some k

@@ -57,9 +57,8 @@ unfolding WellTyped
 once_of t well = well.0
 
 difference_of : (b : Bool) (o : Option ℕ) (k : ℕ) → (if b then Some at_declaration else option_map at_occurrence o) ≡ Some (at_occurrence k) → o ≡ Some k
-difference_of true o k e = absurd (cc)
 difference_of false (Some j) k e = let same : j ≡ k = cc in ap Some same
-difference_of false None k e = absurd (cc)
+difference_of _ _ k e = absurd (cc)
 
 module _ (unit : counting.Unit) (text : List ℕ) (place : Position) (new : Name) (d : ℕ) where
   abbrev pub requested : Resolution → Renaming
@@ -143,16 +142,11 @@ own_answered unit text new d m scan own (Err why) made =
 -- ---- an answer for what is named at the place is the answer
 
 refused_there : (a : Renaming) (d : ℕ) → NamesDeclaration a d → (why : EditRefusal) → IsRefusedTo a d why → IsRefused a why
-refused_there a d means refusal.NoName h = absurd h
-refused_there a d means refusal.Predeclared h = absurd h
 refused_there a d means refusal.BadName h = inl (d, means, h)
 refused_there a d means (refusal.Duplicate range) h = inl (d, means, h)
 refused_there a d means (refusal.Captures range) h = inl (d, means, h)
 refused_there a d means refusal.TooLong h = inl (d, means, h)
-refused_there a d means refusal.TooDeep h = absurd h
-refused_there a d means refusal.Shadowed h = absurd h
-refused_there a d means refusal.CommentInside h = absurd h
-refused_there a d means refusal.Memory h = absurd h
+refused_there a d means _ h = absurd h
 
 pub answered_there : (a : Renaming) (d : ℕ) → NamesDeclaration a d → (result : Result (Vec Edit Global) EditRefusal) → AnswersDeclaration a d result → RenameAnswers a result
 answered_there a d means (Ok edits) h = inl (d, means, h)

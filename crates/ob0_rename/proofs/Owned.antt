@@ -6,76 +6,30 @@ use Rattle.std.proofs.lemmas.Option.{slice_get-get_or}
 use Rattle.std.proofs.lemmas.Slice.Eq.{bytes_eq-Decides}
 use Rattle.ob0_tree.specs.Parsed.{Parsed, named_tree_of, tree_of}
 use Rattle.ob0_tree.specs.Places.{text_at, value_at}
-use Rattle.ob0_tree.specs.Tree.{Tree, identifiers, mapped, block, constant, constants, declares, declares_constant, declares_constants, declares_procedure, declares_type, declares_types, declares_variable, declares_variables, end, formals, further_name, further_section, has_body, item, items, listed, maybe, more, names, no_formals, none, one, procedure, section, some_formals, then_name, then_section, type_name, type_names, value_section, variable, variable_section, variables}
+use Rattle.ob0_tree.specs.Tree.{Tree, identifiers, mapped, block, declares, declares_procedure, end, has_body, item, items, more, one, procedure}
 use Rattle.ob0_tree.specs.declared.tree.Role.TheVariants as role
 use Rattle.ob0_language_names.specs.DeclaredOnce.{declared_once}
 use Rattle.ob0_language_names.specs.Names.{Name, same_name}
 use Rattle.ob0_language_names.specs.Occurrences.{Free}
-use Rattle.ob0_language_names.specs.Parts.{constant_names, formal_names, formal_sections, further_names, module_block, named_types, names_listed, section_constants, section_names, section_types, section_variables, variable_names}
+use Rattle.ob0_language_names.specs.Parts.{constant_names, formal_names, formal_sections, module_block, named_types, section_constants, section_types, section_variables, variable_names}
+use Rattle.ob0_language_types.proofs.Literals.{some_inverse}
 use Rattle.ob0_scope.specs.Renames.{namesake}
 use Rattle.ob0_scope_table.specs.Resolution.{declaring_only}
 use Rattle.ob0_language_names.specs.Scopes.{after_block, renamed}
 use Rattle.ob0_rename.specs.Renaming.{declaring_token, is_declared_as}
-use Rattle.ob0_rename.proofs.Declared.{after_count, after_names_in, module_declared, names_in, names_in_procedure, names_in_procedures}
+use Rattle.ob0_scope_table.proofs.Declared.{after_count, after_names_in, module_declared, names_in, names_in_procedure, names_in_procedures}
+use Rattle.ob0_scope.proofs.Searched.{constant_section-with, formals-with, map-append₄, type_section-with, variable_section-with}
 use Rattle.ob0_rename.proofs.Kept.{AreSo, same_module, so_where}
 use Rattle.ob0_rename.proofs.Unrefused.{OneWithin, namesake_within, own_name_free}
 
 -- the names of a tree with other leaves
 
 module _ {N M : Type 0} (f : N → M) (g : ℕ → ℕ) where
-  further_with : (ns : Tree N (items further_name)) → further_names (mapped f g ns) ≡ map f (further_names ns)
-  further_with end = refl
-  further_with (more (then_name x) rest) = λ i. f x ∷ further_with rest i
-
-  listed_with : (ns : Tree N names) → names_listed (mapped f g ns) ≡ map f (names_listed ns)
-  listed_with (listed x rest) = λ i. f x ∷ further_with rest i
-
-  constants_with : (cs : Tree N (items constant)) → constant_names (mapped f g cs) ≡ map f (constant_names cs)
-  constants_with end = refl
-  constants_with (more (declares_constant x e) cs) = λ i. f x ∷ constants_with cs i
-
-  constant_section_with : (cs : Tree N (maybe constants)) → constant_names (section_constants (mapped f g cs)) ≡ map f (constant_names (section_constants cs))
-  constant_section_with none = refl
-  constant_section_with (one (declares_constants cs)) = constants_with cs
-
-  types_with : (ts : Tree N (items type_name)) → named_types (mapped f g ts) ≡ map f (named_types ts)
-  types_with end = refl
-  types_with (more (declares_type x t) ts) = λ i. f x ∷ types_with ts i
-
-  type_section_with : (ts : Tree N (maybe type_names)) → named_types (section_types (mapped f g ts)) ≡ map f (named_types (section_types ts))
-  type_section_with none = refl
-  type_section_with (one (declares_types ts)) = types_with ts
-
-  variables_with : (vs : Tree N (items variable)) → variable_names (mapped f g vs) ≡ map f (variable_names vs)
-  variables_with end = refl
-  variables_with (more (declares_variable ns t) vs) = (λ i. listed_with ns i ++ variables_with vs i) ∙ sym (map-append f (names_listed ns) (variable_names vs))
-
-  variable_section_with : (vs : Tree N (maybe variables)) → variable_names (section_variables (mapped f g vs)) ≡ map f (variable_names (section_variables vs))
-  variable_section_with none = refl
-  variable_section_with (one (declares_variables vs)) = variables_with vs
-
-  section_with : (s : Tree N section) → section_names (mapped f g s) ≡ map f (section_names s)
-  section_with (value_section ns t) = listed_with ns
-  section_with (variable_section ns t) = listed_with ns
-
-  sections_with : (fs : Tree N (items further_section)) → formal_names (mapped f g fs) ≡ map f (formal_names fs)
-  sections_with end = refl
-  sections_with (more (then_section s) fs) = (λ i. section_with s i ++ sections_with fs i) ∙ sym (map-append f (section_names s) (formal_names fs))
-
-  formals_with : (fs : Tree N (maybe formals)) → formal_names (formal_sections (mapped f g fs)) ≡ map f (formal_names (formal_sections fs))
-  formals_with none = refl
-  formals_with (one no_formals) = refl
-  formals_with (one (some_formals s fs)) = sections_with (more (then_section s) fs)
-
   mutual
     block_with : (b : Tree N block) → names_in (mapped f g b) ≡ map f (names_in b)
     block_with (has_body (declares cs ts vs ps) statements) =
-        let xs = constant_names (section_constants cs) in
-        let ys = named_types (section_types ts) in
-        let zs = variable_names (section_variables vs) in
-        let ws = names_in_procedures ps in
-        (λ i. constant_section_with cs i ++ (type_section_with ts i ++ (variable_section_with vs i ++ procedures_with ps i)))
-        ∙ ((λ i. map f xs ++ (map f ys ++ sym (map-append f zs ws) i)) ∙ ((λ i. map f xs ++ sym (map-append f ys (zs ++ ws)) i) ∙ sym (map-append f xs (ys ++ (zs ++ ws)))))
+        (λ i. constant_section-with f g cs i ++ (type_section-with f g ts i ++ (variable_section-with f g vs i ++ procedures_with ps i)))
+        ∙ map-append₄ f (constant_names (section_constants cs)) (named_types (section_types ts)) (variable_names (section_variables vs)) (names_in_procedures ps)
 
     procedures_with : (ps : Tree N (items procedure)) → names_in_procedures (mapped f g ps) ≡ map f (names_in_procedures ps)
     procedures_with end = refl
@@ -83,7 +37,7 @@ module _ {N M : Type 0} (f : N → M) (g : ℕ → ℕ) where
 
     procedure_with : (p : Tree N (item procedure)) → names_in_procedure (mapped f g p) ≡ map f (names_in_procedure p)
     procedure_with (declares_procedure x fs b closing) =
-        ap (λ xs. f x ∷ xs) ((λ i. formals_with fs i ++ block_with b i) ∙ sym (map-append f (formal_names (formal_sections fs)) (names_in b)))
+        ap (λ xs. f x ∷ xs) ((λ i. formals-with f g fs i ++ block_with b i) ∙ sym (map-append f (formal_names (formal_sections fs)) (names_in b)))
 
 -- the tokens of the names that are declared, and these names
 
@@ -93,9 +47,6 @@ declaring_tokens m = declaring_only (identifiers role.Declaring (tree_of m))
 module _ (m : Parsed) where
   names_there : names_in (module_block (named_tree_of m)) ≡ map (text_at m.source) (declaring_tokens m)
   names_there = block_with (text_at m.source) (value_at m.source) (module_block (tree_of m)) ∙ ap (map (text_at m.source)) (sym (module_declared (tree_of m)))
-
-  some_inj : {A : Type 0} {x y : A} → Some x ≡ Some y → x ≡ y
-  some_inj e = cc
 
   token_of : (ordinal token : ℕ) → declaring_token m ordinal ≡ Some token → (7 ≤ ordinal) × (slice_get (declaring_tokens m) (ordinal - 7) ≡ Some token)
   token_of ordinal token e = one (nat_lt ordinal 7) refl e
@@ -130,7 +81,7 @@ module _ (m : Parsed) where
         let index : d - 7 ≡ j = omega (arith, count) in
         let got : slice_get (map (text_at m.source) (declaring_tokens m)) j ≡ Some new =
         slice_get_map (declaring_tokens m) j ∙ (ap (λ n. option_map (text_at m.source) (slice_get (declaring_tokens m) n)) (sym index) ∙ (ap (option_map (text_at m.source)) by.there ∙ ap Some by.written)) in
-        some_inj (sym here ∙ (ap (λ xs. slice_get xs j) names_there ∙ got)))
+        some_inverse (sym here ∙ (ap (λ xs. slice_get xs j) names_there ∙ got)))
 
     -- a declaration under its own name
     pub own_module : is_declared_as m d new ≡ true → declared_once (named_tree_of m) ≡ true → renamed (named_tree_of m) d new ≡ named_tree_of m

@@ -1,10 +1,10 @@
 -- The name that something is declared by is an identifier.
-use Rattle.std.proofs.Common.{◌≡◌, ℕ, zero, suc, ◌-◌, ◌<◌, List, [], ◌∷◌, ◌++◌, Option, None, Some, length, map, slice_get, refl, sym, ◌∙◌, subst, arith, true}
+use Rattle.std.proofs.Common.{◌≡◌, ℕ, zero, suc, ◌-◌, ◌<◌, List, [], ◌∷◌, ◌++◌, Option, None, Some, length, slice_get, sym, ◌∙◌, subst, arith, true}
 use Rattle.std.specs.Prelude.{IfSome}
 use Rattle.std.proofs.lemmas.List.{length-map}
 use Rattle.ob0_scan.specs.Classes.{Belongs, IsIdentifier}
 use Rattle.ob0_scan.specs.Lexed.{AreLexemes, Lexeme}
-use Rattle.ob0_scan.specs.Scanned.{IsScan, Scanned, Word, read_in, word_of, words}
+use Rattle.ob0_scan.specs.Scanned.{IsScan, Word, read_in, word_of, words}
 use Rattle.ob0_scan.specs.declared.lexeme.LexemeKind.{LexemeKind}
 use Rattle.ob0_scan.specs.declared.lexeme.LexemeKind.TheVariants as lexeme
 use Rattle.ob0_scan.specs.declared.lexeme.Token.{Token}
@@ -22,7 +22,7 @@ use Rattle.ob0_language_names.specs.Names.{Name}
 use Rattle.ob0_scope_table.specs.Resolution.{declaring_only}
 use Rattle.ob0_edits_tokens.specs.Changed.{words_of}
 use Rattle.ob0_edits_tokens.specs.OfTrees.{text_of_word, word_at}
-use Rattle.ob0_edits_tokens.specs.Replaced as edit
+use Rattle.ob0_edits_tokens.proofs.OfTrees.{word_kind}
 use Rattle.ob0_types.specs.MeantAtPlaces.{IsField}
 use Rattle.ob0_types.specs.declared.meant.Identified.{Identified}
 use Rattle.ob0_rename.specs.Renaming.{is_declared_as}
@@ -49,23 +49,12 @@ named_word [] k each low e = absurd (omega (arith, low))
 named_word (w ∷ ws) zero each low e = each.0 e
 named_word (w ∷ ws) (suc k) each low e = named_word ws k each.1 (omega (arith, low)) e
 
-word_kind : (s : Scanned) (k : ℕ) → (word_at (words_of s) k).kind ≡ (edit.token_or_empty s.tokens k).kind
-word_kind s k = of_list s.tokens k
-  where
-    of_list : (ts : List Token) (k : ℕ) → (word_at (map (read_in s.text) ts) k).kind ≡ (edit.token_or_empty ts k).kind
-    of_list [] k = refl
-    of_list (t ∷ ts) zero = refl
-    of_list (t ∷ ts) (suc k) = of_list ts k
-
 -- what declares is an identifier
 
 declaring_are_identifiers : (ts : List Token) (xs : List (Role × ℕ)) → AreIdentifiers ts (names_only xs) → AreIdentifiers ts (declaring_only xs)
 declaring_are_identifiers ts [] h = tt
 declaring_are_identifiers ts ((role.Declaring, n) ∷ xs) h = (h.0, declaring_are_identifiers ts xs h.1)
-declaring_are_identifiers ts ((role.LookedUp, n) ∷ xs) h = declaring_are_identifiers ts xs h.1
-declaring_are_identifiers ts ((role.ClosingName, n) ∷ xs) h = declaring_are_identifiers ts xs h.1
-declaring_are_identifiers ts ((role.FieldName, n) ∷ xs) h = declaring_are_identifiers ts xs h.1
-declaring_are_identifiers ts ((role.ModuleName, n) ∷ xs) h = declaring_are_identifiers ts xs h.1
+declaring_are_identifiers ts ((_, n) ∷ xs) h = declaring_are_identifiers ts xs h.1
 
 one_is_identifier : (ts : List Token) (places : List ℕ) (j k : ℕ) → AreIdentifiers ts places → slice_get places j ≡ Some k → order.IsIdentifierToken ts k
 one_is_identifier ts [] j k h e = absurd (cc)

@@ -17,7 +17,7 @@ use Rattle.ob0_language_names.proofs.DistinctNames.{distinct-onto, labels_in, on
 use Rattle.ob0_language_names.proofs.Ordinals.{le-after_block, le-after_names, le-after_procedure, le-after_procedures}
 use Rattle.ob0_language_names.proofs.RenamedDeclarations.{Clashes, label_names-own, labels_in-names, own_names-block}
 use Rattle.ob0_language_names.proofs.NameEquality.{same_name-comm}
-use Rattle.ob0_rename.proofs.Declared.{after_names_in_procedure, names_in, names_in_procedure, names_in_procedures}
+use Rattle.ob0_scope_table.proofs.Declared.{after_names_in_procedure, names_in, names_in_procedure, names_in_procedures}
 use Rattle.ob0_rename.proofs.Kept.{AreSo, InScope, in_scope-names, same_module, so-append}
 
 -- ---- no other declaration of its block has a declaration's own name

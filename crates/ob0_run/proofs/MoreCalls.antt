@@ -8,7 +8,7 @@ use Rattle.ob0_language_types.specs.Declarations.{after_formals}
 use Rattle.ob0_language_types.specs.Environments.{from_binding, outermost}
 use Rattle.ob0_language_types.specs.Expressions.{Meanings, Object, a_constant, a_procedure, a_standard, a_type, a_variable, evaluate, reads, writes, writes_line}
 use Rattle.ob0_language_types.specs.WellTyped.{Mode}
-use Rattle.ob0_language_values.specs.Values.{CallBound, Outcome, Place, TurnBound, Value, elements, ends, gives, members, number, truth, ◌>>=◌}
+use Rattle.ob0_language_values.specs.Values.{CallBound, Outcome, Place, TurnBound, Value, ends, gives, number, truth, ◌>>=◌}
 use Rattle.ob0_language_runs.specs.Runs.{Activation, Argument, Calls, Frame, Progress, State, Written, activate, bind_parameters, call, choose, continue_with, declare_block, evaluate_arguments, execute, execute_all, execute_body, execute_else, execute_elsifs, execute_further, finished, in_frame, modes_of, parameters, perform, place_argument, run, run_over, running, statement_meanings, stopped, turns, turns_until, use_in, value_argument}
 
 -- the first has ended at the bound on calls, or both are the same
@@ -26,9 +26,7 @@ continue-bounded p q k j (inr e) each = subst (λ q. Bounded (continue_with p k)
 choose-bounded : (s : State) (v : Value) (k j l m : State → Progress) → ((s : State) → Bounded (k s) (l s)) → ((s : State) → Bounded (j s) (m s)) → Bounded (choose s v k j) (choose s v l m)
 choose-bounded s (truth true) k j l m h i = h s
 choose-bounded s (truth false) k j l m h i = i s
-choose-bounded s (number n) k j l m h i = inr refl
-choose-bounded s (elements vs) k j l m h i = inr refl
-choose-bounded s (members n ms) k j l m h i = inr refl
+choose-bounded s _ k j l m h i = inr refl
 
 use-bounded : {A : Type 0} (s : State) (o : Outcome A) (k j : A → Progress) → ((a : A) → Bounded (k a) (j a)) → Bounded (use_in s o k) (use_in s o j)
 use-bounded s (gives a) k j each = each a
@@ -53,33 +51,23 @@ module _ (condition : State → Outcome Value) (k j : State → Progress) (each 
 -- what a name does that is called: a standard procedure enters nothing
 module _ (enter further : List Argument → State → Progress) (each : (args : List Argument) (s : State) → Bounded (enter args s) (further args s)) where
   reads-bounded : (args : List Argument) (s : State) → Bounded (perform (Some (a_standard reads)) enter args s) (perform (Some (a_standard reads)) further args s)
-  reads-bounded [] s = inr refl
   reads-bounded (place_argument p ∷ []) s = inr refl
-  reads-bounded (place_argument p ∷ b ∷ args) s = inr refl
-  reads-bounded (value_argument v ∷ args) s = inr refl
+  reads-bounded _ s = inr refl
 
   writes-bounded : (args : List Argument) (s : State) → Bounded (perform (Some (a_standard writes)) enter args s) (perform (Some (a_standard writes)) further args s)
-  writes-bounded [] s = inr refl
-  writes-bounded (place_argument p ∷ args) s = inr refl
   writes-bounded (value_argument (number n) ∷ []) s = inr refl
-  writes-bounded (value_argument (number n) ∷ b ∷ args) s = inr refl
-  writes-bounded (value_argument (truth b) ∷ args) s = inr refl
-  writes-bounded (value_argument (elements vs) ∷ args) s = inr refl
-  writes-bounded (value_argument (members k ms) ∷ args) s = inr refl
+  writes-bounded _ s = inr refl
 
   line-bounded : (args : List Argument) (s : State) → Bounded (perform (Some (a_standard writes_line)) enter args s) (perform (Some (a_standard writes_line)) further args s)
   line-bounded [] s = inr refl
   line-bounded (a ∷ args) s = inr refl
 
   perform-bounded : (o : Option (Object Place (List Mode))) (args : List Argument) (s : State) → Bounded (perform o enter args s) (perform o further args s)
-  perform-bounded None args s = inr refl
-  perform-bounded (Some (a_type z)) args s = inr refl
-  perform-bounded (Some (a_constant v)) args s = inr refl
-  perform-bounded (Some (a_variable p)) args s = inr refl
   perform-bounded (Some (a_procedure modes)) args s = each args s
   perform-bounded (Some (a_standard reads)) args s = reads-bounded args s
   perform-bounded (Some (a_standard writes)) args s = writes-bounded args s
   perform-bounded (Some (a_standard writes_line)) args s = line-bounded args s
+  perform-bounded _ args s = inr refl
 
 module _ {N : Type 0} (here : Meanings N Place (List Mode)) (enter further : Calls N) (each : (x : N) (args : List Argument) (s : State) → Bounded (enter x args s) (further x args s)) (t : ℕ) where
   mutual

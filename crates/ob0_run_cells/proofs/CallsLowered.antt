@@ -8,11 +8,12 @@ use Rattle.ob0_language_types.specs.Declarations.{formals_constructors}
 use Rattle.ob0_language_types.specs.Environments.{from_binding, meanings, newest}
 use Rattle.ob0_language_types.specs.Expressions.{Object, a_procedure}
 use Rattle.ob0_language_types.specs.WellTyped.{Signature, TypeEnvironment, TypedParameter, bind_typed, block_fits, heading, procedure_fits, signature_of, typed_parameters}
+use Rattle.ob0_language_types.proofs.Literals.{some_inverse}
 use Rattle.ob0_language_values.specs.Values.{Place, Shape, Store}
 use Rattle.ob0_language_runs.specs.Fitting.{ArgumentsFit, BindingFits, EnvironmentsFit, StoreFits, StoreTyping}
 use Rattle.ob0_language_runs.specs.Freed.{call_freeing, drop_variables}
 use Rattle.ob0_language_runs.specs.Runs.{Activation, Argument, ProcedureText, Frame, Progress, State, activate, bind_parameters, declare_block, execute_body, in_frame, running, statement_meanings, stopped}
-use Rattle.ob0_language_runs.proofs.SoundCalls.{from-fit, names-fit, parameters-of_typed, some-inverse}
+use Rattle.ob0_language_runs.proofs.SoundCalls.{from-fit, names-fit, parameters-of_typed}
 use Rattle.ob0_run_machine.specs.Evaluation.{Level, Levels}
 use Rattle.ob0_run_machine.specs.Execution as execution
 use Rattle.ob0_run_machine.specs.Lowered as lowered
@@ -27,9 +28,8 @@ use Rattle.ob0_run_cells.proofs.Represented.{numbers-append, numbers-take}
 use Rattle.ob0_run_cells.proofs.Variables.{variables_are_dropped}
 
 pub numbers-zero : (n : ℕ) → HaveNumbers (replicate n (pos 0))
-numbers-zero zero i = refl
-numbers-zero (suc n) zero = refl
 numbers-zero (suc n) (suc i) = numbers-zero n i
+numbers-zero _ _ = refl
 
 -- what a call has of its own is dropped in both
 pub drop_variables-represents : (typing now others : StoreTyping) (old : Store) (base : ℕ) (p : execution.MachineProgress) (q : Progress) → now ≡ typing ++ others → StoreFits typing old → base ≡ length (all_cells old) → ProgressRepresents now p q → ProgressRepresents typing (execution.drop_variables base p) (drop_variables (length old) q)
@@ -76,7 +76,7 @@ module _ {N : Type 0} (table : RoutineTable N) where
   unfolding execution.call activate block_fits
   activate-represents c t known typing ls [] placing active signature args low s p env placed few e h fit cells there numbers = absurd (cc)
   activate-represents c t known typing ls (b ∷ checked) [] (d ∷ active) signature args low s p env placed few e h fit cells there numbers = absurd placed
-  activate-represents c t known typing ls ((x, o) ∷ checked) ((z, w) ∷ placing) ((y, r) ∷ active) signature args low s p env placed few e h fit cells there numbers = of_objects o w r env.1 placed.here (some-inverse {a = o} {b = a_procedure signature} e)
+  activate-represents c t known typing ls ((x, o) ∷ checked) ((z, w) ∷ placing) ((y, r) ∷ active) signature args low s p env placed few e h fit cells there numbers = of_objects o w r env.1 placed.here (some_inverse {a = o} {b = a_procedure signature} e)
     where
       of_text : (tg : Target) (outer : Placing N) (entry : lowered.Routine) (j : ℕ) (text : Tree N (item procedure)) (ps : List (TypedParameter N)) → PlacingFits table typing (drop tg.up ls) checked outer active → typed_parameters table.naming checked j (procedure_formals text) ≡ Some ps
           → slice_get table.routines tg.procedure ≡ Some entry → signature ≡ map (λ p. p.formal) ps → procedure_fits table.naming (bind_typed ps (heading x ps checked)) j text ≡ true
@@ -122,7 +122,7 @@ module _ {N : Type 0} (table : RoutineTable N) where
           let (ps, eps, sig, fits) = bound in
           let (outer, inside, found) = at in
           let qs : List (TypedParameter N) = found.parameters in
-          let same : ps ≡ qs = some-inverse (sym eps ∙ found.are_typed) in
+          let same : ps ≡ qs = some_inverse (sym eps ∙ found.are_typed) in
           let signed : signature ≡ map (λ p. p.formal) qs = sym (ap (λ o. unwrap_or (signature_of (Some o)) []) e) ∙ (sig ∙ ap (map (λ p. p.formal)) same) in
           of_text tg outer found.routine code.first_constructor code.text qs inside found.are_typed found.in_table signed (subst (λ ps. procedure_fits table.naming (bind_typed ps (heading x ps checked)) code.first_constructor code.text ≡ true) same fits) found.means
       of_objects (a_procedure q) _ _ bound at e = absurd at

@@ -14,4 +14,3 @@ pub mod PlacedEnvironments
 pub mod PlacedDeclarations
 pub mod CallsLowered
 pub mod RunsLowered
-pub mod WorkedProgram

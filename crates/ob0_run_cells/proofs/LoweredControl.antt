@@ -50,11 +50,6 @@ module _ {N : Type 0} (checked : Typed N) (slots : N → Slot) (targets : N → 
       turns_until-represent (n - 1) b.typing (λ s'. machine.truth b.levels s'.cells t) (λ s'. evaluate b.active s'.store e) (execution.execute_all b.lowered_enters n b.levels body) (execute_all b.active b.enters n a)
       (λ low s h. truth-in checked slots targets b shown t (value_of_expression e) ht low s h) (λ low s h. ha b shown n low s h) low s h
 
-  pub first-means : (a : Tree N statement) (c : lowered.Instruction) (rest : Tree N (items further_statement)) (cs : lowered.Instructions) → StatementMeans checked slots targets c a → FurtherMean checked slots targets cs rest → SequenceMeans checked slots targets (lowered.before c cs) (runs a rest)
-  unfolding execution.execute execute
-  first-means a c rest cs hc hr b shown n low s h =
-      going-on b.typing (execution.execute b.lowered_enters n b.levels c low) (execute b.active b.enters n a s) (execution.execute_all b.lowered_enters n b.levels cs) (execute_further b.active b.enters n rest) (hc b shown n low s h) (λ low s h. hr b shown n low s h)
-
   pub further-means : (a : Tree N statement) (c : lowered.Instruction) (rest : Tree N (items further_statement)) (cs : lowered.Instructions) → StatementMeans checked slots targets c a → FurtherMean checked slots targets cs rest → FurtherMean checked slots targets (lowered.before c cs) (more (then_statement a) rest)
   unfolding execution.execute execute
   further-means a c rest cs hc hr b shown n low s h =

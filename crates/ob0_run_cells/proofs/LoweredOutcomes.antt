@@ -1,12 +1,12 @@
 -- Steps of lowered code and of the definition, one after the other.
-use Rattle.std.proofs.Common.{◌≡◌, ℕ, ◌<◌, ◌+◌, ◌-ℤ◌, ◌+ℤ◌, ◌*ℤ◌, ◌^◌, Bool, true, false, ℤ, pos, negsuc, if◌then◌else◌, Some, None, Option, option_and_then, sym, refl, ap, ◌∙◌, subst}
+use Rattle.std.proofs.Common.{◌≡◌, ℕ, ◌<◌, ◌+◌, ◌-ℤ◌, ◌+ℤ◌, ◌*ℤ◌, ◌^◌, Bool, true, false, ℤ, if◌then◌else◌, Some, None, Option, option_and_then, sym, refl, ap, ◌∙◌, subst}
 use Rattle.std.proofs.Math.Nat.{mod-eq_of_lt}
 use Rattle.ob0_tree.specs.declared.tree.Relation.{Relation}
 use Rattle.ob0_tree.specs.declared.tree.Relation.TheVariants as relation
 use Rattle.ob0_tree.specs.declared.tree.Sign.TheVariants as sign
 use Rattle.ob0_tree.specs.declared.tree.AddOperator.TheVariants as add_operator
 use Rattle.ob0_tree.specs.declared.tree.MultiplyOperator.TheVariants as multiply_operator
-use Rattle.ob0_language_values.specs.Values.{End, Outcome, Overflow, Place, Shape, Value, add, divided, divided_by, ends, fits, gives, in_range, multiply, number, or_stuck, quotient, relate, remainder, same_truth, apply_sign, truth, ◌>>=◌}
+use Rattle.ob0_language_values.specs.Values.{End, Outcome, Overflow, Place, Shape, Value, add, divided, divided_by, ends, fits, gives, in_range, multiply, number, or_stuck, quotient, relate, remainder, apply_sign, truth, ◌>>=◌}
 use Rattle.ob0_language_runs.specs.Fitting.{PlaceFits, StoreTyping}
 use Rattle.ob0_run_machine.specs.Evaluation as machine
 use Rattle.ob0_run_machine.specs.Lowered as lowered
@@ -40,19 +40,15 @@ bits-then (machine.ends e) k each = tt
 
 -- numbers of 32 bits
 
-pub fits-same : (n : ℤ) → machine.fits n ≡ fits n
-fits-same (pos n) = refl
-fits-same (negsuc n) = refl
-
 range-same : (n : ℤ) (b : Bool) → outcome_of number (if b then machine.gives n else machine.ends machine.Overflow) ≡ (if b then gives (number n) else ends Overflow)
 range-same n true = refl
 range-same n false = refl
 
 pub in_range-same : (n : ℤ) → outcome_of number (machine.in_range n) ≡ in_range n
-in_range-same n = range-same n (machine.fits n) ∙ ap (λ b. if b then gives (number n) else ends Overflow) (fits-same n)
+in_range-same n = range-same n (fits n)
 
 pub in_range-bits : (n : ℤ) → Has32Bits (machine.in_range n)
-in_range-bits n = (elim (machine.fits n) as (λ b. machine.fits n ≡ b → Has32Bits (if b then machine.gives n else machine.ends machine.Overflow)) [ true ↦ λ e. e | false ↦ λ e. tt ]) refl
+in_range-bits n = (elim (fits n) as (λ b. fits n ≡ b → Has32Bits (if b then machine.gives n else machine.ends machine.Overflow)) [ true ↦ λ e. e | false ↦ λ e. tt ]) refl
 
 pub divided-same : (result : Option ℤ) → outcome_of number (machine.divided_by result) ≡ divided_by result
 divided-same None = refl
@@ -90,20 +86,12 @@ remainder-operates a b = divided-same (divided remainder a b)
 
 pub compare-same : (r : Relation) (a b : ℤ) → gives (truth (machine.compare (relation_of r) a b)) ≡ relate r (number a) (number b)
 compare-same relation.Equal a b = refl
-compare-same relation.NotEqual a b = refl
-compare-same relation.Less a b = refl
-compare-same relation.LessEqual a b = refl
-compare-same relation.Greater a b = refl
-compare-same relation.GreaterEqual a b = refl
-
-pub alike-same : (a b : Bool) → machine.alike a b ≡ same_truth a b
-alike-same true b = refl
-alike-same false b = refl
+compare-same _ a b = refl
 
 -- a sign before a number of 32 bits
 pub plus-same : (o : machine.StepResult ℤ) (w : Outcome Value) → outcome_of number o ≡ w → Has32Bits o → w ≡ (w >>= apply_sign (Some sign.Plus))
 plus-same (machine.gives n) w e h =
-    subst (λ w. w ≡ (w >>= apply_sign (Some sign.Plus))) e (sym (ap (λ b. if b then gives (number n) else ends Overflow) (sym (fits-same n) ∙ h)))
+    subst (λ w. w ≡ (w >>= apply_sign (Some sign.Plus))) e (sym (ap (λ b. if b then gives (number n) else ends Overflow) h))
 plus-same (machine.ends x) w e h = subst (λ w. w ≡ (w >>= apply_sign (Some sign.Plus))) e refl
 
 -- addresses
@@ -138,5 +126,4 @@ led-then typing s t (machine.gives a) (gives p) k j h each =
     let e : a ≡ address typing p = given-same a (address typing p) h.is_same in
     subst (λ a. Led typing t (k a) (j p)) (sym e) (each p h.is_place)
 led-then typing s t (machine.ends x) (ends y) k j h each = record { is_same = h.is_same; is_place = tt }
-led-then typing s t (machine.gives a) (ends y) k j h each = let e = h.is_same in absurd (cc)
-led-then typing s t (machine.ends x) (gives p) k j h each = let e = h.is_same in absurd (cc)
+led-then typing s t _ _ k j h each = let e = h.is_same in absurd (cc)

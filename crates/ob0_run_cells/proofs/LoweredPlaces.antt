@@ -9,6 +9,7 @@ use Rattle.ob0_language_types.specs.WellTyped.{Mode, Typed}
 use Rattle.ob0_language_values.specs.Values.{FieldShapes, Index, Outcome, Place, Shape, Step, Store, Value, Values, array_shape, at_field, at_index, at_path, boolean_shape, count_values, elements, ends, gives, integer_shape, number, or_stuck, part, read_place, record_shape, truth, ◌>>=◌}
 use Rattle.ob0_language_runs.specs.Fitting.{HasShape, ObjectFits, PlaceFits, StoreFits, StoreTyping, part_shape, shape_at_path}
 use Rattle.ob0_language_runs.proofs.Sound.{is_elements}
+use Rattle.ob0_language_runs.proofs.SoundStatements.{slice_get-grows}
 use Rattle.ob0_run_machine.specs.Evaluation as machine
 use Rattle.ob0_run_machine.specs.Evaluation.{Levels}
 use Rattle.ob0_run_machine.specs.Lowered as lowered
@@ -94,9 +95,7 @@ further-element (machine.gives a) (machine.gives (pos j)) n s at k = chosen (nat
         ≡ followed_by (if b then machine.gives (machine.forward (machine.forward a at) (j * s)) else machine.ends machine.Index) (λ a. machine.gives (machine.forward a k))
     chosen true = ap machine.gives (ap (λ b. machine.forward b (j * s)) (forward-twice a at k) ∙ forward-swapped (machine.forward a at) k (j * s))
     chosen false = refl
-further-element (machine.gives a) (machine.gives (negsuc j)) n s at k = refl
-further-element (machine.gives a) (machine.ends e) n s at k = refl
-further-element (machine.ends e) y n s at k = refl
+further-element _ _ n s at k = refl
 
 -- a part is as much further on as its offset says
 pub part-address : (ls : Levels) (cells : List ℤ) (q : lowered.Place) (k : ℕ) → machine.address ls cells (part_at q k) ≡ followed_by (machine.address ls cells q) (λ a. machine.gives (machine.forward a k))
@@ -109,8 +108,7 @@ part-address ls cells (lowered.element q i n s at) k = further-element (machine.
 -- an element without an offset
 from-start : (a : ℕ) (y : machine.StepResult ℤ) (n s : ℕ) → followed_by y (machine.element_at (machine.forward a 0) n s) ≡ followed_by y (machine.element_at a n s)
 from-start a (machine.gives (pos j)) n s = ap (λ b. if nat_lt j n then machine.gives b else machine.ends machine.Index) (mod-add-mod (a + 0) (2 ^ 64) (j * s) ∙ ap (λ b. machine.forward b (j * s)) (add-zero a))
-from-start a (machine.gives (negsuc j)) n s = refl
-from-start a (machine.ends e) n s = refl
+from-start a _ n s = refl
 
 pub element-address : (ls : Levels) (cells : List ℤ) (q : lowered.Place) (i : lowered.Number) (n s : ℕ)
     → machine.address ls cells (lowered.element q i n s 0) ≡ followed_by (machine.address ls cells q) (λ a. followed_by (machine.number ls cells i) (machine.element_at a n s))
@@ -173,21 +171,15 @@ value-there {N} active store x path p e =
         each-then (follow active store v path) (λ steps. or_stuck (at_path steps v)) (λ steps. or_stuck (read_place store (further p steps))) (λ steps. ap or_stuck (sym (read-further store p steps ∙ ap (option_and_then (at_path steps)) h)))
         ∙ sym (grouped-then (follow active store v path) (λ steps. gives (further p steps)) (λ p. or_stuck (read_place store p)))
 
-pub get-before : {A : Type 0} (xs ys : List A) (i : ℕ) (x : A) → slice_get xs i ≡ Some x → slice_get (xs ++ ys) i ≡ Some x
-get-before [] ys i x e = absurd (cc)
-get-before (y ∷ xs) ys zero x e = e
-get-before (y ∷ xs) ys (suc i) x e = get-before xs ys i x e
-
 pub number-there : (typing : StoreTyping) (store : Store) (passed : List ℤ) → StoreFits typing store → (o : machine.StepResult ℕ) (w : Outcome Place) → Led typing integer_shape o w
     → outcome_of number (followed_by o (λ a. machine.gives (machine.cell_at (all_cells store ++ passed) a))) ≡ (w >>= (λ p. or_stuck (read_place store p)))
 number-there typing store passed fits (machine.gives a) (gives p) h =
     let (found, writes) = numbers_are_cells typing store p fits h.is_place in
     let (n, read, cell) = found in
     let e : a ≡ address typing p = given-same a (address typing p) h.is_same in
-    ap (λ n. gives (number n)) (get_or_from_slice_get (all_cells store ++ passed) a n (pos 0) (ap (slice_get (all_cells store ++ passed)) e ∙ get-before (all_cells store) passed (address typing p) n cell)) ∙ sym (ap or_stuck read)
+    ap (λ n. gives (number n)) (get_or_from_slice_get (all_cells store ++ passed) a n (pos 0) (ap (slice_get (all_cells store ++ passed)) e ∙ slice_get-grows (all_cells store) passed (address typing p) n cell)) ∙ sym (ap or_stuck read)
 number-there typing store passed fits (machine.ends x) (ends y) h = ap (λ w. w >>= (λ a. ends y)) (h.is_same)
-number-there typing store passed fits (machine.gives a) (ends y) h = let e = h.is_same in absurd (cc)
-number-there typing store passed fits (machine.ends x) (gives p) h = let e = h.is_same in absurd (cc)
+number-there typing store passed fits _ _ h = let e = h.is_same in absurd (cc)
 
 is_true-cell : (b : Bool) → machine.is_true (truth_cell b) ≡ b
 is_true-cell true = refl
@@ -199,10 +191,9 @@ truth-there typing store passed fits (machine.gives a) (gives p) h =
     let (found, writes) = truths_are_cells typing store p fits h.is_place in
     let (b, read, cell) = found in
     let e : a ≡ address typing p = given-same a (address typing p) h.is_same in
-    ap (λ n. gives (truth (machine.is_true n))) (get_or_from_slice_get (all_cells store ++ passed) a (truth_cell b) (pos 0) (ap (slice_get (all_cells store ++ passed)) e ∙ get-before (all_cells store) passed (address typing p) (truth_cell b) cell)) ∙ (ap (λ b. gives (truth b)) (is_true-cell b) ∙ sym (ap or_stuck read))
+    ap (λ n. gives (truth (machine.is_true n))) (get_or_from_slice_get (all_cells store ++ passed) a (truth_cell b) (pos 0) (ap (slice_get (all_cells store ++ passed)) e ∙ slice_get-grows (all_cells store) passed (address typing p) (truth_cell b) cell)) ∙ (ap (λ b. gives (truth b)) (is_true-cell b) ∙ sym (ap or_stuck read))
 truth-there typing store passed fits (machine.ends x) (ends y) h = ap (λ w. w >>= (λ a. ends y)) (h.is_same)
-truth-there typing store passed fits (machine.gives a) (ends y) h = let e = h.is_same in absurd (cc)
-truth-there typing store passed fits (machine.ends x) (gives p) h = let e = h.is_same in absurd (cc)
+truth-there typing store passed fits _ _ h = let e = h.is_same in absurd (cc)
 
 pub bits-at : (o : machine.StepResult ℕ) (cells : List ℤ) → ((a : ℕ) → machine.fits (machine.cell_at cells a) ≡ true) → Has32Bits (followed_by o (λ a. machine.gives (machine.cell_at cells a)))
 bits-at (machine.gives a) cells each = each a

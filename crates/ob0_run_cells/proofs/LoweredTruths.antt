@@ -12,7 +12,7 @@ use Rattle.ob0_run_machine.specs.Evaluation as machine
 use Rattle.ob0_run_machine.specs.Lowered as lowered
 use Rattle.ob0_run_cells.specs.Lowering.{Evaluated, Moment, NumberMeans, RestOfChain, Slot, TruthLeads, TruthMeans, addends_left, cells_in, multipliers_left, outcome_of, relation_of, value_of_expression, value_of_factor, value_of_simple, value_of_term}
 use Rattle.ob0_run_cells.proofs.LoweredNumbers.{each-then}
-use Rattle.ob0_run_cells.proofs.LoweredOutcomes.{alike-same, compare-same, gives-then, grouped-then, outcome-then, followed_by}
+use Rattle.ob0_run_cells.proofs.LoweredOutcomes.{compare-same, gives-then, grouped-then, outcome-then, followed_by}
 
 -- a right side alone says what an operator gives that its left side doesn't settle
 pub right-alone : (op : Value → Outcome Value) (o : machine.StepResult Bool) (w : Outcome Value) → ((b : Bool) → op (truth b) ≡ gives (truth b)) → outcome_of truth o ≡ w → outcome_of truth o ≡ (w >>= op)
@@ -85,12 +85,12 @@ module _ {N : Type 0} (checked : Typed N) (slots : N → Slot) where
       → TruthMeans checked slots (lowered.same t u) (value_of_expression (compares d (one (relates relation.Equal e))))
   unfolding evaluate
   same-means d e t u ht hu z shown =
-      outcome-then truth truth (machine.truth z.levels (cells_in z) t) (value_of_simple d z) (λ a. followed_by (machine.truth z.levels (cells_in z) u) (λ b. machine.gives (machine.alike a b))) (λ x. value_of_simple e z >>= relate relation.Equal x) (ht z shown)
-      (λ a. outcome-then truth truth (machine.truth z.levels (cells_in z) u) (value_of_simple e z) (λ b. machine.gives (machine.alike a b)) (relate relation.Equal (truth a)) (hu z shown) (λ b. ap (λ c. gives (truth c)) (alike-same a b)))
+      outcome-then truth truth (machine.truth z.levels (cells_in z) t) (value_of_simple d z) (λ a. followed_by (machine.truth z.levels (cells_in z) u) (λ b. machine.gives (machine.same_truth a b))) (λ x. value_of_simple e z >>= relate relation.Equal x) (ht z shown)
+      (λ a. outcome-then truth truth (machine.truth z.levels (cells_in z) u) (value_of_simple e z) (λ b. machine.gives (machine.same_truth a b)) (relate relation.Equal (truth a)) (hu z shown) (λ b. refl))
 
   pub different-means : (d e : Tree N simple) (t u : lowered.Truth) → TruthMeans checked slots t (value_of_simple d) → TruthMeans checked slots u (value_of_simple e)
       → TruthMeans checked slots (lowered.different t u) (value_of_expression (compares d (one (relates relation.NotEqual e))))
   unfolding evaluate
   different-means d e t u ht hu z shown =
-      outcome-then truth truth (machine.truth z.levels (cells_in z) t) (value_of_simple d z) (λ a. followed_by (machine.truth z.levels (cells_in z) u) (λ b. machine.gives (not (machine.alike a b)))) (λ x. value_of_simple e z >>= relate relation.NotEqual x) (ht z shown)
-      (λ a. outcome-then truth truth (machine.truth z.levels (cells_in z) u) (value_of_simple e z) (λ b. machine.gives (not (machine.alike a b))) (relate relation.NotEqual (truth a)) (hu z shown) (λ b. ap (λ c. gives (truth (not c))) (alike-same a b)))
+      outcome-then truth truth (machine.truth z.levels (cells_in z) t) (value_of_simple d z) (λ a. followed_by (machine.truth z.levels (cells_in z) u) (λ b. machine.gives (not (machine.same_truth a b)))) (λ x. value_of_simple e z >>= relate relation.NotEqual x) (ht z shown)
+      (λ a. outcome-then truth truth (machine.truth z.levels (cells_in z) u) (value_of_simple e z) (λ b. machine.gives (not (machine.same_truth a b))) (relate relation.NotEqual (truth a)) (hu z shown) (λ b. refl))

@@ -40,8 +40,7 @@ both-made R Q _ _ g h each = absurd h
 pub both-led : (typing : StoreTyping) (shape : Shape) (o : machine.StepResult ℕ) (w : Outcome Place) → Led typing shape o w → Both (λ a p. (a ≡ address typing p) × PlaceFits typing p shape) o w
 both-led typing shape (machine.gives a) (gives p) h = (given-same a (address typing p) h.is_same, h.is_place)
 both-led typing shape (machine.ends x) (ends y) h = ended-same (end_of x) y h.is_same
-both-led typing shape (machine.gives a) (ends y) h = let e = h.is_same in absurd (cc)
-both-led typing shape (machine.ends x) (gives p) h = let e = h.is_same in absurd (cc)
+both-led typing shape _ _ h = let e = h.is_same in absurd (cc)
 
 pub both-number : (o : machine.StepResult ℤ) (w : Outcome Value) → outcome_of number o ≡ w → Has32Bits o → Both (λ n v. (number n ≡ v) × (machine.fits n ≡ true)) o w
 both-number (machine.gives n) w e h = subst (λ w. Both (λ n v. (number n ≡ v) × (machine.fits n ≡ true)) (machine.gives n) w) e (refl, h)
@@ -55,8 +54,7 @@ pub use-both : {A B : Type 0} (typing : StoreTyping) (R : A → B → Type 0) (l
     → ((a : A) (b : B) → R a b → ProgressRepresents typing (k a) (j b)) → ProgressRepresents typing (execution.use_in low o k) (use_in s w j)
 use-both typing R low s (machine.gives a) (gives b) k j h r each = each a b r
 use-both typing R low s (machine.ends x) (ends y) k j h r each = (r, h.same_output)
-use-both typing R low s (machine.gives a) (ends y) k j h r each = absurd r
-use-both typing R low s (machine.ends x) (gives b) k j h r each = absurd r
+use-both typing R low s _ _ k j h r each = absurd r
 
 -- what was passed before, and what is after arguments
 pub record Passes (typing : StoreTyping) (fs : Signature) (done p : execution.Passed) (args : List Argument) : Type 0 where

@@ -10,15 +10,16 @@ use Rattle.ob0_language_types.specs.Environments.{meanings}
 use Rattle.ob0_language_types.specs.Expressions.{a_constant, a_procedure, a_type, a_variable}
 use Rattle.ob0_language_types.specs.Typing.{constant_value, constructors, denoted}
 use Rattle.ob0_language_types.specs.WellTyped.{Signature, TypeEnvironment, TypedParameter, bind_names, bind_typed, block_fits, declare_typed, heading, some_and, procedure_fits, procedures_fit}
+use Rattle.ob0_language_types.proofs.Literals.{some_inverse}
 use Rattle.ob0_language_values.specs.Values.{Shape, Store, Value, initial}
 use Rattle.ob0_language_runs.specs.Fitting.{ArgumentsFit, EnvironmentsFit, HasShape, StoreFits, StoreTyping}
 use Rattle.ob0_language_runs.specs.Runs.{Activation, Argument, Frame, allocate, bind_parameter, bind_parameters, declare_block, declare_procedures, declare_variables, place_argument, value_argument, with_procedures}
 use Rattle.ob0_language_runs.proofs.Sound.{some-gives}
-use Rattle.ob0_language_runs.proofs.SoundCalls.{ArgumentsFit-grows, as_parameter, constants-run, denoted-same, environments-grow, some-inverse, types-run}
+use Rattle.ob0_language_runs.proofs.SoundCalls.{ArgumentsFit-grows, as_parameter, constants-run, denoted-same, environments-grow, types-run}
 use Rattle.ob0_language_types.proofs.Conditions.{both_true}
 use Rattle.ob0_run_machine.specs.Evaluation.{Level, Levels}
 use Rattle.ob0_run_machine.specs.Lowered as lowered
-use Rattle.ob0_run_cells.specs.Activations.{RoutineTable, BlockMeans, BodyMeans, Placed, Placing, PlacingFits, ProceduresMean, hide_names, in_slot, nowhere, own_target, place_names, place_parameter, place_parameters, place_variables}
+use Rattle.ob0_run_cells.specs.Activations.{RoutineTable, BlockMeans, BodyMeans, Placed, Placing, PlacingFits, ProceduresMean, hide_names, in_slot, nowhere, own_target, place_names, place_one, place_parameters, place_variables}
 use Rattle.ob0_run_cells.specs.Cells.{address, all_cells, cells_of, size, sizes}
 use Rattle.ob0_run_cells.specs.LoweredStatements.{argument_addresses, argument_cells}
 use Rattle.ob0_run_cells.specs.Lowering.{Slot, held, by_reference, slot_address}
@@ -68,7 +69,7 @@ module _ {N : Type 0} (table : RoutineTable N) where
       → PlacingFits table typing ls checked placing active → PlacingFits table typing ls after (hide_names (constant_names cs) placing) d
   unfolding declare_constants
   constants-placed typing ls end checked after placing active d e e' h =
-      subst (λ a. PlacingFits table typing ls a placing d) (some-inverse {a = checked} {b = after} e) (subst (λ d. PlacingFits table typing ls checked placing d) (some-inverse {a = active} {b = d} e') h)
+      subst (λ a. PlacingFits table typing ls a placing d) (some_inverse {a = checked} {b = after} e) (subst (λ d. PlacingFits table typing ls checked placing d) (some_inverse {a = active} {b = d} e') h)
   constants-placed typing ls (more (declares_constant x c) cs) checked after placing active d e e' h =
       let (v, ev, e₁) = some-gives (constant_value (meanings table.naming checked) c) (λ v. declare_constants table.naming ((x, a_constant v) ∷ checked) cs) after e in
       let (w, ew, e₂) = some-gives (constant_value (meanings table.naming active) c) (λ v. declare_constants table.naming ((x, a_constant v) ∷ active) cs) d e' in
@@ -78,7 +79,7 @@ module _ {N : Type 0} (table : RoutineTable N) where
       → PlacingFits table typing ls checked placing active → PlacingFits table typing ls after (hide_names (named_types ds) placing) d
   unfolding declare_types
   types-placed typing ls k end checked after placing active d e e' h =
-      subst (λ a. PlacingFits table typing ls a placing d) (some-inverse {a = checked} {b = after} e) (subst (λ d. PlacingFits table typing ls checked placing d) (some-inverse {a = active} {b = d} e') h)
+      subst (λ a. PlacingFits table typing ls a placing d) (some_inverse {a = checked} {b = after} e) (subst (λ d. PlacingFits table typing ls checked placing d) (some_inverse {a = active} {b = d} e') h)
   types-placed typing ls k (more (declares_type x u) ds) checked after placing active d e e' h =
       let (v, ev, e₁) = some-gives (denoted (meanings table.naming checked) k u) (λ s. declare_types table.naming ((x, a_type s) ∷ checked) (k + constructors u) ds) after e in
       let (w, ew, e₂) = some-gives (denoted (meanings table.naming active) k u) (λ s. declare_types table.naming ((x, a_type s) ∷ active) (k + constructors u) ds) d e' in
@@ -119,8 +120,8 @@ module _ {N : Type 0} (table : RoutineTable N) where
       → (g : Frame N) × (n : ℕ) × (declare_variables table.naming k gs f ≡ Some g) × (q.cells ≡ p.cells + n) × Extends table typing ls base inner q f.store (replicate n (pos 0)) g
   unfolding declare_typed declare_variables place_variables
   variables-placed typing ls base at is k end checked inner p q f h e e' =
-      let same : p ≡ q = some-inverse e' in
-      (f, 0, refl, ap (λ q. q.cells) (sym same) ∙ omega arith, subst (λ q. Extends table typing ls base inner q f.store [] f) same (subst (λ c. Extends table typing ls base c p f.store [] f) (some-inverse {a = checked} {b = inner} e) (extends-here typing ls base checked p f h)))
+      let same : p ≡ q = some_inverse e' in
+      (f, 0, refl, ap (λ q. q.cells) (sym same) ∙ omega arith, subst (λ q. Extends table typing ls base inner q f.store [] f) same (subst (λ c. Extends table typing ls base c p f.store [] f) (some_inverse {a = checked} {b = inner} e) (extends-here typing ls base checked p f h)))
   variables-placed typing ls base at is k (more (declares_variable ns u) gs) checked inner p q f h e e' =
       let (s, es, e₁) = some-gives (denoted (meanings table.naming checked) k u) (λ s. declare_typed table.naming (k + constructors u) gs (bind_names (names_listed ns) (a_variable s) checked)) inner e in
       let e₂ : place_variables table.naming at (bind_names (names_listed ns) (a_variable s) checked) (k + constructors u) gs (place_names at (names_listed ns) (size s) p) ≡ Some q =
@@ -218,7 +219,7 @@ module _ {N : Type 0} (table : RoutineTable N) where
       let (g, eg, part) = parameters-placed typing l ls ps args ((q.name, a_variable q.formal.shape) ∷ checked) p₁ f₁ record { store_fits = h.store_fits; environment_fits = (refl, fit.1, h.environment_fits); placing_fits = record { same_active = refl; same_placed = refl; here = (fit.1, first); further = h.placing_fits }; cells_counted = h.cells_counted } fit.2 rest in (
         g,
         ap (λ m. option_and_then (bind_parameters (map as_parameter ps) args) (bind_parameter m q.name (place_argument place) f)) fit.0 ∙ eg,
-        subst (λ m. Extends table typing (l ∷ ls) l.base (bind_typed ps ((q.name, a_variable q.formal.shape) ∷ checked)) (place_parameters ps (place_parameter m q.name (size q.formal.shape) p)) f.store (argument_cells args) g) (sym fit.0) part,
+        subst (λ m. Extends table typing (l ∷ ls) l.base (bind_typed ps ((q.name, a_variable q.formal.shape) ∷ checked)) (place_parameters ps (place_one (held 0) m q.name (size q.formal.shape) p)) f.store (argument_cells args) g) (sym fit.0) part,
       )
   parameters-placed typing l ls (q ∷ ps) (value_argument v ∷ args) checked p f h fit there =
       let s = q.formal.shape in
@@ -228,7 +229,7 @@ module _ {N : Type 0} (table : RoutineTable N) where
       let (g, eg, part) = parameters-placed (typing ++ s ∷ []) l ls ps args ((q.name, a_variable s) ∷ checked) p₁ f₁ one (ArgumentsFit-grows typing (s ∷ []) (map (λ p. p.formal) ps) args fit.2) (there ∙ sym (arguments-stay typing (s ∷ []) (map (λ p. p.formal) ps) args fit.2)) in (
         g,
         ap (λ m. option_and_then (bind_parameters (map as_parameter ps) args) (bind_parameter m q.name (value_argument v) f)) fit.0 ∙ eg,
-        subst (λ m. Extends table typing (l ∷ ls) l.base (bind_typed ps ((q.name, a_variable s) ∷ checked)) (place_parameters ps (place_parameter m q.name (size s) p)) f.store (cells_of v ++ argument_cells args) g) (sym fit.0)
+        subst (λ m. Extends table typing (l ∷ ls) l.base (bind_typed ps ((q.name, a_variable s) ∷ checked)) (place_parameters ps (place_one (held 0) m q.name (size s) p)) f.store (cells_of v ++ argument_cells args) g) (sym fit.0)
             (extends-then table typing (typing ++ s ∷ []) (s ∷ []) (l ∷ ls) l.base (bind_typed ps ((q.name, a_variable s) ∷ checked)) (place_parameters ps p₁) f.store (f.store ++ v ∷ []) (cells_of v) (argument_cells args) g refl cells part),
       )
   parameters-placed typing l ls _ _ checked p f h fit there = absurd fit

@@ -9,7 +9,7 @@ use Rattle.ob0_language_runs.specs.Runs.{Activation, ProcedureText, passing}
 use Rattle.ob0_run_machine.specs.Evaluation.{Level, Levels}
 use Rattle.ob0_run_cells.specs.Activations.{IsPlaced, RoutineTable, Placing, PlacingFits, Whereabouts, at_target, first_slot, from_name, in_slot, inward, inward_slot, inward_whereabouts, nowhere}
 use Rattle.ob0_run_cells.specs.Cells.{address}
-use Rattle.ob0_run_cells.specs.Lowering.{Slot, held, by_reference, of_module, slot_address}
+use Rattle.ob0_run_cells.specs.Lowering.{Slot, of_module, slot_address}
 use Rattle.ob0_run_cells.proofs.Places.{addresses_stay}
 
 module _ {N : Type 0} (table : RoutineTable N) where
@@ -59,19 +59,15 @@ module _ {N : Type 0} (table : RoutineTable N) where
         here = grows-here typing others ls checked (λ ls placing. PlacingFits table typing ls checked placing active) (λ ls placing. PlacingFits table (typing ++ others) ls checked placing active) (placing-grows typing others checked active) b.0 b.1 w.1 d.1 h.here;
         further = placing-grows typing others checked active ls placing h.further;
       }
-  placing-grows typing others [] [] ls (w ∷ placing) h = absurd h
   placing-grows typing others [] (d ∷ active) ls [] h = absurd h
-  placing-grows typing others [] (d ∷ active) ls (w ∷ placing) h = absurd h
   placing-grows typing others (b ∷ checked) [] ls [] h = absurd h
-  placing-grows typing others (b ∷ checked) [] ls (w ∷ placing) h = absurd h
-  placing-grows typing others (b ∷ checked) (d ∷ active) ls [] h = absurd h
+  placing-grows typing others _ _ ls _ h = absurd h
 
   -- one activation further in
 
   slot-inward : (l : Level) (ls : Levels) (s : Slot) → slot_address (l ∷ ls) (inward_slot s) ≡ slot_address ls s
   slot-inward l ls (of_module at) = refl
-  slot-inward l ls (held up at) = refl
-  slot-inward l ls (by_reference up at) = refl
+  slot-inward l ls _ = refl
 
   inward-here : (typing : StoreTyping) (l : Level) (ls : Levels) (checked : TypeEnvironment N) (Fits : Levels → Placing N → Type 0) (x : N) (o : Object Shape Signature) (w : Whereabouts) (r : Object Place (ProcedureText N))
       → IsPlaced table typing ls checked Fits x o w r → IsPlaced table typing (l ∷ ls) checked Fits x o (inward_whereabouts w) r

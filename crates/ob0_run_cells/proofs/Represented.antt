@@ -27,8 +27,7 @@ use-place typing shape low s (machine.gives a) (gives p) k j h led each =
     let e : a ≡ address typing p = given-same a (address typing p) led.is_same in
     subst (λ a. ProgressRepresents typing (k a) (j p)) (sym e) (each p led.is_place)
 use-place typing shape low s (machine.ends x) (ends y) k j h led each = (ended-same (end_of x) y led.is_same, h.same_output)
-use-place typing shape low s (machine.gives a) (ends y) k j h led each = let e = led.is_same in absurd (cc)
-use-place typing shape low s (machine.ends x) (gives p) k j h led each = let e = led.is_same in absurd (cc)
+use-place typing shape low s _ _ k j h led each = let e = led.is_same in absurd (cc)
 
 pub choice-represents : (typing : StoreTyping) (low : execution.MachineState) (s : State) (o : machine.StepResult Bool) (w : Outcome Value) (k l : execution.MachineState → execution.MachineProgress) (i j : State → Progress) → Represents typing low s → outcome_of truth o ≡ w
     → ProgressRepresents typing (k low) (i s) → ProgressRepresents typing (l low) (j s) → ProgressRepresents typing (execution.choose low o k l) (use_in s w (λ v. choose s v i j))
@@ -87,9 +86,8 @@ numbers-take (suc n) (x ∷ xs) h zero = h zero
 numbers-take (suc n) (x ∷ xs) h (suc i) = numbers-take n xs (λ i. h (suc i)) i
 
 pub numbers-drop : (n : ℕ) (xs : List ℤ) → HaveNumbers xs → HaveNumbers (drop n xs)
-numbers-drop zero xs h i = h i
-numbers-drop (suc n) [] h i = h i
 numbers-drop (suc n) (x ∷ xs) h i = numbers-drop n xs (λ i. h (suc i)) i
+numbers-drop _ _ h i = h i
 
 pub truth-number : (b : Bool) → machine.fits (machine.as_cell b) ≡ true
 truth-number true = refl

@@ -1,7 +1,7 @@
 -- Variables that begin, are added, and are dropped.
 use Rattle.std.proofs.Common.{◌≡◌, ℕ, zero, suc, ◌+◌, ◌*◌, List, [], ◌∷◌, ◌++◌, length, replicate, take, ℤ, pos, slice_get, Some, option_and_then, option_map, unwrap_or, sym, refl, ap, ◌∙◌, arith, append_assoc, append-nil}
 use Rattle.std.proofs.lemmas.List.{replicate-append-replicate, take_at}
-use Rattle.ob0_language_values.specs.Values.{FieldShapes, Shape, Store, Value, array_shape, boolean_shape, copies, initial, initial_members, integer_shape, next_field_shape, no_field_shape, record_shape}
+use Rattle.ob0_language_values.specs.Values.{FieldShapes, Shape, Store, Value, array_shape, copies, initial, initial_members, next_field_shape, no_field_shape, record_shape}
 use Rattle.ob0_language_runs.specs.Fitting.{HasShape, PlaceFits, StoreFits, StoreTyping, shape_at_path}
 use Rattle.ob0_language_runs.proofs.SoundCalls.{initial-fits, last-shape, store-appends}
 use Rattle.ob0_run_cells.specs.Cells.{address, all_cells, cells_of, element_cells, field_sizes, member_cells, offset, size, sizes}
@@ -18,10 +18,9 @@ copies-zero (suc n) m v e =
 
 mutual
   pub initial-zero : (s : Shape) → cells_of (initial s) ≡ replicate (size s) (pos 0)
-  initial-zero integer_shape = refl
-  initial-zero boolean_shape = refl
   initial-zero (array_shape k n s) = copies-zero n (size s) (initial s) (initial-zero s)
   initial-zero (record_shape k fs) = initial_members-zero fs
+  initial-zero _ = refl
 
   pub initial_members-zero : (fs : FieldShapes) → member_cells (initial_members fs) ≡ replicate (field_sizes fs) (pos 0)
   initial_members-zero no_field_shape = refl

@@ -97,12 +97,20 @@ pub record Placed (N : Type 0) : Type 0 where
   pub cells : ℕ
   pub reference_places : ℕ
 
+-- a name, placed: by value in n cells of its own, as VAR by its address
+abbrev pub place_one : {N : Type 0} → (ℕ → Slot) → Mode → N → ℕ → Placed N → Placed N
+place_one at by_value x n p =
+    record p { placing = (x, in_slot (at p.cells)) ∷ p.placing; cells = p.cells + n }
+place_one at by_place x n p =
+    record p {
+      placing = (x, in_slot (by_reference 0 p.reference_places)) ∷ p.placing;
+      reference_places = suc p.reference_places;
+    }
+
 -- names placed one by one, each with n cells
 abbrev pub place_names : {N : Type 0} → (ℕ → Slot) → List N → ℕ → Placed N → Placed N
 place_names at [] n p = p
-place_names at (x ∷ xs) n p =
-    place_names at xs n record p
-    { placing = (x, in_slot (at p.cells)) ∷ p.placing; cells = p.cells + n }
+place_names at (x ∷ xs) n p = place_names at xs n (place_one at by_value x n p)
 
 -- the variables of a block, placed one after the other
 unfoldable pub place_variables : {N : Type 0}
@@ -120,21 +128,11 @@ place_variables naming at checked k (more (declares_variable ns u) gs) p =
     (bind_names (names_listed ns) (a_variable s) checked) (k + constructors u) gs
     (place_names at (names_listed ns) (size s) p)) (denoted (meanings naming checked) k u)
 
--- a parameter, placed: by value in cells of its own, as VAR by its address
-abbrev pub place_parameter : {N : Type 0} → Mode → N → ℕ → Placed N → Placed N
-place_parameter by_value x n p =
-    record p { placing = (x, in_slot (held 0 p.cells)) ∷ p.placing; cells = p.cells + n }
-place_parameter by_place x n p =
-    record p {
-      placing = (x, in_slot (by_reference 0 p.reference_places)) ∷ p.placing;
-      reference_places = suc p.reference_places;
-    }
-
 -- parameters, placed one after the other
 abbrev pub place_parameters : {N : Type 0} → List (TypedParameter N) → Placed N → Placed N
 place_parameters [] p = p
 place_parameters (q ∷ ps) p =
-    place_parameters ps (place_parameter q.formal.mode q.name (size q.formal.shape) p)
+    place_parameters ps (place_one (held 0) q.formal.mode q.name (size q.formal.shape) p)
 
 -- constants and types are nowhere
 abbrev pub hide_names : {N : Type 0} → List N → Placing N → Placing N

@@ -45,9 +45,7 @@ module _ (checked : Typed Label) (slots : Label → Slot) (targets : Label → T
 
   nothing : (c : lowered.Instruction) (s : Shape) → Means checked slots code.Nothing s (value_of_expression e) → StatementMeans checked slots targets c (assigns x path e)
   nothing c integer_shape h = absurd h
-  nothing c boolean_shape h = absurd h
-  nothing c (array_shape k m s) h = absurd h
-  nothing c (record_shape k fs) h = absurd h
+  nothing c _ h = absurd h
 
 -- where an assignment fits, both sides have one type
 module _ (scene : Scene) (x : ℕ) (path : Tree ℕ (items selector)) (e : Expression) (l : TypedPlace) where

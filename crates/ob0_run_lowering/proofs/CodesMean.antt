@@ -13,6 +13,7 @@ use Rattle.ob0_language_names.specs.Names.{Label}
 use Rattle.ob0_language_types.specs.Expressions.{evaluate}
 use Rattle.ob0_language_types.specs.Typing.{add_type, complement_type, multiply_type, relation_type, sign_type}
 use Rattle.ob0_language_types.specs.WellTyped.{Typed}
+use Rattle.ob0_language_types.proofs.Literals.{some_inverse}
 use Rattle.ob0_language_values.specs.Values.{Outcome, Shape, Value, array_shape, boolean_shape, ends, gives, integer_shape, record_shape, ◌>>=◌}
 use Rattle.ob0_run_machine.specs.Lowered as lowered
 use Rattle.ob0_run_cells.specs.Cells.{size}
@@ -21,9 +22,6 @@ use Rattle.ob0_run_cells.proofs.LoweredNumbers as numbers
 use Rattle.ob0_run_cells.proofs.LoweredOutcomes.{difference-operates, product-operates, quotient-operates, remainder-operates, sum-operates}
 use Rattle.ob0_run_cells.proofs.LoweredTruths as truths
 use Rattle.ob0_run_lowering.specs.Codes.{ExpressionCode, CodeMeans, a_block, a_number, a_truth, added, multiplied, negated, related, signed}
-
-pub some_inj : {A : Type 0} {x y : A} → Some x ≡ Some y → x ≡ y
-some_inj e = cc
 
 -- a code so far, and what is left of a chain
 abbrev pub CodeLeads : Typed Label → (Label → Slot) → ExpressionCode → Shape → RestOfChain Label Value → Evaluated Label Value → Type 0
@@ -35,7 +33,7 @@ CodeLeads checked slots _ _ rest whole = ⊥
 
 -- two codes with their variants, and a type
 two-codes : (P : ExpressionCode → ExpressionCode → Shape → Type 0) {c d c' d' : ExpressionCode} {z z' : Shape} → c ≡ c' → d ≡ d' → Some z' ≡ Some z → P c' d' z' → P c d z
-two-codes P {c = c} {d = d} {c' = c'} {d' = d'} {z = z} {z' = z'} ec ed ez h = subst (λ z. P c d z) (some_inj ez) (subst (λ c. P c d z') (sym ec) (subst (λ d. P c' d z') (sym ed) h))
+two-codes P {c = c} {d = d} {c' = c'} {d' = d'} {z = z} {z' = z'} ec ed ez h = subst (λ z. P c d z) (some_inverse ez) (subst (λ c. P c d z') (sym ec) (subst (λ d. P c' d z') (sym ed) h))
 
 module _ (checked : Typed Label) (slots : Label → Slot) where
   -- the code of an INTEGER is a number, that of a BOOLEAN a truth
@@ -125,7 +123,7 @@ module _ (checked : Typed Label) (slots : Label → Slot) where
     SignedLeads g c y = CodeLeads checked slots (signed g c) y (addends_left rest) (value_of_simple (sum g e rest))
 
     one-code : (g : Option Sign) (c c' : ExpressionCode) (y y' : Shape) → c ≡ c' → Some y' ≡ Some y → SignedLeads g c' y' → SignedLeads g c y
-    one-code g c c' y y' ec ey h = subst (λ y. SignedLeads g c y) (some_inj ey) (subst (λ c. SignedLeads g c y') (sym ec) h)
+    one-code g c c' y y' ec ey h = subst (λ y. SignedLeads g c y) (some_inverse ey) (subst (λ c. SignedLeads g c y') (sym ec) h)
 
     pub sum-begins : (g : Option Sign) (c : ExpressionCode) (x y : Shape) → sign_type g x ≡ Some y → CodeMeans checked slots c x (value_of_term e) → SignedLeads g c y
     sum-begins None c x y h hc = one-code None c c y x refl h (unsigned-begins c x e rest hc)
@@ -172,7 +170,7 @@ module _ (checked : Typed Label) (slots : Label → Slot) where
   pub negated-means : (f : Tree Label factor) (c : ExpressionCode) (x s : Shape) → complement_type x ≡ Some s → CodeMeans checked slots c x (value_of_factor f) → CodeMeans checked slots (negated c) s (value_of_factor (negation f))
   negated-means f c boolean_shape s h hc =
       let (t, et, ht) = truth-code c (value_of_factor f) hc in
-      subst (λ s. CodeMeans checked slots (negated c) s (value_of_factor (negation f))) (some_inj h) (subst (λ c. CodeMeans checked slots (negated c) boolean_shape (value_of_factor (negation f))) (sym et) (truths.negation-means checked slots f t ht))
+      subst (λ s. CodeMeans checked slots (negated c) s (value_of_factor (negation f))) (some_inverse h) (subst (λ c. CodeMeans checked slots (negated c) boolean_shape (value_of_factor (negation f))) (sym et) (truths.negation-means checked slots f t ht))
   negated-means f c _ s h hc = absurd (cc)
 
   module _ (a b : Tree Label simple) where

@@ -1,52 +1,18 @@
 -- In a well-typed module each binding is what the declaration of its ordinal is.
-use Rattle.std.proofs.Common.{◌≡◌, ℕ, suc, ◌+◌, ◌<◌, ◌≤◌, ◌==◌, Bool, true, false, cond, nat_lt, List, [], ◌∷◌, ◌++◌, Some, None, refl, sym, ap, ◌∙◌, subst, arith, le_refl, le_of_lt, eq-eqb, eqb-true}
-use Rattle.std.proofs.lemmas.Bool.{ltb-false, ltb-true}
-use Rattle.std.proofs.lemmas.List.{append-nil}
-use Rattle.ob0_tree.specs.Tree.{Tree, block, body, declares, declares_procedure, end, formals, has_body, is_module, items, maybe, module_text, more, procedure}
-use Rattle.ob0_language_names.specs.Names.{Label, Name, as_labels, as_names, declared}
-use Rattle.ob0_language_names.specs.Parts.{block_procedures, block_statements, formal_names, formal_sections, module_block, named_types, section_types, section_variables, variable_names}
-use Rattle.ob0_language_names.specs.Scopes.{Scope, after_block, after_names, after_procedure, after_procedures, as_label, declare_names, first_procedure, numbered, relabel_block, relabel_formals, relabel_procedures}
-use Rattle.ob0_language_names.proofs.Ordinals.{le-after_names, le-after_block, le-after_procedure, le-after_procedures}
-use Rattle.ob0_language_types.specs.Bindings.{block_bindings, module_bindings, object_bound, procedures_bindings}
-use Rattle.ob0_language_types.specs.ConstantValues.{Known, no_constant}
-use Rattle.ob0_language_types.specs.Declarations.{after_variables, formals_constructors, procedure_constructors}
+use Rattle.std.proofs.Common.{◌≡◌, ℕ, ◌==◌, Bool, true, false, cond, [], ◌∷◌, Some, refl, sym, ap, ◌∙◌, arith, eq-eqb, eqb-true}
+use Rattle.ob0_tree.specs.Tree.{Tree, module_text}
+use Rattle.ob0_language_names.specs.Names.{Label, Name, as_labels, declared}
+use Rattle.ob0_language_names.specs.Parts.{module_block}
+use Rattle.ob0_language_names.specs.Scopes.{numbered}
+use Rattle.ob0_language_types.specs.Bindings.{module_bindings, object_bound}
 use Rattle.ob0_language_types.specs.Environments.{from_binding, outermost}
 use Rattle.ob0_language_types.specs.Expressions.{Object}
-use Rattle.ob0_language_types.specs.WellTyped.{Signature, TypeEnvironment, TypedParameter, WellTyped, bind_names, bind_typed, block_fits, fits_over, heading, procedures_fit}
+use Rattle.ob0_language_types.specs.WellTyped.{Signature, TypeEnvironment, WellTyped}
 use Rattle.ob0_language_values.specs.Values.{Shape}
-use Rattle.ob0_language_types.proofs.Bound.{bind_typed-append, newest-if}
-use Rattle.ob0_language_types.proofs.ConstantsDeclared.{Binds, Entered, FitParts, Knows, Opened, all_known, binds-append, binds-wider, block-listed, block-opened, block-parts, block-evaluates, bound-elsewhere, bound-first, knows-all, opened-above, opened-binds, opened-grown, opened-since, outermost-binds, predeclared-below, procedure-entered, procedure-parts, procedures-listed, procedures-evaluate}
-use Rattle.ob0_language_types.proofs.Literals.{some_inverse}
-use Rattle.ob0_language_types.proofs.Proved.{fits_by_ordinal-holds}
-use Rattle.ob0_language_types.proofs.TypesByOrdinal.{TypeNoted, TypedBelow, TypedBelow-weaken, typed_by_ordinal, typed_outermost, typed_scope}
-use Rattle.ob0_run_lowering.specs.KnownBlocks.{AreDeclared, BlockDeclared, ProceduresDeclared}
-
--- what an environment has, a list of bindings has too
-abbrev Includes : TypeEnvironment Label → TypeEnvironment Label → Type 0
-Includes all env = (d : ℕ) (o : Object Shape Signature) → object_bound env d ≡ Some o → object_bound all d ≡ Some o
-
--- of ordinals from k on and below n a list of bindings has what another has
-abbrev Has : ℕ → ℕ → TypeEnvironment Label → TypeEnvironment Label → Type 0
-Has k n all xs = (d : ℕ) → k ≤ d → d < n → object_bound all d ≡ object_bound xs d
-
-noted-binds : (n : ℕ) (noted : TypeNoted Name) → TypedBelow n noted → Binds 0 n (typed_by_ordinal noted)
-noted-binds n [] below = tt
-noted-binds n (b ∷ noted) below = ((b.ordinal, refl, omega arith, below.0), binds-wider 0 b.ordinal 0 n (typed_by_ordinal noted) (omega arith) (le_of_lt below.0) (noted-binds b.ordinal noted below.1))
-
-bound-none : (k n d : ℕ) (xs : TypeEnvironment Label) → Binds k n xs → (k ≤ d → d < n → ⊥) → object_bound xs d ≡ None
-bound-none k n d xs b h = ap (λ e. object_bound e d) (sym (append-nil xs)) ∙ bound-elsewhere k n d xs [] b h
-
-nothing : {A : Type 0} (o : A) → None ≡ Some o → ⊥
-nothing o e = cc
-
-includes-grown : (all env own : TypeEnvironment Label) (k n : ℕ) → k ≤ n → Includes all env → Binds 0 k env → Binds k n own → Has k n all own → Includes all (own ++ env)
-includes-grown all env own k n le st envb ownb has = λ d o h. by d o h (nat_lt d k) refl (nat_lt d n) refl
-  where
-    by : (d : ℕ) (o : Object Shape Signature) → object_bound (own ++ env) d ≡ Some o → (s : Bool) → nat_lt d k ≡ s → (t : Bool) → nat_lt d n ≡ t → object_bound all d ≡ Some o
-    by d o h true below t e = st d o (sym (bound-elsewhere k n d own env ownb (λ a z. omega (arith, a, ltb-true d k below))) ∙ h)
-    by d o h false above true e = has d (ltb-false d k above) (ltb-true d n e) ∙ sym (bound-first 0 k d own env envb (λ a z. omega (arith, z, ltb-false d k above))) ∙ h
-    by d o h false above false e =
-        absurd (nothing o (sym (bound-first 0 k d own env envb (λ a z. omega (arith, z, ltb-false d k above)) ∙ bound-none k n d own ownb (λ a z. omega (arith, z, ltb-false d n e))) ∙ h))
+use Rattle.ob0_language_types.proofs.Bound.{newest-if}
+use Rattle.ob0_language_types.proofs.DeclaredPlaces.{Includes, bound-none, module-has, noted-binds, nothing}
+use Rattle.ob0_language_types.proofs.TypesByOrdinal.{TypeNoted, TypedBelow, typed_by_ordinal}
+use Rattle.ob0_run_lowering.specs.KnownBlocks.{AreDeclared, BlockDeclared}
 
 -- where ordinals descend, each binding is the one that is found
 tail-included : (all : TypeEnvironment Label) (i : ℕ) (o : Object Shape Signature) (noted : TypeNoted Name) → TypedBelow i noted → Includes all ((declared i, o) ∷ typed_by_ordinal noted) → Includes all (typed_by_ordinal noted)
@@ -69,114 +35,6 @@ noted-declared all n (b ∷ noted) below st = (
   noted-declared all b.ordinal noted below.1 (tail-included all b.ordinal b.object noted below.1 st),
 )
 
-mutual
-  block-declared : (known : Known) (noted : TypeNoted Name) (j k : ℕ) → Knows known noted → TypedBelow k noted → (all : TypeEnvironment Label) → Includes all (typed_by_ordinal noted) → (b : Tree Name block)
-      → block_fits as_labels (typed_by_ordinal noted) j (relabel_block as_names (as_label as_names) (typed_scope noted) k b) ≡ true
-      → Has k (after_block k b) all (block_bindings as_labels (typed_by_ordinal noted) j (relabel_block as_names (as_label as_names) (typed_scope noted) k b))
-      → BlockDeclared (object_bound all) (typed_by_ordinal noted) j (relabel_block as_names (as_label as_names) (typed_scope noted) k b)
-  block-declared known noted j k knows below all st (has_body (declares cs ts vs ps) statements) h has = λ inner' given.
-      let b : Tree Name block = has_body (declares cs ts vs ps) statements in
-      let env : TypeEnvironment Label = typed_by_ordinal noted in
-      let b' : Tree Label block = relabel_block as_names (as_label as_names) (typed_scope noted) k b in
-      let kp : ℕ = first_procedure k b in
-      let jv : ℕ = after_variables j b' in
-      let n : ℕ = after_block k b in
-      let parts = block-parts env j b' h in
-      let o : Opened known noted k b parts.0 = block-opened known noted j k knows below b parts.0 parts.1 in
-      let names : List Name = named_types (section_types ts) ++ variable_names (section_variables vs) in
-      let known' : Known = bind_names names no_constant o.constants.known_after in
-      let fits = (λ i. procedures_fit as_labels (sym o.reads i) jv (block_statements b') (relabel_procedures as_names (as_label as_names) (o.scoped i) kp ps)) ∙ parts.2 in
-      let p = procedures-evaluate known' o.last jv kp (o.others.knows o.constants.known_after o.constants.knows) o.below (block_statements b') ps fits in
-      let P : TypeEnvironment Label = procedures_bindings as_labels (typed_by_ordinal o.last) jv (relabel_procedures as_names (as_label as_names) (typed_scope o.last) kp ps) in
-      let own : TypeEnvironment Label = o.others.bound ++ o.constants.bound in
-      let own_binds : Binds k kp own = opened-binds known noted k b parts.0 o in
-      let first : k ≤ kp = opened-above k b in
-      let last : kp ≤ n = le-after_procedures kp ps in
-      let listed : block_bindings as_labels env j b' ≡ P ++ own =
-      block-listed env j b' parts.0 parts.1
-      ∙ (λ i. procedures_bindings as_labels (o.reads i) jv (relabel_procedures as_names (as_label as_names) (sym o.scoped i) kp ps) ++ opened-since known noted k b parts.0 o i) in
-      let each : Has k n all (P ++ own) = λ d l m. has d l m ∙ ap (λ e. object_bound e d) listed in
-      let inner : Includes all (typed_by_ordinal o.last) = subst (Includes all) (sym (opened-grown known noted k b parts.0 o) ∙ o.reads)
-      (includes-grown all env own k kp first st (noted-binds k noted below) own_binds (λ d l m. each d l (omega (arith, m, last)) ∙ bound-elsewhere kp n d P own p.binds (λ a z. omega (arith, a, m)))) in
-      let same : parts.0 ≡ inner' = some_inverse (sym parts.1 ∙ given) in (
-        subst (AreDeclared (object_bound all)) (sym o.reads ∙ same) (noted-declared all kp o.last o.below inner),
-        subst (λ e. ProceduresDeclared (object_bound all) e jv (block_procedures b')) same
-            (subst (λ e. e) (λ i. ProceduresDeclared (object_bound all) (sym o.reads i) jv (relabel_procedures as_names (as_label as_names) (o.scoped i) kp ps))
-            (procedures-declared known' o.last jv kp (o.others.knows o.constants.known_after o.constants.knows) o.below all inner (block_statements b') ps fits
-            (λ d l m. each d (omega (arith, l, first)) m ∙ bound-first k kp d P own own_binds (λ a z. omega (arith, l, z))))),
-      )
-
-  procedures-declared : (known : Known) (noted : TypeNoted Name) (j k : ℕ) → Knows known noted → TypedBelow k noted → (all : TypeEnvironment Label) → Includes all (typed_by_ordinal noted) → (statements : Tree Label (maybe body)) (ps : Tree Name (items procedure))
-      → procedures_fit as_labels (typed_by_ordinal noted) j statements (relabel_procedures as_names (as_label as_names) (typed_scope noted) k ps) ≡ true
-      → Has k (after_procedures k ps) all (procedures_bindings as_labels (typed_by_ordinal noted) j (relabel_procedures as_names (as_label as_names) (typed_scope noted) k ps))
-      → ProceduresDeclared (object_bound all) (typed_by_ordinal noted) j (relabel_procedures as_names (as_label as_names) (typed_scope noted) k ps)
-  procedures-declared known noted j k knows below all st statements end h has = tt
-  procedures-declared known noted j k knows below all st statements (more (declares_procedure x fs b closing) rest) h has = λ qs' typed.
-      let scope : Scope Name = typed_scope noted in
-      let env : TypeEnvironment Label = typed_by_ordinal noted in
-      let xs : List Name = formal_names (formal_sections fs) in
-      let m : ℕ = after_names (suc k) xs in
-      let q : ℕ = after_procedure (suc k) (declares_procedure x fs b closing) in
-      let n : ℕ = after_procedures q rest in
-      let fs' : Tree Label (maybe formals) = relabel_formals as_names (as_label as_names) scope (suc k) fs in
-      let b' : Tree Label block = relabel_block as_names (as_label as_names) (declare_names (suc k) xs ((x, k) ∷ scope)) m b in
-      let rest' : Tree Label (items procedure) = relabel_procedures as_names (as_label as_names) ((x, k) ∷ scope) q rest in
-      let jb : ℕ = j + formals_constructors (formal_sections fs') in
-      let jr : ℕ = j + procedure_constructors (declares_procedure (declared k) fs' b' (declared k)) in
-      let f : FitParts env j statements (declared k) fs' b' (declared k) rest' = procedure-parts env j statements (declared k) fs' b' (declared k) rest' h in
-      let qs : List (TypedParameter Label) = f.listed in
-      let e : Entered known noted k x xs qs = procedure-entered known noted j k knows below x fs qs f.typed in
-      let inside_fits = (λ i. block_fits as_labels (e.opened i) jb (relabel_block as_names (as_label as_names) (e.scoped i) m b)) ∙ f.block_right in
-      let inside_block = block-evaluates (bind_names xs no_constant ((x, no_constant) ∷ known)) e.inner jb m e.knows e.below b inside_fits in
-      let later_below : TypedBelow q e.own = TypedBelow-weaken (suc k) q e.own (le-after_procedure (suc k) (declares_procedure x fs b closing)) e.own_below in
-      let later_fits = (λ i. procedures_fit as_labels (e.headed i) jr statements (relabel_procedures as_names (as_label as_names) (e.own_scope i) q rest)) ∙ f.rest_right in
-      let later = procedures-evaluate ((x, no_constant) ∷ known) e.own jr q e.own_knows later_below statements rest later_fits in
-      let B : TypeEnvironment Label = block_bindings as_labels (typed_by_ordinal e.inner) jb (relabel_block as_names (as_label as_names) (typed_scope e.inner) m b) in
-      let top : TypeEnvironment Label = heading (declared k) qs [] in
-      let H : TypeEnvironment Label = bind_typed qs top in
-      let R : TypeEnvironment Label = procedures_bindings as_labels (typed_by_ordinal e.own) jr (relabel_procedures as_names (as_label as_names) (typed_scope e.own) q rest) in
-      let above : suc k ≤ m = le-after_names (suc k) xs in
-      let inside : m ≤ q = le-after_block m b in
-      let last : q ≤ n = le-after_procedures q rest in
-      let one_binds : Binds k q (B ++ H) = binds-append k q B H (binds-wider m q k q B (omega (arith, above)) (le_refl q) inside_block.binds) (binds-wider k m k q H (le_refl k) inside e.binds) in
-      let listed : procedures_bindings as_labels env j (more (declares_procedure (declared k) fs' b' (declared k)) rest') ≡ R ++ (B ++ H) =
-      procedures-listed env j statements (declared k) fs' b' (declared k) rest' f
-      ∙ (λ i. procedures_bindings as_labels (sym e.headed i) jr (relabel_procedures as_names (as_label as_names) (sym e.own_scope i) q rest) ++ (block_bindings as_labels (sym e.opened i) jb (relabel_block as_names (as_label as_names) (sym e.scoped i) m b) ++ H)) in
-      let each : Has k n all (R ++ (B ++ H)) = λ d l u. has d l u ∙ ap (λ z. object_bound z d) listed in
-      let each_H : Has k m all H = λ d l u.
-      each d l (omega (arith, u, inside, last)) ∙ bound-elsewhere q n d R (B ++ H) later.binds (λ a z. omega (arith, a, u, inside)) ∙ bound-elsewhere m q d B H inside_block.binds (λ a z. omega (arith, a, u)) in
-      let each_top : Has k (suc k) all top = λ d l u.
-      each_H d l (omega (arith, u, above)) ∙ ap (λ z. object_bound z d) (bind_typed-append qs [] top) ∙ bound-elsewhere (suc k) m d (bind_typed qs []) top e.parameters_bind (λ a z. omega (arith, a, u)) in
-      let inner : Includes all (typed_by_ordinal e.inner) = subst (Includes all) (sym (bind_typed-append qs top env) ∙ sym e.opened)
-      (includes-grown all env H k m (omega (arith, above)) st (noted-binds k noted below) e.binds each_H) in
-      let following : Includes all (typed_by_ordinal e.own) = subst (Includes all) (sym e.headed)
-      (includes-grown all env top k (suc k) (omega arith) st (noted-binds k noted below) ((k, refl, le_refl k, le_refl (suc k)), tt) each_top) in
-      let same : qs ≡ qs' = some_inverse (sym f.typed ∙ typed) in
-      subst (λ ps. AreDeclared (object_bound all) (bind_typed ps (heading (declared k) ps env)) × BlockDeclared (object_bound all) (bind_typed ps (heading (declared k) ps env)) jb b' × ProceduresDeclared (object_bound all) (heading (declared k) ps env) jr rest') same (
-        subst (AreDeclared (object_bound all)) e.opened (noted-declared all m e.inner e.below inner),
-        subst (λ z. z) (λ i. BlockDeclared (object_bound all) (e.opened i) jb (relabel_block as_names (as_label as_names) (e.scoped i) m b))
-            (block-declared (bind_names xs no_constant ((x, no_constant) ∷ known)) e.inner jb m e.knows e.below all inner b inside_fits
-            (λ d l u. each d (omega (arith, l, above)) (omega (arith, u, last)) ∙ bound-elsewhere q n d R (B ++ H) later.binds (λ a z. omega (arith, a, u)) ∙ bound-first k m d B H e.binds (λ a z. omega (arith, l, z)))),
-        subst (λ z. z) (λ i. ProceduresDeclared (object_bound all) (e.headed i) jr (relabel_procedures as_names (as_label as_names) (e.own_scope i) q rest))
-            (procedures-declared ((x, no_constant) ∷ known) e.own jr q e.own_knows later_below all following statements rest later_fits
-            (λ d l u. each d (omega (arith, l, inside, above)) u ∙ bound-first k q d R (B ++ H) one_binds (λ a z. omega (arith, l, z)))),
-      )
-
 -- all that a well-typed module binds
 pub module-declared : (m : Tree Name module_text) → WellTyped m → BlockDeclared (object_bound (module_bindings as_labels (numbered m))) (outermost as_labels) 0 (module_block (numbered m))
-unfolding WellTyped fits_over all_known
-module-declared (is_module x b closing) well =
-    let h : fits_over as_labels (numbered (is_module x b closing)) ≡ true = sym (fits_by_ordinal-holds (is_module x b closing)) ∙ well.1 in
-    let noted : TypeNoted Name = typed_outermost as_names in
-    let b' : Tree Label block = relabel_block as_names (as_label as_names) (typed_scope noted) 7 b in
-    let B : TypeEnvironment Label = block_bindings as_labels (outermost as_labels) 0 b' in
-    let w = block-evaluates (all_known noted) noted 0 7 (knows-all noted) predeclared-below b h in
-    block-declared (all_known noted) noted 0 7 (knows-all noted) predeclared-below (B ++ outermost as_labels)
-    (λ d o e. first d o e (nat_lt d 7) refl w.binds) b h
-    (λ d l m. bound-first 0 7 d B (outermost as_labels) outermost-binds (λ a z. omega (arith, l, z)))
-  where
-    first : (d : ℕ) (o : Object Shape Signature) → object_bound (outermost as_labels) d ≡ Some o → (t : Bool) → nat_lt d 7 ≡ t
-        → Binds 7 (after_block 7 b) (block_bindings as_labels (outermost as_labels) 0 (relabel_block as_names (as_label as_names) (typed_scope (typed_outermost as_names)) 7 b))
-        → object_bound (block_bindings as_labels (outermost as_labels) 0 (relabel_block as_names (as_label as_names) (typed_scope (typed_outermost as_names)) 7 b) ++ outermost as_labels) d ≡ Some o
-    first d o e true t binds = bound-elsewhere 7 (after_block 7 b) d (block_bindings as_labels (outermost as_labels) 0 (relabel_block as_names (as_label as_names) (typed_scope (typed_outermost as_names)) 7 b)) (outermost as_labels) binds (λ a z. omega (arith, a, ltb-true d 7 t)) ∙ e
-    first d o e false t binds = absurd (nothing o (sym (bound-none 0 7 d (outermost as_labels) outermost-binds (λ a z. omega (arith, z, ltb-false d 7 t))) ∙ e))
+module-declared m = module-has (AreDeclared (object_bound (module_bindings as_labels (numbered m)))) m (noted-declared (module_bindings as_labels (numbered m)))

@@ -3,7 +3,7 @@ use Rattle.std.proofs.Common.{◌≡◌, ℕ, suc, ◌+◌, ◌-◌, ◌<◌, �
 use Rattle.std.proofs.Math.ListN.{set}
 use Rattle.std.proofs.lemmas.List.{append-nil, drop_all, drop_more, get_or-set_other, get_or-set_same, length-set}
 use Rattle.ob0_types_table.proofs.Sighted.{last_of}
-use Rattle.ob0_run_cells.specs.Activations.{Placed, in_slot}
+use Rattle.ob0_run_cells.specs.Activations.{Placed, in_slot, place_one}
 use Rattle.ob0_run_cells.specs.Lowering.{Slot, by_reference}
 use Rattle.ob0_run_lowering.specs.Scenes.{seen_from, site_at}
 use Rattle.ob0_run_lowering.specs.declared.scene.Site.{Site}
@@ -19,7 +19,7 @@ use Rattle.ob0_types_table.specs.Tables.{mode_of}
 use Rattle.ob0_language_names.specs.Names.{Label, Name, as_names}
 use Rattle.ob0_language_names.specs.Scopes.{as_label}
 use Rattle.ob0_language_types.specs.WellTyped.{by_place, by_value}
-use Rattle.ob0_run_lowering.specs.Placed.{AllWithin, Follows, IsRestored, LocatesAll, IsFrame, IsNextSite, Places, LocatesAs, before_all, place_each, place_one, place_sections, put_at, put_site, slots_at}
+use Rattle.ob0_run_lowering.specs.Placed.{AllWithin, Follows, IsRestored, LocatesAll, IsFrame, IsNextSite, Places, LocatesAs, before_all, place_each, place_sections, put_at, put_site, slots_at}
 use Rattle.ob0_run_lowering.specs.declared.visible_sites.Frame.{Frame}
 use Rattle.ob0_run_lowering.specs.declared.visible_sites.Hidden.{Hidden}
 use Rattle.ob0_run_lowering.specs.declared.visible_sites.VisibleSites.{VisibleSites}
@@ -87,9 +87,6 @@ site-set xs j s k room = by (k == j) refl
 abbrev pub AllBack : VisibleSites → ℕ → VisibleSites → Type 0
 AllBack start mark now = (w : VisibleSites) → Follows w start → mark ≡ length w.hidden.items → Follows w now × (length now.sites.items ≡ length start.sites.items)
 
-pub back_begins : (start : VisibleSites) (mark : ℕ) → AllBack start mark start
-back_begins start mark = λ w f is. (f, refl)
-
 pub back_on : (start now v : VisibleSites) (mark : ℕ) (last : Hidden) → AllBack start mark now → mark < length now.hidden.items → now.hidden.items ≡ v.hidden.items ++ last ∷ [] → v.sites.items ≡ set now.sites.items last.ordinal last.before → AllBack start mark v
 back_on start now v mark last back less popped put = λ w f is.
     let so_far = back w f is in
@@ -133,11 +130,11 @@ places_as w v f g first second same a = subst (λ (step : Placed Label → Place
 
 -- one name
 pub place-by_reference : (w v : VisibleSites) (f g : Frame) (size_of : Label → ℕ) (o : Option ℕ) (name : Name) → ((k : ℕ) → site_at v.sites.items k ≡ put_at o (site.ByReference f.depth f.references) (site_at w.sites.items) k) → Follows w v → g ≡ record f { references = f.references + 1 }
-    → Places w v f (place_one (slots_at f.depth) size_of by_place (as_label as_names o name)) g
+    → Places w v f (place_one (slots_at f.depth) by_place (as_label as_names o name) (size_of (as_label as_names o name))) g
 place-by_reference w v f g size_of o name put follows is =
     let none : f.depth - f.depth ≡ 0 = omega arith in
     let seen : seen_from f.depth (site.ByReference f.depth f.references) ≡ in_slot (by_reference 0 f.references) = ap (λ up. in_slot (by_reference up f.references)) none in
-    subst (λ (z : Frame). Places w v f (place_one (slots_at f.depth) size_of by_place (as_label as_names o name)) z) (sym is)
+    subst (λ (z : Frame). Places w v f (place_one (slots_at f.depth) by_place (as_label as_names o name) (size_of (as_label as_names o name))) z) (sym is)
     record {
       placed = λ p h. record {
         holds = holds_bound w.sites.items v.sites.items f.depth p.placing o name (site.ByReference f.depth f.references) (in_slot (by_reference 0 p.reference_places)) (le_refl f.depth, seen ∙ ap (λ n. in_slot (by_reference 0 n)) h.reference_places) put h.holds;
@@ -153,7 +150,7 @@ next-reports : (f : Frame) (s : Site) (n : ℕ) → IsNextSite f s → f.cells �
 next-reports f s n next e = (next.0, next.1 ∙ ap (λ m. in_slot (slots_at f.depth m)) e)
 
 pub place-held : (w v : VisibleSites) (f g : Frame) (size_of : Label → ℕ) (o : Option ℕ) (name : Name) (s : Site) (n : ℕ) → IsNextSite f s → ((k : ℕ) → site_at v.sites.items k ≡ put_at o s (site_at w.sites.items) k) → Follows w v → g ≡ record f { cells = f.cells + n }
-    → n ≡ size_of (as_label as_names o name) → Places w v f (place_one (slots_at f.depth) size_of by_value (as_label as_names o name)) g
+    → n ≡ size_of (as_label as_names o name) → Places w v f (place_one (slots_at f.depth) by_value (as_label as_names o name) (size_of (as_label as_names o name))) g
 place-held w v f g size_of o name s n next put follows is size =
     let cells : g.cells ≡ f.cells + n = ap (λ (z : Frame). z.cells) is in
     record {

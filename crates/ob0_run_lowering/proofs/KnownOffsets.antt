@@ -8,19 +8,7 @@ use Rattle.ob0_run_lowering.specs.Codes.{known_offset}
 
 pub applied-unknown : (l : Link) (left : machine.Number) (k s : ℕ) → known_offset (applied l left) k s ≡ None
 applied-unknown (link.SumLiteral n) left k s = refl
-applied-unknown (link.SumVariable v) left k s = refl
-applied-unknown (link.DifferenceLiteral n) left k s = refl
-applied-unknown (link.DifferenceVariable v) left k s = refl
-applied-unknown (link.ProductLiteral n) left k s = refl
-applied-unknown (link.ProductVariable v) left k s = refl
-applied-unknown (link.QuotientLiteral n) left k s = refl
-applied-unknown (link.QuotientVariable v) left k s = refl
-applied-unknown (link.RemainderLiteral n) left k s = refl
-applied-unknown (link.RemainderVariable v) left k s = refl
-applied-unknown (link.VariableSum v) left k s = refl
-applied-unknown (link.VariableDifference v) left k s = refl
-applied-unknown (link.VariableProduct v) left k s = refl
-applied-unknown (link.Other o n) left k s = refl
+applied-unknown _ left k s = refl
 
 from-unknown : (left : machine.Number) (l : Link) (ls : List Link) (k s : ℕ) → known_offset (chained_from left (l ∷ ls)) k s ≡ None
 from-unknown left l [] k s = applied-unknown l left k s

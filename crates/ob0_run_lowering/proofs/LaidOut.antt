@@ -14,7 +14,7 @@ use Rattle.ob0_types_table.proofs.Tables.{shapes_from-push}
 use Rattle.ob0_types_table.specs.declared.known.FieldOf.{FieldOf}
 use Rattle.ob0_types_table.specs.declared.known.TypeEntry as code
 use Rattle.ob0_types_table.specs.declared.known.Field.{Field}
-use Rattle.ob0_language_values.specs.Values.{FieldShapes, Shape, array_shape, boolean_shape, integer_shape, next_field_shape, no_field_shape, number, record_shape}
+use Rattle.ob0_language_values.specs.Values.{FieldShapes, Shape, array_shape, next_field_shape, no_field_shape, number, record_shape}
 use Rattle.ob0_run_cells.specs.Cells.{field_offset, field_sizes, size}
 use Rattle.ob0_run_lowering.specs.Layouts.{AreLaidOut, HasLayout, LayOut, offsets_from}
 use Rattle.ob0_run_lowering.specs.declared.types.Layout.{Layout}
@@ -24,19 +24,13 @@ use Rattle.ob0_run_lowering.specs.declared.types.RecordLayout.{RecordLayout}
 -- what is read of an entry
 
 abbrev pub array_size : Option Layout → ℕ
-array_size None = 0
 array_size (Some (layout.Array cells)) = cells
-array_size (Some (layout.Record r)) = 0
+array_size _ = 0
 
 array-entry : (s : Shape) (l : Layout) → HasLayout s l → array_size (Some l) ≡ size (only_array s)
 array-entry (array_shape k n s) (layout.Array cells) h = h
 array-entry (record_shape k fs) (layout.Record r) h = refl
-array-entry integer_shape (layout.Array cells) h = absurd h
-array-entry integer_shape (layout.Record r) h = absurd h
-array-entry boolean_shape (layout.Array cells) h = absurd h
-array-entry boolean_shape (layout.Record r) h = absurd h
-array-entry (array_shape k n s) (layout.Record r) h = absurd h
-array-entry (record_shape k fs) (layout.Array cells) h = absurd h
+array-entry _ _ h = absurd h
 
 pub array_size-at : (shapes : List Shape) (layouts : List Layout) (i : ℕ) → LayOut shapes layouts → array_size (slice_get layouts i) ≡ size (only_array (slice_index_or shapes i no_shape))
 array_size-at [] [] i h = refl
@@ -47,25 +41,18 @@ array_size-at _ _ i h = absurd h
 -- the record of an entry
 abbrev pub HasRecord : Option Layout → Shape → Type 0
 HasRecord (Some (layout.Record r)) s = (k : ℕ) × (fs : FieldShapes) × (s ≡ record_shape k fs) × AreLaidOut fs r
-HasRecord (Some (layout.Array cells)) s = s ≡ no_shape
-HasRecord None s = s ≡ no_shape
+HasRecord _ s = s ≡ no_shape
 
 record-entry : (s : Shape) (l : Layout) → HasLayout s l → HasRecord (Some l) (only_record s)
 record-entry (array_shape k n s) (layout.Array cells) h = refl
 record-entry (record_shape k fs) (layout.Record r) h = (k, fs, refl, h)
-record-entry integer_shape (layout.Array cells) h = absurd h
-record-entry integer_shape (layout.Record r) h = absurd h
-record-entry boolean_shape (layout.Array cells) h = absurd h
-record-entry boolean_shape (layout.Record r) h = absurd h
-record-entry (array_shape k n s) (layout.Record r) h = absurd h
-record-entry (record_shape k fs) (layout.Array cells) h = absurd h
+record-entry _ _ h = absurd h
 
 pub record-there : (shapes : List Shape) (layouts : List Layout) (i : ℕ) → LayOut shapes layouts → HasRecord (slice_get layouts i) (only_record (slice_index_or shapes i no_shape))
 record-there [] [] i h = refl
 record-there (s ∷ shapes) (l ∷ layouts) zero h = record-entry s l h.0
 record-there (s ∷ shapes) (l ∷ layouts) (suc i) h = record-there shapes layouts i h.1
-record-there [] (l ∷ layouts) i h = absurd h
-record-there (s ∷ shapes) [] i h = absurd h
+record-there _ _ i h = absurd h
 
 -- one more entry
 pub one_more : (shapes : List Shape) (layouts : List Layout) (s : Shape) (l : Layout) → LayOut shapes layouts → HasLayout s l → LayOut (shapes ++ s ∷ []) (layouts ++ l ∷ [])

@@ -75,11 +75,9 @@ get_set_same (y ∷ xs) zero x less = refl
 get_set_same (y ∷ xs) (suc i) x less = get_set_same xs i x (omega (arith, less))
 
 get_set_other : {A : Type 0} (xs : List A) (i j : ℕ) (x : A) → (j ≡ i → ⊥) → slice_get (set xs i x) j ≡ slice_get xs j
-get_set_other [] i j x differ = refl
 get_set_other (y ∷ xs) zero zero x differ = absurd (differ refl)
-get_set_other (y ∷ xs) zero (suc j) x differ = refl
-get_set_other (y ∷ xs) (suc i) zero x differ = refl
 get_set_other (y ∷ xs) (suc i) (suc j) x differ = get_set_other xs i j x (λ e. differ (ap suc e))
+get_set_other _ _ _ x differ = refl
 
 get_push : {A : Type 0} (xs : List A) (x : A) (i : ℕ) (e : A) → slice_get xs i ≡ Some e → slice_get (xs ++ x ∷ []) i ≡ Some e
 get_push [] x i e h = absurd (cc)

@@ -11,11 +11,12 @@ use Rattle.ob0_types_table.specs.Tables.{formal_in, mode_of, type_shape}
 use Rattle.ob0_types_table.specs.declared.known.Formal.{Formal}
 use Rattle.ob0_scope_table.specs.InLabels.{in_labels, label_in}
 use Rattle.ob0_types_table.proofs.TokenNumbers.{small_number}
-use Rattle.ob0_language_types.specs.Expressions.{Object, a_constant, a_procedure, a_standard, a_type, a_variable}
+use Rattle.ob0_language_types.specs.Expressions.{Object, a_constant, a_variable}
 use Rattle.ob0_language_types.specs.Typing.{lone_designator, type_at, type_of}
 use Rattle.ob0_language_types.specs.WellTyped as typing
 use Rattle.ob0_language_types.specs.WellTyped.{Mode, Signature, Typed, agree, argument_fits, by_place, by_value, variable_type}
 use Rattle.ob0_language_types.proofs.Conditions.{same_shape-true}
+use Rattle.ob0_language_types.proofs.Literals.{some_inverse}
 use Rattle.ob0_language_values.specs.Values.{Shape, array_shape, boolean_shape, integer_shape, number, record_shape}
 use Rattle.ob0_run_machine.specs.Evaluation as machine
 use Rattle.ob0_run_machine.specs.Lowered as lowered
@@ -36,7 +37,6 @@ use Rattle.ob0_run_lowering.specs.declared.lowered.TypedPlace.{TypedPlace}
 use Rattle.ob0_run_lowering.specs.declared.lowered.Lowered.{Lowered}
 use Rattle.ob0_run_lowering.specs.declared.lowered.Lowered.TheVariants as code
 use Rattle.ob0_run_lowering.specs.declared.scene.Scene.{Scene}
-use Rattle.ob0_run_lowering.proofs.CodesMean.{some_inj}
 use Rattle.ob0_run_lowering.proofs.TreesMean.{expression-means, located-means}
 
 -- numbers of 32 bits
@@ -67,15 +67,11 @@ lowers-by scene e l small same checked slots targets sees s h =
 
 pub number-by : (scene : Scene) (e : Tree ℕ expression) (l : Lowered) (n : Number) → IsNumberOf l n → Lowers scene e l → LowersNumber scene e n
 number-by scene e (code.Number m) n same h checked slots targets sees typed = subst (λ n. NumberMeans checked slots (number_of n) (value_of_expression (in_labels scene.resolved.now e))) same (h checked slots targets sees integer_shape typed)
-number-by scene e (code.Truth t) n same h checked slots targets sees typed = absurd (h checked slots targets sees integer_shape typed)
-number-by scene e (code.Block q k) n same h checked slots targets sees typed = absurd (h checked slots targets sees integer_shape typed)
-number-by scene e code.Nothing n same h checked slots targets sees typed = absurd (h checked slots targets sees integer_shape typed)
+number-by scene e _ n same h checked slots targets sees typed = absurd (h checked slots targets sees integer_shape typed)
 
 pub truth-by : (scene : Scene) (e : Tree ℕ expression) (l : Lowered) (t : Truth) → IsTruthOf l t → Lowers scene e l → LowersTruth scene e t
 truth-by scene e (code.Truth u) t same h checked slots targets sees typed = subst (λ t. TruthMeans checked slots (truth_of t) (value_of_expression (in_labels scene.resolved.now e))) same (h checked slots targets sees boolean_shape typed)
-truth-by scene e (code.Number n) t same h checked slots targets sees typed = absurd (h checked slots targets sees boolean_shape typed)
-truth-by scene e (code.Block q k) t same h checked slots targets sees typed = absurd (h checked slots targets sees boolean_shape typed)
-truth-by scene e code.Nothing t same h checked slots targets sees typed = absurd (h checked slots targets sees boolean_shape typed)
+truth-by scene e _ t same h checked slots targets sees typed = absurd (h checked slots targets sees boolean_shape typed)
 
 -- places
 
@@ -83,16 +79,12 @@ variable-typed : (checked : Typed Label) (x : Label) (path : Tree Label (items s
     → (v : Shape) × (checked.object_for x ≡ Some (a_variable v)) × (type_at checked v path ≡ Some s)
 unfolding variable_type
 variable-typed checked x path s (Some (a_variable v)) e h = (v, e, sym (ap (λ (o : Option (Object Shape Signature)). elim o [ Some (a_variable s) ↦ type_at checked s path | _ ↦ None ]) e) ∙ h)
-variable-typed checked x path s None e h = let none : None ≡ Some s = sym (ap (λ (o : Option (Object Shape Signature)). elim o [ Some (a_variable s) ↦ type_at checked s path | _ ↦ None ]) e) ∙ h in absurd (cc)
-variable-typed checked x path s (Some (a_type t)) e h = let none : None ≡ Some s = sym (ap (λ (o : Option (Object Shape Signature)). elim o [ Some (a_variable s) ↦ type_at checked s path | _ ↦ None ]) e) ∙ h in absurd (cc)
-variable-typed checked x path s (Some (a_constant v)) e h = let none : None ≡ Some s = sym (ap (λ (o : Option (Object Shape Signature)). elim o [ Some (a_variable s) ↦ type_at checked s path | _ ↦ None ]) e) ∙ h in absurd (cc)
-variable-typed checked x path s (Some (a_procedure p)) e h = let none : None ≡ Some s = sym (ap (λ (o : Option (Object Shape Signature)). elim o [ Some (a_variable s) ↦ type_at checked s path | _ ↦ None ]) e) ∙ h in absurd (cc)
-variable-typed checked x path s (Some (a_standard p)) e h = let none : None ≡ Some s = sym (ap (λ (o : Option (Object Shape Signature)). elim o [ Some (a_variable s) ↦ type_at checked s path | _ ↦ None ]) e) ∙ h in absurd (cc)
+variable-typed checked x path s _ e h = let none : None ≡ Some s = sym (ap (λ (o : Option (Object Shape Signature)). elim o [ Some (a_variable s) ↦ type_at checked s path | _ ↦ None ]) e) ∙ h in absurd (cc)
 
 there : (shapes : List Shape) (found : Option TypedPlace) (l : TypedPlace) (q : lowered.Place) (s : Shape) → IsTypedPlaceOf found l → option_map (found_of shapes) found ≡ Some (record { place = q; shape = s }) → (place_of l.place ≡ q) × (type_shape shapes l.of ≡ s)
 there shapes None l q s same h = absurd (cc)
 there shapes (Some m) l q s same h =
-    let both : found_of shapes l ≡ record { place = q; shape = s } = ap (found_of shapes) (sym same) ∙ some_inj h in
+    let both : found_of shapes l ≡ record { place = q; shape = s } = ap (found_of shapes) (sym same) ∙ some_inverse h in
     (ap (λ (f : FoundPlace). f.place) both, ap (λ (f : FoundPlace). f.shape) both)
 
 pub locates-by : (scene : Scene) (x : ℕ) (path : Tree ℕ (items selector)) (found : Option TypedPlace) (l : TypedPlace) → HasSmall scene → IsTypedPlaceOf found l

@@ -1,5 +1,5 @@
 -- Where elements at literal indexes are.
-use Rattle.std.proofs.Common.{◌≡◌, ℕ, ◌*◌, ◌%◌, ◌^◌, Bool, true, false, List, ℤ, pos, negsuc, if◌then◌else◌, nat_lt, Some, None, sym, refl, ap, ◌∙◌}
+use Rattle.std.proofs.Common.{◌≡◌, ℕ, ◌*◌, ◌%◌, ◌^◌, Bool, true, false, List, ℤ, pos, if◌then◌else◌, nat_lt, Some, None, sym, refl, ap, ◌∙◌}
 use Rattle.std.proofs.Math.Nat.{add-mod-mod}
 use Rattle.ob0_tree.specs.Tree.{Tree, items, selector}
 use Rattle.ob0_language_names.specs.Names.{Label}
@@ -27,10 +27,7 @@ at-index ls cells q (lowered.literal (pos j)) n s = known (nat_lt j n) refl
         ∙ (ap (λ b. followed_by (machine.address ls cells q) (λ a. if b then machine.gives (machine.forward a (j * s)) else machine.ends machine.Index)) (sym h)
         ∙ sym (element-address ls cells q (lowered.literal (pos j)) n s)))
     known false h = refl
-at-index ls cells q (lowered.literal (negsuc j)) n s = refl
-at-index ls cells q (lowered.cell p) n s = refl
-at-index ls cells q (lowered.negative m) n s = refl
-at-index ls cells q (lowered.operation o l m) n s = refl
+at-index ls cells q _ n s = refl
 
 pub element-same : (q : lowered.Place) (i : lowered.Number) (n s : ℕ) → SamePlace (element_at_place q i n s) (lowered.element q i n s 0)
 element-same q i n s = record { same_address = λ ls cells. at-index ls cells q i n s }

@@ -7,13 +7,13 @@ use Rattle.ob0_language_names.specs.Scopes.{as_label}
 use Rattle.ob0_types_table.specs.KnownTables.{Tables, declared_in}
 use Rattle.ob0_language_types.specs.Declarations.{declare_constants, declare_first, declare_types}
 use Rattle.ob0_language_types.specs.Environments.{from_binding, meanings, newest}
-use Rattle.ob0_language_types.specs.Expressions.{Object, a_constant, a_procedure, a_standard, a_type, a_variable}
+use Rattle.ob0_language_types.specs.Expressions.{Object, a_constant, a_procedure, a_type, a_variable}
 use Rattle.ob0_language_types.specs.Typing.{constant_value, constructors, denoted, type_declared}
 use Rattle.ob0_language_types.specs.WellTyped.{Mode, Signature, TypeEnvironment, TypedParameter, bind_names, bind_typed, by_place, by_value, declare_typed, section_mode, typed_parameters}
 use Rattle.ob0_language_types.proofs.Literals.{some_inverse}
 use Rattle.ob0_language_types.proofs.TypedElsewhere.{then_some}
 use Rattle.ob0_language_values.specs.Values.{Shape}
-use Rattle.ob0_run_cells.specs.Activations.{Placed, Placing, Whereabouts, at_target, first_slot, first_target, from_name, hide_names, in_slot, inward, inward_slot, inward_whereabouts, nowhere, place_names, place_parameter, place_parameters, place_variables, slot_of, slots_in, target_of, targets_in}
+use Rattle.ob0_run_cells.specs.Activations.{Placed, Placing, Whereabouts, at_target, first_slot, first_target, from_name, hide_names, in_slot, inward, inward_slot, inward_whereabouts, nowhere, place_names, place_parameters, place_variables, slot_of, slots_in, target_of, targets_in, place_one}
 use Rattle.ob0_run_cells.specs.Cells.{size}
 use Rattle.ob0_run_cells.specs.LoweredStatements.{Target}
 use Rattle.ob0_run_cells.specs.Lowering.{Slot, held, by_reference}
@@ -22,7 +22,7 @@ use Rattle.ob0_run_lowering.specs.declared.scene.Scene.{Scene}
 use Rattle.ob0_run_lowering.specs.declared.scene.Site.{Site}
 use Rattle.ob0_run_lowering.specs.declared.scene.Site.TheVariants as site
 use Rattle.ob0_run_lowering.specs.KnownBlocks.{AreDeclared, Objects}
-use Rattle.ob0_run_lowering.specs.Placed.{LocatesAll, Matches, Suits, LocatesAs, declared_size, first_placed, found, place_each, place_groups, place_one, place_sections, put_at, shape_size, site_depth}
+use Rattle.ob0_run_lowering.specs.Placed.{LocatesAll, Matches, Suits, LocatesAs, declared_size, first_placed, found, place_each, place_groups, place_sections, put_at, shape_size, site_depth}
 
 -- bindings
 
@@ -54,16 +54,14 @@ holds_hidden sites d (x ∷ xs) placing h = holds_hidden sites d xs ((x, nowhere
 -- one activation further in
 
 seen_inward : (d : ℕ) (s : Site) → site_depth s ≤ d → seen_from (suc d) s ≡ inward_whereabouts (seen_from d s)
-seen_inward d site.Nowhere le = refl
-seen_inward d (site.Module offset) le = refl
 seen_inward d (site.Held at offset) le = let e : suc d - at ≡ suc (d - at) = omega arith in ap (λ up. in_slot (held up offset)) e
 seen_inward d (site.ByReference at index) le = let e : suc d - at ≡ suc (d - at) = omega arith in ap (λ up. in_slot (by_reference up index)) e
 seen_inward d (site.Procedure at index) le = let e : suc d - at ≡ suc (d - at) = omega arith in ap (λ up. at_target (record { procedure = index; up = up })) e
+seen_inward d _ le = refl
 
 reports_inward : (d : ℕ) (s : Site) (w : Whereabouts) → LocatesAs d s w → LocatesAs (suc d) s (inward_whereabouts w)
 reports_inward d s nowhere h = tt
-reports_inward d s (in_slot slot) h = (omega (arith, h.0), seen_inward d s h.0 ∙ ap inward_whereabouts h.1)
-reports_inward d s (at_target t) h = (omega (arith, h.0), seen_inward d s h.0 ∙ ap inward_whereabouts h.1)
+reports_inward d s _ h = (omega (arith, h.0), seen_inward d s h.0 ∙ ap inward_whereabouts h.1)
 
 found_inward : (placing : Placing Label) (x : Label) → found (inward placing) x ≡ inward_whereabouts (found placing x)
 found_inward [] x = refl
@@ -77,9 +75,7 @@ holds_inward sites d placing h = λ k. subst (LocatesAs (suc d) (site_at sites k
 suits_inward : (o : Object Shape Signature) (w : Whereabouts) → Suits o w → Suits o (inward_whereabouts w)
 suits_inward (a_variable s) w h = (inward_slot h.0, ap inward_whereabouts h.1)
 suits_inward (a_procedure p) w h = (record h.0 { up = suc h.0.up }, ap inward_whereabouts h.1)
-suits_inward (a_type s) w h = tt
-suits_inward (a_constant v) w h = tt
-suits_inward (a_standard p) w h = tt
+suits_inward _ w h = tt
 
 pub matches_inward : (env : TypeEnvironment Label) (placing : Placing Label) → Matches env placing → Matches env (inward placing)
 matches_inward [] [] m = tt
@@ -176,16 +172,16 @@ names_placed : (t : Tables) (at : ℕ → Slot) (xs : List Label) (s : Shape) (e
 names_placed t at [] s env p a = refl
 names_placed t at (x ∷ xs) s env p a =
     let head = names_before (declared_in t) xs (a_variable s) ((x, a_variable s) ∷ env) a in
-    ap (λ n. place_names at xs (size s) (record p { placing = (x, in_slot (at p.cells)) ∷ p.placing; cells = p.cells + n })) (sym (one_size t x s head.0))
-    ∙ names_placed t at xs s ((x, a_variable s) ∷ env) (place_one at (declared_size t) by_value x p) a
+    ap (λ n. place_names at xs (size s) (place_one at by_value x n p)) (sym (one_size t x s head.0))
+    ∙ names_placed t at xs s ((x, a_variable s) ∷ env) (place_one at by_value x (declared_size t x) p) a
 
-one_matches : (at : ℕ → Slot) (size_of : Label → ℕ) (mode : Mode) (x : Label) (s : Shape) (env : TypeEnvironment Label) (p : Placed Label) → Matches env p.placing → Matches ((x, a_variable s) ∷ env) (place_one at size_of mode x p).placing
-one_matches at size_of by_value x s env p m = (refl, (at p.cells, refl), m)
-one_matches at size_of by_place x s env p m = (refl, (by_reference 0 p.reference_places, refl), m)
+one_matches : (at : ℕ → Slot) (mode : Mode) (x : Label) (n : ℕ) (s : Shape) (env : TypeEnvironment Label) (p : Placed Label) → Matches env p.placing → Matches ((x, a_variable s) ∷ env) (place_one at mode x n p).placing
+one_matches at by_value x n s env p m = (refl, (at p.cells, refl), m)
+one_matches at by_place x n s env p m = (refl, (by_reference 0 p.reference_places, refl), m)
 
 names_match : (at : ℕ → Slot) (size_of : Label → ℕ) (mode : Mode) (xs : List Label) (s : Shape) (env : TypeEnvironment Label) (p : Placed Label) → Matches env p.placing → Matches (bind_names xs (a_variable s) env) (place_each at size_of mode xs p).placing
 names_match at size_of mode [] s env p m = m
-names_match at size_of mode (x ∷ xs) s env p m = names_match at size_of mode xs s ((x, a_variable s) ∷ env) (place_one at size_of mode x p) (one_matches at size_of mode x s env p m)
+names_match at size_of mode (x ∷ xs) s env p m = names_match at size_of mode xs s ((x, a_variable s) ∷ env) (place_one at mode x (size_of x) p) (one_matches at mode x (size_of x) s env p m)
 
 -- the variables of a block
 
@@ -216,24 +212,24 @@ groups_match at size_of (more (declares_variable ns u) gs) k env inner p h m =
 
 -- how many cells there are then doesn't depend on where they are
 
+one_cells : (at others : ℕ → Slot) (mode : Mode) (x : Label) (n : ℕ) (p q : Placed Label) → p.cells ≡ q.cells → (place_one at mode x n p).cells ≡ (place_one others mode x n q).cells
+one_cells at others by_value x n p q e = ap (λ m. m + n) e
+one_cells at others by_place x n p q e = e
+
 each_cells : (at others : ℕ → Slot) (size_of : Label → ℕ) (mode : Mode) (xs : List Label) (p q : Placed Label) → p.cells ≡ q.cells → (place_each at size_of mode xs p).cells ≡ (place_each others size_of mode xs q).cells
 each_cells at others size_of mode [] p q e = e
-each_cells at others size_of by_value (x ∷ xs) p q e = each_cells at others size_of by_value xs (place_one at size_of by_value x p) (place_one others size_of by_value x q) (ap (λ n. n + size_of x) e)
-each_cells at others size_of by_place (x ∷ xs) p q e = each_cells at others size_of by_place xs (place_one at size_of by_place x p) (place_one others size_of by_place x q) e
+each_cells at others size_of mode (x ∷ xs) p q e =
+    each_cells at others size_of mode xs (place_one at mode x (size_of x) p) (place_one others mode x (size_of x) q) (one_cells at others mode x (size_of x) p q e)
 
 pub groups_cells : (at others : ℕ → Slot) (size_of : Label → ℕ) (gs : Tree Label (items variable)) (p q : Placed Label) → p.cells ≡ q.cells → (place_groups at size_of gs p).cells ≡ (place_groups others size_of gs q).cells
 groups_cells at others size_of end p q e = e
 groups_cells at others size_of (more (declares_variable ns u) gs) p q e =
     groups_cells at others size_of gs (place_each at size_of by_value (names_listed ns) p) (place_each others size_of by_value (names_listed ns) q) (each_cells at others size_of by_value (names_listed ns) p q e)
 
-parameter_cells : (mode : Mode) (x : Label) (n : ℕ) (p q : Placed Label) → p.cells ≡ q.cells → (place_parameter mode x n p).cells ≡ (place_parameter mode x n q).cells
-parameter_cells by_value x n p q e = ap (λ m. m + n) e
-parameter_cells by_place x n p q e = e
-
 pub parameters_cells : (ps : List (TypedParameter Label)) (p q : Placed Label) → p.cells ≡ q.cells → (place_parameters ps p).cells ≡ (place_parameters ps q).cells
 parameters_cells [] p q e = e
 parameters_cells (r ∷ ps) p q e =
-    parameters_cells ps (place_parameter r.formal.mode r.name (size r.formal.shape) p) (place_parameter r.formal.mode r.name (size r.formal.shape) q) (parameter_cells r.formal.mode r.name (size r.formal.shape) p q e)
+    parameters_cells ps (place_one (held 0) r.formal.mode r.name (size r.formal.shape) p) (place_one (held 0) r.formal.mode r.name (size r.formal.shape) q) (one_cells (held 0) (held 0) r.formal.mode r.name (size r.formal.shape) p q e)
 
 -- parameters
 
@@ -244,17 +240,13 @@ typed_before objects (p ∷ ps) env a = (typed_before objects ps ((p.name, a_var
 abbrev of_section : Tree Label section → Shape → List Label → List (TypedParameter Label)
 of_section f s xs = map (λ x. record { name = x; formal = record { mode = section_mode f; shape = s } }) xs
 
-one_placed : (t : Tables) (mode : Mode) (x : Label) (s : Shape) (p : Placed Label) → declared_size t x ≡ size s → place_parameter mode x (size s) p ≡ place_one (held 0) (declared_size t) mode x p
-one_placed t by_value x s p e = ap (λ n. record p { placing = (x, in_slot (held 0 p.cells)) ∷ p.placing; cells = p.cells + n }) (sym e)
-one_placed t by_place x s p e = refl
-
 section_placed : (t : Tables) (f : Tree Label section) (s : Shape) (xs : List Label) (rest : List (TypedParameter Label)) (env : TypeEnvironment Label) (p : Placed Label) → AreDeclared (declared_in t) (bind_typed (of_section f s xs ++ rest) env)
     → (place_parameters (of_section f s xs ++ rest) p ≡ place_parameters rest (place_each (held 0) (declared_size t) (section_mode f) xs p)) × AreDeclared (declared_in t) (bind_typed rest (bind_names xs (a_variable s) env))
 section_placed t f s [] rest env p a = (refl, a)
 section_placed t f s (x ∷ xs) rest env p a =
     let head = typed_before (declared_in t) (of_section f s xs ++ rest) ((x, a_variable s) ∷ env) a in
-    let following = section_placed t f s xs rest ((x, a_variable s) ∷ env) (place_one (held 0) (declared_size t) (section_mode f) x p) a in
-    (ap (place_parameters (of_section f s xs ++ rest)) (one_placed t (section_mode f) x s p (one_size t x s head.0)) ∙ following.0, following.1)
+    let following = section_placed t f s xs rest ((x, a_variable s) ∷ env) (place_one (held 0) (section_mode f) x (declared_size t x) p) a in
+    (ap (λ n. place_parameters (of_section f s xs ++ rest) (place_one (held 0) (section_mode f) x n p)) (sym (one_size t x s head.0)) ∙ following.0, following.1)
 
 pub sections_placed : (t : Tables) (fs : Tree Label (items further_section)) (k : ℕ) (env outer : TypeEnvironment Label) (ps : List (TypedParameter Label)) (p : Placed Label) → typed_parameters as_labels env k fs ≡ Some ps → AreDeclared (declared_in t) (bind_typed ps outer)
     → place_parameters ps p ≡ place_sections (held 0) (declared_size t) fs p
@@ -270,11 +262,7 @@ sections_placed t (more (then_section f) fs) k env outer ps p h a =
     ap (λ qs. place_parameters qs p) (sym whole) ∙ r.0
     ∙ sections_placed t fs (k + constructors (section_type f)) (bind_names xs (a_variable one.0) env) (bind_names xs (a_variable one.0) outer) two.0 (place_each (held 0) (declared_size t) (section_mode f) xs p) two.1 r.1
 
-parameter_matches : (mode : Mode) (x : Label) (n : ℕ) (s : Shape) (env : TypeEnvironment Label) (p : Placed Label) → Matches env p.placing → Matches ((x, a_variable s) ∷ env) (place_parameter mode x n p).placing
-parameter_matches by_value x n s env p m = (refl, (held 0 p.cells, refl), m)
-parameter_matches by_place x n s env p m = (refl, (by_reference 0 p.reference_places, refl), m)
-
 pub parameters_match : (ps : List (TypedParameter Label)) (env : TypeEnvironment Label) (p : Placed Label) → Matches env p.placing → Matches (bind_typed ps env) (place_parameters ps p).placing
 parameters_match [] env p m = m
 parameters_match (q ∷ ps) env p m =
-    parameters_match ps ((q.name, a_variable q.formal.shape) ∷ env) (place_parameter q.formal.mode q.name (size q.formal.shape) p) (parameter_matches q.formal.mode q.name (size q.formal.shape) q.formal.shape env p m)
+    parameters_match ps ((q.name, a_variable q.formal.shape) ∷ env) (place_one (held 0) q.formal.mode q.name (size q.formal.shape) p) (one_matches (held 0) q.formal.mode q.name (size q.formal.shape) q.formal.shape env p m)

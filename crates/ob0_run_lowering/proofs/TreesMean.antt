@@ -8,6 +8,7 @@ use Rattle.ob0_language_types.specs.Expressions.{Meanings, Object, a_constant, a
 use Rattle.ob0_language_types.specs.Typing.{add_type, complement_type, constant_of, element_type, field_type, multiply_type, object_type, relation_type, sign_type, type_at, type_of, type_of_addends, type_of_factor, type_of_multipliers, type_of_simple, type_of_term, value_type}
 use Rattle.ob0_language_types.specs.WellTyped.{Signature, Typed}
 use Rattle.ob0_language_types.proofs.TypedElsewhere.{then_some}
+use Rattle.ob0_language_types.proofs.Literals.{some_inverse}
 use Rattle.ob0_language_values.specs.Values.{Place, Shape, Value, array_shape, boolean_shape, integer_shape, number, record_shape, truth}
 use Rattle.ob0_run_machine.specs.Evaluation as machine
 use Rattle.ob0_run_machine.specs.Lowered as lowered
@@ -22,7 +23,7 @@ use Rattle.ob0_run_lowering.specs.Scenes.{HasSmall, Sees, object_at, slot_at}
 use Rattle.ob0_run_lowering.specs.Trees.{addends_code, base_found, expression_code, factor_code, multipliers_code, selected_place, simple_code, term_code, variable_found}
 use Rattle.ob0_run_lowering.specs.declared.scene.Scene.{Scene}
 use Rattle.ob0_run_lowering.proofs.PartsFound.{element-same, leads-from}
-use Rattle.ob0_run_lowering.proofs.CodesMean.{CodeLeads, added-leads, addends-end, alone-means, multiplied-leads, multipliers-end, negated-means, number-code, parenthesised-means, related-means, some_inj, sum-begins, term-begins}
+use Rattle.ob0_run_lowering.proofs.CodesMean.{CodeLeads, added-leads, addends-end, alone-means, multiplied-leads, multipliers-end, negated-means, number-code, parenthesised-means, related-means, sum-begins, term-begins}
 
 abbrev found_at : lowered.Place → Shape → FoundPlace
 found_at q s = record { place = q; shape = s }
@@ -41,7 +42,7 @@ boolean-alone meaning (index e) rest = elim (type_of meaning e) as (λ o. option
 
 type-end : {N P : Type 0} (meaning : Meanings N Shape P) (x s : Shape) → type_at meaning x end ≡ Some s → x ≡ s
 unfolding type_of
-type-end meaning x s h = some_inj h
+type-end meaning x s h = some_inverse h
 
 module _ (checked : Typed Label) (slots : Label → Slot) where
   -- the code of a constant
@@ -90,9 +91,9 @@ module _ (checked : Typed Label) (slots : Label → Slot) where
   element-step c q (array_shape k n u) integer_shape t e rest whole leads h hc =
       let (m, em, hm) = number-code checked slots c (value_of_expression e) hc in (
         element_at_place q m n (size u),
-        ap (λ c. element_found c q (array_shape k n u)) em ∙ ap (λ t. Some (found_at (element_at_place q m n (size u)) t)) (some_inj h),
+        ap (λ c. element_found c q (array_shape k n u)) em ∙ ap (λ t. Some (found_at (element_at_place q m n (size u)) t)) (some_inverse h),
         leads-from checked slots (element_at_place q m n (size u)) (lowered.element q m n (size u) 0) t rest whole (element-same q m n (size u))
-            (subst (λ t. PlaceLeads checked slots (lowered.element q m n (size u) 0) t rest whole) (some_inj h) (places.index-leads checked slots q k n u e m rest whole leads hm)),
+            (subst (λ t. PlaceLeads checked slots (lowered.element q m n (size u) 0) t rest whole) (some_inverse h) (places.index-leads checked slots q k n u e m rest whole leads hm)),
       )
   element-step c q _ _ t e rest whole leads h hc = absurd (cc)
 
@@ -146,7 +147,7 @@ module _ (scene : Scene) (checked : Typed Label) (slots : Label → Slot) (targe
 
     addends-mean : (c : ExpressionCode) (x : Shape) (rest : Tree ℕ (items addend)) (whole : Evaluated Label Value) (s : Shape) → CodeLeads checked slots c x (lowering.addends_left (in_labels scene.resolved.now rest)) whole → type_of_addends checked x (in_labels scene.resolved.now rest) ≡ Some s
         → CodeMeans checked slots (addends_code scene c (in_labels scene.resolved.now rest)) s whole
-    addends-mean c x end whole s hc h = subst (λ s. CodeMeans checked slots c s whole) (some_inj h) (addends-end checked slots c x whole hc)
+    addends-mean c x end whole s hc h = subst (λ s. CodeMeans checked slots c s whole) (some_inverse h) (addends-end checked slots c x whole hc)
     addends-mean c x (more (adds o t) rest) whole s hc h =
         let (y, ey, h₁) = then_some (type_of_term checked (in_labels scene.resolved.now t)) (λ y. option_and_then (λ z. type_of_addends checked z (in_labels scene.resolved.now rest)) (add_type o x y)) s h in
         let (z, ez, h₂) = then_some (add_type o x y) (λ z. type_of_addends checked z (in_labels scene.resolved.now rest)) s h₁ in
@@ -161,7 +162,7 @@ module _ (scene : Scene) (checked : Typed Label) (slots : Label → Slot) (targe
 
     multipliers-mean : (c : ExpressionCode) (x : Shape) (rest : Tree ℕ (items multiplier)) (whole : Evaluated Label Value) (s : Shape) → CodeLeads checked slots c x (lowering.multipliers_left (in_labels scene.resolved.now rest)) whole → type_of_multipliers checked x (in_labels scene.resolved.now rest) ≡ Some s
         → CodeMeans checked slots (multipliers_code scene c (in_labels scene.resolved.now rest)) s whole
-    multipliers-mean c x end whole s hc h = subst (λ s. CodeMeans checked slots c s whole) (some_inj h) (multipliers-end checked slots c x whole hc)
+    multipliers-mean c x end whole s hc h = subst (λ s. CodeMeans checked slots c s whole) (some_inverse h) (multipliers-end checked slots c x whole hc)
     multipliers-mean c x (more (multiplies o f) rest) whole s hc h =
         let (y, ey, h₁) = then_some (type_of_factor checked (in_labels scene.resolved.now f)) (λ y. option_and_then (λ z. type_of_multipliers checked z (in_labels scene.resolved.now rest)) (multiply_type o x y)) s h in
         let (z, ez, h₂) = then_some (multiply_type o x y) (λ z. type_of_multipliers checked z (in_labels scene.resolved.now rest)) s h₁ in
@@ -170,7 +171,7 @@ module _ (scene : Scene) (checked : Typed Label) (slots : Label → Slot) (targe
 
     pub factor-means : (f : Tree ℕ factor) (s : Shape) → type_of_factor checked (in_labels scene.resolved.now f) ≡ Some s → CodeMeans checked slots (factor_code scene (in_labels scene.resolved.now f)) s (value_of_factor (in_labels scene.resolved.now f))
     factor-means (designator x path) s h = named-means (label_in scene.resolved.now x) path s (checked.object_for (label_in scene.resolved.now x)) (λ q z s whole. selected-means q z path s whole) refl h
-    factor-means (integer n) s h = subst (λ s. CodeMeans checked slots (a_number (lowered.literal (pos (value_at scene.resolved.now.module_read.source n)))) s (value_of_factor (integer (value_at scene.resolved.now.module_read.source n)))) (some_inj h) (integer-means checked slots (value_at scene.resolved.now.module_read.source n) (small.numbers n))
+    factor-means (integer n) s h = subst (λ s. CodeMeans checked slots (a_number (lowered.literal (pos (value_at scene.resolved.now.module_read.source n)))) s (value_of_factor (integer (value_at scene.resolved.now.module_read.source n)))) (some_inverse h) (integer-means checked slots (value_at scene.resolved.now.module_read.source n) (small.numbers n))
     factor-means (parenthesised e) s h = parenthesised-means checked slots (expression_code scene (in_labels scene.resolved.now e)) s (in_labels scene.resolved.now e) (expression-means e s h)
     factor-means (negation f) s h =
         let (x, ex, h₁) = then_some (type_of_factor checked (in_labels scene.resolved.now f)) complement_type s h in
@@ -178,7 +179,7 @@ module _ (scene : Scene) (checked : Typed Label) (slots : Label → Slot) (targe
 
     selected-means : (q : lowered.Place) (z : Shape) (path : Tree ℕ (items selector)) (s : Shape) (whole : Evaluated Label Place) → PlaceLeads checked slots q z (in_labels scene.resolved.now path) whole → type_at checked z (in_labels scene.resolved.now path) ≡ Some s
         → (p : lowered.Place) × (selected_place scene (Some (found_at q z)) (in_labels scene.resolved.now path) ≡ Some (found_at p s)) × PlaceMeans checked slots p s whole
-    selected-means q z end s whole leads h = (q, ap (λ s. Some (found_at q s)) (some_inj h), subst (λ s. PlaceMeans checked slots q s whole) (some_inj h) (places.selectors-end checked slots q z whole leads))
+    selected-means q z end s whole leads h = (q, ap (λ s. Some (found_at q s)) (some_inverse h), subst (λ s. PlaceMeans checked slots q s whole) (some_inverse h) (places.selectors-end checked slots q z whole leads))
     selected-means q z (more (field x) rest) s whole leads h =
         let (t, et, h₁) = then_some (field_type z (checked.written (label_in scene.resolved.now x))) (λ t. type_at checked t (in_labels scene.resolved.now rest)) s h in
         let (p, ep, leads₁) = field-step checked slots sees.written q z (label_in scene.resolved.now x) t (in_labels scene.resolved.now rest) whole leads et in

@@ -1,6 +1,6 @@
 -- The code of values by their types: of what is at a place, of an operation on two, of a part.
 -- Rule: none; for contracts of lowering.
-use Rattle.std.specs.Prelude.{◌≡◌, ℕ, ◌*◌, ◌%◌, ◌^◌, pos, negsuc, Some, None, Option, option_map, if◌then◌else◌, nat_lt}
+use Rattle.std.specs.Prelude.{◌≡◌, ℕ, ◌*◌, ◌%◌, ◌^◌, pos, Some, None, Option, option_map, if◌then◌else◌, nat_lt}
 use Rattle.ob0_tree.specs.declared.tree.Relation.{Relation}
 use Rattle.ob0_tree.specs.declared.tree.Relation.TheVariants as relation
 use Rattle.ob0_tree.specs.declared.tree.Sign.{Sign}
@@ -115,10 +115,7 @@ related _ _ _ = no_code
 abbrev pub known_offset : lowered.Number → (length stride : ℕ) → Option ℕ
 known_offset (lowered.literal (pos i)) n s =
     if nat_lt i n then Some ((i * s) % 2 ^ 64) else None
-known_offset (lowered.literal (negsuc i)) n s = None
-known_offset (lowered.cell q) n s = None
-known_offset (lowered.negative m) n s = None
-known_offset (lowered.operation o l m) n s = None
+known_offset _ n s = None
 
 -- an element that begins at a known offset is a part of its array
 abbrev pub element_from : Option ℕ → lowered.Place → lowered.Number → (length stride : ℕ)

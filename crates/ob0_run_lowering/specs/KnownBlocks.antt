@@ -4,14 +4,12 @@
 -- numbered tree ordinals descend in each environment, so each binding is the one that is found. Nothing else of the
 -- order of ordinals is used.
 -- Rule: none; for contracts of lowering.
-use Rattle.std.specs.Prelude.{◌≡◌, ℕ, ◌+◌, List, [], ◌∷◌, Some, Option}
-use Rattle.ob0_tree.specs.Tree.{Tree, block, declares, declares_procedure, end, has_body, item, items, more, procedure}
-use Rattle.ob0_language_names.specs.Names.{Label, as_labels, declared}
-use Rattle.ob0_language_names.specs.Parts.{formal_sections, procedure_formals, procedure_name}
-use Rattle.ob0_language_types.specs.Declaring.{declare_block}
-use Rattle.ob0_language_types.specs.Declarations.{after_variables, formals_constructors, procedure_constructors}
+use Rattle.std.specs.Prelude.{◌≡◌, ℕ, [], ◌∷◌, Some, Option}
+use Rattle.ob0_tree.specs.Tree.{Tree, block, items, procedure}
+use Rattle.ob0_language_names.specs.Names.{Label, declared}
+use Rattle.ob0_language_types.specs.Bodies.{BlockHas, ProceduresHave}
 use Rattle.ob0_language_types.specs.Expressions.{Object}
-use Rattle.ob0_language_types.specs.WellTyped.{Signature, TypeEnvironment, TypedParameter, bind_typed, heading, typed_parameters}
+use Rattle.ob0_language_types.specs.WellTyped.{Signature, TypeEnvironment}
 use Rattle.ob0_language_values.specs.Values.{Shape}
 
 -- what declarations are, by their ordinals
@@ -26,32 +24,13 @@ AreDeclared objects (b ∷ env) =
 
 -- so do all bindings where a block's procedures and statements are checked,
 -- and those of the blocks in it
-abbrev mutual
-  -- after a block's constants, types and variables, and in its procedures
-  pub BlockDeclared : Objects → TypeEnvironment Label → ℕ → Tree Label block → Type 0
-  BlockDeclared objects env k (has_body (declares cs ts vs ps) statements) =
-      (inner : TypeEnvironment Label)
-      → declare_block as_labels env k (has_body (declares cs ts vs ps) statements) ≡ Some inner
-      → AreDeclared objects inner
-      × ProceduresDeclared objects inner
-      (after_variables k (has_body (declares cs ts vs ps) statements)) ps
+abbrev pub BlockDeclared : Objects → TypeEnvironment Label → ℕ → Tree Label block → Type 0
+BlockDeclared objects = BlockHas (AreDeclared objects)
 
-  -- in each procedure, with its parameters, its name and what was bound before it
-  pub ProceduresDeclared : Objects
-      → TypeEnvironment Label
-      → ℕ
-      → Tree Label (items procedure)
-      → Type 0
-  ProceduresDeclared objects env k end = Unit {0}
-  ProceduresDeclared objects env k (more p rest) =
-      (ps : List (TypedParameter Label))
-      → typed_parameters as_labels env k (procedure_formals p) ≡ Some ps
-      → AreDeclared objects (bind_typed ps (heading (procedure_name p) ps env))
-      × ProcedureDeclared objects (bind_typed ps (heading (procedure_name p) ps env)) k p
-      × ProceduresDeclared objects (heading (procedure_name p) ps env)
-      (k + procedure_constructors p) rest
-
-  -- in the block of a procedure
-  pub ProcedureDeclared : Objects → TypeEnvironment Label → ℕ → Tree Label (item procedure) → Type 0
-  ProcedureDeclared objects env k (declares_procedure x fs b closing) =
-      BlockDeclared objects env (k + formals_constructors (formal_sections fs)) b
+-- the same of procedures
+abbrev pub ProceduresDeclared : Objects
+    → TypeEnvironment Label
+    → ℕ
+    → Tree Label (items procedure)
+    → Type 0
+ProceduresDeclared objects = ProceduresHave (AreDeclared objects)

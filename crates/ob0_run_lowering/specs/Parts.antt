@@ -12,16 +12,12 @@ use Rattle.ob0_run_lowering.specs.declared.lowered.Lowered.TheVariants as code
 -- the number that a code is
 abbrev pub IsNumberOf : Lowered → Number → Type 0
 IsNumberOf (code.Number m) n = m ≡ n
-IsNumberOf (code.Truth t) n = Unit {0}
-IsNumberOf (code.Block q k) n = Unit {0}
-IsNumberOf code.Nothing n = Unit {0}
+IsNumberOf _ n = Unit {0}
 
 -- the truth value that a code is
 abbrev pub IsTruthOf : Lowered → Truth → Type 0
-IsTruthOf (code.Number m) t = Unit {0}
 IsTruthOf (code.Truth u) t = u ≡ t
-IsTruthOf (code.Block q k) t = Unit {0}
-IsTruthOf code.Nothing t = Unit {0}
+IsTruthOf _ t = Unit {0}
 
 -- a value is passed as what it is
 abbrev pub IsValueOf : Lowered → Argument → Type 0
@@ -38,13 +34,9 @@ IsTypedPlaceOf None l = Unit {0}
 -- the number that an operand is, where it is one
 abbrev pub number_in : Lowered → Option Number
 number_in (code.Number n) = Some n
-number_in (code.Truth t) = None
-number_in (code.Block q k) = None
-number_in code.Nothing = None
+number_in _ = None
 
 -- the truth that it is, where it is one
 abbrev pub truth_in : Lowered → Option Truth
-truth_in (code.Number n) = None
 truth_in (code.Truth t) = Some t
-truth_in (code.Block q k) = None
-truth_in code.Nothing = None
+truth_in _ = None

@@ -6,19 +6,19 @@
 -- `sections_placed`), where the declarations fit. The order of steps is the definition's, so a frame (`Frame`: depth,
 -- cells, VAR parameters) is what is placed so far without its names (`IsFrame`).
 -- Rule: none; for contracts of lowering.
-use Rattle.std.specs.Prelude.{◌≡◌, ℕ, zero, suc, ◌+◌, ◌≤◌, List, [], ◌∷◌, ◌++◌, length, if◌then◌else◌, ◌==◌, Some, None, Option}
+use Rattle.std.specs.Prelude.{◌≡◌, ℕ, zero, suc, ◌≤◌, List, [], ◌∷◌, ◌++◌, length, if◌then◌else◌, ◌==◌, Some, None, Option}
 use Rattle.ob0_tree.specs.Tree.{Tree, declares_variable, end, further_section, items, more, then_section, variable}
 use Rattle.ob0_language_names.specs.Names.{Label, as_labels, declared}
 use Rattle.ob0_language_names.specs.Parts.{names_listed, section_names}
 use Rattle.ob0_types_table.specs.KnownTables.{Tables}
-use Rattle.ob0_language_types.specs.Expressions.{Object, a_constant, a_procedure, a_standard, a_type, a_variable}
+use Rattle.ob0_language_types.specs.Expressions.{Object, a_procedure, a_variable}
 use Rattle.ob0_language_types.specs.Typing.{type_declared}
-use Rattle.ob0_language_types.specs.WellTyped.{Mode, Signature, TypeEnvironment, by_place, by_value, section_mode}
+use Rattle.ob0_language_types.specs.WellTyped.{Mode, Signature, TypeEnvironment, by_value, section_mode}
 use Rattle.ob0_language_values.specs.Values.{Shape}
-use Rattle.ob0_run_cells.specs.Activations.{Placed, Placing, Whereabouts, at_target, from_name, in_slot, nowhere}
+use Rattle.ob0_run_cells.specs.Activations.{Placed, Placing, Whereabouts, at_target, from_name, in_slot, nowhere, place_one}
 use Rattle.ob0_run_cells.specs.Cells.{size}
 use Rattle.ob0_run_cells.specs.LoweredStatements.{Target}
-use Rattle.ob0_run_cells.specs.Lowering.{Slot, held, by_reference, of_module}
+use Rattle.ob0_run_cells.specs.Lowering.{Slot, held, of_module}
 use Rattle.ob0_run_lowering.specs.Scenes.{object_at, seen_from, site_at}
 use Rattle.ob0_run_lowering.specs.declared.scene.Site.{Site}
 use Rattle.ob0_run_lowering.specs.declared.scene.Site.TheVariants as site
@@ -58,9 +58,7 @@ LocatesAll sites depth placing =
 abbrev pub Suits : Object Shape Signature → Whereabouts → Type 0
 Suits (a_variable s) w = (slot : Slot) × (w ≡ in_slot slot)
 Suits (a_procedure p) w = (t : Target) × (w ≡ at_target t)
-Suits (a_type s) w = Unit {0}
-Suits (a_constant v) w = Unit {0}
-Suits (a_standard p) w = Unit {0}
+Suits _ w = Unit {0}
 
 -- an environment and a placing, binding by binding
 abbrev pub Matches : TypeEnvironment Label → Placing Label → Type 0
@@ -87,21 +85,11 @@ abbrev pub IsNextSite : Frame → Site → Type 0
 IsNextSite f s =
     (site_depth s ≤ f.depth) × (seen_from f.depth s ≡ in_slot (slots_at f.depth f.cells))
 
--- names placed one by one, by their sizes
-abbrev pub place_one : (ℕ → Slot) → (Label → ℕ) → Mode → Label → Placed Label → Placed Label
-place_one at size_of by_value x p =
-    record p { placing = (x, in_slot (at p.cells)) ∷ p.placing; cells = p.cells + size_of x }
-place_one at size_of by_place x p =
-    record p {
-      placing = (x, in_slot (by_reference 0 p.reference_places)) ∷ p.placing;
-      reference_places = suc p.reference_places;
-    }
-
--- names of one declaration, placed one by one
+-- names of one declaration, placed one by one, by their sizes
 abbrev pub place_each : (ℕ → Slot) → (Label → ℕ) → Mode → List Label → Placed Label → Placed Label
 place_each at size_of mode [] p = p
 place_each at size_of mode (x ∷ xs) p =
-    place_each at size_of mode xs (place_one at size_of mode x p)
+    place_each at size_of mode xs (place_one at mode x (size_of x) p)
 
 -- the variables of a block, placed one by one
 abbrev pub place_groups : (ℕ → Slot)

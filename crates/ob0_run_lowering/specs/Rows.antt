@@ -8,53 +8,25 @@ use Rattle.ob0_run_lowering.specs.declared.lowered.Lowered.TheVariants as code
 
 -- how many conjunctions are nested: the truth, its first operand, the first operand of that, and so on
 abbrev pub and_depth : Truth → ℕ
-and_depth (truth.Constant b) = 0
-and_depth (truth.Flag p) = 0
-and_depth (truth.Unset p) = 0
-and_depth (truth.Negation' pointer t) = 0
 and_depth (truth.Both' pointer left right) = suc (and_depth left)
-and_depth (truth.Either' pointer left right) = 0
 and_depth (truth.All' pointer first shape row) = suc (and_depth first)
-and_depth (truth.Any' pointer first shape row) = 0
-and_depth (truth.Related r o) = 0
-and_depth (truth.LessThanLiteral v n) = 0
-and_depth (truth.ComparedToLiteral r v n) = 0
-and_depth (truth.ComparedToVariable r v w) = 0
-and_depth (truth.RowToVariable r q v) = 0
-and_depth (truth.Same' pointer left right) = 0
-and_depth (truth.Different' pointer left right) = 0
+and_depth _ = 0
 
 -- how many disjunctions are nested, counted in the same way
 abbrev pub or_depth : Truth → ℕ
-or_depth (truth.Constant b) = 0
-or_depth (truth.Flag p) = 0
-or_depth (truth.Unset p) = 0
-or_depth (truth.Negation' pointer t) = 0
-or_depth (truth.Both' pointer left right) = 0
 or_depth (truth.Either' pointer left right) = suc (or_depth left)
-or_depth (truth.All' pointer first shape row) = 0
 or_depth (truth.Any' pointer first shape row) = suc (or_depth first)
-or_depth (truth.Related r o) = 0
-or_depth (truth.LessThanLiteral v n) = 0
-or_depth (truth.ComparedToLiteral r v n) = 0
-or_depth (truth.ComparedToVariable r v w) = 0
-or_depth (truth.RowToVariable r q v) = 0
-or_depth (truth.Same' pointer left right) = 0
-or_depth (truth.Different' pointer left right) = 0
+or_depth _ = 0
 
 -- that of conjunctions in the code of an expression, where that is a truth
 abbrev pub and_depth_of : Lowered → ℕ
-and_depth_of (code.Number n) = 0
 and_depth_of (code.Truth t) = and_depth t
-and_depth_of (code.Block q n) = 0
-and_depth_of code.Nothing = 0
+and_depth_of _ = 0
 
 -- that of disjunctions
 abbrev pub or_depth_of : Lowered → ℕ
-or_depth_of (code.Number n) = 0
 or_depth_of (code.Truth t) = or_depth t
-or_depth_of (code.Block q n) = 0
-or_depth_of code.Nothing = 0
+or_depth_of _ = 0
 
 -- the first operand of a conjunction isn't one, nor that of a disjunction
 pub record IsFlat (l : Lowered) : Type 0 where

@@ -4,7 +4,7 @@ use Rattle.std.specs.Prelude.{List, pos, Some, None, Option, option_and_then}
 use Rattle.ob0_tree.specs.Tree.{Tree, addend, adds, compares, designator, end, expression, factor, field, index, integer, item, items, more, multiplier, multiplies, negation, none, one, parenthesised, product, relates, selector, simple, sum, term}
 use Rattle.ob0_language_names.specs.Names.{Label, label_text}
 use Rattle.ob0_types_table.specs.Tables.{type_shape}
-use Rattle.ob0_language_types.specs.Expressions.{Object, a_constant, a_procedure, a_standard, a_type, a_variable}
+use Rattle.ob0_language_types.specs.Expressions.{Object, a_variable}
 use Rattle.ob0_language_types.specs.Typing.{constant_of}
 use Rattle.ob0_language_types.specs.WellTyped.{Signature}
 use Rattle.ob0_language_values.specs.Values.{Shape}
@@ -31,12 +31,8 @@ found_of shapes l = record { place = place_of l.place; shape = type_shape shapes
 
 -- the whole of a variable
 abbrev pub variable_found : lowered.Place → Option (Object Shape Signature) → Option FoundPlace
-variable_found q None = None
 variable_found q (Some (a_variable s)) = Some (record { place = q; shape = s })
-variable_found q (Some (a_type s)) = None
-variable_found q (Some (a_constant v)) = None
-variable_found q (Some (a_procedure p)) = None
-variable_found q (Some (a_standard p)) = None
+variable_found q _ = None
 
 -- the place of a variable or parameter, before its selectors
 abbrev pub base_found : Scene → Label → Option FoundPlace

@@ -68,7 +68,8 @@ impl VisibleSites {
     ghost use Rattle.ob0_tree.specs.View.{formals_of, items_of, further_section_of, names_of, variable_of, variables_of};
     ghost use Rattle.ob0_language_names.specs.Parts.{formal_sections, names_listed, section_variables};
     ghost use Rattle.ob0_scope_table.specs.InLabels.{in_labels, label_in};
-    ghost use Rattle.ob0_run_lowering.specs.Placed.{Follows, IsRestored, Places, declared_size, place_each, place_one, put_at, slots_at};
+    ghost use Rattle.ob0_run_cells.specs.Activations.{place_one};
+    ghost use Rattle.ob0_run_lowering.specs.Placed.{Follows, IsRestored, Places, declared_size, place_each, put_at, slots_at};
     ghost use Rattle.ob0_run_lowering.specs.Placed as placed;
     ghost use Rattle.ob0_types_table.specs.Tables.{mode_of};
 
@@ -174,8 +175,8 @@ impl VisibleSites {
         name: usize,
     ) -> Result<Frame, AllocError>
         ensures { IfOk result (Places self.old self.new frame (place_one (slots_at frame.depth)
-            (declared_size context.now.types.now) (mode_of by_place)
-            (label_in context.now.resolved.now name))) }
+            (mode_of by_place) (label_in context.now.resolved.now name)
+            (declared_size context.now.types.now (label_in context.now.resolved.now name)))) }
     {
         let ordinal = context.resolved.ordinal_at(name);
         if by_place {

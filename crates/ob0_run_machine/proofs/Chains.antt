@@ -29,25 +29,14 @@ continued ls cells (l ∷ rest) a = linked ls cells l a >>= continued ls cells r
 after_variable : (ls : Levels) (cells : List ℤ) (o : lowered.Operator) (v : Variable) (right : lowered.Number)
     → number ls cells (lowered.operation o (lowered.cell (variable_of v)) right) ≡ (number ls cells right >>= (λ b. number ls cells (lowered.operation o (lowered.cell (variable_of v)) (lowered.literal b))))
 after_variable ls cells o (variable.Module offset) right = refl
-after_variable ls cells o (variable.Here offset) right = refl
-after_variable ls cells o (variable.ByReference index offset) right = refl
+after_variable ls cells o _ right = refl
 
 -- an operation on a number is that on its value
 pub applied_to : (ls : Levels) (cells : List ℤ) (left : lowered.Number) (l : Link) → number ls cells (applied l left) ≡ (number ls cells left >>= linked ls cells l)
-applied_to ls cells left (link.SumLiteral n) = refl
-applied_to ls cells left (link.SumVariable v) = refl
-applied_to ls cells left (link.DifferenceLiteral n) = refl
-applied_to ls cells left (link.DifferenceVariable v) = refl
-applied_to ls cells left (link.ProductLiteral n) = refl
-applied_to ls cells left (link.ProductVariable v) = refl
-applied_to ls cells left (link.QuotientLiteral n) = refl
-applied_to ls cells left (link.QuotientVariable v) = refl
-applied_to ls cells left (link.RemainderLiteral n) = refl
-applied_to ls cells left (link.RemainderVariable v) = refl
 applied_to ls cells left (link.VariableSum v) = after_variable ls cells lowered.sum v left
 applied_to ls cells left (link.VariableDifference v) = after_variable ls cells lowered.difference v left
 applied_to ls cells left (link.VariableProduct v) = after_variable ls cells lowered.product v left
-applied_to ls cells left (link.Other o n) = refl
+applied_to ls cells left _ = refl
 
 pub chained : (ls : Levels) (cells : List ℤ) (left : lowered.Number) (links : List Link) → number ls cells (chained_from left links) ≡ (number ls cells left >>= continued ls cells links)
 chained ls cells left [] = sym (bind_gives (number ls cells left))

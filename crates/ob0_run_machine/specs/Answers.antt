@@ -6,7 +6,7 @@ use Rattle.ob0_run_machine.specs.declared.ending.Ending.TheVariants as ending
 use Rattle.ob0_run_machine.specs.declared.ending.Stop.{Stop}
 use Rattle.ob0_run_machine.specs.declared.ending.Stop.TheVariants as stop
 use Rattle.ob0_run_machine.specs.Evaluation as evaluation
-use Rattle.ob0_run_machine.specs.Evaluation.{Halt, Levels, StepResult, ends, gives, number, ◌>>=◌}
+use Rattle.ob0_run_machine.specs.Evaluation.{Halt, Levels, StepResult, ends, gives, number}
 use Rattle.ob0_run_machine.specs.declared.code.Link.{Link}
 use Rattle.ob0_run_machine.specs.declared.evaluated.Evaluated.{Evaluated}
 use Rattle.ob0_run_machine.specs.declared.evaluated.Evaluated.TheVariants as evaluated

@@ -4,6 +4,7 @@
 use Rattle.std.specs.Prelude.{ℕ, suc, zero, ◌+◌, ◌*◌, ◌%◌, ◌^◌, Bool, true, false, not, ◌&&◌, List, [], ◌∷◌, Option, None, Some, ℤ, pos, negsuc, ◌+ℤ◌, ◌-ℤ◌, ◌*ℤ◌, neg_ℤ, if◌then◌else◌, nat_lt, slice_index_or, int_lt, int_le, drop}
 use Rattle.ob0_language_values.specs.Division as division
 use Rattle.ob0_language_values.specs.Division.{divided}
+pub use Rattle.ob0_language_values.specs.Values.{fits, same_truth}
 use Rattle.ob0_run_machine.specs.Lowered.{Place, in_module, here, outside, passed, element, Number, literal, cell, negative, operation, Operator, sum, difference, product, quotient, remainder, Comparator, equal, not_equal, less, less_equal, greater, greater_equal, Truth, constant, flag, negation, both, either, related, same, different}
 
 infixl 20 ◌>>=◌
@@ -52,11 +53,6 @@ element_at address length stride (negsuc i) = ends Index
 -- the value of a cell; 0 where there is none
 abbrev pub cell_at : List ℤ → ℕ → ℤ
 cell_at cells address = slice_index_or cells address (pos 0)
-
--- a number of 32 bits
-abbrev pub fits : ℤ → Bool
-fits (pos n) = nat_lt n (2 ^ 31)
-fits (negsuc n) = nat_lt n (2 ^ 31)
 
 -- a result of 32 bits, or Overflow
 abbrev pub in_range : ℤ → StepResult ℤ
@@ -113,11 +109,6 @@ abbrev pub as_cell : Bool → ℤ
 as_cell false = pos 0
 as_cell true = pos 1
 
--- two truth values are the same
-abbrev pub alike : Bool → Bool → Bool
-alike true b = b
-alike false b = not b
-
 -- the value of a truth
 abbrev pub truth : Levels → List ℤ → Truth → StepResult Bool
 truth ls cells (constant b) = gives b
@@ -128,6 +119,6 @@ truth ls cells (either t u) = truth ls cells t >>= (λ a. if a then gives true e
 truth ls cells (related r m n) =
     number ls cells m >>= (λ a. number ls cells n >>= (λ b. gives (compare r a b)))
 truth ls cells (same t u) =
-    truth ls cells t >>= (λ a. truth ls cells u >>= (λ b. gives (alike a b)))
+    truth ls cells t >>= (λ a. truth ls cells u >>= (λ b. gives (same_truth a b)))
 truth ls cells (different t u) =
-    truth ls cells t >>= (λ a. truth ls cells u >>= (λ b. gives (not (alike a b))))
+    truth ls cells t >>= (λ a. truth ls cells u >>= (λ b. gives (not (same_truth a b))))

@@ -2,7 +2,7 @@
 
 ghost use Rattle.std.specs.Prelude.{◌≡◌, neg_ℤ};
 ghost use Rattle.ob0_run_machine.specs.Answers.{if_there, outcome_of_result};
-ghost use Rattle.ob0_run_machine.specs.Evaluation.{alike, compare, divided_by, element_at, forward, in_range, is_true, as_cell, operate};
+ghost use Rattle.ob0_run_machine.specs.Evaluation.{compare, divided_by, element_at, forward, in_range, is_true, as_cell, operate, same_truth};
 ghost use Rattle.ob0_run_machine.specs.Lowered.{difference, product, quotient, remainder, sum};
 ghost use Rattle.ob0_run_machine.specs.View.{operator_of, relation_of};
 
@@ -109,7 +109,7 @@ pub(crate) fn compare(relation: Comparator, left: i32, right: i32) -> bool
 /// Whether two truth values are the same.
 #[inline(always)]
 pub(crate) fn alike(left: bool, right: bool) -> bool
-    ensures { result ≡ alike left right }
+    ensures { result ≡ same_truth left right }
 {
     left == right
 }

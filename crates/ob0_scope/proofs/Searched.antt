@@ -32,7 +32,7 @@ constants-with : {N M : Type 0} (f : N → M) (g : ℕ → ℕ) (cs : Tree N (it
 constants-with f g end = refl
 constants-with f g (more (declares_constant x e) cs) = λ i. f x ∷ constants-with f g cs i
 
-constant_section-with : {N M : Type 0} (f : N → M) (g : ℕ → ℕ) (cs : Tree N (maybe constants)) → constant_names (section_constants (mapped f g cs)) ≡ map f (constant_names (section_constants cs))
+pub constant_section-with : {N M : Type 0} (f : N → M) (g : ℕ → ℕ) (cs : Tree N (maybe constants)) → constant_names (section_constants (mapped f g cs)) ≡ map f (constant_names (section_constants cs))
 constant_section-with f g none = refl
 constant_section-with f g (one (declares_constants cs)) = constants-with f g cs
 
@@ -40,7 +40,7 @@ types-with : {N M : Type 0} (f : N → M) (g : ℕ → ℕ) (ts : Tree N (items 
 types-with f g end = refl
 types-with f g (more (declares_type x t) ts) = λ i. f x ∷ types-with f g ts i
 
-type_section-with : {N M : Type 0} (f : N → M) (g : ℕ → ℕ) (ts : Tree N (maybe type_names)) → named_types (section_types (mapped f g ts)) ≡ map f (named_types (section_types ts))
+pub type_section-with : {N M : Type 0} (f : N → M) (g : ℕ → ℕ) (ts : Tree N (maybe type_names)) → named_types (section_types (mapped f g ts)) ≡ map f (named_types (section_types ts))
 type_section-with f g none = refl
 type_section-with f g (one (declares_types ts)) = types-with f g ts
 
@@ -49,7 +49,7 @@ variables-with f g end = refl
 variables-with f g (more (declares_variable ns t) vs) =
     (λ i. listed-with f g ns i ++ variables-with f g vs i) ∙ sym (map-append f (names_listed ns) (variable_names vs))
 
-variable_section-with : {N M : Type 0} (f : N → M) (g : ℕ → ℕ) (vs : Tree N (maybe variables)) → variable_names (section_variables (mapped f g vs)) ≡ map f (variable_names (section_variables vs))
+pub variable_section-with : {N M : Type 0} (f : N → M) (g : ℕ → ℕ) (vs : Tree N (maybe variables)) → variable_names (section_variables (mapped f g vs)) ≡ map f (variable_names (section_variables vs))
 variable_section-with f g none = refl
 variable_section-with f g (one (declares_variables vs)) = variables-with f g vs
 
@@ -66,12 +66,12 @@ sections-with f g end = refl
 sections-with f g (more (then_section s) fs) =
     (λ i. section-with f g s i ++ sections-with f g fs i) ∙ sym (map-append f (section_names s) (formal_names fs))
 
-formals-with : {N M : Type 0} (f : N → M) (g : ℕ → ℕ) (fs : Tree N (maybe formals)) → formal_names (formal_sections (mapped f g fs)) ≡ map f (formal_names (formal_sections fs))
+pub formals-with : {N M : Type 0} (f : N → M) (g : ℕ → ℕ) (fs : Tree N (maybe formals)) → formal_names (formal_sections (mapped f g fs)) ≡ map f (formal_names (formal_sections fs))
 formals-with f g none = refl
 formals-with f g (one no_formals) = refl
 formals-with f g (one (some_formals s fs)) = sections-with f g (more (then_section s) fs)
 
-map-append₄ : {N M : Type 0} (f : N → M) (a b c d : List N) → map f a ++ (map f b ++ (map f c ++ map f d)) ≡ map f (a ++ (b ++ (c ++ d)))
+pub map-append₄ : {N M : Type 0} (f : N → M) (a b c d : List N) → map f a ++ (map f b ++ (map f c ++ map f d)) ≡ map f (a ++ (b ++ (c ++ d)))
 map-append₄ f a b c d =
     (λ i. map f a ++ (map f b ++ sym (map-append f c d) i))
     ∙ ((λ i. map f a ++ sym (map-append f b (c ++ d)) i) ∙ sym (map-append f a (b ++ (c ++ d))))

@@ -1,5 +1,6 @@
 pub mod Bound
 pub mod Plain
+pub mod Declared
 pub mod Counted
 pub mod TokenOrder
 pub mod FaultTokens

@@ -1,4 +1,4 @@
-use Rattle.std.proofs.Common.{ℕ, List, subst, sym}
+use Rattle.std.proofs.Common.{ℕ, List, sym}
 use Rattle.std.proofs.lemmas.Result.{IfOk-weaker}
 use Rattle.ob0_text.specs.Texts.{offset_of}
 use Rattle.ob0_text.specs.Units.{width_of}

@@ -36,8 +36,8 @@ returns-in-Some-clause-answers g c = λ place.
     let refused = duplicated unit text place new c.args.owner f names id c.duplicate_by_token.ensures c.in-Some.other (refusal.Duplicate c.token_range.result) other (ap (λ r. refusal.Duplicate r) range) in
     inr (subst (λ (x : Resolution). IsRefusedToField (requested_field unit text place new c.args.owner (text_at x.module_read.source c.args.token) x) c.args.owner (text_at x.module_read.source c.args.token) (refusal.Duplicate c.token_range.result)) c.resolved-names.ensures.value refused)
 
-pub returns-in_ok-tokens-in-None-clause-answers : goal.returns-in_ok-tokens-in-None-clause-answers
-returns-in_ok-tokens-in-None-clause-answers g c = λ place.
+pub returns-in_ok-tokens-in-None : goal.returns-in_ok-tokens-in-None
+returns-in_ok-tokens-in-None g c =
     let unit = g.T.TextStore.unit_of c.args.store.now in
     let text = g.T.TextStore.content c.args.store.now in
     let new = c.args.new.now in
@@ -58,24 +58,11 @@ returns-in_ok-tokens-in-None-clause-answers g c = λ place.
     (subst (λ (s : Scanned). Edited unit text new s c.deref.result.now c.edits_for.result) c.tokens-in-None.ensures made) in
     let found = subst (λ (x : Resolution). AreNames x.module_read.source.tokens 0 c.in_ok-tokens-in-None.tokens.items) (sym c.resolved-names.ensures.value) c.in_ok-tokens-in-None.ensures.names in
     let are = subst (AreNames names.module_read.source.tokens 0) value found in
-    subst (λ (x : Resolution). AnswersForField (requested_field unit text place new k (text_at x.module_read.source c.args.token) x) k (text_at x.module_read.source c.args.token) c.edits_for.result) c.resolved-names.ensures.value
-    (field_answered unit text place new k f names well id free c.free_field_keeps_modules.ensures c.renamed_at_tokens.ensures c.renamed_words_spell.ensures c.names_replace_names.ensures are c.edits_for.result there)
-
-pub returns-in_ok-tokens-in-None-clause-own_name : goal.returns-in_ok-tokens-in-None-clause-own_name
-returns-in_ok-tokens-in-None-clause-own_name g c = λ id own.
-    let unit = g.T.TextStore.unit_of c.args.store.now in
-    let text = g.T.TextStore.content c.args.store.now in
-    let new = c.args.new.now in
-    let k : ℕ = c.args.owner in
-    let names = c.resolved-names.result.now in
-    let f : Name = text_at names.module_read.source c.args.token in
-    let same : new ≡ f = own ∙ ap (λ (x : Resolution). text_at x.module_read.source c.args.token) (sym c.resolved-names.ensures.value) in
-    let scan = subst IsScan c.tokens.ensures c.text-text.ensures.scan in
-    let old = c.text_at-old.ensures ∙ ap (λ (s : Scanned). text_at s c.args.token) c.tokens-2.ensures in
-    let value = c.in_ok-tokens-in-None.ensures.value ∙ (λ i. field_tokens_to_rename (sym c.resolved-names.ensures.value i) k (old i) new) in
-    let places = c.deref.ensures.value ∙ value in
-    let made : Edited unit text new c.tokens-in-None.result.now c.deref.result.now c.edits_for.result =
-    record { edits = c.edits_for.ensures.edits; short = c.edits_for.ensures.short; leaves = c.edits_for.ensures.words; too_long = c.edits_for.ensures.too_long; refusals = c.edits_for.ensures.refusals } in
-    let there = subst (λ places. Edited unit text new names.module_read.source places c.edits_for.result) places
-    (subst (λ (s : Scanned). Edited unit text new s c.deref.result.now c.edits_for.result) c.tokens-in-None.ensures made) in
-    own_field_answered unit text (record { line = 0; character = 0 }) new k f names scan same c.edits_for.result there
+    record {
+      answers = λ place. subst (λ (x : Resolution). AnswersForField (requested_field unit text place new k (text_at x.module_read.source c.args.token) x) k (text_at x.module_read.source c.args.token) c.edits_for.result) c.resolved-names.ensures.value
+          (field_answered unit text place new k f names well id free c.free_field_keeps_modules.ensures c.renamed_at_tokens.ensures c.renamed_words_spell.ensures c.names_replace_names.ensures are c.edits_for.result there);
+      memory = λ refused. id;
+      own_name = λ id own.
+          let same : new ≡ f = own ∙ ap (λ (x : Resolution). text_at x.module_read.source c.args.token) (sym c.resolved-names.ensures.value) in
+          own_field_answered unit text (record { line = 0; character = 0 }) new k f names (subst IsScan c.tokens.ensures c.text-text.ensures.scan) same c.edits_for.result there;
+    }

@@ -1,32 +1,23 @@
-use Rattle.std.proofs.Common.{◌≡◌, ◌≤◌, ◌∙◌, ℕ, Err, None, Some, inl, inr, sym, ap, subst, arith}
+use Rattle.std.proofs.Common.{◌≡◌, ◌∙◌, ℕ, Err, None, Some, inl, inr, sym, ap, subst, arith}
 use Rattle.ob0_scan.specs.Classes.{IsIdentifier}
 use Rattle.ob0_text.specs.declared.refusals.EditRefusal.TheVariants as refusal
 use Rattle.ob0_tree.specs.Places.{text_at}
 use Rattle.ob0_types.specs.MeantAtPlaces.{IsField}
-use Rattle.ob0_types.specs.declared.meant.Meant.{Meant}
 use Rattle.ob0_rename.specs.Renaming.{declaration, field_of, meant_at, nothing, predeclared}
 use Rattle.ob0_rename.proofs.FieldOutcomes.{field_answered_there}
 use Rattle.ob0_rename.proofs.Outcomes.{answered_there, is_declaration, is_predeclared, requested, takes_declaration, takes_field, takes_none, target_of, target_there}
 use Rattle.ob0_rename.proofs.renaming.rename.Goals as goal
 
-pub returns-in-None-clause-answers : goal.returns-in-None-clause-answers
-returns-in-None-clause-answers g c =
+pub returns-in-None : goal.returns-in-None
+returns-in-None g c =
     let unit = g.T.TextStore.unit_of c.args.store.now in
     let text = g.T.TextStore.content c.args.store.now in
     let r = c.args.well_typed.now in
     let means = ap (meant_at r) (sym c.offset-offset.ensures) ∙ target_there r c.offset-offset.result None (sym c.in-None.is ∙ c.identified.ensures.found) in
-    inr means
+    record { answers = inr means; memory = λ refused. absurd (cc); own_name = takes_none (requested unit text c.args.place c.args.new.now 0 r) (Err refusal.NoName) (inl means) }
 
-pub returns-in-None-clause-own_name : goal.returns-in-None-clause-own_name
-returns-in-None-clause-own_name g c =
-    let unit = g.T.TextStore.unit_of c.args.store.now in
-    let text = g.T.TextStore.content c.args.store.now in
-    let r = c.args.well_typed.now in
-    let means = ap (meant_at r) (sym c.offset-offset.ensures) ∙ target_there r c.offset-offset.result None (sym c.in-None.is ∙ c.identified.ensures.found) in
-    takes_none (requested unit text c.args.place c.args.new.now 0 r) (Err refusal.NoName) (inl means)
-
-pub returns-then-ordinal-lt-PREDECLARED-clause-answers : goal.returns-then-ordinal-lt-PREDECLARED-clause-answers
-returns-then-ordinal-lt-PREDECLARED-clause-answers g c =
+pub returns-then-ordinal-lt-PREDECLARED : goal.returns-then-ordinal-lt-PREDECLARED
+returns-then-ordinal-lt-PREDECLARED g c =
     let unit = g.T.TextStore.unit_of c.args.store.now in
     let text = g.T.TextStore.content c.args.store.now in
     let r = c.args.well_typed.now in
@@ -34,21 +25,10 @@ returns-then-ordinal-lt-PREDECLARED-clause-answers g c =
     let there = target_there r c.offset-offset.result (Some c.in-Some.found) (sym c.in-Some.is ∙ c.identified.ensures.found) in
     let named = ap (target_of r.module_read.source c.in-Some.found.token) c.in-Name.is in
     let means = ap (meant_at r) (sym c.offset-offset.ensures) ∙ (there ∙ (named ∙ is_predeclared d (omega (arith, c.if-ordinal-lt-PREDECLARED.true)))) in
-    inr means
+    record { answers = inr means; memory = λ refused. absurd (cc); own_name = takes_none (requested unit text c.args.place c.args.new.now d r) (Err refusal.Predeclared) (inr means) }
 
-pub returns-then-ordinal-lt-PREDECLARED-clause-own_name : goal.returns-then-ordinal-lt-PREDECLARED-clause-own_name
-returns-then-ordinal-lt-PREDECLARED-clause-own_name g c =
-    let unit = g.T.TextStore.unit_of c.args.store.now in
-    let text = g.T.TextStore.content c.args.store.now in
-    let r = c.args.well_typed.now in
-    let d : ℕ = c.in-Name.ordinal in
-    let there = target_there r c.offset-offset.result (Some c.in-Some.found) (sym c.in-Some.is ∙ c.identified.ensures.found) in
-    let named = ap (target_of r.module_read.source c.in-Some.found.token) c.in-Name.is in
-    let means = ap (meant_at r) (sym c.offset-offset.ensures) ∙ (there ∙ (named ∙ is_predeclared d (omega (arith, c.if-ordinal-lt-PREDECLARED.true)))) in
-    takes_none (requested unit text c.args.place c.args.new.now d r) (Err refusal.Predeclared) (inr means)
-
-pub returns-else-ordinal-lt-PREDECLARED-clause-answers : goal.returns-else-ordinal-lt-PREDECLARED-clause-answers
-returns-else-ordinal-lt-PREDECLARED-clause-answers g c =
+pub returns-else-ordinal-lt-PREDECLARED : goal.returns-else-ordinal-lt-PREDECLARED
+returns-else-ordinal-lt-PREDECLARED g c =
     let unit = g.T.TextStore.unit_of c.args.store.now in
     let text = g.T.TextStore.content c.args.store.now in
     let r = c.args.well_typed.now in
@@ -56,62 +36,18 @@ returns-else-ordinal-lt-PREDECLARED-clause-answers g c =
     let there = target_there r c.offset-offset.result (Some c.in-Some.found) (sym c.in-Some.is ∙ c.identified.ensures.found) in
     let named = ap (target_of r.module_read.source c.in-Some.found.token) c.in-Name.is in
     let means = ap (meant_at r) (sym c.offset-offset.ensures) ∙ (there ∙ (named ∙ is_declaration d (omega (arith, c.if-ordinal-lt-PREDECLARED.false)))) in
-    answered_there (requested unit text c.args.place c.args.new.now d r) d means c.rename_declaration.result (c.rename_declaration.ensures.answers c.args.place)
-
-pub returns-else-ordinal-lt-PREDECLARED-clause-memory : goal.returns-else-ordinal-lt-PREDECLARED-clause-memory
-returns-else-ordinal-lt-PREDECLARED-clause-memory g c =
-    let unit = g.T.TextStore.unit_of c.args.store.now in
-    let text = g.T.TextStore.content c.args.store.now in
-    let r = c.args.well_typed.now in
-    let d : ℕ = c.in-Name.ordinal in
-    let there = target_there r c.offset-offset.result (Some c.in-Some.found) (sym c.in-Some.is ∙ c.identified.ensures.found) in
-    let named = ap (target_of r.module_read.source c.in-Some.found.token) c.in-Name.is in
-    let means = ap (meant_at r) (sym c.offset-offset.ensures) ∙ (there ∙ (named ∙ is_declaration d (omega (arith, c.if-ordinal-lt-PREDECLARED.false)))) in
-    λ refused. record {
-      identifier = c.rename_declaration.ensures.memory refused;
-      some = λ e. let both : declaration d ≡ nothing = sym means ∙ e in cc;
-      declared = λ e. let both : declaration d ≡ predeclared = sym means ∙ e in cc;
+    record {
+      answers = answered_there (requested unit text c.args.place c.args.new.now d r) d means c.rename_declaration.result (c.rename_declaration.ensures.answers c.args.place);
+      memory = λ refused. record {
+        identifier = c.rename_declaration.ensures.memory refused;
+        some = λ e. let both : declaration d ≡ nothing = sym means ∙ e in cc;
+        declared = λ e. let both : declaration d ≡ predeclared = sym means ∙ e in cc;
+      };
+      own_name = takes_declaration (requested unit text c.args.place c.args.new.now d r) d c.rename_declaration.result means c.rename_declaration.ensures.own_name;
     }
 
-pub returns-else-ordinal-lt-PREDECLARED-clause-own_name : goal.returns-else-ordinal-lt-PREDECLARED-clause-own_name
-returns-else-ordinal-lt-PREDECLARED-clause-own_name g c =
-    let unit = g.T.TextStore.unit_of c.args.store.now in
-    let text = g.T.TextStore.content c.args.store.now in
-    let r = c.args.well_typed.now in
-    let d : ℕ = c.in-Name.ordinal in
-    let there = target_there r c.offset-offset.result (Some c.in-Some.found) (sym c.in-Some.is ∙ c.identified.ensures.found) in
-    let named = ap (target_of r.module_read.source c.in-Some.found.token) c.in-Name.is in
-    let means = ap (meant_at r) (sym c.offset-offset.ensures) ∙ (there ∙ (named ∙ is_declaration d (omega (arith, c.if-ordinal-lt-PREDECLARED.false)))) in
-    takes_declaration (requested unit text c.args.place c.args.new.now d r) d c.rename_declaration.result means c.rename_declaration.ensures.own_name
-
-pub returns-in-Field-clause-answers : goal.returns-in-Field-clause-answers
-returns-in-Field-clause-answers g c =
-    let unit = g.T.TextStore.unit_of c.args.store.now in
-    let text = g.T.TextStore.content c.args.store.now in
-    let r = c.args.well_typed.now in
-    let k : ℕ = c.in-Field.owner in
-    let f = text_at r.module_read.source c.in-Some.found.token in
-    let there = target_there r c.offset-offset.result (Some c.in-Some.found) (sym c.in-Some.is ∙ c.identified.ensures.found) in
-    let means = ap (meant_at r) (sym c.offset-offset.ensures) ∙ (there ∙ ap (target_of r.module_read.source c.in-Some.found.token) c.in-Field.is) in
-    field_answered_there (requested unit text c.args.place c.args.new.now k r) k f means c.rename_field.result (c.rename_field.ensures.answers c.args.place)
-
-pub returns-in-Field-clause-memory : goal.returns-in-Field-clause-memory
-returns-in-Field-clause-memory g c =
-    let unit = g.T.TextStore.unit_of c.args.store.now in
-    let text = g.T.TextStore.content c.args.store.now in
-    let r = c.args.well_typed.now in
-    let k : ℕ = c.in-Field.owner in
-    let f = text_at r.module_read.source c.in-Some.found.token in
-    let there = target_there r c.offset-offset.result (Some c.in-Some.found) (sym c.in-Some.is ∙ c.identified.ensures.found) in
-    let means = ap (meant_at r) (sym c.offset-offset.ensures) ∙ (there ∙ ap (target_of r.module_read.source c.in-Some.found.token) c.in-Field.is) in
-    λ refused. record {
-      identifier = c.rename_field.ensures.memory refused;
-      some = λ e. let both : field_of k f ≡ nothing = sym means ∙ e in cc;
-      declared = λ e. let both : field_of k f ≡ predeclared = sym means ∙ e in cc;
-    }
-
-pub returns-in-Field-clause-own_name : goal.returns-in-Field-clause-own_name
-returns-in-Field-clause-own_name g c =
+pub returns-in-Field : goal.returns-in-Field
+returns-in-Field g c =
     let unit = g.T.TextStore.unit_of c.args.store.now in
     let text = g.T.TextStore.content c.args.store.now in
     let r = c.args.well_typed.now in
@@ -121,4 +57,12 @@ returns-in-Field-clause-own_name g c =
     let means = ap (meant_at r) (sym c.offset-offset.ensures) ∙ (there ∙ ap (target_of r.module_read.source c.in-Some.found.token) c.in-Field.is) in
     let spelled = rw c.in-Some.is at c.identified.ensures.spelled in
     let id = spelled (subst IsField (sym c.in-Field.is) tt) in
-    takes_field (requested unit text c.args.place c.args.new.now k r) k f c.rename_field.result means (λ own. c.rename_field.ensures.own_name (subst IsIdentifier (sym own) id) own)
+    record {
+      answers = field_answered_there (requested unit text c.args.place c.args.new.now k r) k f means c.rename_field.result (c.rename_field.ensures.answers c.args.place);
+      memory = λ refused. record {
+        identifier = c.rename_field.ensures.memory refused;
+        some = λ e. let both : field_of k f ≡ nothing = sym means ∙ e in cc;
+        declared = λ e. let both : field_of k f ≡ predeclared = sym means ∙ e in cc;
+      };
+      own_name = takes_field (requested unit text c.args.place c.args.new.now k r) k f c.rename_field.result means (λ own. c.rename_field.ensures.own_name (subst IsIdentifier (sym own) id) own);
+    }

@@ -22,8 +22,8 @@ returns-then-not-is_identifier-clause-own_name g c =
     let id = own_identifier names.module_read c.args.declaration c.args.new.now well.resolved.parsed scan same in
     absurd (let yes : c.is_identifier.result ≡ true = c.is_identifier.ensures.1 id in let no = c.if-not-is_identifier.true in cc)
 
-pub returns-in-Some-clause-answers : goal.returns-in-Some-clause-answers
-returns-in-Some-clause-answers g c = λ place.
+pub returns-in-Some : goal.returns-in-Some
+returns-in-Some g c =
     let unit = g.T.TextStore.unit_of c.args.store.now in
     let text = g.T.TextStore.content c.args.store.now in
     let names = c.resolved-names.result.now in
@@ -31,20 +31,19 @@ returns-in-Some-clause-answers g c = λ place.
     let id = c.is_identifier.ensures.0 c.if-not-is_identifier.false in
     let first = sym (ap (option_map place_of) c.in-Some.is) ∙ c.in_ok-capture.ensures.first in
     let other = sym (ap other_of c.in-Some.is) ∙ c.in_ok-capture.ensures.other in
-    inr (subst (λ (x : Resolution). IsRefusedTo (requested unit text place c.args.new.now c.args.declaration x) c.args.declaration c.refusal_of.result) c.resolved-names.ensures.value
-    (captured unit text place c.args.new.now c.args.declaration names well.resolved id c.in-Some.capture c.refusal_of.result first other c.refusal_of.ensures.duplicate c.refusal_of.ensures.occurrence))
+    let some = c.in-Some.is in
+    record {
+      answers = λ place. inr (subst (λ (x : Resolution). IsRefusedTo (requested unit text place c.args.new.now c.args.declaration x) c.args.declaration c.refusal_of.result) c.resolved-names.ensures.value
+          (captured unit text place c.args.new.now c.args.declaration names well.resolved id c.in-Some.capture c.refusal_of.result first other c.refusal_of.ensures.duplicate c.refusal_of.ensures.occurrence));
+      memory = λ refused. id;
+      own_name = λ own.
+          let same = subst (λ (x : Resolution). is_declared_as x.module_read c.args.declaration c.args.new.now ≡ true) (sym c.resolved-names.ensures.value) own in
+          let none = c.in_ok-capture.ensures.free.1 (own_free names.module_read c.args.declaration c.args.new.now same (once_of (named_tree_of names.module_read) well.well_typed)) in
+          absurd (cc);
+    }
 
-pub returns-in-Some-clause-own_name : goal.returns-in-Some-clause-own_name
-returns-in-Some-clause-own_name g c = λ own.
-    let names = c.resolved-names.result.now in
-    let well = subst IsWellTyped (sym c.resolved-names.ensures.value) c.resolved-names.ensures.well_typed in
-    let same = subst (λ (x : Resolution). is_declared_as x.module_read c.args.declaration c.args.new.now ≡ true) (sym c.resolved-names.ensures.value) own in
-    let once = once_of (named_tree_of names.module_read) well.well_typed in
-    let none = c.in_ok-capture.ensures.free.1 (own_free names.module_read c.args.declaration c.args.new.now same once) in
-    absurd (let some = c.in-Some.is in cc)
-
-pub returns-in_ok-tokens-in-None-clause-answers : goal.returns-in_ok-tokens-in-None-clause-answers
-returns-in_ok-tokens-in-None-clause-answers g c = λ place.
+pub returns-in_ok-tokens-in-None : goal.returns-in_ok-tokens-in-None
+returns-in_ok-tokens-in-None g c =
     let unit = g.T.TextStore.unit_of c.args.store.now in
     let text = g.T.TextStore.content c.args.store.now in
     let new = c.args.new.now in
@@ -59,21 +58,11 @@ returns-in_ok-tokens-in-None-clause-answers g c = λ place.
     let there = subst (λ places. Edited unit text new names.module_read.source places c.edits_for.result) places
     (subst (λ (s : Scanned). Edited unit text new s c.deref.result.now c.edits_for.result) c.tokens-in-None.ensures made) in
     let are = subst (AreNames names.module_read.source.tokens 0) c.in_ok-tokens-in-None.ensures.value c.in_ok-tokens-in-None.ensures.names in
-    subst (λ (x : Resolution). AnswersDeclaration (requested unit text place new d x) d c.edits_for.result) c.resolved-names.ensures.value
-    (answered unit text place new d names well id free c.free_keeps_modules.ensures c.renamed_words_spell.ensures c.names_replace_names.ensures are c.edits_for.result there)
-
-pub returns-in_ok-tokens-in-None-clause-own_name : goal.returns-in_ok-tokens-in-None-clause-own_name
-returns-in_ok-tokens-in-None-clause-own_name g c = λ own.
-    let unit = g.T.TextStore.unit_of c.args.store.now in
-    let text = g.T.TextStore.content c.args.store.now in
-    let new = c.args.new.now in
-    let names = c.resolved-names.result.now in
-    let well = subst IsWellTyped (sym c.resolved-names.ensures.value) c.resolved-names.ensures.well_typed in
-    let same = subst (λ (x : Resolution). is_declared_as x.module_read c.args.declaration new ≡ true) (sym c.resolved-names.ensures.value) own in
-    let scan = subst IsScan c.tokens.ensures c.text-text.ensures.scan in
-    let places = c.deref.ensures.value ∙ c.in_ok-tokens-in-None.ensures.value in
-    let made : Edited unit text new c.tokens-in-None.result.now c.deref.result.now c.edits_for.result =
-    record { edits = c.edits_for.ensures.edits; short = c.edits_for.ensures.short; leaves = c.edits_for.ensures.words; too_long = c.edits_for.ensures.too_long; refusals = c.edits_for.ensures.refusals } in
-    let there = subst (λ places. Edited unit text new names.module_read.source places c.edits_for.result) places
-    (subst (λ (s : Scanned). Edited unit text new s c.deref.result.now c.edits_for.result) c.tokens-in-None.ensures made) in
-    own_answered unit text new c.args.declaration names.module_read scan same c.edits_for.result there
+    record {
+      answers = λ place. subst (λ (x : Resolution). AnswersDeclaration (requested unit text place new d x) d c.edits_for.result) c.resolved-names.ensures.value
+          (answered unit text place new d names well id free c.free_keeps_modules.ensures c.renamed_words_spell.ensures c.names_replace_names.ensures are c.edits_for.result there);
+      memory = λ refused. id;
+      own_name = λ own.
+          let same = subst (λ (x : Resolution). is_declared_as x.module_read d new ≡ true) (sym c.resolved-names.ensures.value) own in
+          own_answered unit text new d names.module_read (subst IsScan c.tokens.ensures c.text-text.ensures.scan) same c.edits_for.result there;
+    }

@@ -1,4 +1,4 @@
-use Rattle.std.proofs.Common.{◌≡◌, ℕ, ◌+◌, List, [], ◌∷◌, ◌++◌, sym, ap, ◌∙◌, subst}
+use Rattle.std.proofs.Common.{ℕ, ◌+◌, List, ◌∷◌, sym, ap, ◌∙◌, subst}
 use Rattle.ob0_tree.proofs.Viewed as tree
 use Rattle.ob0_tree.specs.Tree as sort
 use Rattle.ob0_tree.specs.Tree.{Tree, branches}

@@ -2,7 +2,7 @@
 -- The names that a block declares are its declaring identifiers, and ordinals count them.
 use Rattle.std.proofs.Common.{◌≡◌, ℕ, suc, ◌+◌, List, [], ◌∷◌, ◌++◌, length, refl, sym, ap, ◌∙◌, arith, append-nil}
 use Rattle.ob0_tree.specs.declared.tree.Role.TheVariants as role
-use Rattle.ob0_tree.specs.Tree.{Tree, identifiers, block, constant, constants, declares, declares_constant, declares_constants, declares_procedure, declares_type, declares_types, declares_variable, declares_variables, end, formals, further_name, further_section, has_body, is_module, item, items, listed, maybe, module_text, more, names, no_formals, none, one, procedure, section, some_formals, then_name, then_section, type_name, type_names, value_section, variable, variable_section, variables, written_type}
+use Rattle.ob0_tree.specs.Tree.{Tree, identifiers, block, constant, constants, declares, declares_constant, declares_constants, declares_procedure, declares_type, declares_types, declares_variable, declares_variables, end, formals, further_name, further_section, has_body, is_module, item, items, listed, maybe, module_text, more, names, none, one, procedure, section, some_formals, then_name, then_section, type_name, type_names, value_section, variable, variable_section, variables, written_type}
 use Rattle.ob0_language_names.specs.Parts.{constant_names, formal_names, formal_sections, further_names, module_block, named_types, names_listed, section_constants, section_names, section_types, section_variables, variable_names}
 use Rattle.ob0_scope_table.specs.Resolution.{declaring_only}
 use Rattle.ob0_language_names.specs.Scopes.{after_block, after_names, after_procedure, after_procedures}
@@ -72,10 +72,9 @@ sections_declared end = refl
 sections_declared (more (then_section s) fs) =
     declaring_only-append (identifiers role.Declaring s) (identifiers role.Declaring fs) ∙ (λ i. section_declared s i ++ sections_declared fs i)
 
-formals_declared : (fs : Tree ℕ (maybe formals)) → declaring_only (identifiers role.Declaring fs) ≡ formal_names (formal_sections fs)
-formals_declared none = refl
-formals_declared (one no_formals) = refl
+pub formals_declared : (fs : Tree ℕ (maybe formals)) → declaring_only (identifiers role.Declaring fs) ≡ formal_names (formal_sections fs)
 formals_declared (one (some_formals s fs)) = sections_declared (more (then_section s) fs)
+formals_declared _ = refl
 
 constants_declared : (cs : Tree ℕ (items constant)) → declaring_only (identifiers role.Declaring cs) ≡ constant_names cs
 constants_declared end = refl
