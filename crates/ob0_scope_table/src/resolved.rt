@@ -114,8 +114,8 @@ impl<'t> Resolved<'t> {
         }
     }
 
-    /// The token of an occurrence.
-    fn occurrence(&self, occurrence: usize) -> Option<usize>
+    /// The token of an occurrence. None where no occurrence has this number.
+    pub fn occurrence(&self, occurrence: usize) -> Option<usize>
         ensures { result ≡ slice_get self.now.uses occurrence }
     {
         self.bindings().occurrences.get(occurrence).copied()
