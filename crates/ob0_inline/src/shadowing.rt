@@ -12,13 +12,8 @@ ghost use Rattle.ob0_inline.specs.Uses.{is_predeclared_truth};
 use crate::constants::NamedConstant;
 use ob0_language_values::Scalar;
 use ob0_scope::ordinals_seen;
-use ob0_scope_table::{Resolved, same_ordinal};
+use ob0_scope_table::{FALSE, Resolved, TRUE, same_ordinal};
 use std::alloc::{AllocError, Global};
-
-/// The ordinals of the predeclared TRUE and FALSE.
-const TRUE: usize = 2;
-
-const FALSE: usize = 3;
 
 /// Whether the name that would be written for a value in place of an occurrence is the predeclared one. A number has
 /// none.
