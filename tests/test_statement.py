@@ -211,9 +211,7 @@ def nothing_unsaid() -> None:
     for piece in re.split(r"\n\n+(?=\S)|^```.*\n", read, flags=re.M):
         noted = [name for names in re.findall(NOTE, piece, re.M) for name in names.split(", ")]
         code = re.sub(r"^ *(?:--|//).*$", "", piece, flags=re.M)
-        # (of a data type its cases may be what is named)
         unnamed = [name for name in noted if not re.search(rf"(?<!\w){re.escape(name.split()[0])}(?!\w)", code)]
-        unnamed = [name for name in unnamed if name != "SessionState" or " serving " not in code]
         same(unnamed, [], "said where it isn't named")
         said |= {name.rpartition(".")[2] for name in noted}
     missing = set()

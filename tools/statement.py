@@ -153,7 +153,6 @@ BELIEVED = {
     "bytes": "contents as the lists of their bytes",
     "MovesWire": "contents move as in the table above; at `serve` the session replies by `react`, and else it stays",
     "AllSay": "as many contents as messages; each content says its message",
-    "SessionState": "`serving`, in a state, or `failed`",
     "ServeFault": "`Memory`, `Write`, and others",
     "IsWritten": "the result is neither `Err(Memory)` nor `Err(Write)`",
     "MayServe": "`Serves`, whatever failed, without flushes, counts of reads and the input's end",
@@ -266,7 +265,7 @@ PARTS: list[tuple[str, list[str], str, str]] = [
             "1. *Model and session.* If `play_in` returns an `Ok`, with `few`, `Plays` holds: a `ConnectionStep` for each "
             "event leads from `begin` to `end`. `begin` has the model's `start`, and each step does what `Happens` "
             "says; so, by `only`, the model in `end` is the `end` of `Headline`. And the session has done the same "
-            "(`IsTied`; by `Begins` and `MovesWire` it is always `serving`).\n"
+            "(`IsTied`).\n"
             "2. *Session and contents.* So the contents are a `Conversation`, from before `initialize` on: the "
             "session took `taken`, and sent `got ++ unread`.\n"
             "3. *Contents and bytes.* `serve` returns with `Serves`, if no call of its reader or writer had returned an error before. This is "

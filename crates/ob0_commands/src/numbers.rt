@@ -16,6 +16,7 @@ ghost use Rattle.ob0_commands.specs.declared.faults.FileFault.TheVariants as fau
 
 use crate::faults::FileFault;
 use crate::reading::{Input, read_input};
+use ob0_scan::is_space;
 use std::alloc::{AllocError, Global};
 
 /// Reads the numbers of the input: whole numbers of 32 bits, digits with an optional `-` before them, between white
@@ -56,13 +57,6 @@ fn numbers_in(alloc: Global, text: &[u8]) -> Result<Option<Vec<i32>>, AllocError
         }
     }
     Ok(Some(numbers))
-}
-
-/// Space, tab, CR and LF part words.
-fn is_space(byte: u8) -> bool
-    ensures { result ≡ is_space byte }
-{
-    byte == b' ' || byte == b'\t' || byte == b'\n' || byte == b'\r'
 }
 
 /// How many bytes at the beginning are before the first white space.

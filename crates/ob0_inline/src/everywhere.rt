@@ -19,13 +19,13 @@ ghost use Rattle.ob0_inline.specs.Values.{value_text};
 
 use crate::constants::{NamedConstant, constant_at};
 use crate::depth::is_too_deep;
-use crate::shadowing::{any_hidden, is_ordinal};
+use crate::shadowing::any_hidden;
 use crate::written::{is_scalar, value_text};
 use ob0_edits_tokens::edits_without;
 use ob0_language_runs::laws::inlining_everywhere_keeps_modules;
 use ob0_language_types::laws::constants_are_alone;
 use ob0_scan::{Span, Tokens};
-use ob0_scope_table::Resolved;
+use ob0_scope_table::{Resolved, same_ordinal};
 use ob0_text::{Edit, EditRefusal, Position, TextStore};
 use ob0_types::WellTyped;
 use std::alloc::{AllocError, Global};
@@ -132,7 +132,7 @@ fn uses_of(alloc: Global, names: &Resolved, constant: usize) -> Result<Vec<usize
     let _module = names.module();
     let mut uses = Vec::new(alloc);
     for token in names.occurrences() {
-        if is_ordinal(names.ordinal_at(*token), constant) {
+        if same_ordinal(names.ordinal_at(*token), constant) {
             uses.push(*token)?;
         }
     }

@@ -12,13 +12,8 @@ ghost use Rattle.ob0_inline.specs.Uses.{is_predeclared_truth};
 use crate::constants::NamedConstant;
 use ob0_language_values::Scalar;
 use ob0_scope::ordinals_seen;
-use ob0_scope_table::Resolved;
+use ob0_scope_table::{FALSE, Resolved, TRUE, same_ordinal};
 use std::alloc::{AllocError, Global};
-
-/// The ordinals of the predeclared TRUE and FALSE.
-const TRUE: usize = 2;
-
-const FALSE: usize = 3;
 
 /// Whether the name that would be written for a value in place of an occurrence is the predeclared one. A number has
 /// none.
@@ -58,16 +53,7 @@ fn is_bound(bound: &[Option<usize>], occurrence: usize, ordinal: usize) -> bool
         ≡ same_ordinal (option_and_then (λ found. found) (slice_get bound.now occurrence)) ordinal }
 {
     match bound.get(occurrence) {
-        Some(found) => is_ordinal(*found, ordinal),
-        None => false,
-    }
-}
-
-pub(crate) fn is_ordinal(found: Option<usize>, ordinal: usize) -> bool
-    ensures { result ≡ same_ordinal found ordinal }
-{
-    match found {
-        Some(other) => other == ordinal,
+        Some(found) => same_ordinal(*found, ordinal),
         None => false,
     }
 }
@@ -136,5 +122,6 @@ fn is_elsewhere(
         && not (same_ordinal (option_and_then (λ found. found) (slice_get bound.now occurrence))
         ordinal)) }
 {
-    is_ordinal(names.declaration_of(occurrence), constant) && !is_bound(bound, occurrence, ordinal)
+    same_ordinal(names.declaration_of(occurrence), constant)
+        && !is_bound(bound, occurrence, ordinal)
 }

@@ -21,6 +21,17 @@ use ob0_tree::{
 };
 use std::alloc::{AllocError, Global};
 
+/// How strongly the token after an operand takes it in (`binding`): the smaller the number, the more strongly.
+const BY_SELECTOR: u8 = 1;
+
+const BY_MULTIPLICATION: u8 = 2;
+
+const BY_ADDITION: u8 = 3;
+
+const BY_COMPARISON: u8 = 4;
+
+const NOT_AT_ALL: u8 = 5;
+
 /// What was made, and the index of the token after it.
 pub type Parsed<T> = Result<(T, usize), ParseRefusal>;
 
@@ -145,7 +156,7 @@ impl<'t> Parser<'t> {
         requires { at ≤ length self.now.tokens.now }
         ensures { Reads expression_of room self.now.tokens.now at result }
     {
-        let Some(factor) = self.lone(at, 4) else {
+        let Some(factor) = self.lone(at, BY_COMPARISON) else {
             return self.sides(at, room);
         };
         Ok((Expression::Factor(factor), at + 1))
@@ -206,7 +217,7 @@ impl<'t> Parser<'t> {
     #[inline(always)]
     fn lone(&self, at: usize, level: u8) -> Option<Factor>
         requires within { at ≤ length self.now.tokens.now }
-        requires level { 1 ≤ level }
+        requires level { BY_SELECTOR ≤ level }
         ensures within { IfSome result (λ _. at < length self.now.tokens.now) }
         ensures alone { IfSome result (λ f. IsLone level (factor_of f) self.now.tokens.now at) }
     {
@@ -238,7 +249,7 @@ impl<'t> Parser<'t> {
         requires { at ≤ length self.now.tokens.now }
         ensures { Reads simple_of room self.now.tokens.now at result }
     {
-        let Some(factor) = self.lone(at, 3) else {
+        let Some(factor) = self.lone(at, BY_ADDITION) else {
             return self.simple(at, room);
         };
         let multipliers = Vec::new(self.alloc);
@@ -264,7 +275,7 @@ impl<'t> Parser<'t> {
         requires { at ≤ length self.now.tokens.now }
         ensures { Reads term_of room self.now.tokens.now at result }
     {
-        let Some(first) = self.lone(at, 2) else {
+        let Some(first) = self.lone(at, BY_MULTIPLICATION) else {
             return self.term(at, room);
         };
         let more = Vec::new(self.alloc);
@@ -278,7 +289,7 @@ impl<'t> Parser<'t> {
         requires { at ≤ length self.now.tokens.now }
         ensures { Reads factor_of room self.now.tokens.now at result }
     {
-        let Some(factor) = self.lone(at, 1) else {
+        let Some(factor) = self.lone(at, BY_SELECTOR) else {
             return self.factor(at, room);
         };
         Ok((factor, at + 1))
@@ -444,34 +455,33 @@ impl<'t> Parser<'t> {
     }
 }
 
-/// How strongly a token after an operand takes it in: as a selector, a multiplication, an addition, a comparison, or
-/// not at all.
+/// How strongly the token after an operand takes it in.
 #[inline(always)]
 fn binding(next: Option<TokenKind>) -> u8
     ensures { result ≡ binding next }
 {
     match next {
-        Some(TokenKind::Symbol(Symbol::Dot)) => 1,
-        Some(TokenKind::Symbol(Symbol::LeftBracket)) => 1,
-        Some(TokenKind::Symbol(Symbol::Times)) => 2,
-        Some(TokenKind::Symbol(Symbol::And)) => 2,
-        Some(TokenKind::Reserved(Reserved::Div)) => 2,
-        Some(TokenKind::Reserved(Reserved::Mod)) => 2,
-        Some(TokenKind::Symbol(Symbol::Plus)) => 3,
-        Some(TokenKind::Symbol(Symbol::Minus)) => 3,
-        Some(TokenKind::Reserved(Reserved::Or)) => 3,
-        Some(TokenKind::Symbol(Symbol::Equal)) => 4,
-        Some(TokenKind::Symbol(Symbol::NotEqual)) => 4,
-        Some(TokenKind::Symbol(Symbol::Less)) => 4,
-        Some(TokenKind::Symbol(Symbol::LessEqual)) => 4,
-        Some(TokenKind::Symbol(Symbol::Greater)) => 4,
-        Some(TokenKind::Symbol(Symbol::GreaterEqual)) => 4,
-        _ => 5,
+        Some(TokenKind::Symbol(Symbol::Dot)) => BY_SELECTOR,
+        Some(TokenKind::Symbol(Symbol::LeftBracket)) => BY_SELECTOR,
+        Some(TokenKind::Symbol(Symbol::Times)) => BY_MULTIPLICATION,
+        Some(TokenKind::Symbol(Symbol::And)) => BY_MULTIPLICATION,
+        Some(TokenKind::Reserved(Reserved::Div)) => BY_MULTIPLICATION,
+        Some(TokenKind::Reserved(Reserved::Mod)) => BY_MULTIPLICATION,
+        Some(TokenKind::Symbol(Symbol::Plus)) => BY_ADDITION,
+        Some(TokenKind::Symbol(Symbol::Minus)) => BY_ADDITION,
+        Some(TokenKind::Reserved(Reserved::Or)) => BY_ADDITION,
+        Some(TokenKind::Symbol(Symbol::Equal)) => BY_COMPARISON,
+        Some(TokenKind::Symbol(Symbol::NotEqual)) => BY_COMPARISON,
+        Some(TokenKind::Symbol(Symbol::Less)) => BY_COMPARISON,
+        Some(TokenKind::Symbol(Symbol::LessEqual)) => BY_COMPARISON,
+        Some(TokenKind::Symbol(Symbol::Greater)) => BY_COMPARISON,
+        Some(TokenKind::Symbol(Symbol::GreaterEqual)) => BY_COMPARISON,
+        _ => NOT_AT_ALL,
     }
 }
 
 fn relation_of(kind: TokenKind) -> Option<Relation>
-    ensures { IsMarkOf relation_mark 4 kind result }
+    ensures { IsMarkOf relation_mark BY_COMPARISON kind result }
 {
     match kind {
         TokenKind::Symbol(Symbol::Equal) => Some(Relation::Equal),
@@ -485,7 +495,7 @@ fn relation_of(kind: TokenKind) -> Option<Relation>
 }
 
 fn add_operator_of(kind: TokenKind) -> Option<AddOperator>
-    ensures { IsMarkOf add_mark 3 kind result }
+    ensures { IsMarkOf add_mark BY_ADDITION kind result }
 {
     match kind {
         TokenKind::Symbol(Symbol::Plus) => Some(AddOperator::Add),
@@ -496,7 +506,7 @@ fn add_operator_of(kind: TokenKind) -> Option<AddOperator>
 }
 
 fn multiply_operator_of(kind: TokenKind) -> Option<MultiplyOperator>
-    ensures { IsMarkOf multiply_mark 2 kind result }
+    ensures { IsMarkOf multiply_mark BY_MULTIPLICATION kind result }
 {
     match kind {
         TokenKind::Symbol(Symbol::Times) => Some(MultiplyOperator::Multiply),

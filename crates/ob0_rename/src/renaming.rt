@@ -139,13 +139,7 @@ fn refusal_of<T: TextStore>(store: &T, names: &Resolved, capture: FirstCapture) 
             range: token_range(store, names.tokens(), names.declaring_token(other)),
         },
         FirstCapture::Occurrence(k) => EditRefusal::Captures {
-            range: token_range(store, names.tokens(), occurrence(names, k)),
+            range: token_range(store, names.tokens(), names.occurrence(k)),
         },
     }
-}
-
-fn occurrence(names: &Resolved, k: usize) -> Option<usize>
-    ensures { result ≡ slice_get names.now.uses k }
-{
-    names.occurrences().get(k).copied()
 }

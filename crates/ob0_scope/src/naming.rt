@@ -10,11 +10,10 @@ ghost use Rattle.std.specs.List.Sorted.{IsNonDecreasingBy, IsPartitionPoint};
 ghost use Rattle.ob0_scan.specs.declared.lexeme.Token as token;
 ghost use Rattle.ob0_tree.specs.Order.{AreIdentifiers, Ascending};
 ghost use Rattle.ob0_scope.specs.Listing.{TokensAreApart, first_token, is_identifier, is_name_on, omitted_token, tokens_from};
-ghost use Rattle.ob0_language_names.specs.Scopes.{same_ordinal};
 ghost use Rattle.ob0_scope.specs.NamesAtPlaces.{IsRenamedAt, name_on, tokens_bound};
 
 use ob0_scan::{Token, TokenKind};
-use ob0_scope_table::{OrdinalEntry, Resolved};
+use ob0_scope_table::{OrdinalEntry, Resolved, same_ordinal};
 use std::alloc::{AllocError, Global};
 
 /// An identifier that is bound to a declaration: its token, and the declaration's ordinal.
@@ -93,21 +92,11 @@ fn tokens_from(
 {
     let mut found = Vec::new(alloc);
     for token in first..ordinals.len() {
-        if is_same(ordinals[token].ordinal(), declaration) && !is_same(omitted, token) {
+        if same_ordinal(ordinals[token].ordinal(), declaration) && !same_ordinal(omitted, token) {
             found.push(token)?;
         }
     }
     Ok(found)
-}
-
-/// Whether there is a number, and it is this one.
-fn is_same(number: Option<usize>, other: usize) -> bool
-    ensures { result ≡ same_ordinal number other }
-{
-    match number {
-        Some(number) => number == other,
-        None => false,
-    }
 }
 
 /// The tokens at which another name for a declaration is written: the one that declares it, its closing name, and all

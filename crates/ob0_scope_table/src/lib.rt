@@ -5,11 +5,13 @@
 mod fault_tokens;
 mod one_body;
 mod ordinal_entry;
+mod predeclared_names;
 mod resolved;
 mod table;
 
 pub use fault_tokens::{FaultAt, faults_at_tokens, tokens_of_faults};
 pub use one_body::is_in_body;
 pub use ordinal_entry::OrdinalEntry;
-pub use resolved::{Bindings, PREDECLARED, Resolved};
-pub use table::{ordinal_at, token_span};
+pub use predeclared_names::{FALSE, PREDECLARED, READ, TRUE, WRITE, WRITE_LN};
+pub use resolved::{Bindings, Resolved};
+pub use table::{ordinal_at, same_ordinal, token_span};

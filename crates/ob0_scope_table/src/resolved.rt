@@ -6,14 +6,12 @@ ghost use Rattle.ob0_language_names.specs.Occurrences.{binds};
 ghost use Rattle.ob0_scope_table.specs.Resolution.{IsResolution, ordinal_in, token_declaring};
 
 use crate::ordinal_entry::OrdinalEntry;
+use crate::predeclared_names::PREDECLARED;
 use crate::table::ordinal_at;
 use ob0_scan::{Fault, Tokens};
 use ob0_tree::Module;
 use std::borrow::Cow;
 use std::marker::Model;
-
-/// How many names are predeclared: INTEGER, BOOLEAN, TRUE, FALSE, Read, Write and WriteLn, with the ordinals 0 to 6.
-pub const PREDECLARED: usize = 7;
 
 /// What the names of a module are bound to, by indexes of tokens and ordinals alone: the ordinal of each token's name,
 /// the tokens that declare, those of the occurrences, and the faults. It borrows nothing.
@@ -114,8 +112,8 @@ impl<'t> Resolved<'t> {
         }
     }
 
-    /// The token of an occurrence.
-    fn occurrence(&self, occurrence: usize) -> Option<usize>
+    /// The token of an occurrence. None where no occurrence has this number.
+    pub fn occurrence(&self, occurrence: usize) -> Option<usize>
         ensures { result ≡ slice_get self.now.uses occurrence }
     {
         self.bindings().occurrences.get(occurrence).copied()

@@ -1,6 +1,7 @@
 //! Tables of ordinals by token, and where tokens are.
 
 ghost use Rattle.std.specs.Prelude.{◌≡◌};
+ghost use Rattle.ob0_language_names.specs.Scopes.{same_ordinal};
 ghost use Rattle.ob0_scope_table.specs.Resolution.{ordinal_in, span_at};
 
 use crate::ordinal_entry::OrdinalEntry;
@@ -13,6 +14,16 @@ pub fn ordinal_at(ordinals: &[OrdinalEntry], token: usize) -> Option<usize>
     match ordinals.get(token) {
         Some(entry) => entry.ordinal(),
         None => None,
+    }
+}
+
+/// Whether there is an ordinal, and it is this one.
+pub fn same_ordinal(found: Option<usize>, ordinal: usize) -> bool
+    ensures { result ≡ same_ordinal found ordinal }
+{
+    match found {
+        Some(other) => other == ordinal,
+        None => false,
     }
 }
 

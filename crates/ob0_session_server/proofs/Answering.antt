@@ -1,21 +1,24 @@
 -- From what a reader and a reaction say to the answers of a content.
-use Rattle.std.proofs.Common.{◌≡◌, ◌∙◌, ℕ, ℤ, List, [], ◌∷◌, Option, Vec, Global, option_map, map, sym, subst, ap, refl}
+use Rattle.std.proofs.Common.{◌≡◌, ◌≢◌, ◌∙◌, ℕ, ℤ, List, [], ◌∷◌, Option, Some, None, Result, Err, Vec, Global, option_map, map, sym, subst, ap, refl}
 use Rattle.std.specs.Option.{option_to_list}
-use Rattle.serde_json.specs.Data.{Data}
-use Rattle.ob0_session_server.specs.Answers.{ServerState, Reply, nothing, diagnoses, SaysReply, answers_about, react, published, publish_documents, Answers, AnswersGoingOn, AnswersInState}
+use Rattle.serde_json.specs.Data.{Data, null}
+use Rattle.ob0_session_server.specs.Answers.{ServerState, Reply, nothing, diagnoses, SaysReply, answers_about, answer_request, refuses_fault, react, published, publish_documents, Answers, AnswersGoingOn, AnswersInState}
 use Rattle.ob0_text.specs.OpenDocuments.{Document, OpenDocuments, document_at}
 use Rattle.ob0_text.specs.declared.position_types.Unit.{Unit}
 use Rattle.ob0_rpc.specs.declared.clients.Client.{Client}
-use Rattle.ob0_rpc.specs.Messages.{ReadsContent, MessageMeaning, meaning}
+use Rattle.ob0_rpc.specs.declared.incoming.RpcFault.{RpcFault}
+use Rattle.ob0_rpc.specs.declared.incoming.RpcFault.TheVariants.{NotJson, NotAMessage, UnknownMethod, BadParams, Memory}
+use Rattle.ob0_rpc.specs.Messages.{ReadsContent, MessageMeaning, not_json, not_a_message, meaning}
+use Rattle.ob0_rpc.specs.Requesting.{ClientRequest}
+use Rattle.ob0_rpc.specs.Seen.{ReadsAs, Requests}
 use Rattle.ob0_session_answers.specs.Diagnostics.{Publishes}
 use Rattle.ob0_session_documents.specs.DocumentRequests.{ComesOfRequest}
 use Rattle.ob0_session_documents.specs.declared.document_requests.RequestOutcome.{RequestOutcome}
 use Rattle.ob0_session_documents.specs.declared.document_requests.RequestOutcome.TheVariants.{Answered, OutOfStep, Unopened}
 use Rattle.ob0_session_server.specs.Seen.{Reacts, RepliesAbout, RepliesWith, SendsReply, message_of}
-use Rattle.ob0_session_server.specs.SessionStates.{SessionState, serving}
 use Rattle.ob0_session_server.specs.Steps.{next_after, IsGoingOn, SessionSteps}
-use Rattle.ob0_session_server.specs.declared.server.Phase.{Phase}
-use Rattle.ob0_session_server.specs.declared.server.Phase.TheVariants.{Starting, Running, ShutDown, Ended}
+use Rattle.ob0_session_server.specs.declared.session.Phase.{Phase}
+use Rattle.ob0_session_server.specs.declared.session.Phase.TheVariants.{Starting, Running, ShutDown, Ended, Failed}
 use Rattle.ob0_session_server.specs.declared.session.Step.{Step}
 use Rattle.ob0_session_server.specs.declared.session.Next.TheVariants.{End}
 
@@ -26,12 +29,33 @@ answered before content json m sent after reads means h =
     let P : MessageMeaning → Type 0 = λ x. Reacts (react before x) sent after in
     (json, reads, subst P (sym means) h)
 
+-- a content that can't be read is refused
+pub refused : (before : ServerState) (content : List ℕ) (fault : RpcFault) (sent : Option (Vec ℕ Global))
+    → ReadsAs content (Err fault) → fault ≢ Memory → Reacts (refuses_fault before null fault) sent before
+    → AnswersGoingOn before content (option_to_list (option_map (λ v. v.items) sent)) before
+refused before content NotJson sent reads apart h = answered before content None not_json sent before reads refl h
+refused before content NotAMessage sent reads apart h = answered before content (Some reads.0) not_a_message sent before reads.1 reads.2 h
+refused before content Memory sent reads apart h = absurd (apart refl)
+refused before content UnknownMethod sent reads apart h = absurd reads.2
+refused before content BadParams sent reads apart h = absurd reads.2
+
+-- so is a request
+pub request_refused : (s : ServerState) (id : Data) (requested : Result ClientRequest RpcFault) (fault : RpcFault) (sent : Option (Vec ℕ Global))
+    → Requests requested (Err fault) → fault ≢ Memory → Reacts (refuses_fault s id fault) sent s
+    → Reacts (answer_request s id requested) sent s
+request_refused s id requested UnknownMethod sent is apart h = subst (λ r. Reacts (answer_request s id r) sent s) (sym is) h
+request_refused s id requested BadParams sent is apart h = subst (λ r. Reacts (answer_request s id r) sent s) (sym is) h
+request_refused s id requested Memory sent is apart h = absurd (apart refl)
+request_refused s id requested NotJson sent is apart h = absurd is
+request_refused s id requested NotAMessage sent is apart h = absurd is
+
 pub going_on : (phase : Phase) (before : ServerState) (content : List ℕ) (sent : List (List ℕ)) (after : ServerState)
-    → IsGoingOn phase → AnswersGoingOn before content sent after → AnswersInState phase before content sent after
-going_on Starting before content sent after h answers = answers
-going_on Running before content sent after h answers = answers
-going_on ShutDown before content sent after h answers = answers
-going_on (Ended status) before content sent after h answers = cc
+    → IsGoingOn phase → phase ≢ Failed → AnswersGoingOn before content sent after → AnswersInState phase before content sent after
+going_on Starting before content sent after h works answers = answers
+going_on Running before content sent after h works answers = answers
+going_on ShutDown before content sent after h works answers = answers
+going_on (Ended status) before content sent after h works answers = cc
+going_on Failed before content sent after h works answers = absurd (works refl)
 
 pub ended : (phase : Phase) (status : ℕ) (before : ServerState) (content : List ℕ)
     → next_after phase ≡ End status → AnswersInState phase before content [] before
@@ -39,19 +63,14 @@ ended Starting status before content h = cc
 ended Running status before content h = cc
 ended ShutDown status before content h = cc
 ended (Ended other) status before content h = (refl, refl)
+ended Failed status before content h = cc
 
-pub ended_step : (old : SessionState) (s : ServerState) (content : List ℕ) (step : Step) (status : ℕ)
-    → old ≡ serving s → step.send.items ≡ [] → step.next ≡ End status → End status ≡ next_after s.phase → SessionSteps old content step old
-ended_step old s content step status is none next end =
+pub ended_step : (s : ServerState) (content : List ℕ) (step : Step) (status : ℕ)
+    → step.send.items ≡ [] → step.next ≡ End status → End status ≡ next_after s.phase → SessionSteps s content step s
+ended_step s content step status none next end =
     let P : List (List ℕ) → Type 0 = λ sent. Answers s content sent s in
     let empty : map (λ (v : Vec ℕ Global). v.items) step.send.items ≡ [] = ap (map (λ (v : Vec ℕ Global). v.items)) none in
-    rw is (record { after = s; serves = refl; answers = subst P (sym empty) (ended s.phase status s content (sym end)); next = next ∙ end })
-
-pub going_step : (old : SessionState) (before after : ServerState) (content : List ℕ) (step : Step)
-    → old ≡ serving before → IsGoingOn before.phase → AnswersGoingOn before content (map (λ v. v.items) step.send.items) after → step.next ≡ next_after after.phase
-    → SessionSteps old content step (serving after)
-going_step old before after content step is going answers next =
-    rw is (record { after = after; serves = refl; answers = going_on before.phase before content (map (λ v. v.items) step.send.items) after going answers; next = next })
+    record { answers = subst P (sym empty) (ended s.phase status s content (sym end)); next = next ∙ end }
 
 -- what is published after a change of the held documents
 pub publishes : (before after : ServerState) (uri reported : List ℕ) (held : OpenDocuments) (sent : Option (Vec ℕ Global))

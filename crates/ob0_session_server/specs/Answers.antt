@@ -24,8 +24,8 @@ use Rattle.ob0_session_answers.specs.Formatted.{AnswersFormatting}
 use Rattle.ob0_session_answers.specs.Questions.{AnswersName, NameQuestion, hover_asked, definition_asked, references_asked, renaming_asked}
 use Rattle.ob0_session_answers.specs.Renamed.{RequestedRename, AnswersRenaming}
 use Rattle.ob0_session_json.specs.Shapes.{Diagnostic, capabilities, edit_refused, publication}
-use Rattle.ob0_session_server.specs.declared.server.Phase.{Phase}
-use Rattle.ob0_session_server.specs.declared.server.Phase.TheVariants.{Starting, Running, ShutDown, Ended}
+use Rattle.ob0_session_server.specs.declared.session.Phase.{Phase}
+use Rattle.ob0_session_server.specs.declared.session.Phase.TheVariants.{Starting, Running, ShutDown, Ended, Failed}
 
 -- ---- what a server keeps from message to message
 
@@ -186,7 +186,7 @@ react_to_request Running s id method params =
     then refuses s id (minus 32600) (codes "already initialized")
     else answer_method s id method params
 react_to_request ShutDown s id method params = refuses s id (minus 32600) (codes "shut down")
-react_to_request (Ended status) s id method params = stays s nothing
+react_to_request phase s id method params = stays s nothing
 
 -- ---- notifications
 
@@ -241,15 +241,16 @@ react s response = stays s nothing
 react s (request id method params) = react_to_request s.phase s id method params
 react s (notice method params) = react_to_notification s.phase s method params
 
--- the answers of a server that has not ended
+-- the answers of a server that has not ended, and has not failed
 abbrev pub AnswersGoingOn : ServerState → List ℕ → List (List ℕ) → ServerState → Type 0
 AnswersGoingOn before content sent after =
     (json : Option Data) × ReadsContent content json
     × (let r = react before (meaning json) in (after ≡ r.after) × SaysReply r.say sent)
 
--- after its end it sends nothing and stays as it is
+-- after its end it sends nothing and stays as it is, and where an allocation has failed it doesn't answer
 abbrev pub AnswersInState : Phase → ServerState → List ℕ → List (List ℕ) → ServerState → Type 0
 AnswersInState (Ended status) before content sent after = (sent ≡ []) × (after ≡ before)
+AnswersInState Failed before content sent after = ⊥
 AnswersInState phase before content sent after = AnswersGoingOn before content sent after
 
 -- In the one state the server replies to this content with these messages, and then it is in the other state.

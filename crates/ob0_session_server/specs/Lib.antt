@@ -1,5 +1,4 @@
 pub mod Answers
 pub mod Units
 pub mod Seen
-pub mod SessionStates
 pub mod Steps

@@ -38,7 +38,7 @@ use Rattle.ob0_session_answers.specs.Formatted.{AnswersFormatting}
 use Rattle.ob0_session_answers.specs.Renamed.{RequestedRename, AnswersRenaming}
 use Rattle.ob0_session_json.specs.Shapes.{Diagnostic, diagnostic_value, edit_value, edits_value, document_edit, workspace_edit, publication}
 use Rattle.ob0_world_rules.specs.Answers.{Inlining, Here, Everywhere}
-use Rattle.ob0_session_server.specs.declared.server.Phase.TheVariants.{Running}
+use Rattle.ob0_session_server.specs.declared.session.Phase.TheVariants.{Running}
 use Rattle.ob0_world_editor.specs.Heard as heard_as
 use Rattle.ob0_world_editor.specs.Heard.{sent_as, HasVersion, IsAsk, call_for}
 use Rattle.ob0_world_editor.specs.Shapes.{method_of, empty_at}

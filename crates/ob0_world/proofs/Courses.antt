@@ -7,8 +7,7 @@ use Rattle.std.specs.Prelude.{All}
 use Rattle.std.proofs.lemmas.List.{map-append, take_more, append-nil, append_assoc}
 use Rattle.ob0_text.specs.declared.position_types.Unit.{Unit}
 use Rattle.ob0_session_server.specs.Answers as server
-use Rattle.ob0_session_server.specs.Answers.{ServerState, begins, Answers, Conversation}
-use Rattle.ob0_session_server.specs.SessionStates.{SessionState, serving}
+use Rattle.ob0_session_server.specs.Answers.{ServerState, begins, Conversation}
 use Rattle.ob0_world.proofs.Conversing.{conversation_then, answered_once}
 use Rattle.ob0_world_editor.specs.Beginning.{client_for}
 use Rattle.ob0_world.specs.declared.events.Event as event
@@ -44,24 +43,20 @@ model_course begin (e ∷ events) end (between, step, rest) = (between.model, st
 
 -- what passed is a conversation of a session from its beginning on
 Conversed : Wire → Type 0
-Conversed w = (s : ServerState) × (w.session ≡ serving s) × Conversation server.start w.taken (w.got ++ w.to_editor) s
-
-pub same_state : (a b : ServerState) (old : SessionState) → old ≡ serving a → old ≡ serving b → a ≡ b
-same_state a b old h k = cc
+Conversed w = Conversation server.start w.taken (w.got ++ w.to_editor) w.session
 
 takes_conversed : (q : List (List ℕ)) (old new : Wire) → TakesFirst q old new → Conversed old → Conversed new
 unfolding Conversed
 takes_conversed [] old new is h = subst Conversed (sym is) h
-takes_conversed (content ∷ rest) old new (before, after, sent, was, answers, is) (s, at, so) =
-    let now : Answers s content sent after = subst (λ x. Answers x content sent after) (same_state before s old.session was at) answers in
-    let more = conversation_then server.start old.taken (old.got ++ old.to_editor) s (content ∷ []) sent after so (answered_once s content sent after now) in
-    subst Conversed (sym is) (after, refl, subst (λ x. Conversation server.start (old.taken ++ content ∷ []) x after) (append_assoc old.got old.to_editor sent) more)
+takes_conversed (content ∷ rest) old new (after, sent, answers, is) h =
+    let more = conversation_then server.start old.taken (old.got ++ old.to_editor) old.session (content ∷ []) sent after h (answered_once old.session content sent after answers) in
+    subst Conversed (sym is) (subst (λ x. Conversation server.start (old.taken ++ content ∷ []) x after) (append_assoc old.got old.to_editor sent) more)
 
 gets_conversed : (q : List (List ℕ)) (old new : Wire) → old.to_editor ≡ q → GetsFirst q old new → Conversed old → Conversed new
 unfolding Conversed
 gets_conversed [] old new waits is h = subst Conversed (sym is) h
-gets_conversed (content ∷ rest) old new waits is (s, at, so) =
-    subst Conversed (sym is) (s, at, subst (λ x. Conversation server.start old.taken x s) (ap (λ x. old.got ++ x) waits ∙ sym (append_assoc old.got (content ∷ []) rest)) so)
+gets_conversed (content ∷ rest) old new waits is h =
+    subst Conversed (sym is) (subst (λ x. Conversation server.start old.taken x old.session) (ap (λ x. old.got ++ x) waits ∙ sym (append_assoc old.got (content ∷ []) rest)) h)
 
 writes_conversed : (old new : Wire) → WritesContent old new → Conversed old → Conversed new
 unfolding Conversed
@@ -76,7 +71,7 @@ begins_conversed : (unit : Unit) (w : Connection) → Begins unit w → Converse
 unfolding Conversed
 begins_conversed unit w b =
     subst Conversed (sym b.wire)
-    (begins (client_for unit), refl, subst (λ x. Conversation server.start (b.content ∷ []) x (begins (client_for unit))) (sym (append-nil b.replies)) (answered_once server.start b.content b.replies (begins (client_for unit)) b.answers))
+    (subst (λ x. Conversation server.start (b.content ∷ []) x (begins (client_for unit))) (sym (append-nil b.replies)) (answered_once server.start b.content b.replies (begins (client_for unit)) b.answers))
 
 course_conversed : (begin : Connection) (events : List Event) (end : Connection) → ConnectionCourse begin events end → Conversed begin.wire → Conversed end.wire
 course_conversed begin [] end is h = subst (λ (w : Connection). Conversed w.wire) (sym is) h
@@ -101,8 +96,8 @@ course_begun unit begin events end begun course = subst (λ w. Course w events e
 
 conversation_of : (w : Wire) (p : played.Played) → HasPassed w p → Conversed w → (after : ServerState) × Conversation server.start (map (λ v. v.items) p.taken.items) (map (λ v. v.items) p.got.items ++ map (λ v. v.items) p.unread.items) after
 unfolding Conversed
-conversation_of w p passed (after, at, so) =
-    (after, subst (λ (x : Wire). Conversation server.start x.taken (x.got ++ x.to_editor) after) (λ i. record w { taken = sym passed.0 i; got = sym passed.1 i; to_editor = sym passed.2 i }) so)
+conversation_of w p passed h =
+    (w.session, subst (λ (x : Wire). Conversation server.start x.taken (x.got ++ x.to_editor) w.session) (λ i. record w { taken = sym passed.0 i; got = sym passed.1 i; to_editor = sym passed.2 i }) h)
 
 pub plays : (unit : Unit) (events : List event.Event) (begin end : Connection) (p : played.Played) → Begins unit begin → ConnectionCourse begin (map event_of events) end → HasCome end.model p → HasPassed end.wire p → Plays unit events p
 plays unit events begin end p begun course come passed =

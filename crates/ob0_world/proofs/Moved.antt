@@ -6,7 +6,7 @@ use Rattle.std.specs.declared.alloc.Global.{Global}
 use Rattle.std.proofs.lemmas.List.{append-nil, map-append}
 use Rattle.std.proofs.lemmas.List.Elements.{All-head, All-push, All-tail}
 use Rattle.ob0_text.specs.OpenDocuments.{TextChange}
-use Rattle.ob0_session_server.specs.SessionStates.{SessionState}
+use Rattle.ob0_session_server.specs.Answers.{ServerState}
 use Rattle.ob0_world_editor.specs.Code.{applied_of}
 use Rattle.ob0_world_editor.specs.Heard.{heard, SaysToServer}
 use Rattle.ob0_world_editor.specs.Moves.{SaysSent, Acts, IsSilent, ComesOf}
@@ -49,20 +49,20 @@ grown e new done (more, grows) is = (more, ap (λ (x : Editor). x.requested) is 
 
 -- ---- what waits stays sound
 
-pub grown_sound : (e new : Editor) (q r : Contents) (s : SessionState) → Grows e new → Sound e.requested q r s → Sound new.requested q r s
+pub grown_sound : (e new : Editor) (q r : Contents) (s : ServerState) → Grows e new → Sound e.requested q r s → Sound new.requested q r s
 grown_sound e new q r s (more, is) sound =
     subst (λ requested. Sound requested q r s) (sym is)
     (record { heard_all = all_heard_still e.requested more q sound.heard_all; understood_all = all_understood_still e.requested more r sound.understood_all; running = sound.running })
 
-pub same_sound : (e new : Editor) (q r : Contents) (s : SessionState) → new.requested ≡ e.requested → Sound e.requested q r s → Sound new.requested q r s
+pub same_sound : (e new : Editor) (q r : Contents) (s : ServerState) → new.requested ≡ e.requested → Sound e.requested q r s → Sound new.requested q r s
 same_sound e new q r s is sound = subst (λ requested. Sound requested q r s) (sym is) sound
 
-pushed_sound : (requested : List SentAsk) (q r : Contents) (s : SessionState) (c : Vec ℕ Global) (m : ToServer) → SaysToServer requested m c.items → Sound requested q r s → Sound requested (q ++ c ∷ []) r s
+pushed_sound : (requested : List SentAsk) (q r : Contents) (s : ServerState) (c : Vec ℕ Global) (m : ToServer) → SaysToServer requested m c.items → Sound requested q r s → Sound requested (q ++ c ∷ []) r s
 pushed_sound requested q r s c m says sound =
     record { heard_all = All-push (IsHeard requested) q c sound.heard_all (m, says); understood_all = sound.understood_all; running = sound.running }
 
 -- the editor has acted, and its message, if any, waits
-pub acted_sound : (e new : Editor) (done : Done) (content : Option (Vec ℕ Global)) (q q' r : Contents) (s : SessionState) → Grows e done.editor → Acts done content new → q' ≡ q ++ option_to_list content → Sound e.requested q r s → Sound new.requested q' r s
+pub acted_sound : (e new : Editor) (done : Done) (content : Option (Vec ℕ Global)) (q q' r : Contents) (s : ServerState) → Grows e done.editor → Acts done content new → q' ≡ q ++ option_to_list content → Sound e.requested q r s → Sound new.requested q' r s
 acted_sound e new done content q q' r s grows acts is sound =
     let still : Sound new.requested q r s = grown_sound e new q r s (grown e new done grows acts.0) sound in
     subst (λ x. Sound new.requested x r s) (sym is) (go done.sent content acts.1 still)
@@ -82,7 +82,7 @@ heard_acted requested (m ∷ more) (Some c) q says =
     said_push (heard requested) q c m (says_heard requested m c.items says.0) ∙ ap (λ ms. all_heard requested q ++ m ∷ ms) (sym says.1)
 
 -- client and server once an act is done
-pub acted : (e new : Editor) (done : Done) (content : Option (Vec ℕ Global)) (q q' r : Contents) (s : SessionState) (ap_list ap_new : List applied.Applied) (md : List made.Made) → Grows e done.editor → Acts done content new → q' ≡ q ++ option_to_list content
+pub acted : (e new : Editor) (done : Done) (content : Option (Vec ℕ Global)) (q q' r : Contents) (s : ServerState) (ap_list ap_new : List applied.Applied) (md : List made.Made) → Grows e done.editor → Acts done content new → q' ≡ q ++ option_to_list content
     → map applied_of ap_new ≡ map applied_of ap_list ++ done.applied → Sound e.requested q r s → model_from new q' s r ap_new md ≡ after_act (model_from e q s r ap_list md) done
 acted e new done content q q' r s ap_list ap_new md grows acts is more sound =
     let (since, grew) = grown e new done grows acts.0 in
@@ -148,13 +148,13 @@ change_applies e uri how = go (open_at e uri)
     go None = refl
     go (Some d) = of_text d (after_changes e.unit (Some d.text) how)
 
-pub sent_sound : {X : Type 0} (act : Act) (e new : Editor) (content : Option (Vec ℕ Global)) (q q' r : Contents) (s : SessionState) (result : Result seen.Seen X) → Acts (done_by e act) content new
+pub sent_sound : {X : Type 0} (act : Act) (e new : Editor) (content : Option (Vec ℕ Global)) (q q' r : Contents) (s : ServerState) (result : Result seen.Seen X) → Acts (done_by e act) content new
     → IfOk result (λ shown. IsSent q content shown q') → OnErr result (q' ≡ q) → Sound e.requested q r s → Sound new.requested q' r s
 sent_sound act e new content q q' r s (Ok shown) acts sent none sound = acted_sound e new (done_by e act) content q q' r s (act_grows e act) acts (put q q' content shown sent) sound
 sent_sound act e new content q q' r s (Err x) acts sent none sound =
     subst (λ x. Sound new.requested x r s) (sym none) (grown_sound e new q r s (grown e new (done_by e act) (act_grows e act) acts.0) sound)
 
-pub sent_shows : {X : Type 0} (act : Act) (old : ClientAndServer) (e new : Editor) (content : Option (Vec ℕ Global)) (q q' r : Contents) (s : SessionState) (ap_list : List applied.Applied) (md : List made.Made) (result : Result seen.Seen X)
+pub sent_shows : {X : Type 0} (act : Act) (old : ClientAndServer) (e new : Editor) (content : Option (Vec ℕ Global)) (q q' r : Contents) (s : ServerState) (ap_list : List applied.Applied) (md : List made.Made) (result : Result seen.Seen X)
     → model_from e q s r ap_list md ≡ old → (done_by e act).applied ≡ [] → act_seen e act ≡ sent_of (done_by e act) → Acts (done_by e act) content new → IfOk result (λ shown. IsSent q content shown q') → Sound e.requested q r s
     → IfOk result (λ shown. Shows old (does act) (seen_of shown) (model_from new q' s r ap_list md))
 sent_shows act old e new content q q' r s ap_list md (Ok shown) was none as_sent acts sent sound =
@@ -170,7 +170,7 @@ sent_shows act old e new content q q' r s ap_list md (Err x) was none as_sent ac
 pub silent_acts : (done : Done) (new : Editor) → IsSilent done new → Acts done None new
 silent_acts done new (is, nothing_sent, none) = (is, subst (λ ms. SaysSent new.requested ms None) (sym nothing_sent) tt)
 
-pub silent_shows : (act : Act) (e new : Editor) (q r : Contents) (s : SessionState) (ap_list : List applied.Applied) (md : List made.Made) → IsSilent (done_by e act) new → Sound e.requested q r s
+pub silent_shows : (act : Act) (e new : Editor) (q r : Contents) (s : ServerState) (ap_list : List applied.Applied) (md : List made.Made) → IsSilent (done_by e act) new → Sound e.requested q r s
     → Happens (model_from e q s r ap_list md) (does act) (model_from new q s r ap_list md)
 silent_shows act e new q r s ap_list md silent sound =
     acted e new (done_by e act) None q q r s ap_list ap_list md (act_grows e act) (silent_acts (done_by e act) new silent) (sym (append-nil q)) (sym (append-nil (map applied_of ap_list)) ∙ ap (λ x. map applied_of ap_list ++ x) (sym silent.2)) sound
@@ -194,7 +194,7 @@ apply_requested e new k applying.TheVariants.Dropped comes = comes.0.0
 apply_requested e new k (applying.TheVariants.Made a c) comes = comes.0.0
 
 -- what waits stays sound once an answer was applied or dropped
-pub applied_sound : (e new : Editor) (k : ℕ) (outcome : applying.Applying) (q r : Contents) (s : SessionState) → ComesOf (done_by e (apply k)) (is_some (kept_answer k e.answers)) outcome new → Sound e.requested q r s → Sound new.requested q r s
+pub applied_sound : (e new : Editor) (k : ℕ) (outcome : applying.Applying) (q r : Contents) (s : ServerState) → ComesOf (done_by e (apply k)) (is_some (kept_answer k e.answers)) outcome new → Sound e.requested q r s → Sound new.requested q r s
 applied_sound e new k outcome q r s comes sound = grown_sound e new q r s (grown e new (done_by e (apply k)) (act_grows e (apply k)) (apply_requested e new k outcome comes)) sound
 
 -- the content of what was made says something
@@ -205,7 +205,7 @@ made_says e new k a c comes = go (done_by e (apply k)).sent comes.0.1
     go [] says = absurd says
     go (m ∷ more) says = (m, says.0)
 
-pub made_happens : (e new : Editor) (k : ℕ) (a : applied.Applied) (c : Vec ℕ Global) (q q' r : Contents) (s : SessionState) (ap_list ap_new : List applied.Applied) (md : List made.Made) → ComesOf (done_by e (apply k)) (is_some (kept_answer k e.answers)) (applying.TheVariants.Made a c) new
+pub made_happens : (e new : Editor) (k : ℕ) (a : applied.Applied) (c : Vec ℕ Global) (q q' r : Contents) (s : ServerState) (ap_list ap_new : List applied.Applied) (md : List made.Made) → ComesOf (done_by e (apply k)) (is_some (kept_answer k e.answers)) (applying.TheVariants.Made a c) new
     → q' ≡ q ++ c ∷ [] → ap_new ≡ ap_list ++ a ∷ [] → Sound e.requested q r s → Shows (model_from e q s r ap_list md) (does (apply k)) (applies k) (model_from new q' s r ap_new md)
 made_happens e new k a c q q' r s ap_list ap_new md comes is_q is_ap sound = (
   acted e new (done_by e (apply k)) (Some c) q q' r s ap_list ap_new md (act_grows e (apply k)) comes.0 is_q
@@ -213,11 +213,11 @@ made_happens e new k a c q q' r s ap_list ap_new md comes is_q is_ap sound = (
   apply_seen_so e new k (applying.TheVariants.Made a c) comes,
 )
 
-pub dropped_happens : (e new : Editor) (k : ℕ) (q r : Contents) (s : SessionState) (ap_list : List applied.Applied) (md : List made.Made) → ComesOf (done_by e (apply k)) (is_some (kept_answer k e.answers)) applying.TheVariants.Dropped new → Sound e.requested q r s
+pub dropped_happens : (e new : Editor) (k : ℕ) (q r : Contents) (s : ServerState) (ap_list : List applied.Applied) (md : List made.Made) → ComesOf (done_by e (apply k)) (is_some (kept_answer k e.answers)) applying.TheVariants.Dropped new → Sound e.requested q r s
     → Shows (model_from e q s r ap_list md) (does (apply k)) (drops k) (model_from new q s r ap_list md)
 dropped_happens e new k q r s ap_list md comes sound = (silent_shows (apply k) e new q r s ap_list md comes.0 sound, apply_seen_so e new k applying.TheVariants.Dropped comes)
 
-pub not_held_happens : (e new : Editor) (k : ℕ) (q r : Contents) (s : SessionState) (ap_list : List applied.Applied) (md : List made.Made) → ComesOf (done_by e (apply k)) (is_some (kept_answer k e.answers)) applying.TheVariants.NotHeld new → Sound e.requested q r s
+pub not_held_happens : (e new : Editor) (k : ℕ) (q r : Contents) (s : ServerState) (ap_list : List applied.Applied) (md : List made.Made) → ComesOf (done_by e (apply k)) (is_some (kept_answer k e.answers)) applying.TheVariants.NotHeld new → Sound e.requested q r s
     → Shows (model_from e q s r ap_list md) (does (apply k)) nothing (model_from new q s r ap_list md)
 not_held_happens e new k q r s ap_list md comes sound = (silent_shows (apply k) e new q r s ap_list md comes.0 sound, apply_seen_so e new k applying.TheVariants.NotHeld comes)
 
@@ -232,7 +232,7 @@ read_asks e (publishes uri version empty) = refl
 read_asks e (answers number edits) = keep_asks e number edits
 
 -- the editor has read the first content that waits for it
-pub taken_happens : (e new : Editor) (q r rest : Contents) (s : SessionState) (ap_list : List applied.Applied) (md : List made.Made) (c : Vec ℕ Global) (m : ToEditor) → r ≡ c ∷ rest → understood e.requested c.items ≡ Some m → new ≡ reads e m
+pub taken_happens : (e new : Editor) (q r rest : Contents) (s : ServerState) (ap_list : List applied.Applied) (md : List made.Made) (c : Vec ℕ Global) (m : ToEditor) → r ≡ c ∷ rest → understood e.requested c.items ≡ Some m → new ≡ reads e m
     → Shows (model_from e q s r ap_list md) take_message (taken_seen (m ∷ [])) (model_from new q s rest ap_list md)
 taken_happens e new q r rest s ap_list md c m first means is =
     let waits : all_understood e.requested r ≡ m ∷ all_understood e.requested rest = ap (all_understood e.requested) first ∙ said_first (understood e.requested) c rest m means in
@@ -248,7 +248,7 @@ taken_happens e new q r rest s ap_list md c m first means is =
 
 -- ---- what waits
 
-module _ (s : SessionState) (tk q gt r : Contents) where
+module _ (s : ServerState) (tk q gt r : Contents) where
   pub writes_none : WritesContent (wire_from s tk q gt r) (wire_from s tk q gt r)
   writes_none = (None, λ i. record (wire_from s tk q gt r) { to_server = sym (append-nil (bytes q)) i })
 
@@ -260,7 +260,7 @@ module _ (s : SessionState) (tk q gt r : Contents) where
   writes_sent q' None (Ok shown) sent = subst (λ x. WritesContent (wire_from s tk q gt r) (wire_from s tk x gt r)) (sym sent.1) writes_none
   writes_sent q' (Some c) (Ok shown) sent = writes_one q' c sent.1
 
-pub taken_sound : (requested : List SentAsk) (q r rest : Contents) (s : SessionState) (c : Vec ℕ Global) → r ≡ c ∷ rest → Sound requested q r s → Sound requested q rest s
+pub taken_sound : (requested : List SentAsk) (q r rest : Contents) (s : ServerState) (c : Vec ℕ Global) → r ≡ c ∷ rest → Sound requested q r s → Sound requested q rest s
 taken_sound requested q r rest s c is sound =
     record { heard_all = sound.heard_all; understood_all = All-tail (IsUnderstood requested) c rest (subst (All (IsUnderstood requested)) is sound.understood_all); running = sound.running }
 
@@ -274,18 +274,18 @@ pub moved_first : (r r' gt gt' : Contents) (c : Vec ℕ Global) (rest : Contents
 moved_first r r' gt gt' c rest is moves = subst (λ x. MovesFirst x gt r' gt') is moves
 
 -- a content that waits for the editor says something to it
-pub taken_says : (requested : List SentAsk) (q r rest : Contents) (s : SessionState) (c : Vec ℕ Global) → r ≡ c ∷ rest → Sound requested q r s → understood requested c.items ≡ None → ⊥
+pub taken_says : (requested : List SentAsk) (q r rest : Contents) (s : ServerState) (c : Vec ℕ Global) → r ≡ c ∷ rest → Sound requested q r s → understood requested c.items ≡ None → ⊥
 taken_says requested q r rest s c is sound silent =
     let says : IsUnderstood requested c = All-head (IsUnderstood requested) c rest (subst (All (IsUnderstood requested)) is sound.understood_all) in
     let clash : Some says.0 ≡ None = sym says.1 ∙ silent in
     cc
 
 -- a content may have been put after the others
-pub maybe_pushed : (requested : List SentAsk) (q q' r : Contents) (s : SessionState) (c : Vec ℕ Global) (b : Bool) → q' ≡ cond b (q ++ c ∷ []) q → IsHeard requested c → Sound requested q r s → Sound requested q' r s
+pub maybe_pushed : (requested : List SentAsk) (q q' r : Contents) (s : ServerState) (c : Vec ℕ Global) (b : Bool) → q' ≡ cond b (q ++ c ∷ []) q → IsHeard requested c → Sound requested q r s → Sound requested q' r s
 maybe_pushed requested q q' r s c true is says sound = subst (λ x. Sound requested x r s) (sym is) (pushed_sound requested q r s c says.0 says.1 sound)
 maybe_pushed requested q q' r s c false is says sound = subst (λ x. Sound requested x r s) (sym is) sound
 
-pub discard_shows : (e new : Editor) (k : ℕ) (q r : Contents) (s : SessionState) (ap_list : List applied.Applied) (md : List made.Made) (held : Bool) → held ≡ is_some (kept_answer k e.answers) → new ≡ without_answer e k → Sound e.requested q r s
+pub discard_shows : (e new : Editor) (k : ℕ) (q r : Contents) (s : ServerState) (ap_list : List applied.Applied) (md : List made.Made) (held : Bool) → held ≡ is_some (kept_answer k e.answers) → new ≡ without_answer e k → Sound e.requested q r s
     → Shows (model_from e q s r ap_list md) (does (discard k)) (cond held (drops k) nothing) (model_from new q s r ap_list md)
 discard_shows e new k q r s ap_list md held is after sound =
     (silent_shows (discard k) e new q r s ap_list md (after, refl, refl) sound, ap (λ b. cond b (drops k) nothing) is)

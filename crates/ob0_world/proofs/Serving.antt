@@ -1,27 +1,23 @@
 -- What the server's turn makes of client and server.
-use Rattle.std.proofs.Common.{◌≡◌, ◌∙◌, ℕ, ◌+◌, ◌-◌, arith, Bool, List, [], ◌∷◌, ◌++◌, length, Option, Some, None, refl, sym, ap, subst, cond}
+use Rattle.std.proofs.Common.{◌≡◌, ◌∙◌, ℕ, ◌+◌, ◌-◌, arith, Bool, List, [], ◌∷◌, ◌++◌, length, Option, Some, None, inl, inr, refl, sym, ap, subst, cond}
 use Rattle.std.specs.Prelude.{All, Vec, map, option_map, option_and_then}
 use Rattle.std.specs.Option.{option_to_list}
 use Rattle.std.specs.declared.alloc.Global.{Global}
 use Rattle.std.proofs.lemmas.List.{map-append, length-map, length-append}
 use Rattle.std.proofs.lemmas.List.Elements.{All-nil, All-cons, All-head, All-tail}
 use Rattle.ob0_text.specs.OpenDocuments.{OpenDocuments}
-use Rattle.ob0_session_server.specs.Answers.{ServerState}
-use Rattle.ob0_session_server.specs.SessionStates.{SessionState, serving, failed}
-use Rattle.ob0_session_server.specs.Steps.{SessionSteps}
-use Rattle.ob0_session_server.specs.declared.session.Step.{Step}
+use Rattle.ob0_session_server.specs.Answers.{ServerState, Answers, AnswersInState}
 use Rattle.ob0_world_editor.specs.Heard.{heard, SaysToServer}
 use Rattle.ob0_world_editor.specs.Understood.{understood}
 use Rattle.ob0_world_editor.specs.declared.applied.Applied as applied
 use Rattle.ob0_world_editor.proofs.Hearing.{says_heard}
-use Rattle.ob0_world_rules.specs.ClientAndServer.{SentAsk, Editor, ToServer, ToEditor, Made, ClientAndServer, after_message}
-use Rattle.ob0_world_rules.specs.Serving.{Replies}
+use Rattle.ob0_world_rules.specs.ClientAndServer.{SentAsk, Editor, ToServer, ToEditor, Made, ClientAndServer}
 use Rattle.ob0_world_rules.specs.Happens.{serve, ServerTakes}
 use Rattle.ob0_world.specs.Seen as seen
 use Rattle.ob0_world.specs.Seen.{served_seen, Shows}
 use Rattle.ob0_world.specs.declared.played.Made as made
 use Rattle.ob0_world.specs.Code.{publication_of}
-use Rattle.ob0_world.specs.Queues.{Contents, bytes, all_heard, all_understood, IsHeard, IsUnderstood, Sound, IsAnswered, IsRunning, IsRunningOrFailed, held_by, model_from, wire_from, made_first, made_for, made_sent}
+use Rattle.ob0_world.specs.Queues.{Contents, bytes, all_heard, all_understood, IsHeard, IsUnderstood, Sound, IsRunning, IsRunningOrFailed, model_from, wire_from, made_first, made_for, made_sent}
 use Rattle.ob0_world.specs.Worlds.{GetsFirst, TakesFirst}
 use Rattle.ob0_world.proofs.Answering.{Served, served}
 use Rattle.ob0_world.proofs.Waiting.{said_append, said_first, all_appended}
@@ -40,41 +36,34 @@ made_as_sent held requested (c ∷ sent) all =
     let first : IsUnderstood requested c = All-head (IsUnderstood requested) c sent all in
     ap (option_and_then (made_for held)) first.1 ∙ ap (made_first held) (sym (said_first (understood requested) c sent first.0 first.1))
 
--- one that serves goes on as what it is
-session_is : (s : SessionState) (before : ServerState) → s ≡ serving before → IsRunningOrFailed s → IsRunning before
-session_is s before is running = subst IsRunningOrFailed is running
+-- one that replies hasn't failed
+not_failed : (s s' : ServerState) (content : List ℕ) (sent : List (List ℕ)) → IsRunningOrFailed s → Answers s content sent s' → IsRunning s
+not_failed s s' content sent (inl running) answers = running
+not_failed s s' content sent (inr over) answers = absurd (subst (λ phase. AnswersInState phase s content sent s') over answers)
 
 -- the session was handed the first content
-pub record Turn (e : Editor) (q rest : Contents) (s s' : SessionState) (content : Vec ℕ Global) (sent : Contents) : Type 0 where
+pub record Turn (e : Editor) (q rest : Contents) (s s' : ServerState) (content : Vec ℕ Global) (sent : Contents) : Type 0 where
   pub message : ToServer
   pub says : SaysToServer e.requested message content.items
-  pub before : ServerState
-  pub after : ServerState
-  pub was : s ≡ serving before
-  pub is : s' ≡ serving after
-  pub served_so : Served e.requested message before after (bytes sent)
+  pub served_so : Served e.requested message s s' (bytes sent)
 
-pub turn : (e : Editor) (q rest r : Contents) (s s' : SessionState) (content : Vec ℕ Global) (sent : Contents) → q ≡ content ∷ rest → Sound e.requested q r s → IsAnswered s content.items (bytes sent) s' → Turn e q rest s s' content sent
+pub turn : (e : Editor) (q rest r : Contents) (s s' : ServerState) (content : Vec ℕ Global) (sent : Contents) → q ≡ content ∷ rest → Sound e.requested q r s → Answers s content.items (bytes sent) s' → Turn e q rest s s' content sent
 turn e q rest r s s' content sent first sound h =
     let heard_first : IsHeard e.requested content = All-head (IsHeard e.requested) content rest (subst (All (IsHeard e.requested)) first sound.heard_all) in
     record {
       message = heard_first.0;
       says = heard_first.1;
-      before = h.before;
-      after = h.after;
-      was = h.served;
-      is = h.serves;
-      served_so = served e.requested heard_first.0 h.before h.after content.items (bytes sent) (session_is s h.before h.served sound.running) heard_first.1 h.answers;
+      served_so = served e.requested heard_first.0 s s' content.items (bytes sent) (not_failed s s' content.items (bytes sent) sound.running h) heard_first.1 h;
     }
 
-pub rest_sound : (requested : List SentAsk) (q rest r : Contents) (s s' : SessionState) (content : Vec ℕ Global) → q ≡ content ∷ rest → Sound requested q r s → IsRunningOrFailed s' → Sound requested rest r s'
+pub rest_sound : (requested : List SentAsk) (q rest r : Contents) (s s' : ServerState) (content : Vec ℕ Global) → q ≡ content ∷ rest → Sound requested q r s → IsRunningOrFailed s' → Sound requested rest r s'
 rest_sound requested q rest r s s' content first sound running =
     record { heard_all = All-tail (IsHeard requested) content rest (subst (All (IsHeard requested)) first sound.heard_all); understood_all = sound.understood_all; running = running }
 
-pub turn_running : (e : Editor) (q rest : Contents) (s s' : SessionState) (content : Vec ℕ Global) (sent : Contents) → Turn e q rest s s' content sent → IsRunningOrFailed s'
-turn_running e q rest s s' content sent t = subst IsRunningOrFailed (sym t.is) t.served_so.running
+pub turn_running : (e : Editor) (q rest : Contents) (s s' : ServerState) (content : Vec ℕ Global) (sent : Contents) → Turn e q rest s s' content sent → IsRunningOrFailed s'
+turn_running e q rest s s' content sent t = inl t.served_so.running
 
-pub turn_sound : (e : Editor) (q rest r r' : Contents) (s s' : SessionState) (content : Vec ℕ Global) (sent : Contents) (b : Bool) → q ≡ content ∷ rest → Sound e.requested q r s → Turn e q rest s s' content sent → r' ≡ cond b (r ++ sent) r → Sound e.requested rest r' s'
+pub turn_sound : (e : Editor) (q rest r r' : Contents) (s s' : ServerState) (content : Vec ℕ Global) (sent : Contents) (b : Bool) → q ≡ content ∷ rest → Sound e.requested q r s → Turn e q rest s s' content sent → r' ≡ cond b (r ++ sent) r → Sound e.requested rest r' s'
 turn_sound e q rest r r' s s' content sent b first sound t grown =
     let rested : Sound e.requested rest r s' = rest_sound e.requested q rest r s s' content first sound (turn_running e q rest s s' content sent t) in
     record {
@@ -87,32 +76,29 @@ as_list : (o : Option made.Made) (p : Option Made) → option_map publication_of
 as_list None p is = ap option_to_list is
 as_list (Some m) p is = ap option_to_list is
 
-pub turn_happens : (e : Editor) (q rest r r' : Contents) (s s' : SessionState) (ap_list : List applied.Applied) (md md' : List made.Made) (content : Vec ℕ Global) (sent : Contents) (held : OpenDocuments) (o : Option made.Made) (n : ℕ)
-    → q ≡ content ∷ rest → Turn e q rest s s' content sent → ((st : ServerState) → s' ≡ serving st → held ≡ st.held) → option_map publication_of o ≡ made_sent held e.requested sent → r' ≡ r ++ sent → md' ≡ md ++ option_to_list o → n ≡ length sent
+pub turn_happens : (e : Editor) (q rest r r' : Contents) (s s' : ServerState) (ap_list : List applied.Applied) (md md' : List made.Made) (content : Vec ℕ Global) (sent : Contents) (held : OpenDocuments) (o : Option made.Made) (n : ℕ)
+    → q ≡ content ∷ rest → Turn e q rest s s' content sent → held ≡ s'.held → option_map publication_of o ≡ made_sent held e.requested sent → r' ≡ r ++ sent → md' ≡ md ++ option_to_list o → n ≡ length sent
     → Shows (model_from e q s r ap_list md) serve (seen.served n) (model_from e rest s' r' ap_list md')
-turn_happens e q rest r r' s s' ap_list md md' content sent held o n first t references is_made grown more count =
+turn_happens e q rest r r' s s' ap_list md md' content sent held o n first t here is_made grown more count =
     let w : ClientAndServer = model_from e q s r ap_list md in
     let said : List ToEditor = t.served_so.said in
     let all : all_understood e.requested sent ≡ said = t.served_so.heard.all in
     let understood_all : All (IsUnderstood e.requested) sent = each_understood e.requested sent t.served_so.heard.each in
-    let here : held ≡ t.after.held = references t.after t.is in
-    let is_first : option_map publication_of o ≡ made_first t.after.held said =
+    let is_first : option_map publication_of o ≡ made_first s'.held said =
     is_made ∙ made_as_sent held e.requested sent understood_all ∙ (λ i. made_first (here i) (all i)) in
-    let held_before : held_by s ≡ t.before.held = ap held_by t.was in
-    let held_after : held_by s' ≡ after_message (held_by s) t.message = ap held_by t.is ∙ t.served_so.held ∙ ap (λ h. after_message h t.message) (sym held_before) in
     let waits : all_heard e.requested q ≡ t.message ∷ all_heard e.requested rest =
     ap (all_heard e.requested) first ∙ said_first (heard e.requested) content rest t.message (says_heard e.requested t.message content.items t.says) in
     let grew : all_understood e.requested r' ≡ all_understood e.requested r ++ said =
     ap (all_understood e.requested) grown ∙ said_append (understood e.requested) r sent ∙ ap (λ x. all_understood e.requested r ++ x) all in
     let this : ServerTakes w (t.message ∷ all_heard e.requested rest) (model_from e rest s' r' ap_list md') = (
       said,
-      option_to_list (made_first t.after.held said),
-      subst (λ h. Replies h t.message said (option_to_list (made_first t.after.held said))) (sym held_before) t.served_so.replies,
+      option_to_list (made_first s'.held said),
+      t.served_so.replies,
       (λ i. record w {
         to_server = all_heard e.requested rest;
-        held = held_after i;
+        held = t.served_so.held i;
         to_editor = grew i;
-        made = (ap (map publication_of) more ∙ map-append publication_of md (option_to_list o) ∙ ap (λ x. map publication_of md ++ x) (as_list o (made_first t.after.held said) is_first)) i;
+        made = (ap (map publication_of) more ∙ map-append publication_of md (option_to_list o) ∙ ap (λ x. map publication_of md ++ x) (as_list o (made_first s'.held said) is_first)) i;
       }),
     ) in
     let many : n ≡ length (all_understood e.requested r') - length (all_understood e.requested r) =
@@ -124,29 +110,22 @@ turn_happens e q rest r r' s s' ap_list md md' content sent held o n first t ref
     less : (a b : ℕ) → (a + b) - a ≡ b
     less a b = omega arith
 
-pub answered_so : (old : SessionState) (content : List ℕ) (step : Step) (new : SessionState) → SessionSteps old content step new → IsAnswered old content (bytes step.send.items) new
-answered_so (serving before) content step new h = record { before = before; after = h.after; served = refl; serves = h.serves; answers = h.answers }
-answered_so failed content step new h = absurd h
-
 -- ---- the server is the session
 
-pub turn_taken : (q rest r r' tk tk' gt : Contents) (s s' : SessionState) (content : Vec ℕ Global) (sent : Contents) → q ≡ content ∷ rest → IsAnswered s content.items (bytes sent) s' → r' ≡ r ++ sent → tk' ≡ tk ++ content ∷ []
+pub turn_taken : (q rest r r' tk tk' gt : Contents) (s s' : ServerState) (content : Vec ℕ Global) (sent : Contents) → q ≡ content ∷ rest → Answers s content.items (bytes sent) s' → r' ≡ r ++ sent → tk' ≡ tk ++ content ∷ []
     → TakesFirst (bytes q) (wire_from s tk q gt r) (wire_from s' tk' rest gt r')
 turn_taken q rest r r' tk tk' gt s s' content sent first answered grown taken =
     subst (λ x. TakesFirst (bytes x) (wire_from s tk q gt r) (wire_from s' tk' rest gt r')) (sym first) (
-      answered.before,
-      answered.after,
+      s',
       bytes sent,
-      answered.served,
-      answered.answers,
+      answered,
       λ i. record (wire_from s' tk' rest gt r') {
-        session = answered.serves i;
         taken = (ap bytes taken ∙ map-append (λ v. v.items) tk (content ∷ [])) i;
         to_editor = (ap bytes grown ∙ map-append (λ v. v.items) r sent) i;
       },
     )
 
-pub got_first : (s : SessionState) (tk q gt gt' r rest : Contents) (content : Vec ℕ Global) → r ≡ content ∷ rest → gt' ≡ gt ++ content ∷ [] → GetsFirst (bytes r) (wire_from s tk q gt r) (wire_from s tk q gt' rest)
+pub got_first : (s : ServerState) (tk q gt gt' r rest : Contents) (content : Vec ℕ Global) → r ≡ content ∷ rest → gt' ≡ gt ++ content ∷ [] → GetsFirst (bytes r) (wire_from s tk q gt r) (wire_from s tk q gt' rest)
 got_first s tk q gt gt' r rest content first got =
     subst (λ x. GetsFirst (bytes x) (wire_from s tk q gt r) (wire_from s tk q gt' rest)) (sym first)
     (λ i. record (wire_from s tk q gt' rest) { got = (ap bytes got ∙ map-append (λ v. v.items) gt (content ∷ [])) i })

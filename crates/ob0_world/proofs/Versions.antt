@@ -27,7 +27,6 @@ use Rattle.ob0_session_answers.specs.Renamed.{RequestedRename, AnswersRenaming}
 use Rattle.ob0_session_json.specs.Shapes.{document_edit, edits_value, workspace_edit, publication}
 use Rattle.ob0_session_server.specs.Answers as answers_of
 use Rattle.ob0_session_server.specs.Answers.{ServerState, Reply, SaysReply, Sends, Reaction, begins, react, apply_notification, react_to_notification, answer_method, answer_request, answers_about, lays_out, renames, offers_actions, published, Answers, AnswersInState, AnswersGoingOn, says}
-use Rattle.ob0_session_server.specs.SessionStates.{serving}
 use Rattle.ob0_session_server.specs.Units.{unit_for}
 use Rattle.ob0_world_editor.specs.Beginning.{client_for}
 use Rattle.ob0_world_editor.specs.Heard.{SaysToServer, IsAsk, sent_as, call_for, request_number}
@@ -46,7 +45,6 @@ use Rattle.ob0_world.specs.Queues.{IsReached, IsRunning}
 use Rattle.ob0_world.specs.Versions.{named_in, named_by_edit, NamesAsked, NamesItsAsk, IsLayout, VersionsAreNamed, VersionsSuffice}
 use Rattle.ob0_world.specs.Worlds.{Wire, Connection, Begins, TakesFirst, GetsFirst, AllSay, IsTied, ConnectionStep, ConnectionCourse}
 use Rattle.ob0_world.proofs.Answering.{reacts_so, request_reaction, served, inlining_at, none_read_back, actions_requested_at}
-use Rattle.ob0_world.proofs.Courses.{same_state}
 use Rattle.ob0_world.proofs.Stepping.{reached_start, reached_more, reached_mirrors}
 
 -- ---- what the server holds as it takes a request
@@ -286,7 +284,7 @@ content_names requested (requests k uri ask) before after content sent running (
 record Known (w : Connection) : Type 0 where
   pub reached : IsReached w.model
   pub tied : IsTied w
-  pub running : (s : ServerState) → w.wire.session ≡ serving s → IsRunning s
+  pub running : IsRunning w.wire.session
   pub asks : AsksHeld w.model.editor.requested w.model.held w.model.to_server
   pub named : All (NamesItsAsk w.model.editor.requested) w.wire.to_editor
 
@@ -298,20 +296,20 @@ serve_known old new [] [] waits says_all happens moves k tied reached =
     record {
       reached = reached;
       tied = tied;
-      running = λ s is. k.running s (sym (ap (λ (x : Wire). x.session) moves) ∙ is);
+      running = subst IsRunning (sym (ap (λ (x : Wire). x.session) moves)) k.running;
       asks = subst AsksOf (sym happens) k.asks;
       named = subst (λ (x : ClientAndServer). All (NamesItsAsk x.editor.requested) new.wire.to_editor) (sym happens) (subst (λ (x : Wire). All (NamesItsAsk old.model.editor.requested) x.to_editor) (sym moves) k.named);
     }
-serve_known old new (m ∷ rest) (content ∷ contents) waits (says_this, others) (said, made, replies, is_new) (before, after, sent, was, answer, wire_is) k tied reached =
+serve_known old new (m ∷ rest) (content ∷ contents) waits (says_this, others) (said, made, replies, is_new) (after, sent, answer, wire_is) k tied reached =
     let r : List SentAsk = old.model.editor.requested in
-    let running : IsRunning before = k.running before was in
+    let before : ServerState = old.wire.session in
     let see = sees_first r old.model.held m rest (subst (AsksHeld r old.model.held) waits k.asks) in
-    let meets : AsksHeld r before.held (m ∷ []) = subst (λ (held : OpenDocuments). AsksHeld r held (m ∷ [])) (k.tied.documents before was) see.0 in
-    let names : All (NamesItsAsk r) sent = content_names r m before after content sent running says_this answer meets in
+    let meets : AsksHeld r before.held (m ∷ []) = subst (λ (held : OpenDocuments). AsksHeld r held (m ∷ [])) k.tied.documents see.0 in
+    let names : All (NamesItsAsk r) sent = content_names r m before after content sent k.running says_this answer meets in
     record {
       reached = reached;
       tied = tied;
-      running = λ s is. subst IsRunning (same_state after s new.wire.session (ap (λ (x : Wire). x.session) wire_is) is) (served r m before after content sent running says_this answer).running;
+      running = subst IsRunning (sym (ap (λ (x : Wire). x.session) wire_is)) (served r m before after content sent k.running says_this answer).running;
       asks = subst AsksOf (sym is_new) see.1;
       named = subst (λ (x : ClientAndServer). All (NamesItsAsk x.editor.requested) new.wire.to_editor) (sym is_new)
           (subst (λ (x : Wire). All (NamesItsAsk r) x.to_editor) (sym wire_is) (All-append (NamesItsAsk r) old.wire.to_editor sent k.named names));
@@ -340,7 +338,7 @@ step_known old (does act) new k step =
     record {
       reached = reached_more old.model (does act) new.model k.reached step.happens;
       tied = step.tied;
-      running = λ s is. k.running s (sym (ap (λ (x : Wire). x.session) step.moves.1) ∙ is);
+      running = subst IsRunning (sym (ap (λ (x : Wire). x.session) step.moves.1)) k.running;
       asks = subst AsksOf (sym step.happens) keeps.0;
       named = subst (λ (x : ClientAndServer). All (NamesItsAsk x.editor.requested) new.wire.to_editor) (sym step.happens)
           (subst (λ (x : Wire). All (NamesItsAsk (done_by old.model.editor act).editor.requested) x.to_editor) (sym step.moves.1) keeps.1);
@@ -352,7 +350,7 @@ step_known old take_message new k step =
     record {
       reached = reached_more old.model take_message new.model k.reached step.happens;
       tied = step.tied;
-      running = λ s is. k.running s (sym (gets_session old.wire.to_editor old.wire new.wire step.moves) ∙ is);
+      running = subst IsRunning (sym (gets_session old.wire.to_editor old.wire new.wire step.moves)) k.running;
       asks = subst AsksOf (sym step.happens) keeps.0;
       named = subst (λ (x : ClientAndServer). All (NamesItsAsk x.editor.requested) new.wire.to_editor) (sym step.happens) keeps.1;
     }
@@ -371,20 +369,14 @@ begin_known unit begin b = subst Known (λ i. record { model = sym b.model i; wi
     this : Connection
     this = record {
       model = start unit;
-      wire = record { session = serving (begins (client_for unit)); taken = b.content ∷ []; to_server = []; got = b.replies; to_editor = [] };
+      wire = record { session = begins (client_for unit); taken = b.content ∷ []; to_server = []; got = b.replies; to_editor = [] };
     }
-
-    held_then : (s : ServerState) → serving (begins (client_for unit)) ≡ serving s → (start unit).held ≡ s.held
-    held_then s is = ap (λ u. (start u).held) (unit_back unit) ∙ ap (λ (x : ServerState). x.held) (same_state (begins (client_for unit)) s (serving s) (sym is) refl)
-
-    runs : (s : ServerState) → serving (begins (client_for unit)) ≡ serving s → IsRunning s
-    runs s is = subst IsRunning (same_state (begins (client_for unit)) s (serving s) (sym is) refl) (refl, refl, refl)
 
     first : Known this
     first = record {
       reached = reached_start unit;
-      tied = record { says = tt; means = refl; documents = held_then };
-      running = runs;
+      tied = record { says = tt; means = refl; documents = ap (λ u. (start u).held) (unit_back unit) };
+      running = (refl, refl, refl);
       asks = tt;
       named = All-nil (NamesItsAsk []);
     }

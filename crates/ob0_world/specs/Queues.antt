@@ -7,14 +7,12 @@
 -- editor's `initialize` says. So a WorkspaceEdit is always written as `documentChanges`, and the editor reads that form
 -- alone.
 -- Rule: none; for contracts: contents that wait, and what they say.
-use Rattle.std.specs.Prelude.{◌≡◌, ◌≤◌, ⊤, ℕ, ℤ, List, [], ◌∷◌, ◌++◌, map, length, All, Bool, true, Option, Some, None, Vec, option_and_then, filter_map}
+use Rattle.std.specs.Prelude.{◌≡◌, ◌≤◌, ◌⊎◌, ℕ, ℤ, List, [], ◌∷◌, ◌++◌, map, length, All, Bool, true, Option, Some, None, Vec, option_and_then, filter_map}
 use Rattle.std.specs.declared.alloc.Global.{Global}
-use Rattle.ob0_text.specs.OpenDocuments.{OpenDocuments, Document, InStep, OutOfStep, document_at, none_open}
+use Rattle.ob0_text.specs.OpenDocuments.{OpenDocuments, Document, InStep, OutOfStep, document_at}
 use Rattle.ob0_text.specs.declared.position_types.Unit.{Unit}
-use Rattle.ob0_text.specs.declared.position_types.Unit.TheVariants.{Utf16}
-use Rattle.ob0_session_server.specs.Answers.{ServerState, Answers}
-use Rattle.ob0_session_server.specs.SessionStates.{SessionState, serving, failed}
-use Rattle.ob0_session_server.specs.declared.server.Phase.TheVariants.{Running}
+use Rattle.ob0_session_server.specs.Answers.{ServerState}
+use Rattle.ob0_session_server.specs.declared.session.Phase.TheVariants.{Running, Failed}
 use Rattle.ob0_world_editor.specs.Heard.{heard, SaysToServer}
 use Rattle.ob0_world_editor.specs.Understood.{understood}
 use Rattle.ob0_world_editor.specs.Code.{applied_of}
@@ -59,23 +57,8 @@ IsRunning s =
     × (s.client.takes_literal_actions ≡ true)
 
 -- the session runs with this editor, or has failed
-abbrev pub IsRunningOrFailed : SessionState → Type 0
-IsRunningOrFailed (serving s) = IsRunning s
-IsRunningOrFailed failed = ⊤
-
--- its documents, of which nothing is said once an allocation has failed
-abbrev pub held_by : SessionState → OpenDocuments
-held_by (serving s) = s.held
-held_by failed = none_open Utf16
-
--- the session replies to a content with these
-pub record IsAnswered (old : SessionState) (content : List ℕ) (sent : List (List ℕ))
-    (new : SessionState) : Type 0 where
-  pub before : ServerState
-  pub after : ServerState
-  pub served : old ≡ serving before
-  pub serves : new ≡ serving after
-  pub answers : Answers before content sent after
+abbrev pub IsRunningOrFailed : ServerState → Type 0
+IsRunningOrFailed s = IsRunning s ⊎ (s.phase ≡ Failed)
 
 -- ---- publications
 
@@ -101,7 +84,7 @@ made_first held (m ∷ ms) = made_for held m
 
 -- what waits says something, and the session serves unless an allocation has failed
 pub record Sound (requested : List SentAsk) (to_server to_editor : Contents)
-    (session : SessionState) : Type 0 where
+    (session : ServerState) : Type 0 where
   pub heard_all : All (IsHeard requested) to_server
   pub understood_all : All (IsUnderstood requested) to_editor
   pub running : IsRunningOrFailed session
@@ -109,7 +92,7 @@ pub record Sound (requested : List SentAsk) (to_server to_editor : Contents)
 -- client and server, from what the code stores of them
 abbrev pub model_from : Editor
     → Contents
-    → SessionState
+    → ServerState
     → Contents
     → List applied.Applied
     → List made.Made
@@ -118,14 +101,14 @@ model_from e to_server session to_editor applied made =
     record {
       editor = e;
       to_server = all_heard e.requested to_server;
-      held = held_by session;
+      held = session.held;
       to_editor = all_understood e.requested to_editor;
       applied = map applied_of applied;
       made = map publication_of made;
     }
 
 -- the session, and the contents that the code keeps
-abbrev pub wire_from : SessionState → Contents → Contents → Contents → Contents → Wire
+abbrev pub wire_from : ServerState → Contents → Contents → Contents → Contents → Wire
 wire_from session taken to_server got to_editor =
     record {
       session = session;
@@ -138,7 +121,7 @@ wire_from session taken to_server got to_editor =
 -- client and server from what the code keeps
 abbrev pub connection_from : Editor
     → Contents
-    → SessionState
+    → ServerState
     → Contents
     → List applied.Applied
     → List made.Made

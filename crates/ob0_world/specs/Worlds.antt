@@ -6,7 +6,6 @@ use Rattle.ob0_text.specs.declared.position_types.Unit.{Unit}
 use Rattle.ob0_rpc.specs.Messages.{ReadsContent}
 use Rattle.ob0_session_server.specs.Answers as server
 use Rattle.ob0_session_server.specs.Answers.{ServerState, begins, Answers, Conversation}
-use Rattle.ob0_session_server.specs.SessionStates.{SessionState, serving}
 use Rattle.ob0_world_editor.specs.Beginning.{client_for, initialize_message}
 use Rattle.ob0_world_editor.specs.Heard.{SaysToServer}
 use Rattle.ob0_world_editor.specs.Understood.{understood}
@@ -25,7 +24,7 @@ use Rattle.ob0_world.specs.declared.played.Played as played
 
 -- The session that is the server, and the contents of all messages between it and the editor.
 pub record Wire : Type 0 where
-  pub session : SessionState
+  pub session : ServerState
   -- what the editor has written: what the session has taken of it, and what waits for the session
   pub taken : List (List ℕ)
   pub to_server : List (List ℕ)
@@ -47,7 +46,7 @@ pub record Begins (unit : Unit) (w : Connection) : Type 0 where
   pub model : w.model ≡ start unit
   pub wire : w.wire
       ≡ record {
-        session = serving (begins (client_for unit));
+        session = begins (client_for unit);
         taken = content ∷ [];
         to_server = [];
         got = replies;
@@ -59,11 +58,10 @@ pub record Begins (unit : Unit) (w : Connection) : Type 0 where
 abbrev pub TakesFirst : List (List ℕ) → Wire → Wire → Type 0
 TakesFirst [] old new = new ≡ old
 TakesFirst (content ∷ rest) old new =
-    (before after : ServerState) × (sent : List (List ℕ))
-    × (old.session ≡ serving before) × Answers before content sent after
+    (after : ServerState) × (sent : List (List ℕ)) × Answers old.session content sent after
     × (new
     ≡ record old {
-      session = serving after;
+      session = after;
       taken = old.taken ++ content ∷ [];
       to_server = rest;
       to_editor = old.to_editor ++ sent;
@@ -102,7 +100,7 @@ pub record IsTied (w : Connection) : Type 0 where
   pub says : AllSay w.model.editor.requested w.model.to_server w.wire.to_server
   pub means : map (understood w.model.editor.requested) w.wire.to_editor
       ≡ map Some w.model.to_editor
-  pub documents : (s : ServerState) → w.wire.session ≡ serving s → w.model.held ≡ s.held
+  pub documents : w.model.held ≡ w.wire.session.held
 
 -- One event: what the model says of it happens, and the session and the contents do the same.
 pub record ConnectionStep (old : Connection) (event : Event) (new : Connection) : Type 0 where

@@ -3,7 +3,8 @@ ghost use Rattle.std.specs.Prelude.{◌≡◌, ◌<◌, IfOk, OnErr, OnOk, map, 
 ghost use Rattle.std.specs.Str.{chars};
 ghost use Rattle.std.specs.Vec.{vec_capacity, vec_len};
 ghost use Rattle.ob0_text.specs.OpenDocuments.{change_in_text, document_at};
-ghost use Rattle.ob0_session_server.specs.SessionStates.{failed};
+ghost use Rattle.ob0_session_server.specs.Answers.{Answers};
+ghost use Rattle.ob0_session_server.specs.declared.session.Phase.TheVariants.{Failed};
 ghost use Rattle.ob0_world_editor.specs.Code.{ask_of};
 ghost use Rattle.ob0_world_editor.specs.Moves.{AreFew};
 ghost use Rattle.ob0_world_editor.specs.Understood.{understood};
@@ -13,7 +14,7 @@ ghost use Rattle.ob0_world_rules.specs.Happens as events;
 ghost use Rattle.ob0_world_rules.specs.Happens.{does, take_message};
 ghost use Rattle.ob0_world.specs.Code.{event_of, publication_of};
 ghost use Rattle.ob0_world.specs.Seen.{seen_of, Shows};
-ghost use Rattle.ob0_world.specs.Queues.{bytes, IsAnswered, IsSent, MovesFirst, made_for, made_of_document, made_sent};
+ghost use Rattle.ob0_world.specs.Queues.{bytes, IsSent, MovesFirst, made_for, made_of_document, made_sent};
 ghost use Rattle.ob0_world.specs.Worlds.{Begins, GetsFirst, HasCome, HasPassed, IsTied, MovesWire, SameHistory, TakesFirst, WritesContent};
 
 use crate::events::{Event, Seen};
@@ -289,8 +290,8 @@ fn answer<T: TextStore>(
     content: &[u8],
 ) -> Result<Vec<Vec<u8>>, AllocError>
     ensures ok { IfOk result
-        (λ sent. IsAnswered session.old content.now (bytes sent.items) session.new) }
-    ensures err { OnErr result (session.new ≡ failed) }
+        (λ sent. Answers session.old content.now (bytes sent.items) session.new) }
+    ensures err { OnErr result (session.new.phase ≡ Failed) }
 {
     match session.step(content) {
         Ok(step) => Ok(step.send),

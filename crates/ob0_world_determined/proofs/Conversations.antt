@@ -3,8 +3,8 @@ use Rattle.std.proofs.Common.{◌≡◌, ◌∙◌, ℕ, Option, Some, None, Lis
 use Rattle.serde_json.specs.Data.{Data}
 use Rattle.ob0_rpc.specs.Messages.{ReadsContent, meaning}
 use Rattle.ob0_session_server.specs.Answers.{ServerState, SaysReply, react, AnswersInState, AnswersGoingOn, Conversation}
-use Rattle.ob0_session_server.specs.declared.server.Phase.{Phase}
-use Rattle.ob0_session_server.specs.declared.server.Phase.TheVariants.{Starting, Running, ShutDown, Ended}
+use Rattle.ob0_session_server.specs.declared.session.Phase.{Phase}
+use Rattle.ob0_session_server.specs.declared.session.Phase.TheVariants.{Starting, Running, ShutDown, Ended, Failed}
 use Rattle.ob0_world_determined.specs.Determined.{OneAnswer, OneConversation, OneReply}
 
 abbrev pub Contents : Type 0
@@ -27,6 +27,7 @@ module _ (says : OneReply) where
 
   in_phase_one : (phase : Phase) (before : ServerState) (content : List ℕ) (sent more : Contents) (after other : ServerState) → AnswersInState phase before content sent after → AnswersInState phase before content more other → (sent ≡ more) × (after ≡ other)
   in_phase_one (Ended status) before content sent more after other h k = (h.0 ∙ sym k.0, h.1 ∙ sym k.1)
+  in_phase_one Failed before content sent more after other h k = absurd h
   in_phase_one Starting before content sent more after other h k = going_on_one before content sent more after other h k
   in_phase_one Running before content sent more after other h k = going_on_one before content sent more after other h k
   in_phase_one ShutDown before content sent more after other h k = going_on_one before content sent more after other h k

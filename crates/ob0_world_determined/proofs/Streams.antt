@@ -10,7 +10,7 @@ use Rattle.ob0_frame.proofs.InTurn.{fed_in_turn}
 use Rattle.ob0_session_server.specs.Answers.{ServerState, start, Answers, AnswersInState, Conversation}
 use Rattle.ob0_session.specs.Serving.{Served, AllServed, EndsWith}
 use Rattle.ob0_session_server.specs.Steps.{IsGoingOn}
-use Rattle.ob0_session_server.specs.declared.server.Phase.TheVariants.{Ended}
+use Rattle.ob0_session_server.specs.declared.session.Phase.TheVariants.{Ended}
 use Rattle.ob0_session.specs.declared.serving.ServeFault.{ServeFault}
 use Rattle.ob0_session.specs.declared.serving.ServeFault.TheVariants.{BadHead, Truncated, Read, Write, Memory, TooManyReads}
 use Rattle.ob0_world_determined.specs.Determined.{ConversationIsServed, IsDecided, IsOfBytes, IsWritten, MayServe, OneConversation, OneResult}

@@ -5,15 +5,9 @@ ghost use Rattle.ob0_types_table.specs.declared.known.Object.TheVariants as kind
 ghost use Rattle.ob0_types_check.specs.SupposedFacts.{table_object, with_standards};
 
 use crate::reporting::supposed::Meaning;
+use ob0_scope_table::{READ, WRITE, WRITE_LN};
 use ob0_types_table::{Object, Standard};
 use std::alloc::{AllocError, Global};
-
-/// The ordinals of the standard procedures.
-const READ: usize = 4;
-
-const WRITE: usize = 5;
-
-const WRITE_LN: usize = 6;
 
 /// What each declaration is.
 pub(crate) fn objects_of(

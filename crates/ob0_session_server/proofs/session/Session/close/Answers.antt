@@ -1,7 +1,7 @@
 use Rattle.std.proofs.Common.{◌≡◌, [], ap, refl, sym, ◌∙◌, true}
 use Rattle.std.specs.Prelude.{is_some}
 use Rattle.ob0_text.specs.OpenDocuments.{document_at}
-use Rattle.ob0_session_server.proofs.server.Server.close.Goals as goal
+use Rattle.ob0_session_server.proofs.session.Session.close.Goals as goal
 
 pub returns : goal.returns
 returns g c =

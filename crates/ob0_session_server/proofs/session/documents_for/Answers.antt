@@ -3,7 +3,7 @@ use Rattle.std.specs.Cmp.Lexicographic.{slice_cmp}
 use Rattle.std.specs.Ordering.{nat_cmp}
 use Rattle.std.specs.FinMap.{get-empty}
 use Rattle.ob0_text.specs.OpenDocuments.{OpenDocuments, HasNoDocument}
-use Rattle.ob0_session_server.proofs.server.documents_for.Goals as goal
+use Rattle.ob0_session_server.proofs.session.documents_for.Goals as goal
 
 pub set_unit-requires : goal.set_unit-requires
 set_unit-requires g c =

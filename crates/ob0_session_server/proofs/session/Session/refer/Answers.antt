@@ -4,7 +4,7 @@ use Rattle.ob0_rpc.specs.Seen.{at_seen, id_data}
 use Rattle.ob0_session_answers.specs.Questions.{RepliesAboutName, references_asked}
 use Rattle.ob0_session_server.specs.Answers.{answers_name}
 use Rattle.ob0_session_server.proofs.Answering.{reacts_about}
-use Rattle.ob0_session_server.proofs.server.Server.refer.Goals as goal
+use Rattle.ob0_session_server.proofs.session.Session.refer.Goals as goal
 
 pub returns : goal.returns
 returns g c =

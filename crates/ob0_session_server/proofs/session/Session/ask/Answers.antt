@@ -4,7 +4,7 @@ use Rattle.ob0_rpc.specs.Seen.{id_data}
 use Rattle.ob0_text.specs.OpenDocuments.{OpenDocuments}
 use Rattle.ob0_session_server.specs.Answers.{ServerState}
 use Rattle.ob0_session_server.proofs.Answering.{replies_about}
-use Rattle.ob0_session_server.proofs.server.Server.ask.Goals as goal
+use Rattle.ob0_session_server.proofs.session.Session.ask.Goals as goal
 
 pub returns : goal.returns
 returns g c =

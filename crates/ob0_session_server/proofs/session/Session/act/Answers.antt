@@ -4,7 +4,7 @@ use Rattle.ob0_rpc.specs.Seen.{id_data, kinds_seen}
 use Rattle.ob0_session_answers.specs.Actions.{RepliesToActions}
 use Rattle.ob0_session_server.specs.Answers.{offers_actions}
 use Rattle.ob0_session_server.proofs.Answering.{reacts_about}
-use Rattle.ob0_session_server.proofs.server.Server.act.Goals as goal
+use Rattle.ob0_session_server.proofs.session.Session.act.Goals as goal
 
 pub returns : goal.returns
 returns g c =

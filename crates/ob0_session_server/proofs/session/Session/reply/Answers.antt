@@ -1,9 +1,8 @@
 use Rattle.std.proofs.Common.{Some, None, refl}
 use Rattle.std.proofs.lemmas.Result.{IfOk-weaker}
-use Rattle.ob0_rpc.specs.Messages.{not_a_message}
 use Rattle.ob0_rpc.specs.Seen.{seen}
-use Rattle.ob0_session_server.proofs.Answering.{answered}
-use Rattle.ob0_session_server.proofs.server.Server.reply.Goals as goal
+use Rattle.ob0_session_server.proofs.Answering.{answered, refused}
+use Rattle.ob0_session_server.proofs.session.Session.reply.Goals as goal
 
 pub returns-in-Ok-Request : goal.returns-in-Ok-Request
 returns-in-Ok-Request g c =
@@ -22,8 +21,7 @@ returns-in-Ok-Ignored g c =
     let read = c.in-Ok-Ignored.ensures in
     answered c.args.self.now c.args.content.now (Some read.0) (seen c.in-Ok-Ignored.field-0) None c.args.self.now read.1 read.2 (rw c.in-Ok-Ignored.field-0-is (refl, refl))
 
-pub returns-in-Err-NotAMessage : goal.returns-in-Err-NotAMessage
-returns-in-Err-NotAMessage g c =
-    let read = rw c.in-Err-NotAMessage.field-0-is at c.in-Err-NotAMessage.ensures in
-    IfOk-weaker c.refuse_fault-in-Err-NotAMessage.result _ _ (λ sent h.
-    answered c.args.self.now c.args.content.now (Some read.0) not_a_message sent c.args.self.now read.1 read.2 h) c.refuse_fault-in-Err-NotAMessage.ensures
+pub returns-in-Err : goal.returns-in-Err
+returns-in-Err g c =
+    IfOk-weaker c.refuse_fault.result _ _ (λ sent h.
+    refused c.args.self.now c.args.content.now c.in-Err.fault sent c.in-Err.ensures h.0 h.1) c.refuse_fault.ensures

@@ -4,7 +4,7 @@ use Rattle.ob0_rpc.specs.Seen.{at_seen, id_data}
 use Rattle.ob0_session_answers.specs.Renamed.{RepliesToRename}
 use Rattle.ob0_session_server.specs.Answers.{renames}
 use Rattle.ob0_session_server.proofs.Answering.{reacts_about}
-use Rattle.ob0_session_server.proofs.server.Server.rename.Goals as goal
+use Rattle.ob0_session_server.proofs.session.Session.rename.Goals as goal
 
 pub returns : goal.returns
 returns g c =

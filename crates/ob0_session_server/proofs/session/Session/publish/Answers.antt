@@ -3,7 +3,7 @@ use Rattle.ob0_text.specs.OpenDocuments.{OpenDocuments, document_at}
 use Rattle.ob0_session_server.specs.Answers.{ServerState, published}
 use Rattle.ob0_session_server.specs.Seen.{SendsReply}
 use Rattle.ob0_session_server.proofs.Answering.{published_with}
-use Rattle.ob0_session_server.proofs.server.Server.publish.Goals as goal
+use Rattle.ob0_session_server.proofs.session.Session.publish.Goals as goal
 
 pub returns-clause-says : goal.returns-clause-says
 returns-clause-says g c =

@@ -4,9 +4,9 @@ use Rattle.serde_json.specs.View.{view}
 use Rattle.ob0_session_server.specs.Answers.{ServerState, Reaction, react_to_request}
 use Rattle.ob0_rpc.specs.Seen.{id_data}
 use Rattle.ob0_session_server.specs.Seen.{Reacts}
-use Rattle.ob0_session_server.specs.declared.server.Phase.{Phase}
-use Rattle.ob0_session_server.specs.declared.server.Phase.TheVariants.{ShutDown}
-use Rattle.ob0_session_server.proofs.server.Server.reply_to_request.Goals as goal
+use Rattle.ob0_session_server.specs.declared.session.Phase.{Phase}
+use Rattle.ob0_session_server.specs.declared.session.Phase.TheVariants.{ShutDown}
+use Rattle.ob0_session_server.proofs.session.Session.reply_to_request.Goals as goal
 
 pub returns-in-ShutDown : goal.returns-in-ShutDown
 returns-in-ShutDown g c =

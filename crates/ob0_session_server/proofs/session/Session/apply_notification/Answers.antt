@@ -2,7 +2,7 @@ use Rattle.std.proofs.Common.{rules}
 use Rattle.std.proofs.Math.Facts.{to_z-of_z}
 use Rattle.std.proofs.lemmas.Result.{IfOk-weaker}
 use Rattle.std.specs.Int.{w64}
-use Rattle.ob0_session_server.proofs.server.Server.apply_notification.Goals as goal
+use Rattle.ob0_session_server.proofs.session.Session.apply_notification.Goals as goal
 
 pub returns-in-Change : goal.returns-in-Change
 returns-in-Change g c =

@@ -5,7 +5,7 @@ use Rattle.std.specs.Option.{option_to_list}
 use Rattle.ob0_text.specs.OpenDocuments.{changed, document_at, change_in_text}
 use Rattle.ob0_session_server.specs.Answers.{ServerState, SaysReply, published}
 use Rattle.ob0_session_server.proofs.Answering.{publishes}
-use Rattle.ob0_session_server.proofs.server.Server.change.Goals as goal
+use Rattle.ob0_session_server.proofs.session.Session.change.Goals as goal
 
 pub returns : goal.returns
 returns g c =

@@ -5,7 +5,7 @@ use Rattle.ob0_session_answers.specs.Questions.{RepliesAboutName, definition_ask
 use Rattle.ob0_session_answers.specs.Formatted.{RepliesToFormatting}
 use Rattle.ob0_session_server.specs.Answers.{answers_name, lays_out}
 use Rattle.ob0_session_server.proofs.Answering.{reacts_about}
-use Rattle.ob0_session_server.proofs.server.Server.reply_to_call.Goals as goal
+use Rattle.ob0_session_server.proofs.session.Session.reply_to_call.Goals as goal
 
 pub returns-in-Hover : goal.returns-in-Hover
 returns-in-Hover g c =
