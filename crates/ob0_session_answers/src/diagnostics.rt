@@ -53,20 +53,20 @@ pub fn diagnostics<T: TextStore>(
         × DiagnosticsAre ds list.items) }
 {
     let reported = analysis.diagnoses(alloc)?;
-    all_diagnostics(alloc, store, reported.as_slice())
+    all_diagnostics(alloc, store, reported)
 }
 
 /// The diagnostics at their positions, which are found in one pass over the text.
 fn all_diagnostics<T: TextStore>(
     alloc: Global,
     store: &T,
-    reported: &[Diagnosis],
+    reported: Vec<Diagnosis>,
 ) -> Result<Vec<Diagnostic>, AllocError>
     ensures { IfOk result (λ list. DiagnosticsAre (map
         (λ d. diagnostic_of (T.unit_of store.now) (T.content store.now) (complaint_in d))
-        reported.now) list.items) }
+        reported.items) list.items) }
 {
-    let offsets = offsets_of(alloc, reported)?;
+    let offsets = offsets_of(alloc, reported.as_slice())?;
     let positions = store.positions(alloc, offsets.as_slice())?;
     list_diagnostics(
         alloc,
@@ -94,19 +94,19 @@ fn list_diagnostics<T: TextStore>(
     store: &T,
     offsets: &[usize],
     positions: &[Position],
-    reported: &[Diagnosis],
+    reported: Vec<Diagnosis>,
 ) -> Result<Vec<Diagnostic>, AllocError>
     requires { positions.now
         ≡ map (position_of (width_of (T.unit_of store.now)) (T.content store.now)) offsets.now }
     ensures { IfOk result (λ list. DiagnosticsAre (map
         (λ d. diagnostic_of (T.unit_of store.now) (T.content store.now) (complaint_in d))
-        reported.now) list.items) }
+        reported.items) list.items) }
 {
     let mut list = Vec::new(alloc);
     for diagnosis in reported {
         let start = position_at(store, offsets, positions, diagnosis.span.start as usize);
         let end = position_at(store, offsets, positions, diagnosis.span.end as usize);
-        list.push(diagnostic(alloc, diagnosis, start, end)?)?;
+        list.push(diagnostic(diagnosis, start, end))?;
     }
     Ok(list)
 }
@@ -128,22 +128,23 @@ fn position_at<T: TextStore>(
     }
 }
 
-fn diagnostic(
-    alloc: Global,
-    diagnosis: &Diagnosis,
-    start: Position,
-    end: Position,
-) -> Result<Diagnostic, AllocError>
-    ensures { IfOk result (λ d. diagnostic_in d ≡ record {
-      code = (complaint_in diagnosis.now).code;
-      said = (complaint_in diagnosis.now).said;
+/// The diagnostic of what is reported, whose message it takes over.
+fn diagnostic(diagnosis: Diagnosis, start: Position, end: Position) -> Diagnostic
+    ensures { diagnostic_in result ≡ record {
+      code = (complaint_in diagnosis).code;
+      said = (complaint_in diagnosis).said;
       start = start;
       end = end;
-    }) }
+    } }
 {
-    Ok(Diagnostic {
-        code: diagnosis.code,
-        message: String::from_str(alloc, diagnosis.message.as_str())?,
+    let Diagnosis {
+        code,
+        message,
+        span: _,
+    } = diagnosis;
+    Diagnostic {
+        code,
+        message,
         range: Range { start, end },
-    })
+    }
 }

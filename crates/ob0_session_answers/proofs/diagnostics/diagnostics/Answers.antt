@@ -11,5 +11,5 @@ returns g c =
     IfOk-weaker c.all_diagnostics.result _ _ (λ list h. (
       _,
       diagnosed (g.T.TextStore.unit_of c.args.store.now) c.args.analysis.now text (map complaint_in c.in_ok-reported.reported.items) c.in_ok-reported.ensures.utf8 (sym c.requires) c.in_ok-reported.ensures.reported,
-      diagnostics_of_all _ _ _ (rw c.as_slice.ensures.value at h),
+      diagnostics_of_all _ _ _ h,
     )) c.all_diagnostics.ensures

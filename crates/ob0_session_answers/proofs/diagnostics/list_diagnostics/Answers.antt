@@ -1,4 +1,4 @@
-use Rattle.std.proofs.Common.{◌∙◌, ap, arith}
+use Rattle.std.proofs.Common.{◌∙◌}
 use Rattle.ob0_analysis.specs.Diagnosed.{complaint_in}
 use Rattle.ob0_session_answers.specs.Diagnostics.{diagnostic_of}
 use Rattle.ob0_analysis.specs.declared.diagnoses.Diagnosis.{Diagnosis}
@@ -10,7 +10,7 @@ loop-diagnosis-preserved g c =
     let unit = g.T.TextStore.unit_of c.args.store.now in
     let text = g.T.TextStore.content c.args.store.now in
     let shown = λ (d : Diagnosis). diagnostic_of unit text (complaint_in d) in
-    let this = complaint_in c.diagnosis-item.result in
+    let this = complaint_in c.in-Some.diagnosis in
     rw c.in_ok-push.ensures.items
-    (diagnostics_next shown c.args.reported.now c.loop-diagnosis.diagnosis-index c.diagnosis-item.result c.loop-diagnosis.list.items c.in_ok-diagnostic.field-0 (omega arith) c.loop-diagnosis.invariant
-    (c.in_ok-diagnostic.ensures ∙ ((λ i. record { code = this.code; said = this.said; start = c.position_at-start.ensures i; end = c.position_at-end.ensures i }) ∙ ap shown c.diagnosis-item.is)))
+    (diagnostics_next shown c.loop-diagnosis.yielded c.in-Some.diagnosis c.loop-diagnosis.list.items c.diagnostic.result c.loop-diagnosis.invariant
+    (c.diagnostic.ensures ∙ (λ i. record { code = this.code; said = this.said; start = c.position_at-start.ensures i; end = c.position_at-end.ensures i })))
