@@ -12,4 +12,4 @@ pub use fault_tokens::{FaultAt, faults_at_tokens, tokens_of_faults};
 pub use one_body::is_in_body;
 pub use ordinal_entry::OrdinalEntry;
 pub use resolved::{Bindings, PREDECLARED, Resolved};
-pub use table::{ordinal_at, token_span};
+pub use table::{is_written, ordinal_at, token_span};
