@@ -14,6 +14,7 @@ use Rattle.ob0_types.specs.MeantAtPlaces.{meant_by}
 use Rattle.ob0_types.specs.declared.meant.Identified.{Identified}
 use Rattle.ob0_language_types.proofs.Literals.{some_inverse}
 use Rattle.ob0_types_fields.specs.FieldTypes.{TypedField, typed_field}
+use Rattle.ob0_types_fields.specs.declared.field_name.FieldName.{FieldName}
 use Rattle.ob0_types_fields.specs.Identifiers.{declaring_field, field_at, field_identifiers, field_on, field_tokens, is_field, tokens_among}
 use Rattle.ob0_types_fields.proofs.FieldsDeclared.{fields_declared-holds}
 use Rattle.ob0_types_fields.proofs.TypedFields.{fields_typed-holds}
@@ -41,56 +42,56 @@ no_field false ordinal = refl
 record OnField (r : Resolution) (offset : ℕ) (span : Span) (k : ℕ) : Type 0 where
   pub token : ℕ
   pub no_name : name_on r.module_read offset ≡ None
-  pub field : field_at r offset ≡ Some (token, k)
+  pub field : field_at r offset ≡ Some record { token = token; owner = k }
   pub place : span_at r.module_read.source token ≡ span
 
 on_field : (r : Resolution) (offset k index : ℕ) (span : Span) → IsOnField r offset span k index → OnField r offset span k
 on_field r offset k index span h = go (name_on r.module_read offset) refl (field_at r offset) refl h
   where
-    go : (n : Option named.Named) → name_on r.module_read offset ≡ n → (f : Option (ℕ × ℕ)) → field_at r offset ≡ f → option_map (λ (x : Identified). at_meant r.module_read x.token x.means) (meant_by n f) ≡ Some (record { span = span; of = answer_of.Field k index }) → OnField r offset span k
+    go : (n : Option named.Named) → name_on r.module_read offset ≡ n → (f : Option FieldName) → field_at r offset ≡ f → option_map (λ (x : Identified). at_meant r.module_read x.token x.means) (meant_by n f) ≡ Some (record { span = span; of = answer_of.Field k index }) → OnField r offset span k
     go (Some n) e f g same = absurd (true≢false (sym (ap (λ (a : answer.At). answers_field a.of) (some_inverse same)) ∙ no_field (nat_lt n.ordinal 7) n.ordinal))
     go None e None g same = absurd (cc)
-    go None e (Some (token, owner)) g same =
-        let here : at_field r.module_read (token, owner) ≡ record { span = span; of = answer_of.Field k index } = some_inverse same in
+    go None e (Some x) g same =
+        let here : at_field r.module_read x ≡ record { span = span; of = answer_of.Field k index } = some_inverse same in
         record {
-          token = token;
+          token = x.token;
           no_name = e;
-          field = g ∙ ap (λ o. Some (token, o)) (ap (λ (a : answer.At). owner_answered a.of) here);
+          field = g ∙ ap (λ o. Some (record { token = x.token; owner = o })) (ap (λ (a : answer.At). owner_answered a.of) here);
           place = ap (λ (a : answer.At). a.span) here;
         }
 
 -- ---- definition
 
-module _ (source : Scanned) (offset : ℕ) (x : ℕ × ℕ) where
-  found_holds : (P : ℕ × ℕ → Type 0) (xs : List (ℕ × ℕ)) → All P xs → field_on source offset xs ≡ Some x → P x
+module _ (source : Scanned) (offset : ℕ) (x : FieldName) where
+  found_holds : (P : FieldName → Type 0) (xs : List FieldName) → All P xs → field_on source offset xs ≡ Some x → P x
   found_holds P [] all h = absurd (cc)
-  found_holds P (y ∷ ys) all h = one (is_on offset (span_at source y.0)) h (found_holds P ys (All-tail P y ys all))
+  found_holds P (y ∷ ys) all h = one (is_on offset (span_at source y.token)) h (found_holds P ys (All-tail P y ys all))
     where
       one : (b : Bool) → (if b then Some y else field_on source offset ys) ≡ Some x → (field_on source offset ys ≡ Some x → P x) → P x
       one true e later = subst P (some_inverse e) (All-head P y ys all)
       one false e later = later e
 
   -- it is among the field's tokens
-  found_named : (xs : List (ℕ × ℕ)) → field_on source offset xs ≡ Some x → Contains (map (span_at source) (tokens_among source x.1 (text_at source x.0) xs)) (span_at source x.0)
+  found_named : (xs : List FieldName) → field_on source offset xs ≡ Some x → Contains (map (span_at source) (tokens_among source x.owner (text_at source x.token) xs)) (span_at source x.token)
   found_named [] h = absurd (cc)
-  found_named (y ∷ ys) h = one (is_on offset (span_at source y.0)) h (found_named ys)
+  found_named (y ∷ ys) h = one (is_on offset (span_at source y.token)) h (found_named ys)
     where
-      following : (b : Bool) → Contains (map (span_at source) (tokens_among source x.1 (text_at source x.0) ys)) (span_at source x.0)
-          → Contains (map (span_at source) (if b then y.0 ∷ tokens_among source x.1 (text_at source x.0) ys else tokens_among source x.1 (text_at source x.0) ys)) (span_at source x.0)
+      following : (b : Bool) → Contains (map (span_at source) (tokens_among source x.owner (text_at source x.token) ys)) (span_at source x.token)
+          → Contains (map (span_at source) (if b then y.token ∷ tokens_among source x.owner (text_at source x.token) ys else tokens_among source x.owner (text_at source x.token) ys)) (span_at source x.token)
       following true (i, less, is) = (suc i, omega (arith, less), is)
       following false at = at
 
-      here : y ≡ x → is_field source x.1 (text_at source x.0) y ≡ true
-      here same = λ i. eq-eqb y.1 x.1 (ap (λ (z : ℕ × ℕ). z.1) same) i && (bytes_eq-Decides (text_at source y.0) (text_at source x.0)).1 (ap (λ (z : ℕ × ℕ). text_at source z.0) same) i
+      here : y ≡ x → is_field source x.owner (text_at source x.token) y ≡ true
+      here same = λ i. eq-eqb y.owner x.owner (ap (λ (z : FieldName). z.owner) same) i && (bytes_eq-Decides (text_at source y.token) (text_at source x.token)).1 (ap (λ (z : FieldName). text_at source z.token) same) i
 
       one : (b : Bool) → (if b then Some y else field_on source offset ys) ≡ Some x
-          → (field_on source offset ys ≡ Some x → Contains (map (span_at source) (tokens_among source x.1 (text_at source x.0) ys)) (span_at source x.0))
-          → Contains (map (span_at source) (if is_field source x.1 (text_at source x.0) y then y.0 ∷ tokens_among source x.1 (text_at source x.0) ys else tokens_among source x.1 (text_at source x.0) ys)) (span_at source x.0)
+          → (field_on source offset ys ≡ Some x → Contains (map (span_at source) (tokens_among source x.owner (text_at source x.token) ys)) (span_at source x.token))
+          → Contains (map (span_at source) (if is_field source x.owner (text_at source x.token) y then y.token ∷ tokens_among source x.owner (text_at source x.token) ys else tokens_among source x.owner (text_at source x.token) ys)) (span_at source x.token)
       one true e later =
           let same : y ≡ x = some_inverse e in
-          subst (λ b. Contains (map (span_at source) (if b then y.0 ∷ tokens_among source x.1 (text_at source x.0) ys else tokens_among source x.1 (text_at source x.0) ys)) (span_at source x.0)) (sym (here same))
-          (0, omega arith, ap (λ (z : ℕ × ℕ). span_at source z.0) same)
-      one false e later = following (is_field source x.1 (text_at source x.0) y) (later e)
+          subst (λ b. Contains (map (span_at source) (if b then y.token ∷ tokens_among source x.owner (text_at source x.token) ys else tokens_among source x.owner (text_at source x.token) ys)) (span_at source x.token)) (sym (here same))
+          (0, omega arith, ap (λ (z : FieldName). span_at source z.token) same)
+      one false e later = following (is_field source x.owner (text_at source x.token) y) (later e)
 
 some_mapped : {A B : Type 0} (f : A → B) (o : Option A) → is_some (option_map f o) ≡ is_some o
 some_mapped f None = refl
@@ -103,7 +104,7 @@ fields_are_defined-holds r offset k index span well h =
     let name : List ℕ = text_at m.source at.token in
     (λ i. is_some (option_and_then (λ (x : Identified). declared_meant m x.token x.means) (meant_by (at.no_name i) (at.field i))))
     ∙ (some_mapped (span_at m.source) (declaring_field m k name)
-    ∙ found_holds m.source offset (at.token, k) (λ x. is_some (declaring_field m x.1 (text_at m.source x.0)) ≡ true) (field_identifiers r) (fields_declared-holds r well.resolved well.well_typed) at.field)
+    ∙ found_holds m.source offset (record { token = at.token; owner = k }) (λ x. is_some (declaring_field m x.owner (text_at m.source x.token)) ≡ true) (field_identifiers r) (fields_declared-holds r well.resolved well.well_typed) at.field)
 
 -- ---- references
 
@@ -118,7 +119,7 @@ fields_are_renamed_there-holds r offset k index span h =
       field = at.field;
       place = at.place;
       uses = uses;
-      itself = subst (λ spans. Contains spans span) (sym uses) (subst (Contains (map (span_at m.source) (field_tokens r k (text_at m.source at.token)))) at.place (found_named m.source offset (at.token, k) (field_identifiers r) at.field));
+      itself = subst (λ spans. Contains spans span) (sym uses) (subst (Contains (map (span_at m.source) (field_tokens r k (text_at m.source at.token)))) at.place (found_named m.source offset (record { token = at.token; owner = k }) (field_identifiers r) at.field));
     }
 
 -- ---- hover
@@ -127,7 +128,7 @@ pub fields_have_hovers-holds : FieldsHaveHovers
 fields_have_hovers-holds r offset k index span well h =
     let m : Parsed = r.module_read in
     let at = on_field r offset k index span h in
-    let x : ℕ × ℕ = (at.token, k) in
+    let x : FieldName = record { token = at.token; owner = k } in
     let typed : is_some (typed_field r x) ≡ true = found_holds m.source offset x (λ y. is_some (typed_field r y) ≡ true) (field_identifiers r) (fields_typed-holds r well.resolved well.well_typed) at.field in
     (λ i. is_some (option_and_then (λ (y : Identified). meant_hover r y.token y.means) (meant_by (at.no_name i) (at.field i))))
     ∙ (some_mapped (λ (f : TypedField). typed_hover r at.token f.shape) (typed_field r x) ∙ typed)

@@ -29,7 +29,7 @@ FieldsAreDefined =
 pub record IsRenamedThere (r : Resolution) (offset : ℕ) (span : Span) (k : ℕ) : Type 0 where
   pub token : ℕ
   pub no_name : name_on r.module_read offset ≡ None
-  pub field : field_at r offset ≡ Some (token, k)
+  pub field : field_at r offset ≡ Some record { token = token; owner = k }
   pub place : span_at r.module_read.source token ≡ span
   pub uses : references_at r offset true
       ≡ map (span_at r.module_read.source) (field_tokens r k (text_at r.module_read.source token))

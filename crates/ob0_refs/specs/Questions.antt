@@ -8,6 +8,7 @@ use Rattle.ob0_tree.specs.Places.{text_at}
 use Rattle.ob0_language_values.specs.Values.{Shape}
 use Rattle.ob0_scope_table.specs.Resolution.{Resolution, span_at}
 use Rattle.ob0_types_fields.specs.FieldTypes.{typed_field}
+use Rattle.ob0_types_fields.specs.declared.field_name.FieldName.{FieldName}
 use Rattle.ob0_types_fields.specs.Identifiers.{declaring_field, field_place, field_tokens}
 use Rattle.ob0_types.specs.MeantAtPlaces.{meant_at}
 use Rattle.ob0_types.specs.declared.meant.Identified.{Identified}
@@ -20,24 +21,21 @@ use Rattle.ob0_refs.specs.Shown.{HoverText, hover_of}
 use Rattle.ob0_refs.specs.declared.answers.At as answer
 use Rattle.ob0_refs.specs.declared.answers.Of.TheVariants as answer_of
 
--- an identifier of a field: its token, and the ordinal of the field's record
-abbrev pub FieldName : Type 0
-FieldName = ℕ × ℕ
-
 -- ---- what is at a place
 
 -- the field's place in its record, which is found by its name
 abbrev pub index_of : Parsed → FieldName → ℕ
-index_of m x = unwrap_or (field_place m x.1 (text_at m.source x.0)) 0
+index_of m x = unwrap_or (field_place m x.owner (text_at m.source x.token)) 0
 
 -- a field at a place: where it is, its record and its place in that record
 abbrev pub at_field : Parsed → FieldName → answer.At
-at_field m x = record { span = span_at m.source x.0; of = answer_of.Field x.1 (index_of m x) }
+at_field m x =
+    record { span = span_at m.source x.token; of = answer_of.Field x.owner (index_of m x) }
 
 -- where an identifier is, and what it is a name of
 abbrev pub at_meant : Parsed → ℕ → Meant → answer.At
 at_meant m token (Name ordinal) = at_name m (record { token = token; ordinal = ordinal })
-at_meant m token (Field k) = at_field m (token, k)
+at_meant m token (Field k) = at_field m (record { token = token; owner = k })
 
 -- what is at a place
 abbrev pub identified_at : Resolution → ℕ → Option answer.At
@@ -62,12 +60,13 @@ renamable_at r offset =
 
 -- where the identifier is that declares a field
 abbrev pub field_declared : Parsed → FieldName → Option Span
-field_declared m x = option_map (span_at m.source) (declaring_field m x.1 (text_at m.source x.0))
+field_declared m x =
+    option_map (span_at m.source) (declaring_field m x.owner (text_at m.source x.token))
 
 -- where it is declared what an identifier means
 abbrev pub declared_meant : Parsed → ℕ → Meant → Option Span
 declared_meant m token (Name ordinal) = declaring_span m ordinal
-declared_meant m token (Field k) = field_declared m (token, k)
+declared_meant m token (Field k) = field_declared m (record { token = token; owner = k })
 
 -- where it is declared what is at a place
 abbrev pub definition_at : Resolution → ℕ → Option Span
@@ -84,10 +83,10 @@ other_tokens (Some token) tokens = filter (λ other. not (other == token)) token
 
 -- the tokens of a field in text order: with the one that declares it or without
 abbrev pub field_references : Resolution → FieldName → Bool → List ℕ
-field_references r x true = field_tokens r x.1 (text_at r.module_read.source x.0)
+field_references r x true = field_tokens r x.owner (text_at r.module_read.source x.token)
 field_references r x false =
-    other_tokens (declaring_field r.module_read x.1 (text_at r.module_read.source x.0))
-    (field_tokens r x.1 (text_at r.module_read.source x.0))
+    other_tokens (declaring_field r.module_read x.owner (text_at r.module_read.source x.token))
+    (field_tokens r x.owner (text_at r.module_read.source x.token))
 
 -- the identifiers of a field, in text order
 abbrev pub field_named : Resolution → Bool → FieldName → List Span
@@ -96,7 +95,7 @@ field_named r include x = map (span_at r.module_read.source) (field_references r
 -- where it is named what an identifier means
 abbrev pub named_meant : Resolution → Bool → ℕ → Meant → List Span
 named_meant r include token (Name ordinal) = references_to r.module_read ordinal include
-named_meant r include token (Field k) = field_named r include (token, k)
+named_meant r include token (Field k) = field_named r include (record { token = token; owner = k })
 
 -- the same of an identifier that is there, or of none
 abbrev pub named_by : Resolution → Bool → Option Identified → List Span
@@ -123,13 +122,13 @@ typed_hover r token s =
 
 -- the hover of a field: its type, where it is declared and where it is selected
 abbrev pub field_hover : Resolution → FieldName → Option HoverText
-field_hover r x = option_map (λ f. typed_hover r x.0 f.shape) (typed_field r x)
+field_hover r x = option_map (λ f. typed_hover r x.token f.shape) (typed_field r x)
 
 -- the hover of what an identifier means
 abbrev pub meant_hover : Resolution → ℕ → Meant → Option HoverText
 meant_hover r token (Name ordinal) =
     hover_of r.module_read (record { token = token; ordinal = ordinal })
-meant_hover r token (Field k) = field_hover r (token, k)
+meant_hover r token (Field k) = field_hover r (record { token = token; owner = k })
 
 -- the hover text at a place
 abbrev pub hover_at_place : Resolution → ℕ → Option HoverText

@@ -13,7 +13,7 @@ use ob0_scope::Named;
 use ob0_scope_table::{Resolved, token_span};
 use ob0_tree::text_at;
 use ob0_types::{Identified, Meant, WellTyped, meant_at};
-use ob0_types_fields::typed_field;
+use ob0_types_fields::{FieldName, typed_field};
 use ob0_types_table::{DeclarationTable, TypeId};
 use std::alloc::{AllocError, Global};
 
@@ -44,7 +44,7 @@ fn meant_hover(
     let token = found.token;
     match found.means {
         Meant::Name(ordinal) => hover_of(alloc, well_typed, Named { token, ordinal }),
-        Meant::Field(owner) => field_hover(alloc, well_typed, (token, owner)),
+        Meant::Field(owner) => field_hover(alloc, well_typed, FieldName { token, owner }),
     }
 }
 
@@ -64,11 +64,11 @@ fn hover_of(
     }
 }
 
-/// The hover of a field, by an identifier of it: the token, and the ordinal of the record.
+/// The hover of a field, by an identifier of it.
 fn field_hover(
     alloc: Global,
     well_typed: &WellTyped<'_>,
-    field: (usize, usize),
+    field: FieldName,
 ) -> Result<Option<Hover>, AllocError>
     ensures { IfOk result (λ h. option_map hover_in h ≡ field_hover well_typed.now field) }
 {
@@ -76,7 +76,7 @@ fn field_hover(
     let names = well_typed.resolved();
     match typed_field(known, names, field) {
         None => Ok(None),
-        Some(found) => Ok(Some(typed_hover(alloc, known, names, field.0, found.of)?)),
+        Some(found) => Ok(Some(typed_hover(alloc, known, names, field.token, found.of)?)),
     }
 }
 

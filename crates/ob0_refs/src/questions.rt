@@ -18,6 +18,7 @@ use ob0_tree::text_at;
 use ob0_types::{
     Identified, Meant, WellTyped, declaring_field, field_place, field_tokens, meant_at,
 };
+use ob0_types_fields::FieldName;
 use std::alloc::{AllocError, Global};
 
 /// What a place is on, where it lies in an identifier or at its end: a name, or a field, at the identifier that
@@ -38,29 +39,29 @@ fn at_meant(well_typed: &WellTyped<'_>, found: Identified) -> At
     let token = found.token;
     match found.means {
         Meant::Name(ordinal) => at_name(well_typed.resolved(), Named { token, ordinal }),
-        Meant::Field(owner) => at_field(well_typed, (token, owner)),
+        Meant::Field(owner) => at_field(well_typed, FieldName { token, owner }),
     }
 }
 
-fn at_field(well_typed: &WellTyped<'_>, field: (usize, usize)) -> At
+fn at_field(well_typed: &WellTyped<'_>, field: FieldName) -> At
     ensures { result ≡ at_field well_typed.now.module_read field }
 {
     At {
-        span: token_span(well_typed.resolved().tokens(), field.0),
+        span: token_span(well_typed.resolved().tokens(), field.token),
         of: Of::Field {
-            ordinal: field.1,
+            ordinal: field.owner,
             index: index_of(well_typed, field),
         },
     }
 }
 
 /// The place of a field in its record.
-fn index_of(well_typed: &WellTyped<'_>, field: (usize, usize)) -> usize
+fn index_of(well_typed: &WellTyped<'_>, field: FieldName) -> usize
     ensures { result ≡ index_of well_typed.now.module_read field }
 {
     let names = well_typed.resolved();
-    let name = text_at(names.tokens(), field.0);
-    match field_place(well_typed, field.1, name) {
+    let name = text_at(names.tokens(), field.token);
+    match field_place(well_typed, field.owner, name) {
         Some(index) => index,
         None => 0,
     }
@@ -107,18 +108,19 @@ pub fn definition(well_typed: &WellTyped<'_>, offset: usize) -> Option<Span>
 fn declared_meant(well_typed: &WellTyped<'_>, found: Identified) -> Option<Span>
     ensures { result ≡ declared_meant well_typed.now.module_read found.token found.means }
 {
+    let token = found.token;
     match found.means {
         Meant::Name(ordinal) => declared_at(well_typed.resolved(), ordinal),
-        Meant::Field(owner) => field_declared(well_typed, (found.token, owner)),
+        Meant::Field(owner) => field_declared(well_typed, FieldName { token, owner }),
     }
 }
 
-fn field_declared(well_typed: &WellTyped<'_>, field: (usize, usize)) -> Option<Span>
+fn field_declared(well_typed: &WellTyped<'_>, field: FieldName) -> Option<Span>
     ensures { result ≡ field_declared well_typed.now.module_read field }
 {
     let names = well_typed.resolved();
-    let name = text_at(names.tokens(), field.0);
-    match declaring_field(well_typed, field.1, name) {
+    let name = text_at(names.tokens(), field.token);
+    match declaring_field(well_typed, field.owner, name) {
         None => None,
         Some(token) => Some(token_span(names.tokens(), token)),
     }
@@ -149,16 +151,17 @@ fn named_meant(
     ensures { IfOk result
         (λ spans. spans.items ≡ named_meant well_typed.now include found.token found.means) }
 {
+    let token = found.token;
     match found.means {
         Meant::Name(ordinal) => references_to(alloc, well_typed.resolved(), ordinal, include),
-        Meant::Field(owner) => field_named(alloc, well_typed, (found.token, owner), include),
+        Meant::Field(owner) => field_named(alloc, well_typed, FieldName { token, owner }, include),
     }
 }
 
 fn field_named(
     alloc: Global,
     well_typed: &WellTyped<'_>,
-    field: (usize, usize),
+    field: FieldName,
     include: bool,
 ) -> Result<Vec<Span>, AllocError>
     ensures { IfOk result
@@ -173,18 +176,18 @@ fn field_named(
 fn field_references(
     alloc: Global,
     well_typed: &WellTyped<'_>,
-    field: (usize, usize),
+    field: FieldName,
     include: bool,
 ) -> Result<Vec<usize>, AllocError>
     ensures { IfOk result (λ tokens. tokens.items ≡ field_references well_typed.now field include) }
 {
     let names = well_typed.resolved();
-    let name = text_at(names.tokens(), field.0);
-    let tokens = field_tokens(alloc, well_typed, field.1, name)?;
+    let name = text_at(names.tokens(), field.token);
+    let tokens = field_tokens(alloc, well_typed, field.owner, name)?;
     if include {
         return Ok(tokens);
     }
-    let declaring = declaring_field(well_typed, field.1, name);
+    let declaring = declaring_field(well_typed, field.owner, name);
     let uses = without(alloc, declaring, tokens)?;
     Ok(uses)
 }

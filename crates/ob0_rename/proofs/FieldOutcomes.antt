@@ -23,6 +23,7 @@ use Rattle.ob0_edits_tokens.specs.OfTrees.{RenamedWordsSpell, number_at, renamed
 use Rattle.ob0_edits_tokens.specs.Replaced.{AreNames, ReplacesName, with_text_at}
 use Rattle.ob0_edits_tokens.specs.Written.{name_word}
 use Rattle.ob0_language_field_laws.specs.FieldLaws.{FreeFieldKeepsModules}
+use Rattle.ob0_types_fields.specs.declared.field_name.FieldName.{FieldName}
 use Rattle.ob0_types_fields.specs.Identifiers.{DuplicateByToken, RenamedAtTokens, declaring_field, field_identifiers, field_tokens, tokens_among}
 use Rattle.ob0_language_fields.specs.Renaming.{FieldFree, field_renamed}
 use Rattle.ob0_rename.specs.Answers.{RenameAnswers, AnswersForField, IsRefused, IsRefusedToField, OnlyMemory}
@@ -37,18 +38,18 @@ among-any k [] = refl
 among-any k (p ∷ ps) = ap (λ b. (k == p) || b) (among-any k ps)
 
 -- each token of a field is written as the field
-written-so : (source : Scanned) (k : ℕ) (f : Name) (i : ℕ) (xs : List (ℕ × ℕ)) → list_any (λ token. i == token) (tokens_among source k f xs) ≡ true → place.text_at source i ≡ f
+written-so : (source : Scanned) (k : ℕ) (f : Name) (i : ℕ) (xs : List FieldName) → list_any (λ token. i == token) (tokens_among source k f xs) ≡ true → place.text_at source i ≡ f
 written-so source k f i [] e = absurd (cc)
-written-so source k f i (x ∷ xs) e = one (x.1 == k) (same_name (place.text_at source x.0) f) refl (written-so source k f i xs) e
+written-so source k f i (x ∷ xs) e = one (x.owner == k) (same_name (place.text_at source x.token) f) refl (written-so source k f i xs) e
   where
-    here : (b : Bool) → (i == x.0) ≡ b → same_name (place.text_at source x.0) f ≡ true → (list_any (λ token. i == token) (tokens_among source k f xs) ≡ true → place.text_at source i ≡ f)
+    here : (b : Bool) → (i == x.token) ≡ b → same_name (place.text_at source x.token) f ≡ true → (list_any (λ token. i == token) (tokens_among source k f xs) ≡ true → place.text_at source i ≡ f)
         → (b || list_any (λ token. i == token) (tokens_among source k f xs)) ≡ true → place.text_at source i ≡ f
-    here true at same later e = ap (place.text_at source) (eqb-true i x.0 at) ∙ (bytes_eq-Decides (place.text_at source x.0) f).0 same
+    here true at same later e = ap (place.text_at source) (eqb-true i x.token at) ∙ (bytes_eq-Decides (place.text_at source x.token) f).0 same
     here false at same later e = later e
 
-    one : (b c : Bool) → same_name (place.text_at source x.0) f ≡ c → (list_any (λ token. i == token) (tokens_among source k f xs) ≡ true → place.text_at source i ≡ f)
-        → list_any (λ token. i == token) (if b && c then x.0 ∷ tokens_among source k f xs else tokens_among source k f xs) ≡ true → place.text_at source i ≡ f
-    one true true same later e = here (i == x.0) refl same later e
+    one : (b c : Bool) → same_name (place.text_at source x.token) f ≡ c → (list_any (λ token. i == token) (tokens_among source k f xs) ≡ true → place.text_at source i ≡ f)
+        → list_any (λ token. i == token) (if b && c then x.token ∷ tokens_among source k f xs else tokens_among source k f xs) ≡ true → place.text_at source i ≡ f
+    one true true same later e = here (i == x.token) refl same later e
     one true false same later e = later e
     one false c same later e = later e
 

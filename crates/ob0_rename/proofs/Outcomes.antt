@@ -35,6 +35,7 @@ use Rattle.ob0_edits_tokens.specs.Replaced.{AreNames, LeavesWords, ReplacesName,
 use Rattle.ob0_edits_tokens.specs.Written.{name_word}
 use Rattle.ob0_scope.specs.NamesAtPlaces.{name_on, tokens_bound}
 use Rattle.ob0_scope.specs.declared.naming.Named as named
+use Rattle.ob0_types_fields.specs.declared.field_name.FieldName.{FieldName}
 use Rattle.ob0_types_fields.specs.Identifiers.{field_at}
 use Rattle.ob0_scope.proofs.Written.{renamed_there}
 use Rattle.ob0_tree.specs.Module.{ModuleOf}
@@ -168,7 +169,7 @@ target_in source (Some x) = target_of source x.token x.means
 pub target_there : (r : Resolution) (offset : ℕ) (found : Option Identified) → found ≡ identified.meant_at r offset → meant_at r offset ≡ target_in r.module_read.source found
 target_there r offset found is = one (name_on r.module_read offset) (field_at r offset) ∙ ap (target_in r.module_read.source) (sym is)
   where
-    one : (n : Option named.Named) (f : Option (ℕ × ℕ)) → meant_by r.module_read.source n f ≡ target_in r.module_read.source (identified.meant_by n f)
+    one : (n : Option named.Named) (f : Option FieldName) → meant_by r.module_read.source n f ≡ target_in r.module_read.source (identified.meant_by n f)
     one (Some n) f = refl
     one None None = refl
     one None (Some x) = refl

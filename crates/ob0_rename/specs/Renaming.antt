@@ -19,6 +19,7 @@ use Rattle.ob0_edits_tokens.specs.Replaced.{with_text_at}
 use Rattle.ob0_edits_tokens.specs.Ranges.{range_of}
 use Rattle.ob0_scope.specs.NamesAtPlaces.{name_on, tokens_bound}
 use Rattle.ob0_scope.specs.declared.naming.Named as named
+use Rattle.ob0_types_fields.specs.declared.field_name.FieldName.{FieldName}
 use Rattle.ob0_types_fields.specs.Identifiers.{declaring_field, field_at, field_tokens}
 
 -- A module's text, by characters, whose positions are counted in a unit;
@@ -53,13 +54,13 @@ pub data Target : Type 0 where
 abbrev pub by_ordinal : ℕ → Target
 by_ordinal ordinal = if nat_lt ordinal 7 then predeclared else declaration ordinal
 
--- a field, by its record and the token that names it
-abbrev pub by_token : Scanned → Option (ℕ × ℕ) → Target
+-- a field, by an identifier of it
+abbrev pub by_token : Scanned → Option FieldName → Target
 by_token source None = nothing
-by_token source (Some x) = field_of x.1 (text_at source x.0)
+by_token source (Some x) = field_of x.owner (text_at source x.token)
 
 -- the name at the place, or else the field
-abbrev pub meant_by : Scanned → Option named.Named → Option (ℕ × ℕ) → Target
+abbrev pub meant_by : Scanned → Option named.Named → Option FieldName → Target
 meant_by source (Some n) f = by_ordinal n.ordinal
 meant_by source None f = by_token source f
 

@@ -3,7 +3,6 @@
 
 ghost use Rattle.std.specs.Prelude.{◌≡◌, ℕ, IfOk, IfSome, Some};
 ghost use Rattle.ob0_scan.specs.Classes.{IsIdentifier};
-ghost use Rattle.ob0_language_names.specs.Names.{same_name};
 ghost use Rattle.ob0_scope_table.specs.Resolution.{span_at};
 ghost use Rattle.ob0_text.specs.Units.{width_of};
 ghost use Rattle.ob0_tree.specs.Places.{text_at};
@@ -15,7 +14,7 @@ ghost use Rattle.ob0_rename.specs.Renaming.{is_declared_as, tokens_to_rename};
 use ob0_edits_tokens::range_of;
 use ob0_scan::{Span, Tokens};
 use ob0_scope::renamed_tokens;
-use ob0_scope_table::{Resolved, token_span};
+use ob0_scope_table::{Resolved, is_written, token_span};
 use ob0_text::{Range, TextStore};
 use ob0_types::{Identified, WellTyped, meant_at};
 use std::alloc::{AllocError, Global};
@@ -58,16 +57,6 @@ fn is_declared_as(names: &Resolved, declaration: usize, name: &str) -> bool
     match names.declaring_token(declaration) {
         Some(token) => is_written(names.tokens(), token, name),
         None => false,
-    }
-}
-
-fn is_written(tokens: &Tokens, token: usize, name: &str) -> bool
-    ensures { result ≡ same_name (text_at tokens.now token) name.now }
-{
-    if token < tokens.tokens().len() {
-        tokens.token_text(token) == name
-    } else {
-        name.is_empty()
     }
 }
 

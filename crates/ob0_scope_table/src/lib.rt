@@ -14,4 +14,4 @@ pub use one_body::is_in_body;
 pub use ordinal_entry::OrdinalEntry;
 pub use predeclared_names::{FALSE, PREDECLARED, READ, TRUE, WRITE, WRITE_LN};
 pub use resolved::{Bindings, Resolved};
-pub use table::{ordinal_at, same_ordinal, token_span};
+pub use table::{is_written, ordinal_at, same_ordinal, token_span};

@@ -1,11 +1,14 @@
-//! Tables of ordinals by token, and where tokens are.
+//! Tables of ordinals by token; where tokens are, and which are written as a name.
 
 ghost use Rattle.std.specs.Prelude.{◌≡◌};
+ghost use Rattle.ob0_tree.specs.Places.{text_at};
+ghost use Rattle.ob0_language_names.specs.Names.{same_name};
 ghost use Rattle.ob0_language_names.specs.Scopes.{same_ordinal};
 ghost use Rattle.ob0_scope_table.specs.Resolution.{ordinal_in, span_at};
 
 use crate::ordinal_entry::OrdinalEntry;
 use ob0_scan::{Span, Tokens};
+use ob0_tree::text_at;
 
 /// The ordinal that a table has at a token; None also where it has no such token.
 pub fn ordinal_at(ordinals: &[OrdinalEntry], token: usize) -> Option<usize>
@@ -35,4 +38,11 @@ pub fn token_span(tokens: &Tokens, token: usize) -> Span
         Some(found) => found.span,
         None => Span { start: 0, end: 0 },
     }
+}
+
+/// Whether a token is written as this name. Where there is no such token, only the empty name is.
+pub fn is_written(tokens: &Tokens, token: usize, name: &str) -> bool
+    ensures { result ≡ same_name (text_at tokens.now token) name.now }
+{
+    text_at(tokens, token) == name
 }

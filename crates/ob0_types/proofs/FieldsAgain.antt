@@ -13,7 +13,8 @@ use Rattle.ob0_types_check.specs.AlikeBut.{IsAlikeAt}
 use Rattle.ob0_types_check.specs.SomeBodies.{is_among}
 use Rattle.ob0_types_check.specs.WellTypedLaws.{NoFaultInModules}
 use Rattle.ob0_types_check.proofs.DeclarationsStay.{declarations_stay}
-use Rattle.ob0_types_fields.specs.Identifiers.{field_identifiers, firsts}
+use Rattle.ob0_types_fields.specs.declared.field_name.FieldName.{FieldName}
+use Rattle.ob0_types_fields.specs.Identifiers.{field_identifiers, tokens_of}
 use Rattle.ob0_types_fields.specs.Listed.{AreFields, HasOthersWithin, Listed}
 use Rattle.ob0_types_fields.specs.Owned.{marked_module, marked_tree, token_objects}
 use Rattle.ob0_types_table.specs.KnownTables.{Tables, declared_in}
@@ -60,22 +61,22 @@ module _ (r : Resolution) (types : ModuleTypes) (low : ℕ) (w : WereTypes r typ
   fields_now : field_identifiers r ≡ around.before ++ (marked_tree meant_now (body_in_module low (tree_of r.module_read)).statements ++ around.after)
   fields_now = module-fields meant_now (tree_of r.module_read) ∙ around.second
 
-  same_tokens : firsts types.fields.all ≡ firsts (field_identifiers r)
-  same_tokens = ap firsts (w.types_are.fields none).1 ∙ (fields_listed-holds old w.types_are.checked.resolved typed_before ∙ sym (fields_listed-holds r is typed))
+  same_tokens : tokens_of types.fields.all ≡ tokens_of (field_identifiers r)
+  same_tokens = ap tokens_of (w.types_are.fields none).1 ∙ (fields_listed-holds old w.types_are.checked.resolved typed_before ∙ sym (fields_listed-holds r is typed))
 
   has_others : HasOthersWithin types.fields.all around.before (marked_tree meant_now (body_in_module low (tree_of r.module_read)).statements) around.after
   has_others = record {
     old = marked_tree meant_before (body_in_module low (tree_of r.module_read)).statements;
     top = length old.module_read.source.tokens;
-    in_order = subst (λ (xs : List (ℕ × ℕ)). Ascending 0 (firsts xs) (length old.module_read.source.tokens)) (sym (w.types_are.fields none).1) (fields_ascend old w.types_are.checked.resolved.parsed);
+    in_order = subst (λ (xs : List FieldName). Ascending 0 (tokens_of xs) (length old.module_read.source.tokens)) (sym (w.types_are.fields none).1) (fields_ascend old w.types_are.checked.resolved.parsed);
     is = fields_before;
-    same = same_tokens ∙ ap firsts fields_now;
+    same = same_tokens ∙ ap tokens_of fields_now;
   }
 
   -- the list in which those of the body are written over the others at their tokens
   pub fields_over : (f : Listed) (t : Tables) → ((k : ℕ) → declared_in t k ≡ declared_object (named_tree_of r.module_read) k)
       → (statements : Tree ℕ (maybe body)) → statements ≡ (body_in_module low (tree_of r.module_read)).statements → f.declared ≡ types.fields.declared
-      → ((first last : List (ℕ × ℕ)) → HasOthersWithin types.fields.all first (marked_tree (token_objects (declared_in t) r) statements) last → f.all ≡ first ++ (marked_tree (token_objects (declared_in t) r) statements ++ last))
+      → ((first last : List FieldName) → HasOthersWithin types.fields.all first (marked_tree (token_objects (declared_in t) r) statements) last → f.all ≡ first ++ (marked_tree (token_objects (declared_in t) r) statements ++ last))
       → AreFields r f
   fields_over f t holds statements here declared over =
       let found : marked_tree meant_now (body_in_module low (tree_of r.module_read)).statements ≡ marked_tree (token_objects (declared_in t) r) statements = λ i. marked_tree (token_objects (λ k. sym (holds k) i) r) (sym here i) in (

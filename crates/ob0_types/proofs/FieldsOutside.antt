@@ -10,14 +10,15 @@ use Rattle.ob0_scope_table.specs.BodyAlone.{EachToken}
 use Rattle.ob0_scope_table.specs.OneBody.{closing_name}
 use Rattle.ob0_types.proofs.BodyFound.{AmongOutside, BlockOutside, Chosen, ModuleOutside, ProcedureOutside}
 use Rattle.ob0_types.specs.OneBody.{body_among, body_in_block, body_in_module, body_in_procedure}
+use Rattle.ob0_types_fields.specs.declared.field_name.FieldName.{FieldName}
 use Rattle.ob0_types_fields.specs.Owned.{marked_block, marked_module, marked_procedure, marked_procedures, marked_sections, marked_tree, marked_types, marked_variables}
 use Rattle.ob0_types_fields.proofs.MarkedSame.{MeansSame, procedure_same, procedures_same, tree_same}
 
 module _ {Q : Type 0} (m n : Meanings ℕ Shape Q) where
   -- two lists with the fields of statements between the same ends
-  pub record AreAround (xs ys : List (ℕ × ℕ)) (statements : Tree ℕ (maybe body)) : Type 0 where
-    pub before : List (ℕ × ℕ)
-    pub after : List (ℕ × ℕ)
+  pub record AreAround (xs ys : List FieldName) (statements : Tree ℕ (maybe body)) : Type 0 where
+    pub before : List FieldName
+    pub after : List FieldName
     pub first : xs ≡ before ++ (marked_tree m statements ++ after)
     pub second : ys ≡ before ++ (marked_tree n statements ++ after)
 
@@ -25,7 +26,7 @@ module _ {Q : Type 0} (m n : Meanings ℕ Shape Q) where
   alone statements = record { before = []; after = []; first = sym (append-nil (marked_tree m statements)); second = sym (append-nil (marked_tree n statements)) }
 
   -- with the same in front of both
-  in_front : (xs ys front : List (ℕ × ℕ)) (statements : Tree ℕ (maybe body)) → AreAround xs ys statements → AreAround (front ++ xs) (front ++ ys) statements
+  in_front : (xs ys front : List FieldName) (statements : Tree ℕ (maybe body)) → AreAround xs ys statements → AreAround (front ++ xs) (front ++ ys) statements
   in_front xs ys front statements h = record {
     before = front ++ h.before;
     after = h.after;
@@ -33,12 +34,12 @@ module _ {Q : Type 0} (m n : Meanings ℕ Shape Q) where
     second = ap (λ l. front ++ l) h.second ∙ sym (append_assoc front h.before (marked_tree n statements ++ h.after));
   }
 
-  followed_by_one : (zs before inner after back : List (ℕ × ℕ)) → zs ≡ before ++ (inner ++ after) → zs ++ back ≡ before ++ (inner ++ (after ++ back))
+  followed_by_one : (zs before inner after back : List FieldName) → zs ≡ before ++ (inner ++ after) → zs ++ back ≡ before ++ (inner ++ (after ++ back))
   followed_by_one zs before inner after back e =
       ap (λ l. l ++ back) e ∙ (append_assoc before (inner ++ after) back ∙ ap (λ l. before ++ l) (append_assoc inner after back))
 
   -- with the same after both
-  followed_by : (xs ys back : List (ℕ × ℕ)) (statements : Tree ℕ (maybe body)) → AreAround xs ys statements → AreAround (xs ++ back) (ys ++ back) statements
+  followed_by : (xs ys back : List FieldName) (statements : Tree ℕ (maybe body)) → AreAround xs ys statements → AreAround (xs ++ back) (ys ++ back) statements
   followed_by xs ys back statements h = record {
     before = h.before;
     after = h.after ++ back;
@@ -46,7 +47,7 @@ module _ {Q : Type 0} (m n : Meanings ℕ Shape Q) where
     second = followed_by_one ys h.before (marked_tree n statements) h.after back h.second;
   }
 
-  as_these : {xs ys us vs : List (ℕ × ℕ)} (statements : Tree ℕ (maybe body)) → us ≡ xs → vs ≡ ys → AreAround xs ys statements → AreAround us vs statements
+  as_these : {xs ys us vs : List FieldName} (statements : Tree ℕ (maybe body)) → us ≡ xs → vs ≡ ys → AreAround xs ys statements → AreAround us vs statements
   as_these statements e f h = record { before = h.before; after = h.after; first = e ∙ h.first; second = f ∙ h.second }
 
   abbrev Same : ℕ → Type 0
@@ -67,7 +68,7 @@ module _ {Q : Type 0} (m n : Meanings ℕ Shape Q) where
           (in_front (of_variables ++ (marked_procedures m j ps ++ marked_tree m statements)) (of_variables ++ (marked_procedures n j ps ++ marked_tree n statements)) of_types inner
           (in_front (marked_procedures m j ps ++ marked_tree m statements) (marked_procedures n j ps ++ marked_tree n statements) of_variables inner (among_around j own ps statements h.3)))
         where
-          joined : (a b c d : List (ℕ × ℕ)) → (a ++ (b ++ c)) ++ d ≡ a ++ (b ++ (c ++ d))
+          joined : (a b c d : List FieldName) → (a ++ (b ++ c)) ++ d ≡ a ++ (b ++ (c ++ d))
           joined a b c d = append_assoc a (b ++ c) d ∙ ap (λ l. a ++ l) (append_assoc b c d)
 
       among_around : (k own : ℕ) (ps : Tree ℕ (items procedure)) (statements : Tree ℕ (maybe body)) → AmongOutside Same low ps statements

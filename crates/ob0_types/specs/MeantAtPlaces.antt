@@ -4,6 +4,7 @@ use Rattle.std.specs.Prelude.{⊤, ℕ, Option, Some, None, option_map}
 use Rattle.ob0_scope_table.specs.Resolution.{Resolution}
 use Rattle.ob0_scope.specs.NamesAtPlaces.{name_on}
 use Rattle.ob0_scope.specs.declared.naming.Named as named
+use Rattle.ob0_types_fields.specs.declared.field_name.FieldName.{FieldName}
 use Rattle.ob0_types_fields.specs.Identifiers.{field_at}
 use Rattle.ob0_types.specs.declared.meant.Identified.{Identified}
 use Rattle.ob0_types.specs.declared.meant.Meant.{Meant}
@@ -13,12 +14,12 @@ use Rattle.ob0_types.specs.declared.meant.Meant.TheVariants.{Name, Field}
 abbrev pub name_meant : named.Named → Identified
 name_meant n = record { token = n.token; means = Name n.ordinal }
 
--- an identifier of a field, by its token and the ordinal of its record, means the field
-abbrev pub field_meant : ℕ × ℕ → Identified
-field_meant x = record { token = x.0; means = Field x.1 }
+-- an identifier of a field means the field
+abbrev pub field_meant : FieldName → Identified
+field_meant x = record { token = x.token; means = Field x.owner }
 
 -- the name, or else the field
-abbrev pub meant_by : Option named.Named → Option (ℕ × ℕ) → Option Identified
+abbrev pub meant_by : Option named.Named → Option FieldName → Option Identified
 meant_by (Some n) f = Some (name_meant n)
 meant_by None f = option_map field_meant f
 

@@ -3,6 +3,7 @@
 use Rattle.std.specs.Prelude.{ℕ, Option, option_map, option_and_then}
 use Rattle.ob0_scope_table.specs.Resolution.{Resolution}
 use Rattle.ob0_types_fields.specs.FieldTypes.{TypedField, typed_field}
+use Rattle.ob0_types_fields.specs.declared.field_name.FieldName.{FieldName}
 use Rattle.ob0_types_fields.specs.Identifiers.{field_at}
 use Rattle.ob0_types.specs.DeclaredShapes.{shape_of}
 use Rattle.ob0_types.specs.declared.checked.FieldRow as code
@@ -12,9 +13,9 @@ pub record FieldRow : Type 0 where
   pub token : ℕ
   pub of : TypedField
 
--- the row of an identifier: its token, and the ordinal of its record
-abbrev pub field_row_of : Resolution → ℕ × ℕ → Option FieldRow
-field_row_of r x = option_map (λ f. record { token = x.0; of = f }) (typed_field r x)
+-- the row of an identifier
+abbrev pub field_row_of : Resolution → FieldName → Option FieldRow
+field_row_of r x = option_map (λ f. record { token = x.token; of = f }) (typed_field r x)
 
 -- what a row of the code means
 abbrev pub row_in : code.FieldRow → FieldRow

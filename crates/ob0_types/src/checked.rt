@@ -23,7 +23,7 @@ use ob0_scan::{Code, Fault, MAX_FAULTS};
 use ob0_scope_table::{PREDECLARED, Resolved};
 use ob0_types_check::laws::{modules_fit, no_fault_in_modules};
 use ob0_types_check::{Report, report_bodies, report_faults};
-use ob0_types_fields::{FieldList, typed_field};
+use ob0_types_fields::{FieldList, FieldName, typed_field};
 use ob0_types_table::{DeclarationTable, FieldOf, Parts, TypeId};
 use std::alloc::{AllocError, Global};
 use std::borrow::Cow;
@@ -377,15 +377,15 @@ impl<'t> WellTyped<'t> {
         self.fields
     }
 
-    /// What an identifier of a field is, by its token and the ordinal of its record.
-    pub(crate) fn field_row(&self, identifier: (usize, usize)) -> Option<FieldRow<'t>>
+    /// What an identifier of a field is.
+    pub(crate) fn field_row(&self, identifier: FieldName) -> Option<FieldRow<'t>>
         ensures { option_map row_in result ≡ field_row_of self.now identifier }
     {
         let known = self.declarations();
         match typed_field(known, self.resolved(), identifier) {
             None => None,
             Some(found) => Some(FieldRow {
-                token: identifier.0,
+                token: identifier.token,
                 field: found.field,
                 shape: Shape {
                     known,

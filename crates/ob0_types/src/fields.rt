@@ -6,14 +6,14 @@ ghost use Rattle.ob0_types_fields.specs.Identifiers.{declaring_field, field_at, 
 ghost use Rattle.ob0_types.specs.RowsOfFields.{field_row_at, row_in};
 
 use crate::checked::{FieldRow, WellTyped};
+use ob0_types_fields::FieldName;
 use std::alloc::{AllocError, Global};
 
-/// The field that a place is on, where it lies in an identifier of the field or at its end: the identifier's token, and
-/// the ordinal of the field's record.
-pub fn field_at(well_typed: &WellTyped<'_>, offset: usize) -> Option<(usize, usize)>
+/// The field that a place is on, where it lies in an identifier of the field or at its end: that identifier.
+pub fn field_at(well_typed: &WellTyped<'_>, offset: usize) -> Option<FieldName>
     ensures value { result ≡ field_at well_typed.now offset }
     ensures are_identifiers { IfSome result
-        (λ x. IsIdentifierToken well_typed.now.module_read.source.tokens x.0) }
+        (λ x. IsIdentifierToken well_typed.now.module_read.source.tokens x.token) }
 {
     let names = well_typed.resolved();
     well_typed.fields().at(names.tokens(), offset)

@@ -41,8 +41,8 @@ pub fn meant_at(well_typed: &WellTyped<'_>, offset: usize) -> Option<Identified>
         None => match field_at(well_typed, offset) {
             None => None,
             Some(field) => Some(Identified {
-                token: field.0,
-                means: Meant::Field(field.1),
+                token: field.token,
+                means: Meant::Field(field.owner),
             }),
         },
     }

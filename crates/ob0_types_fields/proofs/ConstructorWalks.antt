@@ -14,14 +14,14 @@ pub after_both : (s : SearchState) (xs ys : List (Option Shape)) → after_all s
 after_both s [] ys = refl
 after_both s (x ∷ xs) ys = after_both (after_one s x) xs ys
 
-found_stays : (t : Option Shape) (xs : List (Option Shape)) → found_type (after_all (is_found t) xs) ≡ t
+pub found_stays : (t : Option Shape) (xs : List (Option Shape)) → after_all (is_found t) xs ≡ is_found t
 found_stays t [] = refl
 found_stays t (x ∷ xs) = found_stays t xs
 
 -- what is found is at its place
 pub found_at : (n : ℕ) (xs : List (Option Shape)) → found_type (after_all (is_after n) xs) ≡ get_or xs n None
 found_at n [] = refl
-found_at zero (x ∷ xs) = found_stays x xs
+found_at zero (x ∷ xs) = ap found_type (found_stays x xs)
 found_at (suc n) (x ∷ xs) = go (suc n == 0) refl (found_at n xs)
   where
     go : (b : Bool) → (suc n == 0) ≡ b → found_type (after_all (is_after n) xs) ≡ get_or xs n None

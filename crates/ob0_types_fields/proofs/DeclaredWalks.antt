@@ -10,25 +10,26 @@ use Rattle.ob0_language_types.specs.Declarations.{formals_constructors, procedur
 use Rattle.ob0_language_types.specs.Expressions.{Meanings}
 use Rattle.ob0_language_types.specs.WellTyped.{Signature}
 use Rattle.ob0_language_values.specs.Values.{Shape}
+use Rattle.ob0_types_fields.specs.declared.field_name.FieldName.{FieldName}
 use Rattle.ob0_types_fields.specs.Owned.{marked_procedures, marked_sections, marked_types, marked_variables}
 
-pub record OverTypes (k : ℕ) (start : List (ℕ × ℕ)) (xs : List TypeDeclaration) (done : ℕ) (out : List (ℕ × ℕ)) (next : ℕ) : Type 0 where
+pub record OverTypes (k : ℕ) (start : List FieldName) (xs : List TypeDeclaration) (done : ℕ) (out : List FieldName) (next : ℕ) : Type 0 where
   pub so_far : out ++ marked_types next (items_of type_declaration_of (drop done xs)) ≡ start ++ marked_types k (items_of type_declaration_of xs)
   pub counted : next + types_constructors (items_of type_declaration_of (drop done xs)) ≡ k + types_constructors (items_of type_declaration_of xs)
 
-pub record OverVariables (k : ℕ) (start : List (ℕ × ℕ)) (xs : List Variables) (done : ℕ) (out : List (ℕ × ℕ)) (next : ℕ) : Type 0 where
+pub record OverVariables (k : ℕ) (start : List FieldName) (xs : List Variables) (done : ℕ) (out : List FieldName) (next : ℕ) : Type 0 where
   pub so_far : out ++ marked_variables next (items_of variable_of (drop done xs)) ≡ start ++ marked_variables k (items_of variable_of xs)
   pub counted : next + variables_constructors (items_of variable_of (drop done xs)) ≡ k + variables_constructors (items_of variable_of xs)
 
-pub record OverSections (k : ℕ) (start : List (ℕ × ℕ)) (xs : List Section) (done : ℕ) (out : List (ℕ × ℕ)) (next : ℕ) : Type 0 where
+pub record OverSections (k : ℕ) (start : List FieldName) (xs : List Section) (done : ℕ) (out : List FieldName) (next : ℕ) : Type 0 where
   pub so_far : out ++ marked_sections next (items_of further_section_of (drop done xs)) ≡ start ++ marked_sections k (items_of further_section_of xs)
   pub counted : next + formals_constructors (items_of further_section_of (drop done xs)) ≡ k + formals_constructors (items_of further_section_of xs)
 
-pub record OverProcedures (m : Meanings ℕ Shape Signature) (k : ℕ) (start : List (ℕ × ℕ)) (xs : List Procedure) (done : ℕ) (out : List (ℕ × ℕ)) (next : ℕ) : Type 0 where
+pub record OverProcedures (m : Meanings ℕ Shape Signature) (k : ℕ) (start : List FieldName) (xs : List Procedure) (done : ℕ) (out : List FieldName) (next : ℕ) : Type 0 where
   pub so_far : out ++ marked_procedures m next (items_of procedure_of (drop done xs)) ≡ start ++ marked_procedures m k (items_of procedure_of xs)
   pub counted : next + procedures_constructors (items_of procedure_of (drop done xs)) ≡ k + procedures_constructors (items_of procedure_of xs)
 
-pub procedures_end : {m : Meanings ℕ Shape Signature} {k : ℕ} {start : List (ℕ × ℕ)} {xs : List Procedure} {done : ℕ} {out : List (ℕ × ℕ)} {at : ℕ} → OverProcedures m k start xs done out at → length xs ≤ done
+pub procedures_end : {m : Meanings ℕ Shape Signature} {k : ℕ} {start : List FieldName} {xs : List Procedure} {done : ℕ} {out : List FieldName} {at : ℕ} → OverProcedures m k start xs done out at → length xs ≤ done
     → (out ≡ start ++ marked_procedures m k (items_of procedure_of xs)) × (at ≡ k + procedures_constructors (items_of procedure_of xs))
 procedures_end {m} {k} {start} {xs} {done} {out} {at} w all =
     let over = ap (items_of procedure_of) (drop_all done xs all) in

@@ -4,13 +4,14 @@ use Rattle.std.proofs.lemmas.List.{drop_all}
 use Rattle.ob0_tree.specs.declared.tree.Procedure.{Procedure}
 use Rattle.ob0_tree.specs.View.{items_of, procedure_of}
 use Rattle.ob0_language_types.specs.Declarations.{procedures_constructors}
+use Rattle.ob0_types_fields.specs.declared.field_name.FieldName.{FieldName}
 use Rattle.ob0_types_fields.specs.Identifiers.{declared_in_procedures}
 
-pub record OverDeclaring (k : ℕ) (start : List (ℕ × ℕ)) (xs : List Procedure) (done : ℕ) (out : List (ℕ × ℕ)) (next : ℕ) : Type 0 where
+pub record OverDeclaring (k : ℕ) (start : List FieldName) (xs : List Procedure) (done : ℕ) (out : List FieldName) (next : ℕ) : Type 0 where
   pub so_far : out ++ declared_in_procedures next (items_of procedure_of (drop done xs)) ≡ start ++ declared_in_procedures k (items_of procedure_of xs)
   pub counted : next + procedures_constructors (items_of procedure_of (drop done xs)) ≡ k + procedures_constructors (items_of procedure_of xs)
 
-pub declaring_end : {k : ℕ} {start : List (ℕ × ℕ)} {xs : List Procedure} {done : ℕ} {out : List (ℕ × ℕ)} {at : ℕ} → OverDeclaring k start xs done out at → length xs ≤ done
+pub declaring_end : {k : ℕ} {start : List FieldName} {xs : List Procedure} {done : ℕ} {out : List FieldName} {at : ℕ} → OverDeclaring k start xs done out at → length xs ≤ done
     → (out ≡ start ++ declared_in_procedures k (items_of procedure_of xs)) × (at ≡ k + procedures_constructors (items_of procedure_of xs))
 declaring_end {k} {start} {xs} {done} {out} {at} w all =
     let over = ap (items_of procedure_of) (drop_all done xs all) in

@@ -12,8 +12,9 @@ use Rattle.ob0_language_names.specs.Names.{Name, same_name}
 use Rattle.ob0_language_names.specs.Parts.{formal_sections, further_names, module_block, names_listed, section_type, section_types, section_variables}
 use Rattle.ob0_language_types.specs.Declarations.{after_formals, after_types, after_variables, procedure_constructors}
 use Rattle.ob0_language_types.specs.Typing.{constructors, group_constructors}
+use Rattle.ob0_types_fields.specs.declared.field_name.FieldName.{FieldName}
 use Rattle.ob0_types_fields.specs.Identifiers.{DuplicateByToken, declared_fields, declared_in_block, declared_in_procedure, declared_in_procedures, first, is_field, tokens_among}
-use Rattle.ob0_types_fields.specs.Owned.{marked_group, marked_groups, marked_sections, marked_type, marked_types, marked_variables}
+use Rattle.ob0_types_fields.specs.Owned.{marked_group, marked_groups, marked_names, marked_sections, marked_type, marked_types, marked_variables}
 use Rattle.ob0_language_fields.specs.Renaming.{RecordFields, names_another_field, records_in_block, records_in_group, records_in_groups, records_in_procedure, records_in_procedures, records_in_sections, records_in_type, records_in_types, records_in_variables}
 use Rattle.ob0_types_fields.proofs.OwnedTypes.{counted_formals_section, counted_group, counted_procedure, counted_section, counted_type, counted_type_section, counted_variable_section, sections_mapped, types_mapped, variables_mapped}
 
@@ -25,7 +26,7 @@ any-append p (x ∷ xs) ys = one (p x) (any-append p xs ys)
     one true e = refl
     one false e = e
 
-and-false : (b : Bool) → (b && false) ≡ false
+pub and-false : (b : Bool) → (b && false) ≡ false
 and-false true = refl
 and-false false = refl
 
@@ -58,18 +59,18 @@ module _ (text : ℕ → Name) (value : ℕ → ℕ) where
     abbrev another : Name → Bool
     another x = same_name x new && not (same_name x f)
 
-    abbrev hit : ℕ × ℕ → Bool
-    hit found = (found.1 == r) && another (text found.0)
+    abbrev hit : FieldName → Bool
+    hit found = (found.owner == r) && another (text found.token)
 
     abbrev in_record : RecordFields → Bool
     in_record t = (t.ordinal == r) && names_another_field t.declared f new
 
-    both : (xs ys : List (ℕ × ℕ)) (us vs : List RecordFields) → list_any hit xs ≡ list_any in_record us → list_any hit ys ≡ list_any in_record vs → list_any hit (xs ++ ys) ≡ list_any in_record (us ++ vs)
+    both : (xs ys : List FieldName) (us vs : List RecordFields) → list_any hit xs ≡ list_any in_record us → list_any hit ys ≡ list_any in_record vs → list_any hit (xs ++ ys) ≡ list_any in_record (us ++ vs)
     both xs ys us vs e g = any-append hit xs ys ∙ ((λ i. e i || g i) ∙ sym (any-append in_record us vs))
 
-    names-hit : (o : ℕ) (xs : List ℕ) → list_any hit (map (λ x. (x, o)) xs) ≡ ((o == r) && list_any another (map text xs))
+    names-hit : (o : ℕ) (xs : List ℕ) → list_any hit (marked_names o xs) ≡ ((o == r) && list_any another (map text xs))
     names-hit o [] = sym (and-false (o == r))
-    names-hit o (x ∷ xs) = ap (λ b. hit (x, o) || b) (names-hit o xs) ∙ and-or (o == r) (another (text x)) (list_any another (map text xs))
+    names-hit o (x ∷ xs) = ap (λ b. hit (record { token = x; owner = o }) || b) (names-hit o xs) ∙ and-or (o == r) (another (text x)) (list_any another (map text xs))
 
     abbrev GroupHit : ℕ → ℕ → Tree ℕ fields → Type 0
     GroupHit o k g = list_any hit (marked_group o k g) ≡ (((o == r) && list_any another (group_fields (mapped text value g))) || list_any in_record (records_in_group k (mapped text value g)))
@@ -101,7 +102,7 @@ module _ (text : ℕ → Name) (value : ℕ → ℕ) where
       group-hit : (o k : ℕ) (g : Tree ℕ fields) → GroupHit o k g
       group-hit o k no_fields = nothing-here (o == r)
       group-hit o k (some_fields ns t) =
-          any-append hit (map (λ x. (x, o)) (names_listed ns)) (marked_type k t)
+          any-append hit (marked_names o (names_listed ns)) (marked_type k t)
           ∙ (λ i. (names-hit o (names_listed ns) ∙ ap (λ xs. (o == r) && list_any another xs) (sym (names-written ns))) i || type-hit k t i)
 
       groups-hit : (o k : ℕ) (gs : Tree ℕ (items further_fields)) → GroupsHit o k gs
@@ -193,14 +194,14 @@ module _ (source : Scanned) (k : ℕ) (f new : Name) where
   turned false true d = refl
   turned false false d = refl
 
-  hit-is : (x : ℕ × ℕ) → hit (text_at source) (value_at source) k f new x ≡ (not (same_name new f) && is_field source k new x)
-  hit-is x = ap (λ b. (x.1 == k) && b) (another-name (text_at source x.0) f new) ∙ turned (x.1 == k) (not (same_name new f)) (same_name (text_at source x.0) new)
+  hit-is : (x : FieldName) → hit (text_at source) (value_at source) k f new x ≡ (not (same_name new f) && is_field source k new x)
+  hit-is x = ap (λ b. (x.owner == k) && b) (another-name (text_at source x.token) f new) ∙ turned (x.owner == k) (not (same_name new f)) (same_name (text_at source x.token) new)
 
-  any-first : (xs : List (ℕ × ℕ)) → list_any (hit (text_at source) (value_at source) k f new) xs ≡ (not (same_name new f) && is_some (first (tokens_among source k new xs)))
+  any-first : (xs : List FieldName) → list_any (hit (text_at source) (value_at source) k f new) xs ≡ (not (same_name new f) && is_some (first (tokens_among source k new xs)))
   any-first [] = sym (and-false (not (same_name new f)))
   any-first (x ∷ xs) = (λ i. hit-is x i || any-first xs i) ∙ one (not (same_name new f)) (is_field source k new x)
     where
-      one : (n c : Bool) → ((n && c) || (n && is_some (first (tokens_among source k new xs)))) ≡ (n && is_some (first (if c then x.0 ∷ tokens_among source k new xs else tokens_among source k new xs)))
+      one : (n c : Bool) → ((n && c) || (n && is_some (first (tokens_among source k new xs)))) ≡ (n && is_some (first (if c then x.token ∷ tokens_among source k new xs else tokens_among source k new xs)))
       one true true = refl
       one true false = refl
       one false c = refl

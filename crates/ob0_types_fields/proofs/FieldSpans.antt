@@ -17,7 +17,8 @@ use Rattle.ob0_tree.specs.Order.{Ascending}
 use Rattle.ob0_scope_table.specs.Resolution.{span_at}
 use Rattle.ob0_scope_table.specs.Spans.{span_in}
 use Rattle.ob0_scope_table.specs.Spans.{is_on}
-use Rattle.ob0_types_fields.specs.Identifiers.{AreInTextOrder, field_on, firsts}
+use Rattle.ob0_types_fields.specs.declared.field_name.FieldName.{FieldName}
+use Rattle.ob0_types_fields.specs.Identifiers.{AreInTextOrder, field_on, tokens_of}
 
 -- ---- the tokens of a text
 
@@ -56,32 +57,32 @@ apart from (t ∷ ts) (suc i) (suc j) d h less within = apart t.span.end ts i j 
 
 -- ---- identifiers in text order
 
-abbrev start_of : Scanned → ℕ × ℕ → ℕ
-start_of source x = (span_at source x.0).start
+abbrev start_of : Scanned → FieldName → ℕ
+start_of source x = (span_at source x.token).start
 
-abbrev end_of : Scanned → ℕ × ℕ → ℕ
-end_of source x = (span_at source x.0).end
+abbrev end_of : Scanned → FieldName → ℕ
+end_of source x = (span_at source x.token).end
 
 module _ (f : ℕ → ℕ) (n : ℕ) (each : (i j : ℕ) → i ≤ j → j < n → f i ≤ f j) where
-  among : (xs : List (ℕ × ℕ)) (low i : ℕ) (d : ℕ × ℕ) → Ascending low (firsts xs) n → i < length xs → (low ≤ (get_or xs i d).0) × ((get_or xs i d).0 < n)
+  among : (xs : List FieldName) (low i : ℕ) (d : FieldName) → Ascending low (tokens_of xs) n → i < length xs → (low ≤ (get_or xs i d).token) × ((get_or xs i d).token < n)
   among [] low i d h less = absurd (omega (arith, less))
-  among (x ∷ xs) low zero d h less = (h.0, high_enough (firsts xs) (x.0 + 1) h.1 (omega arith))
+  among (x ∷ xs) low zero d h less = (h.0, high_enough (tokens_of xs) (x.token + 1) h.1 (omega arith))
     where
-      high_enough : (ys : List ℕ) (at : ℕ) → Ascending at ys n → x.0 + 1 ≤ at → x.0 < n
+      high_enough : (ys : List ℕ) (at : ℕ) → Ascending at ys n → x.token + 1 ≤ at → x.token < n
       high_enough [] at h low = omega (arith, h, low)
       high_enough (y ∷ ys) at h low = high_enough ys (y + 1) h.1 (omega (arith, h.0, low))
   among (x ∷ xs) low (suc i) d h less =
-      let later = among xs (x.0 + 1) i d h.1 (omega (arith, less)) in
+      let later = among xs (x.token + 1) i d h.1 (omega (arith, less)) in
       (omega (arith, h.0, later.0), later.1)
 
-  rising : (xs : List (ℕ × ℕ)) (low : ℕ) → Ascending low (firsts xs) n → IsNonDecreasingBy (λ x. f x.0) xs
+  rising : (xs : List FieldName) (low : ℕ) → Ascending low (tokens_of xs) n → IsNonDecreasingBy (λ x. f x.token) xs
   rising [] low h i j d le less = absurd (omega (arith, less))
   rising (x ∷ xs) low h zero zero d le less = omega arith
   rising (x ∷ xs) low h (suc i) zero d le less = absurd (omega (arith, le))
   rising (x ∷ xs) low h zero (suc j) d le less =
-      let later = among xs (x.0 + 1) j d h.1 (omega (arith, less)) in
-      each x.0 (get_or xs j d).0 (omega (arith, later.0)) later.1
-  rising (x ∷ xs) low h (suc i) (suc j) d le less = rising xs (x.0 + 1) h.1 i j d (omega (arith, le)) (omega (arith, less))
+      let later = among xs (x.token + 1) j d h.1 (omega (arith, less)) in
+      each x.token (get_or xs j d).token (omega (arith, later.0)) later.1
+  rising (x ∷ xs) low h (suc i) (suc j) d le less = rising xs (x.token + 1) h.1 i j d (omega (arith, le)) (omega (arith, less))
 
 nothing : Token
 nothing = record { kind = kind.Identifier; span = record { start = 0; end = 0 } }
@@ -109,53 +110,53 @@ module _ (source : Scanned) (scan : IsScan source) where
       (omega (arith, ap (λ k. (span_at source k).start) same), omega (arith, ap (λ k. (span_at source k).end) same)))
       (cases_lt i j)
 
-  pub starts_rise : (xs : List (ℕ × ℕ)) → AreInTextOrder source xs → IsNonDecreasingBy (start_of source) xs
+  pub starts_rise : (xs : List FieldName) → AreInTextOrder source xs → IsNonDecreasingBy (start_of source) xs
   starts_rise xs h = rising (λ i. (span_at source i).start) (length source.tokens) (λ i j le less. (in_order i j le less).0) xs 0 h
 
-  pub ends_rise : (xs : List (ℕ × ℕ)) → AreInTextOrder source xs → IsNonDecreasingBy (end_of source) xs
+  pub ends_rise : (xs : List FieldName) → AreInTextOrder source xs → IsNonDecreasingBy (end_of source) xs
   ends_rise xs h = rising (λ i. (span_at source i).end) (length source.tokens) (λ i j le less. (in_order i j le less).1) xs 0 h
 
 -- ---- what is found by halving
 
 -- the identifier at which those end that end before a place, where the place is on it
-abbrev pub on_place : Scanned → ℕ → Option (ℕ × ℕ) → Option (ℕ × ℕ)
+abbrev pub on_place : Scanned → ℕ → Option FieldName → Option FieldName
 on_place source offset None = None
-on_place source offset (Some x) = if is_on offset (span_at source x.0) then Some x else None
+on_place source offset (Some x) = if is_on offset (span_at source x.token) then Some x else None
 
 module _ (source : Scanned) (offset : ℕ) where
-  off_before : (x : ℕ × ℕ) → nat_lt (end_of source x) offset ≡ true → is_on offset (span_at source x.0) ≡ false
-  off_before x before = one (is_on offset (span_at source x.0)) refl
+  off_before : (x : FieldName) → nat_lt (end_of source x) offset ≡ true → is_on offset (span_at source x.token) ≡ false
+  off_before x before = one (is_on offset (span_at source x.token)) refl
     where
-      one : (b : Bool) → is_on offset (span_at source x.0) ≡ b → b ≡ false
+      one : (b : Bool) → is_on offset (span_at source x.token) ≡ b → b ≡ false
       one false e = refl
       one true e = absurd (omega (arith, leb-true offset (end_of source x) (and_parts (nat_le (start_of source x) offset) (nat_le offset (end_of source x)) e).1, ltb-true (end_of source x) offset before))
 
-  off_following : (x : ℕ × ℕ) → offset < start_of source x → is_on offset (span_at source x.0) ≡ false
-  off_following x following = one (is_on offset (span_at source x.0)) refl
+  off_following : (x : FieldName) → offset < start_of source x → is_on offset (span_at source x.token) ≡ false
+  off_following x following = one (is_on offset (span_at source x.token)) refl
     where
-      one : (b : Bool) → is_on offset (span_at source x.0) ≡ b → b ≡ false
+      one : (b : Bool) → is_on offset (span_at source x.token) ≡ b → b ≡ false
       one false e = refl
       one true e = absurd (omega (arith, leb-true (start_of source x) offset (and_parts (nat_le (start_of source x) offset) (nat_le offset (end_of source x)) e).0, following))
 
-  none_following : (xs : List (ℕ × ℕ)) → ((i : ℕ) (d : ℕ × ℕ) → i < length xs → offset < start_of source (get_or xs i d)) → field_on source offset xs ≡ None
+  none_following : (xs : List FieldName) → ((i : ℕ) (d : FieldName) → i < length xs → offset < start_of source (get_or xs i d)) → field_on source offset xs ≡ None
   none_following [] h = refl
   none_following (x ∷ xs) h =
       ap (λ b. if b then Some x else field_on source offset xs) (off_following x (h zero x (omega arith)))
       ∙ none_following xs (λ i d less. h (suc i) d (omega (arith, less)))
 
-  pub halved : (xs : List (ℕ × ℕ)) (k : ℕ) → IsNonDecreasingBy (start_of source) xs → IsPartitionPoint (λ x. nat_lt (end_of source x) offset ≡ true) (λ x. nat_lt (end_of source x) offset ≡ false) xs k → k ≤ length xs
+  pub halved : (xs : List FieldName) (k : ℕ) → IsNonDecreasingBy (start_of source) xs → IsPartitionPoint (λ x. nat_lt (end_of source x) offset ≡ true) (λ x. nat_lt (end_of source x) offset ≡ false) xs k → k ≤ length xs
       → on_place source offset (slice_get xs k) ≡ field_on source offset xs
   halved [] k rise point within = refl
-  halved (x ∷ xs) zero rise point within = one (is_on offset (span_at source x.0)) refl
+  halved (x ∷ xs) zero rise point within = one (is_on offset (span_at source x.token)) refl
     where
-      one : (b : Bool) → is_on offset (span_at source x.0) ≡ b → (if b then Some x else None) ≡ (if b then Some x else field_on source offset xs)
+      one : (b : Bool) → is_on offset (span_at source x.token) ≡ b → (if b then Some x else None) ≡ (if b then Some x else field_on source offset xs)
       one true e = refl
       one false e =
           let reached : offset ≤ end_of source x = ltb-false (end_of source x) offset (point.1 zero x (omega arith) (omega arith)) in
           let following : offset < start_of source x = either (nat_le (start_of source x) offset) refl (le-leb offset (end_of source x) reached) e in
           sym (none_following xs (λ i d less. omega (arith, following, rise zero (suc i) d (omega arith) (omega (arith, less)))))
         where
-          either : (b : Bool) → nat_le (start_of source x) offset ≡ b → nat_le offset (end_of source x) ≡ true → is_on offset (span_at source x.0) ≡ false → offset < start_of source x
+          either : (b : Bool) → nat_le (start_of source x) offset ≡ b → nat_le offset (end_of source x) ≡ true → is_on offset (span_at source x.token) ≡ false → offset < start_of source x
           either false before reached off = leb-false (start_of source x) offset before
           either true before reached off = let clash : true ≡ false = sym (and_from (nat_le (start_of source x) offset) (nat_le offset (end_of source x)) before reached) ∙ off in cc
   halved (x ∷ xs) (suc k) rise point within =

@@ -15,7 +15,8 @@ use Rattle.ob0_language_names.specs.Names.{Name, same_name}
 use Rattle.ob0_scope_table.specs.Resolution.{Resolution, ordinal_in, span_at}
 use Rattle.ob0_scope_table.specs.Spans.{is_on}
 use Rattle.ob0_language_names.specs.Scopes.{same_ordinal}
-use Rattle.ob0_types_fields.specs.Identifiers.{AreInTextOrder, RenamedAtTokens, field_identifiers, field_on, field_tokens, firsts, is_field, tokens_among}
+use Rattle.ob0_types_fields.specs.declared.field_name.FieldName.{FieldName}
+use Rattle.ob0_types_fields.specs.Identifiers.{AreInTextOrder, RenamedAtTokens, field_identifiers, field_on, field_tokens, is_field, tokens_among, tokens_of}
 use Rattle.ob0_types_fields.specs.Owned.{fields_among, owned_tokens, with_fields_at}
 use Rattle.ob0_types_fields.specs.Owners.{is_of_field}
 use Rattle.ob0_types_fields.proofs.ByToken.{renamed_by_token-holds}
@@ -23,12 +24,12 @@ use Rattle.ob0_types_fields.proofs.OwnedTokens.{module-tokens, owners_of_fields-
 
 -- ---- fields among identifiers
 
-among_ascend : (xs : List (ℕ × Option ℕ)) (low high : ℕ) → Ascending low (tokens xs) high → Ascending low (firsts (fields_among xs)) high
+among_ascend : (xs : List (ℕ × Option ℕ)) (low high : ℕ) → Ascending low (tokens xs) high → Ascending low (tokens_of (fields_among xs)) high
 among_ascend [] low high h = h
-among_ascend ((x, None) ∷ xs) low high h = ascending_lower low (x + 1) (firsts (fields_among xs)) high (omega (arith, h.0)) (among_ascend xs (x + 1) high h.1)
+among_ascend ((x, None) ∷ xs) low high h = ascending_lower low (x + 1) (tokens_of (fields_among xs)) high (omega (arith, h.0)) (among_ascend xs (x + 1) high h.1)
 among_ascend ((x, Some k) ∷ xs) low high h = (h.0, among_ascend xs (x + 1) high h.1)
 
-among_are_identifiers : (ts : List Token) (xs : List (ℕ × Option ℕ)) → AreIdentifiers ts (tokens xs) → AreIdentifiers ts (firsts (fields_among xs))
+among_are_identifiers : (ts : List Token) (xs : List (ℕ × Option ℕ)) → AreIdentifiers ts (tokens xs) → AreIdentifiers ts (tokens_of (fields_among xs))
 among_are_identifiers ts [] h = tt
 among_are_identifiers ts ((x, None) ∷ xs) h = among_are_identifiers ts xs h.1
 among_are_identifiers ts ((x, Some k) ∷ xs) h = (h.0, among_are_identifiers ts xs h.1)
@@ -38,38 +39,38 @@ fields_ascend r parsed =
     let n : ℕ = length r.module_read.source.tokens in
     among_ascend (owned_tokens r) 0 n (subst (λ ts. Ascending 0 ts n) (sym (module-tokens _ (tree_of r.module_read))) (leaves_ascend r.module_read parsed))
 
-pub fields_are_identifiers : (r : Resolution) → IsParsed r.module_read → AreIdentifiers r.module_read.source.tokens (firsts (field_identifiers r))
+pub fields_are_identifiers : (r : Resolution) → IsParsed r.module_read → AreIdentifiers r.module_read.source.tokens (tokens_of (field_identifiers r))
 fields_are_identifiers r parsed =
     among_are_identifiers r.module_read.source.tokens (owned_tokens r)
     (subst (AreIdentifiers r.module_read.source.tokens) (sym (module-tokens _ (tree_of r.module_read))) (leaves_are_identifiers r.module_read parsed))
 
 -- ---- one field among fields
 
-pub kept_ascend : (source : Scanned) (k : ℕ) (x : Name) (xs : List (ℕ × ℕ)) (low high : ℕ) → Ascending low (firsts xs) high → Ascending low (tokens_among source k x xs) high
+pub kept_ascend : (source : Scanned) (k : ℕ) (x : Name) (xs : List FieldName) (low high : ℕ) → Ascending low (tokens_of xs) high → Ascending low (tokens_among source k x xs) high
 kept_ascend source k x [] low high h = h
-kept_ascend source k x (y ∷ ys) low high h = one (is_field source k x y) (kept_ascend source k x ys (y.0 + 1) high h.1)
+kept_ascend source k x (y ∷ ys) low high h = one (is_field source k x y) (kept_ascend source k x ys (y.token + 1) high h.1)
   where
-    one : (b : Bool) → Ascending (y.0 + 1) (tokens_among source k x ys) high → Ascending low (if b then y.0 ∷ tokens_among source k x ys else tokens_among source k x ys) high
+    one : (b : Bool) → Ascending (y.token + 1) (tokens_among source k x ys) high → Ascending low (if b then y.token ∷ tokens_among source k x ys else tokens_among source k x ys) high
     one true e = (h.0, e)
-    one false e = ascending_lower low (y.0 + 1) (tokens_among source k x ys) high (omega (arith, h.0)) e
+    one false e = ascending_lower low (y.token + 1) (tokens_among source k x ys) high (omega (arith, h.0)) e
 
-pub kept_are_identifiers : (source : Scanned) (k : ℕ) (x : Name) (ts : List Token) (xs : List (ℕ × ℕ)) → AreIdentifiers ts (firsts xs) → AreIdentifiers ts (tokens_among source k x xs)
+pub kept_are_identifiers : (source : Scanned) (k : ℕ) (x : Name) (ts : List Token) (xs : List FieldName) → AreIdentifiers ts (tokens_of xs) → AreIdentifiers ts (tokens_among source k x xs)
 kept_are_identifiers source k x ts [] h = tt
 kept_are_identifiers source k x ts (y ∷ ys) h = one (is_field source k x y) (kept_are_identifiers source k x ts ys h.1)
   where
-    one : (b : Bool) → AreIdentifiers ts (tokens_among source k x ys) → AreIdentifiers ts (if b then y.0 ∷ tokens_among source k x ys else tokens_among source k x ys)
+    one : (b : Bool) → AreIdentifiers ts (tokens_among source k x ys) → AreIdentifiers ts (if b then y.token ∷ tokens_among source k x ys else tokens_among source k x ys)
     one true e = (h.0, e)
     one false e = e
 
 -- ---- what a table with fields written into it has at a token
 
-abbrev owner_in : ℕ → List (ℕ × ℕ) → Option ℕ → Option ℕ
+abbrev owner_in : ℕ → List FieldName → Option ℕ → Option ℕ
 owner_in i [] o = o
-owner_in i (x ∷ xs) o = owner_in i xs (if i == x.0 then Some x.1 else o)
+owner_in i (x ∷ xs) o = owner_in i xs (if i == x.token then Some x.owner else o)
 
-abbrev AllBelow : List (ℕ × ℕ) → ℕ → Type 0
+abbrev AllBelow : List FieldName → ℕ → Type 0
 AllBelow [] n = Unit {0}
-AllBelow (x ∷ xs) n = (x.0 < n) × AllBelow xs n
+AllBelow (x ∷ xs) n = (x.token < n) × AllBelow xs n
 
 set_at : (table : List (Option ℕ)) (x k i : ℕ) → x < length table → ordinal_in (set table x (Some k)) i ≡ (if i == x then Some k else ordinal_in table i)
 set_at table x k i inside = one (i == x) refl
@@ -80,15 +81,15 @@ set_at table x k i inside = one (i == x) refl
         let other : i ≢ x = λ same. let yes = eq-eqb i x same in absurd (cc) in
         get_or-set_other table x i (Some k) None other
 
-looked : (xs : List (ℕ × ℕ)) (table : List (Option ℕ)) (i : ℕ) → AllBelow xs (length table) → ordinal_in (with_fields_at table xs) i ≡ owner_in i xs (ordinal_in table i)
+looked : (xs : List FieldName) (table : List (Option ℕ)) (i : ℕ) → AllBelow xs (length table) → ordinal_in (with_fields_at table xs) i ≡ owner_in i xs (ordinal_in table i)
 looked [] table i h = refl
 looked (x ∷ xs) table i h =
-    let next : List (Option ℕ) = set table x.0 (Some x.1) in
-    looked xs next i (subst (AllBelow xs) (sym (length-set table x.0 (Some x.1))) h.1) ∙ ap (owner_in i xs) (set_at table x.0 x.1 i h.0)
+    let next : List (Option ℕ) = set table x.token (Some x.owner) in
+    looked xs next i (subst (AllBelow xs) (sym (length-set table x.token (Some x.owner))) h.1) ∙ ap (owner_in i xs) (set_at table x.token x.owner i h.0)
 
-below : (xs : List (ℕ × ℕ)) (low high : ℕ) → Ascending low (firsts xs) high → AllBelow xs high
+below : (xs : List FieldName) (low high : ℕ) → Ascending low (tokens_of xs) high → AllBelow xs high
 below [] low high h = tt
-below (x ∷ xs) low high h = (omega (arith, high_enough (firsts xs) (x.0 + 1) high h.1), below xs (x.0 + 1) high h.1)
+below (x ∷ xs) low high h = (omega (arith, high_enough (tokens_of xs) (x.token + 1) high h.1), below xs (x.token + 1) high h.1)
   where
     high_enough : (ys : List ℕ) (at high : ℕ) → Ascending at ys high → at ≤ high
     high_enough [] at high h = h
@@ -99,38 +100,38 @@ vacant zero i = refl
 vacant (suc n) zero = refl
 vacant (suc n) (suc i) = vacant n i
 
-owner_kept : (xs : List (ℕ × ℕ)) (low high i : ℕ) (o : Option ℕ) → Ascending low (firsts xs) high → i < low → owner_in i xs o ≡ o
+owner_kept : (xs : List FieldName) (low high i : ℕ) (o : Option ℕ) → Ascending low (tokens_of xs) high → i < low → owner_in i xs o ≡ o
 owner_kept [] low high i o h less = refl
 owner_kept (x ∷ xs) low high i o h less =
-    let other : (i == x.0) ≡ false = differs (i == x.0) refl in
-    ap (λ b. owner_in i xs (if b then Some x.1 else o)) other ∙ owner_kept xs (x.0 + 1) high i o h.1 (omega (arith, h.0, less))
+    let other : (i == x.token) ≡ false = differs (i == x.token) refl in
+    ap (λ b. owner_in i xs (if b then Some x.owner else o)) other ∙ owner_kept xs (x.token + 1) high i o h.1 (omega (arith, h.0, less))
   where
-    differs : (b : Bool) → (i == x.0) ≡ b → (i == x.0) ≡ false
-    differs true e = absurd (omega (arith, eqb-true i x.0 e, h.0, less))
+    differs : (b : Bool) → (i == x.token) ≡ b → (i == x.token) ≡ false
+    differs true e = absurd (omega (arith, eqb-true i x.token e, h.0, less))
     differs false e = e
 
 module _ (source : Scanned) (k : ℕ) (f : Name) (i : ℕ) where
   abbrev owned_here : Option ℕ → Bool
   owned_here o = same_ordinal o k && same_name (text_at source i) f
 
-  abbrev among_here : List (ℕ × ℕ) → Bool
+  abbrev among_here : List FieldName → Bool
   among_here xs = list_any (λ token. i == token) (tokens_among source k f xs)
 
-  here_among : (xs : List (ℕ × ℕ)) (low high : ℕ) → Ascending low (firsts xs) high → owned_here (owner_in i xs None) ≡ among_here xs
+  here_among : (xs : List FieldName) (low high : ℕ) → Ascending low (tokens_of xs) high → owned_here (owner_in i xs None) ≡ among_here xs
   here_among [] low high h = refl
-  here_among (x ∷ xs) low high h = one (i == x.0) refl (is_field source k f x) refl (here_among xs (x.0 + 1) high h.1)
+  here_among (x ∷ xs) low high h = one (i == x.token) refl (is_field source k f x) refl (here_among xs (x.token + 1) high h.1)
     where
-      one : (b : Bool) → (i == x.0) ≡ b → (c : Bool) → is_field source k f x ≡ c → owned_here (owner_in i xs None) ≡ among_here xs
-          → owned_here (owner_in i xs (if b then Some x.1 else None)) ≡ list_any (λ token. i == token) (if c then x.0 ∷ tokens_among source k f xs else tokens_among source k f xs)
+      one : (b : Bool) → (i == x.token) ≡ b → (c : Bool) → is_field source k f x ≡ c → owned_here (owner_in i xs None) ≡ among_here xs
+          → owned_here (owner_in i xs (if b then Some x.owner else None)) ≡ list_any (λ token. i == token) (if c then x.token ∷ tokens_among source k f xs else tokens_among source k f xs)
       one true at c is later =
-          let same : i ≡ x.0 = eqb-true i x.0 at in
-          let low_enough : i < x.0 + 1 = omega (arith, same) in
-          let kept = owner_kept xs (x.0 + 1) high i (Some x.1) h.1 low_enough in
-          let none = owner_kept xs (x.0 + 1) high i None h.1 low_enough in
+          let same : i ≡ x.token = eqb-true i x.token at in
+          let low_enough : i < x.token + 1 = omega (arith, same) in
+          let kept = owner_kept xs (x.token + 1) high i (Some x.owner) h.1 low_enough in
+          let none = owner_kept xs (x.token + 1) high i None h.1 low_enough in
           let rest : false ≡ among_here xs = sym (ap owned_here none) ∙ later in
-          ap owned_here kept ∙ (ap (λ j. (x.1 == k) && same_name (text_at source j) f) same ∙ (is ∙ shown c at rest))
+          ap owned_here kept ∙ (ap (λ j. (x.owner == k) && same_name (text_at source j) f) same ∙ (is ∙ shown c at rest))
         where
-          shown : (c : Bool) → (i == x.0) ≡ true → false ≡ among_here xs → c ≡ list_any (λ token. i == token) (if c then x.0 ∷ tokens_among source k f xs else tokens_among source k f xs)
+          shown : (c : Bool) → (i == x.token) ≡ true → false ≡ among_here xs → c ≡ list_any (λ token. i == token) (if c then x.token ∷ tokens_among source k f xs else tokens_among source k f xs)
           shown true at rest = sym (ap (λ b. b || among_here xs) at)
           shown false at rest = rest
       one false at true is later = later ∙ sym (ap (λ b. b || among_here xs) at)
@@ -151,11 +152,11 @@ renamed_at_tokens-holds r k f new named fits =
     ∙ (λ j. mapped (λ i. if among i j then new else text_at m.source i) (value_at m.source) (tree_of m))
 
 -- so is the one that a place is on
-pub field_is_identifier : (source : Scanned) (ts : List Token) (offset : ℕ) (xs : List (ℕ × ℕ)) → AreIdentifiers ts (firsts xs) → IfSome (field_on source offset xs) (λ x. IsIdentifierToken ts x.0)
+pub field_is_identifier : (source : Scanned) (ts : List Token) (offset : ℕ) (xs : List FieldName) → AreIdentifiers ts (tokens_of xs) → IfSome (field_on source offset xs) (λ x. IsIdentifierToken ts x.token)
 field_is_identifier source ts offset [] identified = tt
-field_is_identifier source ts offset (x ∷ xs) identified = one (is_on offset (span_at source x.0)) identified.0 (field_is_identifier source ts offset xs identified.1)
+field_is_identifier source ts offset (x ∷ xs) identified = one (is_on offset (span_at source x.token)) identified.0 (field_is_identifier source ts offset xs identified.1)
   where
-    one : (b : Bool) → IsIdentifierToken ts x.0 → IfSome (field_on source offset xs) (λ y. IsIdentifierToken ts y.0)
-        → IfSome (if b then Some x else field_on source offset xs) (λ y. IsIdentifierToken ts y.0)
+    one : (b : Bool) → IsIdentifierToken ts x.token → IfSome (field_on source offset xs) (λ y. IsIdentifierToken ts y.token)
+        → IfSome (if b then Some x else field_on source offset xs) (λ y. IsIdentifierToken ts y.token)
     one true h later = h
     one false h later = later

@@ -23,9 +23,10 @@ use Rattle.ob0_language_fields.proofs.AgreeingFields.{NamesAgree, RecordsAgree}
 use Rattle.ob0_language_fields.proofs.AgreeingModules.{module-alike}
 use Rattle.ob0_language_fields.proofs.Bare.{refielded-bare}
 use Rattle.ob0_language_fields.proofs.Bare.{bare}
+use Rattle.ob0_types_fields.specs.declared.field_name.FieldName.{FieldName}
 use Rattle.ob0_types_fields.specs.Identifiers.{FieldsDeclared, declaring_field, field_identifiers, field_tokens, is_field, tokens_among}
 use Rattle.ob0_types_fields.specs.Owned.{fields_among, owned_tokens, token_objects}
-use Rattle.ob0_types_fields.proofs.DuplicateFields.{duplicate_by_token-holds}
+use Rattle.ob0_types_fields.proofs.DuplicateFields.{and-false, duplicate_by_token-holds}
 use Rattle.ob0_types_fields.proofs.FieldTokens.{renamed_at_tokens-holds}
 use Rattle.ob0_types_fields.proofs.OwnedTokens.{module-tokens, tokens}
 
@@ -33,7 +34,7 @@ or_parts : (a b : Bool) → (a || b) ≡ false → (a ≡ false) × (b ≡ false
 or_parts true b h = absurd (true≢false h)
 or_parts false b h = (refl, h)
 
-or_right : (a b : Bool) → b ≡ true → (a || b) ≡ true
+pub or_right : (a b : Bool) → b ≡ true → (a || b) ≡ true
 or_right true b h = refl
 or_right false b h = h
 
@@ -88,7 +89,7 @@ names_mapped f g (Number n ∷ xs) = names_mapped f g xs
 names_mapped f g (Mark k ∷ xs) = names_mapped f g xs
 names_mapped f g (EndOfText ∷ xs) = names_mapped f g xs
 
-leaves_mapped : {N M : Type 0} {s : Sort} (f : N → M) (g : ℕ → ℕ) (t : Tree N s) → leaves (mapped f g t) ≡ map f (leaves t)
+pub leaves_mapped : {N M : Type 0} {s : Sort} (f : N → M) (g : ℕ → ℕ) (t : Tree N s) → leaves (mapped f g t) ≡ map f (leaves t)
 leaves_mapped f g t =
     leaves_spelled role.Declaring (mapped f g t)
     ∙ (ap lexeme_names (spell_mapped f g t) ∙ (names_mapped f g (spell t) ∙ ap (map f) (sym (leaves_spelled role.Declaring t))))
@@ -110,91 +111,87 @@ same_at g h i (x ∷ xs) e among = one (i == x) refl among (same_at g h i xs (ot
 
 -- ---- the identifiers of fields among all
 
-abbrev same : ℕ × ℕ → ℕ × ℕ → Bool
-same x y = (x.0 == y.0) && (x.1 == y.1)
+abbrev same : FieldName → FieldName → Bool
+same x y = (x.token == y.token) && (x.owner == y.owner)
 
-among_tokens : (x : ℕ × ℕ) (xs : List (ℕ × Option ℕ)) → list_any (same x) (fields_among xs) ≡ true → list_any (λ token. x.0 == token) (tokens xs) ≡ true
+among_tokens : (x : FieldName) (xs : List (ℕ × Option ℕ)) → list_any (same x) (fields_among xs) ≡ true → list_any (λ token. x.token == token) (tokens xs) ≡ true
 among_tokens x [] h = absurd (true≢false (sym h))
-among_tokens x ((y, None) ∷ xs) h = or_right (x.0 == y) (list_any (λ token. x.0 == token) (tokens xs)) (among_tokens x xs h)
-among_tokens x ((y, Some k) ∷ xs) h = one (x.0 == y) (x.1 == k) h (among_tokens x xs)
+among_tokens x ((y, None) ∷ xs) h = or_right (x.token == y) (list_any (λ token. x.token == token) (tokens xs)) (among_tokens x xs h)
+among_tokens x ((y, Some k) ∷ xs) h = one (x.token == y) (x.owner == k) h (among_tokens x xs)
   where
-    one : (a b : Bool) → ((a && b) || list_any (same x) (fields_among xs)) ≡ true → (list_any (same x) (fields_among xs) ≡ true → list_any (λ token. x.0 == token) (tokens xs) ≡ true) → (a || list_any (λ token. x.0 == token) (tokens xs)) ≡ true
+    one : (a b : Bool) → ((a && b) || list_any (same x) (fields_among xs)) ≡ true → (list_any (same x) (fields_among xs) ≡ true → list_any (λ token. x.token == token) (tokens xs) ≡ true) → (a || list_any (λ token. x.token == token) (tokens xs)) ≡ true
     one true b e later = refl
     one false b e later = later e
 
-module _ (source : Scanned) (x : ℕ × ℕ) where
-  abbrev its_tokens : List (ℕ × ℕ) → List ℕ
-  its_tokens xs = tokens_among source x.1 (text_at source x.0) xs
+module _ (source : Scanned) (x : FieldName) where
+  abbrev its_tokens : List FieldName → List ℕ
+  its_tokens xs = tokens_among source x.owner (text_at source x.token) xs
 
   abbrev among : List ℕ → Bool
-  among xs = list_any (λ token. x.0 == token) xs
+  among xs = list_any (λ token. x.token == token) xs
 
   kept : (b : Bool) (y : ℕ) (ys : List ℕ) → among ys ≡ true → among (if b then y ∷ ys else ys) ≡ true
-  kept true y ys e = or_right (x.0 == y) (among ys) e
+  kept true y ys e = or_right (x.token == y) (among ys) e
   kept false y ys e = e
 
-  itself : (y : ℕ × ℕ) → (x.0 == y.0) ≡ true → (x.1 == y.1) ≡ true → is_field source x.1 (text_at source x.0) y ≡ true
+  itself : (y : FieldName) → (x.token == y.token) ≡ true → (x.owner == y.owner) ≡ true → is_field source x.owner (text_at source x.token) y ≡ true
   itself y a b =
-      let token : x.0 ≡ y.0 = eqb-true x.0 y.0 a in
-      let owner : y.1 ≡ x.1 = sym (eqb-true x.1 y.1 b) in
-      let name : same_name (text_at source y.0) (text_at source x.0) ≡ true = (bytes_eq-Decides (text_at source y.0) (text_at source x.0)).1 (ap (text_at source) (sym token)) in
-      λ i. eq-eqb y.1 x.1 owner i && name i
+      let token : x.token ≡ y.token = eqb-true x.token y.token a in
+      let owner : y.owner ≡ x.owner = sym (eqb-true x.owner y.owner b) in
+      let name : same_name (text_at source y.token) (text_at source x.token) ≡ true = (bytes_eq-Decides (text_at source y.token) (text_at source x.token)).1 (ap (text_at source) (sym token)) in
+      λ i. eq-eqb y.owner x.owner owner i && name i
 
-  among_its_tokens : (xs : List (ℕ × ℕ)) → list_any (same x) xs ≡ true → among (its_tokens xs) ≡ true
+  among_its_tokens : (xs : List FieldName) → list_any (same x) xs ≡ true → among (its_tokens xs) ≡ true
   among_its_tokens [] h = absurd (true≢false (sym h))
-  among_its_tokens (y ∷ ys) h = one (x.0 == y.0) refl (x.1 == y.1) refl h (among_its_tokens ys)
+  among_its_tokens (y ∷ ys) h = one (x.token == y.token) refl (x.owner == y.owner) refl h (among_its_tokens ys)
     where
-      one : (a : Bool) → (x.0 == y.0) ≡ a → (b : Bool) → (x.1 == y.1) ≡ b → ((a && b) || list_any (same x) ys) ≡ true → (list_any (same x) ys ≡ true → among (its_tokens ys) ≡ true)
-          → among (if is_field source x.1 (text_at source x.0) y then y.0 ∷ its_tokens ys else its_tokens ys) ≡ true
-      one true at true of e later = ap (λ b. among (if b then y.0 ∷ its_tokens ys else its_tokens ys)) (itself y at of) ∙ ap (λ b. b || among (its_tokens ys)) at
-      one true at false of e later = kept (is_field source x.1 (text_at source x.0) y) y.0 (its_tokens ys) (later e)
-      one false at b of e later = kept (is_field source x.1 (text_at source x.0) y) y.0 (its_tokens ys) (later e)
+      one : (a : Bool) → (x.token == y.token) ≡ a → (b : Bool) → (x.owner == y.owner) ≡ b → ((a && b) || list_any (same x) ys) ≡ true → (list_any (same x) ys ≡ true → among (its_tokens ys) ≡ true)
+          → among (if is_field source x.owner (text_at source x.token) y then y.token ∷ its_tokens ys else its_tokens ys) ≡ true
+      one true at true of e later = ap (λ b. among (if b then y.token ∷ its_tokens ys else its_tokens ys)) (itself y at of) ∙ ap (λ b. b || among (its_tokens ys)) at
+      one true at false of e later = kept (is_field source x.owner (text_at source x.token) y) y.token (its_tokens ys) (later e)
+      one false at b of e later = kept (is_field source x.owner (text_at source x.token) y) y.token (its_tokens ys) (later e)
 
 -- what holds of each element of a list
-each : (P : ℕ × ℕ → Type 0) (xs : List (ℕ × ℕ)) → ((x : ℕ × ℕ) → list_any (same x) xs ≡ true → P x) → All P xs
+each : (P : FieldName → Type 0) (xs : List FieldName) → ((x : FieldName) → list_any (same x) xs ≡ true → P x) → All P xs
 each P [] h = All-nil P
 each P (x ∷ xs) h = All-cons P x xs
-    (h x (ap (λ b. b || list_any (same x) xs) (λ i. eq-eqb x.0 x.0 refl i && eq-eqb x.1 x.1 refl i)))
+    (h x (ap (λ b. b || list_any (same x) xs) (λ i. eq-eqb x.token x.token refl i && eq-eqb x.owner x.owner refl i)))
     (each P xs (λ y e. h y (or_right (same y x) (list_any (same y) xs) e)))
 
-and_false : (b : Bool) → (b && false) ≡ false
-and_false true = refl
-and_false false = refl
-
-module _ (r : Resolution) (named : IsResolution r) (fits : WellTyped (named_tree_of r.module_read)) (x : ℕ × ℕ) (listed : list_any (same x) (field_identifiers r) ≡ true) where
+module _ (r : Resolution) (named : IsResolution r) (fits : WellTyped (named_tree_of r.module_read)) (x : FieldName) (listed : list_any (same x) (field_identifiers r) ≡ true) where
   abbrev m : Parsed
   m = r.module_read
 
   abbrev f : written.Name
-  f = text_at m.source x.0
+  f = text_at m.source x.token
 
   -- the text with another name at the tokens of the field
   abbrev writes : ℕ → written.Name
-  writes i = if list_any (λ token. i == token) (field_tokens r x.1 f) then another f else text_at m.source i
+  writes i = if list_any (λ token. i == token) (field_tokens r x.owner f) then another f else text_at m.source i
 
-  among_leaves : list_any (λ token. x.0 == token) (leaves (tree_of m)) ≡ true
-  among_leaves = ap (list_any (λ token. x.0 == token)) (sym (module-tokens (token_objects (declared_object (named_tree_of m)) r) (tree_of m))) ∙ among_tokens x (owned_tokens r) listed
+  among_leaves : list_any (λ token. x.token == token) (leaves (tree_of m)) ≡ true
+  among_leaves = ap (list_any (λ token. x.token == token)) (sym (module-tokens (token_objects (declared_object (named_tree_of m)) r) (tree_of m))) ∙ among_tokens x (owned_tokens r) listed
 
-  unchanged : is_some (declaring_field m x.1 f) ≡ false → named_tree_of m ≡ mapped writes (value_at m.source) (tree_of m)
+  unchanged : is_some (declaring_field m x.owner f) ≡ false → named_tree_of m ≡ mapped writes (value_at m.source) (tree_of m)
   unfolding WellTyped
   unchanged none =
-      let free : is_duplicate_field (named_tree_of m) x.1 (another f) f ≡ false =
-      duplicate_by_token-holds m x.1 (another f) f ∙ (ap (λ b. not (same_name f (another f)) && b) none ∙ and_false (not (same_name f (another f)))) in
+      let free : is_duplicate_field (named_tree_of m) x.owner (another f) f ≡ false =
+      duplicate_by_token-holds m x.owner (another f) f ∙ (ap (λ b. not (same_name f (another f)) && b) none ∙ and-false (not (same_name f (another f)))) in
       sym (refielded-bare (named_tree_of m))
-      ∙ (sym (module-alike (one_renamed x.1 f (another f)) bare (named_tree_of m) (records_kept x.1 f (records (named_tree_of m)) free) fits.1)
-      ∙ renamed_at_tokens-holds r x.1 f (another f) named fits)
+      ∙ (sym (module-alike (one_renamed x.owner f (another f)) bare (named_tree_of m) (records_kept x.owner f (records (named_tree_of m)) free) fits.1)
+      ∙ renamed_at_tokens-holds r x.owner f (another f) named fits)
 
-  is_declared : is_some (declaring_field m x.1 f) ≡ true
-  is_declared = one (is_some (declaring_field m x.1 f)) refl
+  is_declared : is_some (declaring_field m x.owner f) ≡ true
+  is_declared = one (is_some (declaring_field m x.owner f)) refl
     where
-      one : (b : Bool) → is_some (declaring_field m x.1 f) ≡ b → b ≡ true
+      one : (b : Bool) → is_some (declaring_field m x.owner f) ≡ b → b ≡ true
       one true e = refl
       one false e =
           let written_so : map (text_at m.source) (leaves (tree_of m)) ≡ map writes (leaves (tree_of m)) =
           sym (leaves_mapped (text_at m.source) (value_at m.source) (tree_of m)) ∙ (ap leaves (unchanged e) ∙ leaves_mapped writes (value_at m.source) (tree_of m)) in
-          let here : f ≡ writes x.0 = same_at (text_at m.source) writes x.0 (leaves (tree_of m)) written_so among_leaves in
-          let there : writes x.0 ≡ another f = ap (λ b. if b then another f else f) (among_its_tokens m.source x (field_identifiers r) listed) in
+          let here : f ≡ writes x.token = same_at (text_at m.source) writes x.token (leaves (tree_of m)) written_so among_leaves in
+          let there : writes x.token ≡ another f = ap (λ b. if b then another f else f) (among_its_tokens m.source x (field_identifiers r) listed) in
           absurd (longer f (here ∙ there))
 
 pub fields_declared-holds : FieldsDeclared
-fields_declared-holds r named fits = each (λ x. is_some (declaring_field r.module_read x.1 (text_at r.module_read.source x.0)) ≡ true) (field_identifiers r) (is_declared r named fits)
+fields_declared-holds r named fits = each (λ x. is_some (declaring_field r.module_read x.owner (text_at r.module_read.source x.token)) ≡ true) (field_identifiers r) (is_declared r named fits)

@@ -27,7 +27,7 @@ use Rattle.ob0_language_fields.proofs.NamesMeant.{parameter_of}
 use Rattle.ob0_language_types.specs.Bindings.{declared_object}
 use Rattle.ob0_language_types.proofs.Conditions.{both_true, hold-true, of_some}
 use Rattle.ob0_language_types.proofs.TypedElsewhere.{then_some}
-use Rattle.ob0_types_fields.specs.Identifiers.{FieldsListed, written_fields}
+use Rattle.ob0_types_fields.specs.Identifiers.{FieldsListed, tokens_of, written_fields}
 use Rattle.ob0_types_fields.specs.Owned.{HasOwners, fields_among, owned_tokens, token_objects}
 use Rattle.ob0_types_fields.proofs.MappedIdentifiers.{beside_role, both, identifiers-mapped}
 use Rattle.ob0_types_fields.proofs.OwnedModules.{owners_by_declaration-holds}
@@ -398,7 +398,7 @@ matched x role.ModuleName (Some k) h = longer x h
 
 -- the owners of identifiers beside their roles: those that have one are those that are written as fields
 listed_fields : (source : Scanned) (table : ℕ → Option ℕ) (xs : List (ℕ × Option ℕ)) (ys : List (Role × ℕ)) → tokens xs ≡ names_only ys → HasOwners table xs
-    → map mark_at (map (beside_role (text_at source)) ys) ≡ map (beside_role (owner_writes source table)) ys → map (λ x. x.0) (fields_among xs) ≡ written_fields ys
+    → map mark_at (map (beside_role (text_at source)) ys) ≡ map (beside_role (owner_writes source table)) ys → tokens_of (fields_among xs) ≡ written_fields ys
 listed_fields source table [] [] e has h = refl
 listed_fields source table [] (y ∷ ys) e has h = absurd (cc)
 listed_fields source table (x ∷ xs) [] e has h = absurd (cc)
@@ -409,7 +409,7 @@ listed_fields source table ((i, o) ∷ xs) ((r, j) ∷ ys) e has h =
     by_role r o same (matched (text_at source j) r o (written ∙ ap (λ o. of_records (λ k x. again x) o (text_at source j)) owned))
     (listed_fields source table xs ys (others_are e) has.1 (others_are h))
   where
-    by_role : (r : Role) (o : Option ℕ) → i ≡ j → Matches r o → map (λ x. x.0) (fields_among xs) ≡ written_fields ys → map (λ x. x.0) (fields_among ((i, o) ∷ xs)) ≡ written_fields ((r, j) ∷ ys)
+    by_role : (r : Role) (o : Option ℕ) → i ≡ j → Matches r o → tokens_of (fields_among xs) ≡ written_fields ys → tokens_of (fields_among ((i, o) ∷ xs)) ≡ written_fields ((r, j) ∷ ys)
     by_role role.FieldName (Some k) same m later = λ z. same z ∷ later z
     by_role role.FieldName None same m later = absurd m
     by_role role.Declaring None same m later = later

@@ -1,25 +1,26 @@
 -- Walks over the names of a group and the groups of a record.
-use Rattle.std.proofs.Common.{◌≡◌, ℕ, ◌+◌, ◌≤◌, List, [], ◌∷◌, ◌++◌, map, length, drop, refl, sym, ap, ◌∙◌, append-nil}
+use Rattle.std.proofs.Common.{◌≡◌, ℕ, ◌+◌, ◌≤◌, List, [], ◌∷◌, ◌++◌, length, drop, refl, sym, ap, ◌∙◌, append-nil}
 use Rattle.std.proofs.lemmas.List.{drop_all}
 use Rattle.ob0_tree.specs.declared.tree.Fields.{Fields}
 use Rattle.ob0_tree.specs.Tree.{then_name}
 use Rattle.ob0_tree.specs.View.{further_fields_of_group, items_of}
 use Rattle.ob0_language_names.specs.Parts.{further_names}
 use Rattle.ob0_language_types.specs.Typing.{groups_constructors}
-use Rattle.ob0_types_fields.specs.Owned.{marked_groups}
+use Rattle.ob0_types_fields.specs.declared.field_name.FieldName.{FieldName}
+use Rattle.ob0_types_fields.specs.Owned.{marked_groups, marked_names}
 
 -- the names that are left, and those that were noted
-pub record OverNames (r : ℕ) (start : List (ℕ × ℕ)) (xs : List ℕ) (done : ℕ) (out : List (ℕ × ℕ)) : Type 0 where
-  pub so_far : out ++ map (λ x. (x, r)) (drop done xs) ≡ start ++ map (λ x. (x, r)) xs
+pub record OverNames (r : ℕ) (start : List FieldName) (xs : List ℕ) (done : ℕ) (out : List FieldName) : Type 0 where
+  pub so_far : out ++ marked_names r (drop done xs) ≡ start ++ marked_names r xs
 
-pub names_end : {r : ℕ} {start : List (ℕ × ℕ)} {xs : List ℕ} {done : ℕ} {out : List (ℕ × ℕ)} → OverNames r start xs done out → length xs ≤ done → out ≡ start ++ map (λ x. (x, r)) xs
-names_end {r} {start} {xs} {done} {out} w all = sym (append-nil out) ∙ (sym (ap (λ ys. out ++ map (λ x. (x, r)) ys) (drop_all done xs all)) ∙ w.so_far)
+pub names_end : {r : ℕ} {start : List FieldName} {xs : List ℕ} {done : ℕ} {out : List FieldName} → OverNames r start xs done out → length xs ≤ done → out ≡ start ++ marked_names r xs
+names_end {r} {start} {xs} {done} {out} w all = sym (append-nil out) ∙ (sym (ap (λ ys. out ++ marked_names r ys) (drop_all done xs all)) ∙ w.so_far)
 
 pub further_listed : (xs : List ℕ) → further_names (items_of then_name xs) ≡ xs
 further_listed [] = refl
 further_listed (x ∷ xs) = ap (λ z. x ∷ z) (further_listed xs)
 
 -- the groups that are left, and those that were gone over: what is found, and how many ARRAY and RECORD there are
-pub record OverGroups (r k : ℕ) (start : List (ℕ × ℕ)) (xs : List Fields) (done : ℕ) (out : List (ℕ × ℕ)) (next : ℕ) : Type 0 where
+pub record OverGroups (r k : ℕ) (start : List FieldName) (xs : List Fields) (done : ℕ) (out : List FieldName) (next : ℕ) : Type 0 where
   pub so_far : out ++ marked_groups r next (items_of further_fields_of_group (drop done xs)) ≡ start ++ marked_groups r k (items_of further_fields_of_group xs)
   pub counted : next + groups_constructors (items_of further_fields_of_group (drop done xs)) ≡ k + groups_constructors (items_of further_fields_of_group xs)

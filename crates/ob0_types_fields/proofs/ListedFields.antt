@@ -8,17 +8,18 @@ use Rattle.ob0_scope_table.specs.Resolution.{IsResolution, Resolution}
 use Rattle.ob0_language_types.specs.Bindings.{declared_object}
 use Rattle.ob0_types_table.specs.KnownTables.{Tables, declared_in}
 use Rattle.ob0_language_types.specs.WellTyped.{WellTyped}
+use Rattle.ob0_types_fields.specs.declared.field_name.FieldName.{FieldName}
 use Rattle.ob0_types_fields.specs.Identifiers.{declared_fields, declaring_field, field_identifiers, first, tokens_among}
 use Rattle.ob0_types_fields.specs.Listed.{AreFields, listed_by}
 use Rattle.ob0_types_fields.specs.Owned.{marked_module, token_objects}
 use Rattle.ob0_types_fields.proofs.FieldsDeclared.{fields_declared-holds}
 use Rattle.ob0_types_fields.proofs.MarkedFields.{module-fields}
 
-none_selected : (m : Parsed) (xs : List (ℕ × ℕ)) → declared_fields m ≡ [] → All (λ x. is_some (declaring_field m x.1 (text_at m.source x.0)) ≡ true) xs → xs ≡ []
+none_selected : (m : Parsed) (xs : List FieldName) → declared_fields m ≡ [] → All (λ x. is_some (declaring_field m x.owner (text_at m.source x.token)) ≡ true) xs → xs ≡ []
 none_selected m [] none all = refl
 none_selected m (x ∷ xs) none all =
-    absurd (true≢false (sym (All-head (λ y. is_some (declaring_field m y.1 (text_at m.source y.0)) ≡ true) x xs all)
-    ∙ ap (λ (declared : List (ℕ × ℕ)). is_some (first (tokens_among m.source x.1 (text_at m.source x.0) declared))) none))
+    absurd (true≢false (sym (All-head (λ y. is_some (declaring_field m y.owner (text_at m.source y.token)) ≡ true) x xs all)
+    ∙ ap (λ (declared : List FieldName). is_some (first (tokens_among m.source x.owner (text_at m.source x.token) declared))) none))
 
 pub listed_fields : (r : Resolution) → IsResolution r → WellTyped (named_tree_of r.module_read)
     → (t : Tables) → ((k : ℕ) → declared_in t k ≡ declared_object (named_tree_of r.module_read) k) → AreFields r (listed_by t r)

@@ -6,6 +6,7 @@ use Rattle.ob0_tree.specs.Tree.{Tree, field, index, item, items, more, selector}
 use Rattle.ob0_tree.specs.View.{items_of, selector_of}
 use Rattle.ob0_language_types.specs.Expressions.{Meanings}
 use Rattle.ob0_language_types.specs.WellTyped.{Signature}
+use Rattle.ob0_types_fields.specs.declared.field_name.FieldName.{FieldName}
 use Rattle.ob0_types_fields.specs.Owned.{marked_path, after_selector}
 use Rattle.ob0_types_fields.specs.Walk.{marked_at}
 use Rattle.ob0_language_values.specs.Values.{Shape}
@@ -16,10 +17,10 @@ path_more m base (field x) rest = refl
 path_more m base (index e) rest = refl
 
 -- what was found, with what is still selected from the type after, is what was there at first with all that the path selects
-pub record OnPath (m : Meanings ℕ Shape Signature) (start : List (ℕ × ℕ)) (base : Option Shape) (xs : List Selector) (done : ℕ) (out : List (ℕ × ℕ)) (at : Option Shape) : Type 0 where
+pub record OnPath (m : Meanings ℕ Shape Signature) (start : List FieldName) (base : Option Shape) (xs : List Selector) (done : ℕ) (out : List FieldName) (at : Option Shape) : Type 0 where
   pub so_far : out ++ marked_path m at (items_of selector_of (drop done xs)) ≡ start ++ marked_path m base (items_of selector_of xs)
 
-pub path_goes_on : {m : Meanings ℕ Shape Signature} {start : List (ℕ × ℕ)} {base : Option Shape} {xs : List Selector} {done : ℕ} {out : List (ℕ × ℕ)} {at : Option Shape} (x : Selector) (next : List (ℕ × ℕ)) (following : Option Shape)
+pub path_goes_on : {m : Meanings ℕ Shape Signature} {start : List FieldName} {base : Option Shape} {xs : List Selector} {done : ℕ} {out : List FieldName} {at : Option Shape} (x : Selector) (next : List FieldName) (following : Option Shape)
     → OnPath m start base xs done out at → done < length xs → x ≡ get_or xs done x → next ≡ out ++ marked_at m at (selector_of x) → following ≡ after_selector m at (selector_of x) → OnPath m start base xs (done + 1) next following
 path_goes_on {m = m} {xs = xs} {done = done} {out = out} {at = at} x next following w less here found typed =
     let rest : Tree ℕ (items selector) = items_of selector_of (drop (done + 1) xs) in

@@ -5,14 +5,15 @@ use Rattle.ob0_tree.specs.Tree.{Tree, Item, item}
 use Rattle.ob0_tree.specs.View.{items_of}
 use Rattle.ob0_language_types.specs.Expressions.{Meanings}
 use Rattle.ob0_language_types.specs.WellTyped.{Signature}
+use Rattle.ob0_types_fields.specs.declared.field_name.FieldName.{FieldName}
 use Rattle.ob0_types_fields.specs.Owned.{marked_tree}
 use Rattle.ob0_language_values.specs.Values.{Shape}
 
 -- what was found, with the identifiers of the items that are left, is what was there at first with those of all
-pub record Walking {A : Type 0} {i : Item} (f : A → Tree ℕ (item i)) (m : Meanings ℕ Shape Signature) (start : List (ℕ × ℕ)) (xs : List A) (done : ℕ) (out : List (ℕ × ℕ)) : Type 0 where
+pub record Walking {A : Type 0} {i : Item} (f : A → Tree ℕ (item i)) (m : Meanings ℕ Shape Signature) (start : List FieldName) (xs : List A) (done : ℕ) (out : List FieldName) : Type 0 where
   pub so_far : out ++ marked_tree m (items_of f (drop done xs)) ≡ start ++ marked_tree m (items_of f xs)
 
-pub walk_ends : {A : Type 0} {i : Item} {f : A → Tree ℕ (item i)} {m : Meanings ℕ Shape Signature} {start : List (ℕ × ℕ)} {xs : List A} {done : ℕ} {out : List (ℕ × ℕ)}
+pub walk_ends : {A : Type 0} {i : Item} {f : A → Tree ℕ (item i)} {m : Meanings ℕ Shape Signature} {start : List FieldName} {xs : List A} {done : ℕ} {out : List FieldName}
     → Walking f m start xs done out → length xs ≤ done → out ≡ start ++ marked_tree m (items_of f xs)
 walk_ends {f = f} {m = m} {xs = xs} {done = done} {out = out} w all =
     sym (append-nil out) ∙ sym (ap (λ ys. out ++ marked_tree m (items_of f ys)) (drop_all done xs all)) ∙ w.so_far

@@ -8,14 +8,15 @@ use Rattle.ob0_language_types.specs.Declarations.{after_formals, after_types, af
 use Rattle.ob0_language_types.specs.Expressions.{Meanings}
 use Rattle.ob0_language_types.specs.Typing.{constructors, element_type, field_type, group_constructors, object_type}
 use Rattle.ob0_language_values.specs.Values.{Shape, integer_shape}
-use Rattle.ob0_types_fields.specs.Owned.{fields_among, marked_field, marked_tree, marked_block, marked_group, marked_groups, marked_module, marked_path, marked_procedures, marked_sections, marked_type, marked_types, marked_variables, owned, owned_block, owned_formals, owned_group, owned_groups, owned_module, owned_procedure, owned_procedures, owned_section, owned_sections, owned_type, owned_type_section, owned_types, owned_variable_section, owned_variables, owner, after_selector, unowned, unowned_among}
+use Rattle.ob0_types_fields.specs.declared.field_name.FieldName.{FieldName}
+use Rattle.ob0_types_fields.specs.Owned.{fields_among, marked_field, marked_tree, marked_block, marked_group, marked_groups, marked_module, marked_names, marked_path, marked_procedures, marked_sections, marked_type, marked_types, marked_variables, owned, owned_block, owned_formals, owned_group, owned_groups, owned_module, owned_procedure, owned_procedures, owned_section, owned_sections, owned_type, owned_type_section, owned_types, owned_variable_section, owned_variables, owner, after_selector, unowned, unowned_among}
 
 among-append : (xs ys : List (ℕ × Option ℕ)) → fields_among (xs ++ ys) ≡ fields_among xs ++ fields_among ys
 among-append [] ys = refl
 among-append ((x, None) ∷ xs) ys = among-append xs ys
-among-append ((x, Some k) ∷ xs) ys = ap (λ z. (x, k) ∷ z) (among-append xs ys)
+among-append ((x, Some k) ∷ xs) ys = ap (λ z. record { token = x; owner = k } ∷ z) (among-append xs ys)
 
-among-both : (xs ys : List (ℕ × Option ℕ)) {us vs : List (ℕ × ℕ)} → fields_among xs ≡ us → fields_among ys ≡ vs → fields_among (xs ++ ys) ≡ us ++ vs
+among-both : (xs ys : List (ℕ × Option ℕ)) {us vs : List FieldName} → fields_among xs ≡ us → fields_among ys ≡ vs → fields_among (xs ++ ys) ≡ us ++ vs
 among-both xs ys e f = among-append xs ys ∙ (λ i. e i ++ f i)
 
 none-among : (xs : List (Role × ℕ)) → fields_among (unowned_among xs) ≡ []
@@ -117,15 +118,15 @@ mutual
       let t : Option Shape = option_and_then (λ t. element_type t integer_shape) s in
       among-both (owned m None e) (owned m t rest) (marked_tree-fields m e) (path-fields m t rest)
 
-names-fields : (r : ℕ) (xs : List ℕ) → fields_among (map (λ x. (x, Some r)) xs) ≡ map (λ x. (x, r)) xs
+names-fields : (r : ℕ) (xs : List ℕ) → fields_among (map (λ x. (x, Some r)) xs) ≡ marked_names r xs
 names-fields r [] = refl
-names-fields r (x ∷ xs) = ap (λ z. (x, r) ∷ z) (names-fields r xs)
+names-fields r (x ∷ xs) = ap (λ z. record { token = x; owner = r } ∷ z) (names-fields r xs)
 
 plain-fields : {sort : Sort} (t : Tree ℕ sort) → fields_among (unowned t) ≡ []
 plain-fields t = none-among (identifiers role.Declaring t)
 
 -- after a part without fields
-after-plain : {sort : Sort} (t : Tree ℕ sort) (xs : List (ℕ × Option ℕ)) {us : List (ℕ × ℕ)} → fields_among xs ≡ us → fields_among (unowned t ++ xs) ≡ us
+after-plain : {sort : Sort} (t : Tree ℕ sort) (xs : List (ℕ × Option ℕ)) {us : List FieldName} → fields_among xs ≡ us → fields_among (unowned t ++ xs) ≡ us
 after-plain t xs e = among-both (unowned t) xs (plain-fields t) e
 
 mutual

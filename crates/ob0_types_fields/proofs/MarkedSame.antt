@@ -14,7 +14,7 @@ pub record MeansSame {Q : Type 0} (m n : Meanings ℕ Shape Q) (token : ℕ) : T
   pub object : m.object_for token ≡ n.object_for token
   pub written : m.written token ≡ n.written token
 
-both_same : {xs us ys vs : List (ℕ × ℕ)} → xs ≡ us → ys ≡ vs → xs ++ ys ≡ us ++ vs
+both_same : {A : Type 0} {xs us ys vs : List A} → xs ≡ us → ys ≡ vs → xs ++ ys ≡ us ++ vs
 both_same e f = λ i. e i ++ f i
 
 module _ {Q : Type 0} (m n : Meanings ℕ Shape Q) where

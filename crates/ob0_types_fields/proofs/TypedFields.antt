@@ -27,15 +27,12 @@ use Rattle.ob0_types_table.specs.FieldPlaces.{place_of_field}
 use Rattle.ob0_types_table.specs.declared.known.FieldOf.{FieldOf}
 use Rattle.ob0_language_values.specs.Values.{FieldShapes, Shape, array_shape, integer_shape, next_field_shape, no_field_shape, record_shape}
 use Rattle.ob0_types_fields.specs.FieldTypes.{FieldsTyped, TypedField, constructed, typed_field_named, first_listed, typed_field}
+use Rattle.ob0_types_fields.specs.declared.field_name.FieldName.{FieldName}
 use Rattle.ob0_types_fields.specs.Identifiers.{declared_fields, declared_in_block, declared_in_procedure, declared_in_procedures, declaring_field, field_identifiers, first, is_field, tokens_among}
-use Rattle.ob0_types_fields.specs.Owned.{marked_group, marked_groups, marked_sections, marked_type, marked_types, marked_variables}
+use Rattle.ob0_types_fields.specs.Owned.{marked_group, marked_groups, marked_names, marked_sections, marked_type, marked_types, marked_variables}
 use Rattle.ob0_types_fields.proofs.DeclaredTypes.{BlockIsTyped, Denotes, FormalsAreTyped, ProcedureIsTyped, ProceduresAreTyped, TypesAreTyped, VariablesAreTyped, meaning, module-typed}
 use Rattle.ob0_types_fields.proofs.FieldLabels.{AllWritten, BlockPlain, GroupPlain, GroupsPlain, IsWritten, ProcedurePlain, ProceduresPlain, SectionsPlain, TypePlain, TypesPlain, VariablesPlain, numbered-plain}
-use Rattle.ob0_types_fields.proofs.FieldsDeclared.{fields_declared-holds}
-
-or_right : (a b : Bool) → b ≡ true → (a || b) ≡ true
-or_right true b h = refl
-or_right false b h = h
+use Rattle.ob0_types_fields.proofs.FieldsDeclared.{fields_declared-holds, or_right}
 
 -- ---- own of a record
 
@@ -237,33 +234,33 @@ module _ (r : Resolution) where
   texts (listed x rest) h = λ i. written-text x h.0 i ∷ further-texts rest h.1 i
 
   -- an identifier with the ordinal of its record
-  abbrev HasField : List (Option Shape) → ℕ → ℕ × ℕ → Type 0
-  HasField made k x = Has made k x.1 (text x.0)
+  abbrev HasField : List (Option Shape) → ℕ → FieldName → Type 0
+  HasField made k x = Has made k x.owner (text x.token)
 
   -- one of the record itself, or of a type within
-  abbrev InRecord : Shape → ℕ → List (Option Shape) → ℕ → ℕ × ℕ → Type 0
-  InRecord s j made k x = ((x.1 ≡ j) × (is_some (typed_field_named s (text x.0)) ≡ true)) ⊎ HasField made k x
+  abbrev InRecord : Shape → ℕ → List (Option Shape) → ℕ → FieldName → Type 0
+  InRecord s j made k x = ((x.owner ≡ j) × (is_some (typed_field_named s (text x.token)) ≡ true)) ⊎ HasField made k x
 
-  in-before : (s : Shape) (j : ℕ) (made later : List (Option Shape)) (k : ℕ) (x : ℕ × ℕ) → InRecord s j made k x → InRecord s j (made ++ later) k x
+  in-before : (s : Shape) (j : ℕ) (made later : List (Option Shape)) (k : ℕ) (x : FieldName) → InRecord s j made k x → InRecord s j (made ++ later) k x
   in-before s j made later k x (inl own) = inl own
-  in-before s j made later k x (inr h) = inr (has-before made later k x.1 (text x.0) h)
+  in-before s j made later k x (inr h) = inr (has-before made later k x.owner (text x.token) h)
 
-  in-later : (s : Shape) (j : ℕ) (made later : List (Option Shape)) (k : ℕ) (x : ℕ × ℕ) → InRecord s j later (k + length made) x → InRecord s j (made ++ later) k x
+  in-later : (s : Shape) (j : ℕ) (made later : List (Option Shape)) (k : ℕ) (x : FieldName) → InRecord s j later (k + length made) x → InRecord s j (made ++ later) k x
   in-later s j made later k x (inl own) = inl own
-  in-later s j made later k x (inr h) = inr (has-later made later k x.1 (text x.0) h)
+  in-later s j made later k x (inr h) = inr (has-later made later k x.owner (text x.token) h)
 
-  of-record : (s : Shape) (j : ℕ) (made : List (Option Shape)) (x : ℕ × ℕ) → InRecord s j made (suc j) x → HasField (Some s ∷ made) j x
+  of-record : (s : Shape) (j : ℕ) (made : List (Option Shape)) (x : FieldName) → InRecord s j made (suc j) x → HasField (Some s ∷ made) j x
   of-record s j made x (inl own) = record { place = 0; is_at = omega (arith, own.0); within = omega arith; typed = own.1 }
-  of-record s j made x (inr h) = has-next (Some s) made j x.1 (text x.0) h
+  of-record s j made x (inr h) = has-next (Some s) made j x.owner (text x.token) h
 
   -- two parts, one after the other
-  parts-have : (made later : List (Option Shape)) (k n : ℕ) (xs ys : List (ℕ × ℕ)) → n ≡ k + length made → AllByRecursion (HasField made k) xs → AllByRecursion (HasField later n) ys → AllByRecursion (HasField (made ++ later) k) (xs ++ ys)
+  parts-have : (made later : List (Option Shape)) (k n : ℕ) (xs ys : List FieldName) → n ≡ k + length made → AllByRecursion (HasField made k) xs → AllByRecursion (HasField later n) ys → AllByRecursion (HasField (made ++ later) k) (xs ++ ys)
   parts-have made later k n xs ys e a b =
       each-both (HasField (made ++ later) k) xs ys
-      (each-weaker (HasField made k) (HasField (made ++ later) k) (λ x h. has-before made later k x.1 (text x.0) h) xs a)
-      (each-weaker (HasField later n) (HasField (made ++ later) k) (λ x h. has-later made later k x.1 (text x.0) (subst (λ j. Has later j x.1 (text x.0)) e h)) ys b)
+      (each-weaker (HasField made k) (HasField (made ++ later) k) (λ x h. has-before made later k x.owner (text x.token) h) xs a)
+      (each-weaker (HasField later n) (HasField (made ++ later) k) (λ x h. has-later made later k x.owner (text x.token) (subst (λ j. Has later j x.owner (text x.token)) e h)) ys b)
 
-  groups-have : (s : Shape) (j : ℕ) (made later : List (Option Shape)) (k n : ℕ) (xs ys : List (ℕ × ℕ)) → n ≡ k + length made → AllByRecursion (InRecord s j made k) xs → AllByRecursion (InRecord s j later n) ys
+  groups-have : (s : Shape) (j : ℕ) (made later : List (Option Shape)) (k n : ℕ) (xs ys : List FieldName) → n ≡ k + length made → AllByRecursion (InRecord s j made k) xs → AllByRecursion (InRecord s j later n) ys
       → AllByRecursion (InRecord s j (made ++ later) k) (xs ++ ys)
   groups-have s j made later k n xs ys e a b =
       each-both (InRecord s j (made ++ later) k) xs ys
@@ -277,7 +274,7 @@ module _ (r : Resolution) where
         let place = place-found all x s typed in
         λ i. is_some (option_and_then (λ f. option_map (of_field f) (typed i)) (option_map (place_in o) (place.1 i)))
 
-    own-names : (j k : ℕ) (made : List (Option Shape)) (xs : List ℕ) → AllByRecursion (λ x. is_some (typed_field_named (record_shape o all) (text x)) ≡ true) xs → AllByRecursion (InRecord (record_shape o all) j made k) (map (λ x. (x, j)) xs)
+    own-names : (j k : ℕ) (made : List (Option Shape)) (xs : List ℕ) → AllByRecursion (λ x. is_some (typed_field_named (record_shape o all) (text x)) ≡ true) xs → AllByRecursion (InRecord (record_shape o all) j made k) (marked_names j xs)
     own-names j k made [] h = tt
     own-names j k made (x ∷ xs) h = (inl (refl, h.0), own-names j k made xs h.1)
 
@@ -322,7 +319,7 @@ module _ (r : Resolution) where
         let three = then_some (denoted (meanings as_labels env) (suc k) (in_labels r t)) (λ a. within_limits (array_shape k two.0 a)) s two.2 in
         let inner : List (Option Shape) = constructed (meaning r) (Some three.0) t in
         subst (λ z. AllByRecursion (HasField (constructed (meaning r) (Some z) (array_type e t)) j) (marked_type (suc j) t)) (within-is (array_shape k two.0 three.0) s three.2)
-        (each-weaker (HasField inner (suc j)) (HasField (Some (array_shape k two.0 three.0) ∷ inner) j) (λ x h. has-next (Some (array_shape k two.0 three.0)) inner j x.1 (text x.0) h) (marked_type (suc j) t) (type-have env (suc k) t three.0 three.1 plain once (suc j)))
+        (each-weaker (HasField inner (suc j)) (HasField (Some (array_shape k two.0 three.0) ∷ inner) j) (λ x h. has-next (Some (array_shape k two.0 three.0)) inner j x.owner (text x.token) h) (marked_type (suc j) t) (type-have env (suc k) t three.0 three.1 plain once (suc j)))
     type-have env k (record_type g rest) s h plain once j =
         let n : ℕ = suc k + group_constructors (in_labels r g) in
         let own : List Name = group_fields (mapped text value g) in
@@ -335,8 +332,8 @@ module _ (r : Resolution) where
         let o2 = and_parts (group_once (mapped text value g)) (groups_once (mapped text value rest)) o1.1 in
         let first : List (Option Shape) = constructed (meaning r) (Some z) g in
         let later : List (Option Shape) = constructed (meaning r) (Some z) rest in
-        let xs : List (ℕ × ℕ) = marked_group j (suc j) g in
-        let ys : List (ℕ × ℕ) = marked_groups j (suc j + group_constructors g) rest in
+        let xs : List FieldName = marked_group j (suc j) g in
+        let ys : List FieldName = marked_groups j (suc j + group_constructors g) rest in
         subst (λ y. AllByRecursion (HasField (constructed (meaning r) (Some y) (record_type g rest)) j) (xs ++ ys)) (within-is z s two.2)
         (each-weaker (InRecord z j (first ++ later) (suc j)) (HasField (Some z ∷ (first ++ later)) j) (λ x h. of-record z j (first ++ later) x h) (xs ++ ys)
         (groups-have z j first later (suc j) (suc j + group_constructors g) xs ys (ap (λ c. suc j + c) (sym (group-counted r (Some z) g)))
@@ -354,8 +351,8 @@ module _ (r : Resolution) where
         let has : (y : Name) → is_among y own ≡ true → shape_of_field all y ≡ Some one.0 = λ y among. agree y among ∙ (ap (λ z. shape_of_field z y) is ∙ with-among y own one.0 later among) in
         let first : shape_of_field all (text x) ≡ Some one.0 = has (text x) (ap (λ b. b || is_among (text x) (further_names (mapped text value rest))) (itself (text x))) in
         let made : List (Option Shape) = constructed (meaning r) (Some one.0) t in
-        subst (λ z. AllByRecursion (InRecord (record_shape o all) j (constructed (meaning r) z t) n) (map (λ y. (y, j)) (names_listed ns) ++ marked_type n t)) (sym first)
-        (each-both (InRecord (record_shape o all) j made n) (map (λ y. (y, j)) (names_listed ns)) (marked_type n t)
+        subst (λ z. AllByRecursion (InRecord (record_shape o all) j (constructed (meaning r) z t) n) (marked_names j (names_listed ns) ++ marked_type n t)) (sym first)
+        (each-both (InRecord (record_shape o all) j made n) (marked_names j (names_listed ns)) (marked_type n t)
         (own-names o all j n made (names_listed ns) (names-have o all ns one.0 has))
         (each-weaker (HasField made n) (InRecord (record_shape o all) j made n) (λ y e. inr e) (marked_type n t) (type-have env k t one.0 one.1 plain.1 once n)))
 
@@ -474,24 +471,24 @@ module _ (r : Resolution) where
       block-has [] b (module-typed r is well) plain once.1 0
 
   -- a field that some identifier declares
-  declaring-has : (k : ℕ) (x : Name) (xs : List (ℕ × ℕ)) → AllByRecursion (HasField made_in_module 0) xs → is_some (first (tokens_among r.module_read.source k x xs)) ≡ true → Has made_in_module 0 k x
+  declaring-has : (k : ℕ) (x : Name) (xs : List FieldName) → AllByRecursion (HasField made_in_module 0) xs → is_some (first (tokens_among r.module_read.source k x xs)) ≡ true → Has made_in_module 0 k x
   declaring-has k x [] all h = absurd (true≢false (sym h))
   declaring-has k x (y ∷ ys) all h = go (is_field r.module_read.source k x y) refl h (declaring-has k x ys all.1)
     where
-      go : (b : Bool) → is_field r.module_read.source k x y ≡ b → is_some (first (if b then y.0 ∷ tokens_among r.module_read.source k x ys else tokens_among r.module_read.source k x ys)) ≡ true
+      go : (b : Bool) → is_field r.module_read.source k x y ≡ b → is_some (first (if b then y.token ∷ tokens_among r.module_read.source k x ys else tokens_among r.module_read.source k x ys)) ≡ true
           → (is_some (first (tokens_among r.module_read.source k x ys)) ≡ true → Has made_in_module 0 k x) → Has made_in_module 0 k x
       go true e found later =
-          let parts = and_parts (y.1 == k) (same_name (text y.0) x) e in
-          subst (λ n. Has made_in_module 0 n x) (eqb-true y.1 k parts.0) (subst (Has made_in_module 0 y.1) ((bytes_eq-Decides (text y.0) x).0 parts.1) all.0)
+          let parts = and_parts (y.owner == k) (same_name (text y.token) x) e in
+          subst (λ n. Has made_in_module 0 n x) (eqb-true y.owner k parts.0) (subst (Has made_in_module 0 y.owner) ((bytes_eq-Decides (text y.token) x).0 parts.1) all.0)
       go false e found later = later found
 
-  has-typed : (x : ℕ × ℕ) → Has made_in_module 0 x.1 (text x.0) → is_some (typed_field r x) ≡ true
+  has-typed : (x : FieldName) → Has made_in_module 0 x.owner (text x.token) → is_some (typed_field r x) ≡ true
   has-typed x h =
-      let place : x.1 ≡ h.place = omega (arith, h.is_at) in
-      ap (λ k. is_some (option_and_then (λ s. typed_field_named s (text x.0)) (get_or made_in_module k None))) place ∙ h.typed
+      let place : x.owner ≡ h.place = omega (arith, h.is_at) in
+      ap (λ k. is_some (option_and_then (λ s. typed_field_named s (text x.token)) (get_or made_in_module k None))) place ∙ h.typed
 
 pub fields_typed-holds : FieldsTyped
 fields_typed-holds r is well =
-    All-weaker (λ x. is_some (declaring_field r.module_read x.1 (text_at r.module_read.source x.0)) ≡ true) (λ x. is_some (typed_field r x) ≡ true)
-    (λ x h. has-typed r x (declaring-has r x.1 (text_at r.module_read.source x.0) (declared_fields r.module_read) (declared-typed r is well) h))
+    All-weaker (λ x. is_some (declaring_field r.module_read x.owner (text_at r.module_read.source x.token)) ≡ true) (λ x. is_some (typed_field r x) ≡ true)
+    (λ x h. has-typed r x (declaring-has r x.owner (text_at r.module_read.source x.token) (declared_fields r.module_read) (declared-typed r is well) h))
     (field_identifiers r) (fields_declared-holds r is well)

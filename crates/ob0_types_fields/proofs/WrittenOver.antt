@@ -6,15 +6,16 @@ use Rattle.std.proofs.lemmas.Bool.{cases_lt, ltb-false, ltb-true}
 use Rattle.std.proofs.lemmas.List.{append_cancel_left, length-map, map-append, nil_from_length, set_past}
 use Rattle.std.specs.List.Sorted.{IsNonDecreasingBy, IsPartitionPoint}
 use Rattle.ob0_tree.specs.Order.{Ascending}
-use Rattle.ob0_types_fields.specs.Identifiers.{firsts}
+use Rattle.ob0_types_fields.specs.declared.field_name.FieldName.{FieldName}
+use Rattle.ob0_types_fields.specs.Identifiers.{tokens_of}
 use Rattle.ob0_types_fields.specs.Listed.{HasOthersWithin, written_over}
 
-pub past_end : (xs : List (ℕ × ℕ)) (k : ℕ) (ys : List (ℕ × ℕ)) → length xs ≤ k → written_over xs k ys ≡ xs
+pub past_end : (xs : List FieldName) (k : ℕ) (ys : List FieldName) → length xs ≤ k → written_over xs k ys ≡ xs
 past_end xs k [] le = refl
 past_end xs k (y ∷ ys) le = ap (λ l. written_over l (k + 1) ys) (set_past xs k y le) ∙ past_end xs (k + 1) ys (omega (arith, le))
 
 -- as many as there are behind some
-over_as_many : (before old others after : List (ℕ × ℕ)) → length old ≡ length others → written_over (before ++ (old ++ after)) (length before) others ≡ before ++ (others ++ after)
+over_as_many : (before old others after : List FieldName) → length old ≡ length others → written_over (before ++ (old ++ after)) (length before) others ≡ before ++ (others ++ after)
 over_as_many before [] [] after e = refl
 over_as_many before [] (y ∷ ys) after e = absurd (omega (arith, e))
 over_as_many before (x ∷ old) [] after e = absurd (omega (arith, e))
@@ -32,16 +33,16 @@ item_bounds [] low top i d h less = absurd (omega (arith, less))
 item_bounds (x ∷ xs) low top zero d h less = h.0
 item_bounds (x ∷ xs) low top (suc i) d h less = let later = item_bounds xs (x + 1) top i d h.1 (omega (arith, less)) in omega (arith, h.0, later)
 
-pub tokens_rise : (xs : List (ℕ × ℕ)) (low top : ℕ) → Ascending low (firsts xs) top → IsNonDecreasingBy (λ x. x.0) xs
+pub tokens_rise : (xs : List FieldName) (low top : ℕ) → Ascending low (tokens_of xs) top → IsNonDecreasingBy (λ x. x.token) xs
 tokens_rise [] low top h i j d le less = absurd (omega (arith, less))
 tokens_rise (x ∷ xs) low top h zero zero d le less = omega arith
 tokens_rise (x ∷ xs) low top h (suc i) zero d le less = absurd (omega (arith, le))
 tokens_rise (x ∷ xs) low top h zero (suc j) d le less =
-    let long = length-map xs (λ y. y.0) in
-    let later = item_bounds (firsts xs) (x.0 + 1) top j d.0 h.1 (omega (arith, less, long)) in
-    let here : get_or (firsts xs) j d.0 ≡ (get_or xs j d).0 = get_or-map (λ y. y.0) xs j d in
+    let long = length-map xs (λ y. y.token) in
+    let later = item_bounds (tokens_of xs) (x.token + 1) top j d.token h.1 (omega (arith, less, long)) in
+    let here : get_or (tokens_of xs) j d.token ≡ (get_or xs j d).token = get_or-map (λ y. y.token) xs j d in
     omega (arith, later, here)
-tokens_rise (x ∷ xs) low top h (suc i) (suc j) d le less = tokens_rise xs (x.0 + 1) top h.1 i j d (omega (arith, le)) (omega (arith, less))
+tokens_rise (x ∷ xs) low top h (suc i) (suc j) d le less = tokens_rise xs (x.token + 1) top h.1 i j d (omega (arith, le)) (omega (arith, less))
 
 -- those before a token that is behind some
 below_seam : (before : List ℕ) (x : ℕ) (rest : List ℕ) (low top i d : ℕ) → Ascending low (before ++ x ∷ rest) top → i < length before → get_or (before ++ x ∷ rest) i d < x
@@ -59,22 +60,22 @@ at_seam (y ∷ before) x rest d = at_seam before x rest d
 
 -- ---- where they are written
 
-module _ (all before others after : List (ℕ × ℕ)) (h : HasOthersWithin all before others after) where
-  parts_same : firsts h.old ++ firsts after ≡ firsts others ++ firsts after
+module _ (all before others after : List FieldName) (h : HasOthersWithin all before others after) where
+  parts_same : tokens_of h.old ++ tokens_of after ≡ tokens_of others ++ tokens_of after
   parts_same =
-      append_cancel_left (firsts before) (firsts h.old ++ firsts after) (firsts others ++ firsts after)
-      (ap (λ l. firsts before ++ l) (sym (map-append (λ x. x.0) h.old after)) ∙ (sym (map-append (λ x. x.0) before (h.old ++ after))
-      ∙ (sym (ap firsts h.is) ∙ (h.same ∙ (map-append (λ x. x.0) before (others ++ after) ∙ ap (λ l. firsts before ++ l) (map-append (λ x. x.0) others after))))))
+      append_cancel_left (tokens_of before) (tokens_of h.old ++ tokens_of after) (tokens_of others ++ tokens_of after)
+      (ap (λ l. tokens_of before ++ l) (sym (map-append (λ x. x.token) h.old after)) ∙ (sym (map-append (λ x. x.token) before (h.old ++ after))
+      ∙ (sym (ap tokens_of h.is) ∙ (h.same ∙ (map-append (λ x. x.token) before (others ++ after) ∙ ap (λ l. tokens_of before ++ l) (map-append (λ x. x.token) others after))))))
 
   as_many : length h.old ≡ length others
   as_many =
       let e = ap length parts_same in
-      omega (arith, e, length-append (firsts h.old) (firsts after), length-append (firsts others) (firsts after), length-map h.old (λ (x : ℕ × ℕ). x.0), length-map others (λ (x : ℕ × ℕ). x.0))
+      omega (arith, e, length-append (tokens_of h.old) (tokens_of after), length-append (tokens_of others) (tokens_of after), length-map h.old (λ (x : FieldName). x.token), length-map others (λ (x : FieldName). x.token))
 
   pub over_others : (k : ℕ) → k ≡ length before → written_over all k others ≡ before ++ (others ++ after)
   over_others k e = (λ i. written_over (h.is i) (e i) others) ∙ over_as_many before h.old others after as_many
 
-  pub rise : IsNonDecreasingBy (λ x. x.0) all
+  pub rise : IsNonDecreasingBy (λ x. x.token) all
   rise = tokens_rise all 0 h.top h.in_order
 
   -- nothing is written where there is none
@@ -84,45 +85,45 @@ module _ (all before others after : List (ℕ × ℕ)) (h : HasOthersWithin all 
       h.is ∙ (λ i. before ++ ((nil_from_length h.old empty ∙ sym none) i ++ after))
 
   -- the first of them is at a place of the list: those before it are before its token, and it isn't
-  module _ (y : ℕ × ℕ) (ys : List (ℕ × ℕ)) (e : others ≡ y ∷ ys) where
-    tokens_are : firsts all ≡ firsts before ++ y.0 ∷ (firsts ys ++ firsts after)
+  module _ (y : FieldName) (ys : List FieldName) (e : others ≡ y ∷ ys) where
+    tokens_are : tokens_of all ≡ tokens_of before ++ y.token ∷ (tokens_of ys ++ tokens_of after)
     tokens_are =
-        h.same ∙ (map-append (λ x. x.0) before (others ++ after) ∙ ap (λ l. firsts before ++ l) (map-append (λ x. x.0) others after ∙ ap (λ l. firsts l ++ firsts after) e))
+        h.same ∙ (map-append (λ x. x.token) before (others ++ after) ∙ ap (λ l. tokens_of before ++ l) (map-append (λ x. x.token) others after ∙ ap (λ l. tokens_of l ++ tokens_of after) e))
 
-    in_order : Ascending 0 (firsts before ++ y.0 ∷ (firsts ys ++ firsts after)) h.top
+    in_order : Ascending 0 (tokens_of before ++ y.token ∷ (tokens_of ys ++ tokens_of after)) h.top
     in_order = subst (λ l. Ascending 0 l h.top) tokens_are h.in_order
 
-    token_there : (i : ℕ) (d : ℕ × ℕ) → (get_or all i d).0 ≡ get_or (firsts before ++ y.0 ∷ (firsts ys ++ firsts after)) i d.0
-    token_there i d = sym (get_or-map (λ x. x.0) all i d) ∙ ap (λ l. get_or l i d.0) tokens_are
+    token_there : (i : ℕ) (d : FieldName) → (get_or all i d).token ≡ get_or (tokens_of before ++ y.token ∷ (tokens_of ys ++ tokens_of after)) i d.token
+    token_there i d = sym (get_or-map (λ x. x.token) all i d) ∙ ap (λ l. get_or l i d.token) tokens_are
 
     long : length before < length all
     long =
         let e = ap length tokens_are in
-        omega (arith, e, length-append (firsts before) (y.0 ∷ (firsts ys ++ firsts after)), length-map all (λ (x : ℕ × ℕ). x.0), length-map before (λ (x : ℕ × ℕ). x.0))
+        omega (arith, e, length-append (tokens_of before) (y.token ∷ (tokens_of ys ++ tokens_of after)), length-map all (λ (x : FieldName). x.token), length-map before (λ (x : FieldName). x.token))
 
-    before_first : (k : ℕ) → IsPartitionPoint (λ x. nat_lt x.0 y.0 ≡ true) (λ x. nat_lt x.0 y.0 ≡ false) all k → k ≡ length before
+    before_first : (k : ℕ) → IsPartitionPoint (λ x. nat_lt x.token y.token ≡ true) (λ x. nat_lt x.token y.token ≡ false) all k → k ≡ length before
     before_first k point = ⊎_elim
         (λ less.
         -- then the one at k is before the first of them
-        let here = ltb-false (get_or all k y).0 y.0 (point.1 k y (omega arith) (omega (arith, less, long))) in
-        let there = below_seam (firsts before) y.0 (firsts ys ++ firsts after) 0 h.top k y.0 in_order (omega (arith, less, length-map before (λ (x : ℕ × ℕ). x.0))) in
+        let here = ltb-false (get_or all k y).token y.token (point.1 k y (omega arith) (omega (arith, less, long))) in
+        let there = below_seam (tokens_of before) y.token (tokens_of ys ++ tokens_of after) 0 h.top k y.token in_order (omega (arith, less, length-map before (λ (x : FieldName). x.token))) in
         absurd (omega (arith, here, there, token_there k y)))
         (λ le. ⊎_elim
         (λ more.
         -- then the first of them is before itself
-        let here = ltb-true (get_or all (length before) y).0 y.0 (point.0 (length before) y (omega arith) more) in
-        let there = ap (λ n. get_or (firsts before ++ y.0 ∷ (firsts ys ++ firsts after)) n y.0) (sym (length-map before (λ (x : ℕ × ℕ). x.0))) ∙ at_seam (firsts before) y.0 (firsts ys ++ firsts after) y.0 in
+        let here = ltb-true (get_or all (length before) y).token y.token (point.0 (length before) y (omega arith) more) in
+        let there = ap (λ n. get_or (tokens_of before ++ y.token ∷ (tokens_of ys ++ tokens_of after)) n y.token) (sym (length-map before (λ (x : FieldName). x.token))) ∙ at_seam (tokens_of before) y.token (tokens_of ys ++ tokens_of after) y.token in
         absurd (omega (arith, here, there, token_there (length before) y)))
         (λ same. omega (arith, le, same)) (cases_lt (length before) k))
         (cases_lt k (length before))
 
-pub without_others : (all before others after : List (ℕ × ℕ)) → HasOthersWithin all before others after → slice_get others 0 ≡ None → all ≡ before ++ (others ++ after)
+pub without_others : (all before others after : List FieldName) → HasOthersWithin all before others after → slice_get others 0 ≡ None → all ≡ before ++ (others ++ after)
 without_others all before [] after h e = none_over all before [] after h refl
 without_others all before (z ∷ zs) after h e = absurd (cc)
 
-pub start_found : (all before others after : List (ℕ × ℕ)) → HasOthersWithin all before others after → (y : ℕ × ℕ) → slice_get others 0 ≡ Some y
-    → (k : ℕ) → IsPartitionPoint (λ x. nat_lt x.0 y.0 ≡ true) (λ x. nat_lt x.0 y.0 ≡ false) all k → k ≡ length before
+pub start_found : (all before others after : List FieldName) → HasOthersWithin all before others after → (y : FieldName) → slice_get others 0 ≡ Some y
+    → (k : ℕ) → IsPartitionPoint (λ x. nat_lt x.token y.token ≡ true) (λ x. nat_lt x.token y.token ≡ false) all k → k ≡ length before
 start_found all before [] after h y e k point = absurd (cc)
 start_found all before (z ∷ zs) after h y e k point =
-    let same : z ≡ y = ap (λ (o : Option (ℕ × ℕ)). unwrap_or o y) e in
-    before_first all before (z ∷ zs) after h z zs refl k (subst (λ (x : ℕ × ℕ). IsPartitionPoint (λ u. nat_lt u.0 x.0 ≡ true) (λ u. nat_lt u.0 x.0 ≡ false) all k) (sym same) point)
+    let same : z ≡ y = ap (λ (o : Option FieldName). unwrap_or o y) e in
+    before_first all before (z ∷ zs) after h z zs refl k (subst (λ (x : FieldName). IsPartitionPoint (λ u. nat_lt u.token x.token ≡ true) (λ u. nat_lt u.token x.token ≡ false) all k) (sym same) point)

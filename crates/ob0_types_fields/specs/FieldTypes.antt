@@ -16,6 +16,7 @@ use Rattle.ob0_language_types.specs.WellTyped.{Signature, WellTyped}
 use Rattle.ob0_types_table.specs.FieldPlaces.{field_selected}
 use Rattle.ob0_types_table.specs.declared.known.FieldOf.{FieldOf}
 use Rattle.ob0_language_values.specs.Values.{Shape, integer_shape}
+use Rattle.ob0_types_fields.specs.declared.field_name.FieldName.{FieldName}
 use Rattle.ob0_types_fields.specs.Identifiers.{field_identifiers}
 use Rattle.ob0_types_fields.specs.Owned.{token_objects}
 
@@ -81,14 +82,14 @@ typed_field_named s x =
 -- as the RECORD has it that declares it
 abbrev pub typed_field_by : (ℕ → Option (Object Shape Signature))
     → Resolution
-    → ℕ × ℕ
+    → FieldName
     → Option TypedField
 typed_field_by objects r x =
-    option_and_then (λ s. typed_field_named s (text_at r.module_read.source x.0))
-    (constructed_by objects r x.1)
+    option_and_then (λ s. typed_field_named s (text_at r.module_read.source x.token))
+    (constructed_by objects r x.owner)
 
--- the field that an identifier of a module is of: its token, and the ordinal of its record
-abbrev pub typed_field : Resolution → ℕ × ℕ → Option TypedField
+-- the field that an identifier of a module is of
+abbrev pub typed_field : Resolution → FieldName → Option TypedField
 typed_field r x = typed_field_by (declared_object (named_tree_of r.module_read)) r x
 
 -- In a well-typed module each identifier that declares or selects a field is

@@ -16,23 +16,24 @@ use Rattle.ob0_scope_table.specs.Resolution.{IsResolution, Resolution, span_at}
 use Rattle.ob0_scope_table.specs.Spans.{is_on}
 use Rattle.ob0_language_types.specs.Declarations.{after_formals, after_types, after_variables, procedure_constructors}
 use Rattle.ob0_language_types.specs.WellTyped.{WellTyped}
+use Rattle.ob0_types_fields.specs.declared.field_name.FieldName.{FieldName}
 use Rattle.ob0_types_fields.specs.Owned.{fields_among, marked_sections, marked_types, marked_variables, owned_tokens}
 use Rattle.ob0_language_fields.specs.Renaming.{field_renamed, is_duplicate_field}
 
--- the identifiers of a module that are fields, in text order, each with the ordinal of its record
-abbrev pub field_identifiers : Resolution → List (ℕ × ℕ)
+-- the identifiers of a module that are fields, in text order
+abbrev pub field_identifiers : Resolution → List FieldName
 field_identifiers r = fields_among (owned_tokens r)
 
 -- it is the field x of the record k
-abbrev pub is_field : Scanned → ℕ → Name → ℕ × ℕ → Bool
-is_field source k x found = (found.1 == k) && same_name (text_at source found.0) x
+abbrev pub is_field : Scanned → ℕ → Name → FieldName → Bool
+is_field source k x found = (found.owner == k) && same_name (text_at source found.token) x
 
 -- the tokens of that field among some identifiers of fields
-abbrev pub tokens_among : Scanned → ℕ → Name → List (ℕ × ℕ) → List ℕ
+abbrev pub tokens_among : Scanned → ℕ → Name → List FieldName → List ℕ
 tokens_among source k x [] = []
 tokens_among source k x (found ∷ rest) =
     if is_field source k x found
-    then found.0 ∷ tokens_among source k x rest
+    then found.token ∷ tokens_among source k x rest
     else tokens_among source k x rest
 
 -- all tokens of the field x of the record k
@@ -40,29 +41,29 @@ abbrev pub field_tokens : Resolution → ℕ → Name → List ℕ
 field_tokens r k x = tokens_among r.module_read.source k x (field_identifiers r)
 
 -- the first identifier of a field that a place is on, in it or at its end
-abbrev pub field_on : Scanned → ℕ → List (ℕ × ℕ) → Option (ℕ × ℕ)
+abbrev pub field_on : Scanned → ℕ → List FieldName → Option FieldName
 field_on source offset [] = None
 field_on source offset (x ∷ xs) =
-    if is_on offset (span_at source x.0) then Some x else field_on source offset xs
+    if is_on offset (span_at source x.token) then Some x else field_on source offset xs
 
 -- the tokens of identifiers
-abbrev pub firsts : List (ℕ × ℕ) → List ℕ
-firsts xs = map (λ x. x.0) xs
+abbrev pub tokens_of : List FieldName → List ℕ
+tokens_of xs = map (λ x. x.token) xs
 
 -- Their tokens ascend, and are all among those of the text.
-abbrev pub AreInTextOrder : Scanned → List (ℕ × ℕ) → Type 0
-AreInTextOrder source xs = Ascending 0 (firsts xs) (length source.tokens)
+abbrev pub AreInTextOrder : Scanned → List FieldName → Type 0
+AreInTextOrder source xs = Ascending 0 (tokens_of xs) (length source.tokens)
 
--- the field at a place: its identifier there, and the ordinal of its record
-abbrev pub field_at : Resolution → ℕ → Option (ℕ × ℕ)
+-- the field at a place: its identifier there
+abbrev pub field_at : Resolution → ℕ → Option FieldName
 field_at r offset = field_on r.module_read.source offset (field_identifiers r)
 
 -- ---- those that declare
 
 abbrev mutual
-  -- the fields that the declarations of a block declare, each with its record;
+  -- the fields that the declarations of a block declare;
   -- k is the ordinal of the first ARRAY or RECORD
-  pub declared_in_block : ℕ → Tree ℕ block → List (ℕ × ℕ)
+  pub declared_in_block : ℕ → Tree ℕ block → List FieldName
   declared_in_block k (has_body (declares cs ts vs ps) statements) =
       marked_types k (section_types ts)
       ++ (marked_variables (after_types k (has_body (declares cs ts vs ps) statements))
@@ -70,19 +71,19 @@ abbrev mutual
       ++ declared_in_procedures (after_variables k (has_body (declares cs ts vs ps) statements)) ps)
 
   -- those that procedures declare, in text order
-  pub declared_in_procedures : ℕ → Tree ℕ (items procedure) → List (ℕ × ℕ)
+  pub declared_in_procedures : ℕ → Tree ℕ (items procedure) → List FieldName
   declared_in_procedures k end = []
   declared_in_procedures k (more p rest) =
       declared_in_procedure k p ++ declared_in_procedures (k + procedure_constructors p) rest
 
   -- those that a procedure declares: with its parameters, and in its block
-  pub declared_in_procedure : ℕ → Tree ℕ (item procedure) → List (ℕ × ℕ)
+  pub declared_in_procedure : ℕ → Tree ℕ (item procedure) → List FieldName
   declared_in_procedure k (declares_procedure x fs b closing) =
       marked_sections k (formal_sections fs)
       ++ declared_in_block (after_formals k (declares_procedure x fs b closing)) b
 
 -- all fields that a module declares
-abbrev pub declared_fields : Parsed → List (ℕ × ℕ)
+abbrev pub declared_fields : Parsed → List FieldName
 declared_fields m = declared_in_block 0 (module_block (tree_of m))
 
 -- the first of a list
@@ -95,10 +96,10 @@ abbrev pub declaring_field : Parsed → ℕ → Name → Option ℕ
 declaring_field m k x = first (tokens_among m.source k x (declared_fields m))
 
 -- the tokens that declare the fields of the record k among some
-abbrev pub record_tokens : ℕ → List (ℕ × ℕ) → List ℕ
+abbrev pub record_tokens : ℕ → List FieldName → List ℕ
 record_tokens k [] = []
 record_tokens k (found ∷ rest) =
-    if found.1 == k then found.0 ∷ record_tokens k rest else record_tokens k rest
+    if found.owner == k then found.token ∷ record_tokens k rest else record_tokens k rest
 
 -- the place of the field x among the fields of the record k, counted from 0
 abbrev pub field_place : Parsed → ℕ → Name → Option ℕ
@@ -134,8 +135,8 @@ abbrev pub FieldsDeclared : Type 0
 FieldsDeclared =
     (r : Resolution) → IsResolution r → WellTyped (named_tree_of r.module_read)
     → All
-    (λ x. is_some (declaring_field r.module_read x.1 (text_at r.module_read.source x.0)) ≡ true)
-    (field_identifiers r)
+    (λ x. is_some (declaring_field r.module_read x.owner (text_at r.module_read.source x.token))
+    ≡ true) (field_identifiers r)
 
 -- the tokens of the identifiers that are written as fields,
 -- where a record is declared or a field is selected
@@ -152,5 +153,5 @@ written_fields ((role.ModuleName, token) ∷ rest) = written_fields rest
 abbrev pub FieldsListed : Type 0
 FieldsListed =
     (r : Resolution) → IsResolution r → WellTyped (named_tree_of r.module_read)
-    → map (λ x. x.0) (field_identifiers r)
+    → tokens_of (field_identifiers r)
     ≡ written_fields (identifiers role.Declaring (tree_of r.module_read))

@@ -5,16 +5,17 @@ use Rattle.ob0_tree.specs.Order.{Ascending}
 use Rattle.ob0_tree.specs.Parsed.{tree_of}
 use Rattle.ob0_scope_table.specs.Resolution.{Resolution}
 use Rattle.ob0_types_table.specs.KnownTables.{Tables, declared_in}
-use Rattle.ob0_types_fields.specs.Identifiers.{declared_fields, field_identifiers, firsts}
+use Rattle.ob0_types_fields.specs.declared.field_name.FieldName.{FieldName}
+use Rattle.ob0_types_fields.specs.Identifiers.{declared_fields, field_identifiers, tokens_of}
 use Rattle.ob0_types_fields.specs.Owned.{marked_module, token_objects}
 
--- tokens of fields, each with the ordinal of its record: those that declare, and all
+-- identifiers of fields: those that declare one, and all
 pub record Listed : Type 0 where
-  pub declared : List (ℕ × ℕ)
-  pub all : List (ℕ × ℕ)
+  pub declared : List FieldName
+  pub all : List FieldName
 
 -- where no field is declared, none is looked for
-abbrev pub if_declared : List (ℕ × ℕ) → List (ℕ × ℕ) → List (ℕ × ℕ)
+abbrev pub if_declared : List FieldName → List FieldName → List FieldName
 if_declared declared all = if length declared == 0 then [] else all
 
 -- as the walks find them, where a table has what each declaration is
@@ -31,15 +32,15 @@ abbrev pub AreFields : Resolution → Listed → Type 0
 AreFields r f = (f.declared ≡ declared_fields r.module_read) × (f.all ≡ field_identifiers r)
 
 -- a list with others written over it from a place on
-abbrev pub written_over : List (ℕ × ℕ) → ℕ → List (ℕ × ℕ) → List (ℕ × ℕ)
+abbrev pub written_over : List FieldName → ℕ → List FieldName → List FieldName
 written_over xs k [] = xs
 written_over xs k (y ∷ ys) = written_over (set xs k y) (k + 1) ys
 
 -- Fields in text order, some of which have others in their places between these two ends, at the
 -- same tokens.
-pub record HasOthersWithin (all before others after : List (ℕ × ℕ)) : Type 0 where
-  pub old : List (ℕ × ℕ)
+pub record HasOthersWithin (all before others after : List FieldName) : Type 0 where
+  pub old : List FieldName
   pub top : ℕ
-  pub in_order : Ascending 0 (firsts all) top
+  pub in_order : Ascending 0 (tokens_of all) top
   pub is : all ≡ before ++ (old ++ after)
-  pub same : firsts all ≡ firsts (before ++ (others ++ after))
+  pub same : tokens_of all ≡ tokens_of (before ++ (others ++ after))

@@ -17,6 +17,7 @@ use Rattle.ob0_types_table.specs.FieldPlaces.{field_selected}
 use Rattle.ob0_language_types.specs.Typing.{constructors, element_type, field_type, group_constructors, object_type}
 use Rattle.ob0_language_types.specs.WellTyped.{Signature, WellTyped}
 use Rattle.ob0_language_values.specs.Values.{Shape, integer_shape}
+use Rattle.ob0_types_fields.specs.declared.field_name.FieldName.{FieldName}
 use Rattle.ob0_types_fields.specs.Owners.{AreOwners}
 
 -- identifiers none of which is a field
@@ -215,16 +216,16 @@ OwnersByDeclaration =
     → HasOwners (ordinal_in owners) (owned_tokens r)
     → AreOwners r.module_read owners
 
--- those that are fields, each with the ordinal of its record
-abbrev pub fields_among : List (ℕ × Option ℕ) → List (ℕ × ℕ)
+-- those that are fields
+abbrev pub fields_among : List (ℕ × Option ℕ) → List FieldName
 fields_among [] = []
 fields_among ((x, None) ∷ xs) = fields_among xs
-fields_among ((x, Some k) ∷ xs) = (x, k) ∷ fields_among xs
+fields_among ((x, Some k) ∷ xs) = record { token = x; owner = k } ∷ fields_among xs
 
 -- a table with these written into it
-abbrev pub with_fields_at : List (Option ℕ) → List (ℕ × ℕ) → List (Option ℕ)
+abbrev pub with_fields_at : List (Option ℕ) → List FieldName → List (Option ℕ)
 with_fields_at table [] = table
-with_fields_at table (f ∷ fs) = with_fields_at (set table f.0 (Some f.1)) fs
+with_fields_at table (f ∷ fs) = with_fields_at (set table f.token (Some f.owner)) fs
 
 -- In a well-typed module the empty table, one entry a token,
 -- with its fields written into it is a table of owners.
@@ -239,14 +240,14 @@ OwnersOfFields =
 -- ---- the fields alone, as a walk finds them
 
 -- an identifier with the record whose field it is
-abbrev pub marked_field : ℕ → Option ℕ → List (ℕ × ℕ)
+abbrev pub marked_field : ℕ → Option ℕ → List FieldName
 marked_field x None = []
-marked_field x (Some k) = (x, k) ∷ []
+marked_field x (Some k) = record { token = x; owner = k } ∷ []
 
 -- the fields that statements select
 abbrev mutual
   -- in a statement or a part of one, in text order
-  pub marked_tree : {P : Type 0} {s : Sort} → Meanings ℕ Shape P → Tree ℕ s → List (ℕ × ℕ)
+  pub marked_tree : {P : Type 0} {s : Sort} → Meanings ℕ Shape P → Tree ℕ s → List FieldName
   marked_tree m none = []
   marked_tree m (one a) = marked_tree m a
   marked_tree m end = []
@@ -285,7 +286,7 @@ abbrev mutual
       → Meanings ℕ Shape P
       → Option Shape
       → Tree ℕ (items selector)
-      → List (ℕ × ℕ)
+      → List FieldName
   marked_path m s end = []
   marked_path m s (more (field x) rest) =
       marked_field x (owner s (m.written x))
@@ -293,48 +294,52 @@ abbrev mutual
   marked_path m s (more (index e) rest) =
       marked_tree m e ++ marked_path m (option_and_then (λ t. element_type t integer_shape) s) rest
 
+-- the fields of the record r that the names at some tokens declare
+abbrev pub marked_names : ℕ → List ℕ → List FieldName
+marked_names r xs = map (λ x. record { token = x; owner = r }) xs
+
 -- the fields that a type's text declares; k is the ordinal of its first ARRAY or RECORD,
 -- and r that of the group's record
 abbrev mutual
   -- in a type as it is written; a length declares none
-  pub marked_type : ℕ → Tree ℕ written_type → List (ℕ × ℕ)
+  pub marked_type : ℕ → Tree ℕ written_type → List FieldName
   marked_type k (named_type x) = []
   marked_type k (array_type e t) = marked_type (suc k) t
   marked_type k (record_type g rest) =
       marked_group k (suc k) g ++ marked_groups k (suc k + group_constructors g) rest
 
   -- the fields of a group, which are of the record r, and those that their type declares
-  pub marked_group : ℕ → ℕ → Tree ℕ fields → List (ℕ × ℕ)
+  pub marked_group : ℕ → ℕ → Tree ℕ fields → List FieldName
   marked_group r k no_fields = []
-  marked_group r k (some_fields ns t) = map (λ x. (x, r)) (names_listed ns) ++ marked_type k t
+  marked_group r k (some_fields ns t) = marked_names r (names_listed ns) ++ marked_type k t
 
   -- further groups of fields of the record r
-  pub marked_groups : ℕ → ℕ → Tree ℕ (items further_fields) → List (ℕ × ℕ)
+  pub marked_groups : ℕ → ℕ → Tree ℕ (items further_fields) → List FieldName
   marked_groups r k end = []
   marked_groups r k (more (then_fields g) rest) =
       marked_group r k g ++ marked_groups r (k + group_constructors g) rest
 
 -- the fields that are declared in declarations of types
-abbrev pub marked_types : ℕ → Tree ℕ (items type_name) → List (ℕ × ℕ)
+abbrev pub marked_types : ℕ → Tree ℕ (items type_name) → List FieldName
 marked_types k end = []
 marked_types k (more (declares_type x u) ds) =
     marked_type k u ++ marked_types (k + constructors u) ds
 
 -- the fields that are declared with variables
-abbrev pub marked_variables : ℕ → Tree ℕ (items variable) → List (ℕ × ℕ)
+abbrev pub marked_variables : ℕ → Tree ℕ (items variable) → List FieldName
 marked_variables k end = []
 marked_variables k (more (declares_variable ns u) gs) =
     marked_type k u ++ marked_variables (k + constructors u) gs
 
 -- the fields that are declared with parameters
-abbrev pub marked_sections : ℕ → Tree ℕ (items further_section) → List (ℕ × ℕ)
+abbrev pub marked_sections : ℕ → Tree ℕ (items further_section) → List FieldName
 marked_sections k end = []
 marked_sections k (more (then_section f) fs) =
     marked_type k (section_type f) ++ marked_sections (k + constructors (section_type f)) fs
 
 abbrev mutual
   -- the fields that a block declares and selects; k is the ordinal of the first ARRAY or RECORD
-  pub marked_block : {P : Type 0} → Meanings ℕ Shape P → ℕ → Tree ℕ block → List (ℕ × ℕ)
+  pub marked_block : {P : Type 0} → Meanings ℕ Shape P → ℕ → Tree ℕ block → List FieldName
   marked_block m k (has_body (declares cs ts vs ps) statements) =
       (marked_types k (section_types ts)
       ++ (marked_variables (after_types k (has_body (declares cs ts vs ps) statements))
@@ -347,7 +352,7 @@ abbrev mutual
       → Meanings ℕ Shape P
       → ℕ
       → Tree ℕ (items procedure)
-      → List (ℕ × ℕ)
+      → List FieldName
   marked_procedures m k end = []
   marked_procedures m k (more p rest) =
       marked_procedure m k p ++ marked_procedures m (k + procedure_constructors p) rest
@@ -357,13 +362,13 @@ abbrev mutual
       → Meanings ℕ Shape P
       → ℕ
       → Tree ℕ (item procedure)
-      → List (ℕ × ℕ)
+      → List FieldName
   marked_procedure m k (declares_procedure x fs b closing) =
       marked_sections k (formal_sections fs)
       ++ marked_block m (after_formals k (declares_procedure x fs b closing)) b
 
--- the fields of a module, each with the ordinal of its record
-abbrev pub marked_module : {P : Type 0} → Meanings ℕ Shape P → Tree ℕ module_text → List (ℕ × ℕ)
+-- the fields of a module
+abbrev pub marked_module : {P : Type 0} → Meanings ℕ Shape P → Tree ℕ module_text → List FieldName
 marked_module m (is_module x b closing) = marked_block m 0 b
 
 -- The walk finds just the fields among a module's identifiers.

@@ -9,6 +9,7 @@ use Rattle.ob0_types_table.specs.KnownTables.{declared_in, shapes_of}
 use Rattle.ob0_types_table.specs.Tables.{made_shape}
 use Rattle.ob0_language_types.specs.WellTyped.{Signature}
 use Rattle.ob0_language_values.specs.Values.{Shape}
+use Rattle.ob0_types_fields.specs.declared.field_name.FieldName.{FieldName}
 use Rattle.ob0_types_fields.specs.declared.owning.Owning.{Owning}
 use Rattle.ob0_types_fields.specs.Owned.{marked_field, marked_tree, owner, token_objects}
 
@@ -25,6 +26,6 @@ abbrev pub marked_at : {P : Type 0}
     → Meanings ℕ Shape P
     → Option Shape
     → Tree ℕ (item selector)
-    → List (ℕ × ℕ)
+    → List FieldName
 marked_at m s (field x) = marked_field x (owner s (m.written x))
 marked_at m s (index e) = marked_tree m e

@@ -1,25 +1,28 @@
 //! The walk over types that finds the fields that records declare.
 
-ghost use Rattle.std.specs.Prelude.{◌≡◌, ◌≤◌, ◌++◌, ◌+◌, ◌^◌, IfOk, MatchResult, map};
+ghost use Rattle.std.specs.Prelude.{◌≡◌, ◌≤◌, ◌++◌, ◌+◌, ◌^◌, IfOk, MatchResult};
 ghost use Rattle.ob0_language_names.specs.Parts.{formal_sections, names_listed, section_types, section_variables};
 ghost use Rattle.ob0_tree.specs.View.{fields_of, formals_of, names_of, record_in, type_of, types_of, variables_of};
 ghost use Rattle.ob0_language_types.specs.Declarations.{formals_constructors, types_constructors, variables_constructors};
 ghost use Rattle.ob0_language_types.specs.Typing.{constructors, group_constructors};
-ghost use Rattle.ob0_types_fields.specs.Owned.{marked_group, marked_sections, marked_type, marked_types, marked_variables};
+ghost use Rattle.ob0_types_fields.specs.Owned.{marked_group, marked_names, marked_sections, marked_type, marked_types, marked_variables};
 
+use crate::field_name::{FieldName, FieldTokens};
 use ob0_tree::{
     FieldGroup, Fields, Names, RecordType, Section, TypeDeclaration, Variables, WrittenType,
 };
 use std::alloc::AllocError;
 
 /// Notes the names of a group's fields with the ordinal of their record.
-fn names(found: &mut Vec<(usize, usize)>, owner: usize, listed: &Names) -> Result<(), AllocError>
+fn names(found: &mut FieldTokens, owner: usize, listed: &Names) -> Result<(), AllocError>
     ensures { IfOk result (λ _. found.new.items
-        ≡ found.old.items ++ map (λ x. (x, owner)) (names_listed (names_of listed.now))) }
+        ≡ found.old.items ++ marked_names owner (names_listed (names_of listed.now))) }
 {
-    found.push((listed.first, owner))?;
+    let token = listed.first;
+    found.push(FieldName { token, owner })?;
     for name in &listed.more {
-        found.push((*name, owner))?;
+        let token = *name;
+        found.push(FieldName { token, owner })?;
     }
     Ok(())
 }
@@ -43,7 +46,7 @@ fn next_ordinal(made: &mut usize) -> Result<usize, AllocError>
 /// Notes the fields that a type's text declares. `made` is the number of ARRAY and RECORD before it.
 #[cycle(types)]
 pub(crate) fn written_type(
-    found: &mut Vec<(usize, usize)>,
+    found: &mut FieldTokens,
     made: &mut usize,
     t: &WrittenType,
 ) -> Result<(), AllocError>
@@ -63,11 +66,7 @@ pub(crate) fn written_type(
 }
 
 #[cycle(types)]
-fn record(
-    found: &mut Vec<(usize, usize)>,
-    made: &mut usize,
-    r: &RecordType,
-) -> Result<(), AllocError>
+fn record(found: &mut FieldTokens, made: &mut usize, r: &RecordType) -> Result<(), AllocError>
     ensures found { IfOk result (λ _. found.new.items
         ≡ found.old.items ++ marked_type made.old (record_in r.now)) }
     ensures made { IfOk result
@@ -82,7 +81,7 @@ fn record(
 
 #[cycle(types)]
 fn fields(
-    found: &mut Vec<(usize, usize)>,
+    found: &mut FieldTokens,
     made: &mut usize,
     owner: usize,
     f: &Fields,
@@ -104,7 +103,7 @@ fn fields(
 
 /// Notes the fields that the types of a block declare. `made` is the number of ARRAY and RECORD before them.
 pub(crate) fn types(
-    found: &mut Vec<(usize, usize)>,
+    found: &mut FieldTokens,
     made: &mut usize,
     listed: &Option<Vec<TypeDeclaration>>,
 ) -> Result<(), AllocError>
@@ -125,7 +124,7 @@ pub(crate) fn types(
 
 /// Notes the fields that the variables of a block declare. `made` is the number of ARRAY and RECORD before them.
 pub(crate) fn variables(
-    found: &mut Vec<(usize, usize)>,
+    found: &mut FieldTokens,
     made: &mut usize,
     listed: &Option<Vec<Variables>>,
 ) -> Result<(), AllocError>
@@ -147,7 +146,7 @@ pub(crate) fn variables(
 
 /// Notes the fields that formal parameters declare. `made` is the number of ARRAY and RECORD before them.
 pub(crate) fn formals(
-    found: &mut Vec<(usize, usize)>,
+    found: &mut FieldTokens,
     made: &mut usize,
     listed: &Option<Vec<Section>>,
 ) -> Result<(), AllocError>

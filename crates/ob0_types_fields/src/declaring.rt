@@ -6,16 +6,13 @@ ghost use Rattle.ob0_language_types.specs.Declarations.{block_constructors, proc
 ghost use Rattle.ob0_types_fields.specs.Identifiers.{declared_in_block, declared_in_procedure};
 
 use crate::declared::{formals, types, variables};
+use crate::field_name::FieldTokens;
 use ob0_tree::{Block, Procedure};
 use std::alloc::AllocError;
 
 /// The fields that a block declares, and its procedures. `made` is the number of ARRAY and RECORD before it.
 #[cycle(blocks)]
-pub(crate) fn block(
-    found: &mut Vec<(usize, usize)>,
-    made: &mut usize,
-    b: &Block,
-) -> Result<(), AllocError>
+pub(crate) fn block(found: &mut FieldTokens, made: &mut usize, b: &Block) -> Result<(), AllocError>
     ensures found { IfOk result (λ _. found.new.items
         ≡ found.old.items ++ declared_in_block made.old (block_of b.now)) }
     ensures made { IfOk result
@@ -30,11 +27,7 @@ pub(crate) fn block(
 }
 
 #[cycle(blocks)]
-fn procedure(
-    found: &mut Vec<(usize, usize)>,
-    made: &mut usize,
-    p: &Procedure,
-) -> Result<(), AllocError>
+fn procedure(found: &mut FieldTokens, made: &mut usize, p: &Procedure) -> Result<(), AllocError>
     ensures found { IfOk result (λ _. found.new.items
         ≡ found.old.items ++ declared_in_procedure made.old (procedure_of p.now)) }
     ensures made { IfOk result (λ _. made.new

@@ -4,7 +4,7 @@
 //! gives to the name (`typed_field`). The walk goes through declarations, what they are declared as and the text side
 //! by side, and counts ARRAY and RECORD (`constructed`); no array's length is evaluated again, and no fact is needed on
 //! the ordinals in the checker's table. It takes the search and returns it (`Search`), so its contracts are of one form
-//! (`after_all`), and there is no early return.
+//! (`after_all`); once the type is found, further procedures are passed over.
 
 ghost use Rattle.std.specs.Prelude.{◌≡◌, List, None, option_and_then, option_map};
 ghost use Rattle.ob0_tree.specs.View.{block_of, fields_of, formals_of, procedure_of, record_in, section_of, type_of, types_of, variables_of};
@@ -15,6 +15,7 @@ ghost use Rattle.ob0_language_values.specs.Values.{Shape, integer_shape};
 ghost use Rattle.ob0_types_fields.specs.FieldTypes.{constructed, constructed_by, typed_field_by};
 ghost use Rattle.ob0_types_fields.specs.Search.{after_all, after_one, meanings_in, search_in, sought_in, type_in, typed_field_in};
 
+use crate::field_name::FieldName;
 use ob0_scope_table::Resolved;
 use ob0_tree::{
     Block, FieldGroup, Fields, Procedure, RecordType, Section, TypeDeclaration, Variables,
@@ -29,18 +30,18 @@ pub struct TypedField {
     pub of: TypeId,
 }
 
-/// The field that an identifier is of, by its token and the ordinal of its record: as the RECORD with this ordinal has
-/// it, by the table of declarations.
+/// The field that an identifier is of: as the RECORD with the ordinal of its record has it, by the table of
+/// declarations.
 pub fn typed_field<'a, 't>(
     known: &'a DeclarationTable,
     resolved: &'a Resolved<'t>,
-    identifier: (usize, usize),
+    identifier: FieldName,
 ) -> Option<TypedField>
     ensures { option_map (typed_field_in (shapes_of known.now)) result
         ≡ typed_field_by (declared_in known.now) resolved.now identifier }
 {
-    let base = constructed_type(known, resolved, identifier.1)?;
-    let name = text_at(resolved.tokens(), identifier.0);
+    let base = constructed_type(known, resolved, identifier.owner)?;
+    let name = text_at(resolved.tokens(), identifier.token);
     let field = known.field(base, name)?;
     let of = known.field_type(base, name)?;
     Some(TypedField { field, of })
@@ -244,6 +245,9 @@ impl<'a, 't> ConstructorWalk<'a, 't> {
             ≡ after_all (sought_in self.now search)
             (constructed (meanings_in self.now) None (procedure_of p.now)) }
     {
-        self.block(self.formals(search, &p.formals), &p.block)
+        match search {
+            Search::Found(of) => Search::Found(of),
+            Search::Before(_) => self.block(self.formals(search, &p.formals), &p.block),
+        }
     }
 }

@@ -11,7 +11,7 @@
 //! A list doesn't hold its text, and a token that a text hasn't got has the empty span at its start, so the
 //! clause of `FieldList::at` has a premise (`AreInTextOrder`). A module's fields fulfil it (`fields_ascend`).
 
-ghost use Rattle.std.specs.Prelude.{◌≡◌, ◌++◌, ℕ, List, [], false, true, nat_lt, IfOk};
+ghost use Rattle.std.specs.Prelude.{◌≡◌, ◌++◌, List, [], false, true, nat_lt, IfOk};
 ghost use Rattle.std.specs.List.{position_from};
 ghost use Rattle.std.specs.List.Sorted.{IsNonDecreasingBy, IsPartitionPoint};
 ghost use Rattle.ob0_tree.specs.Parsed.{tree_of};
@@ -19,12 +19,14 @@ ghost use Rattle.ob0_tree.specs.Places.{text_at};
 ghost use Rattle.ob0_tree.specs.View.{body_of};
 ghost use Rattle.ob0_language_names.specs.Names.{same_name};
 ghost use Rattle.ob0_types_table.specs.KnownTables.{declared_in};
+ghost use Rattle.ob0_types_fields.specs.declared.field_name.FieldName.{FieldName};
 ghost use Rattle.ob0_types_fields.specs.Identifiers.{AreInTextOrder, declared_fields, field_on, first, record_tokens, tokens_among};
 ghost use Rattle.ob0_types_fields.specs.Listed.{HasOthersWithin, if_declared, listed_by, written_over};
 ghost use Rattle.ob0_types_fields.specs.Owned.{marked_module, marked_tree, token_objects};
 
 use crate::declaring::block;
-use crate::owning::{FieldTokens, Owning};
+use crate::field_name::{FieldName, FieldTokens};
+use crate::owning::Owning;
 use crate::reading::{field_on, first_among, place_among, tokens_among};
 use ob0_scan::Tokens;
 use ob0_scope_table::Resolved;
@@ -33,8 +35,7 @@ use ob0_types_table::DeclarationTable;
 use std::alloc::{AllocError, Global};
 use std::marker::Model;
 
-/// The fields of a module in text order: the identifiers that declare one, and all that declare or select one, by their
-/// tokens. Each comes with the ordinal of its record among the ARRAY and RECORD of the text.
+/// The fields of a module in text order: the identifiers that declare one, and all that declare or select one.
 #[derive(Drop)]
 pub struct FieldList {
     declared: FieldTokens,
@@ -84,7 +85,7 @@ impl FieldList {
         statements: &Option<Vec<Statement>>,
     ) -> Result<FieldList, AllocError>
         ensures declared { IfOk result (λ f. f.declared ≡ self.declared) }
-        ensures all { IfOk result (λ f. (before after : List (ℕ × ℕ))
+        ensures all { IfOk result (λ f. (before after : List FieldName)
             → HasOthersWithin self.all before (marked_tree (token_objects (declared_in known.now)
             resolved.now) (body_of statements.now)) after
             → f.all
@@ -99,9 +100,9 @@ impl FieldList {
         Ok(FieldList { declared, all })
     }
 
-    /// The field that a place is on, where it lies in an identifier of the field or at its end: the identifier's token,
-    /// and the ordinal of the field's record. The tokens are those of the text that the fields are in.
-    pub fn at(&self, tokens: &Tokens, offset: usize) -> Option<(usize, usize)>
+    /// The field that a place is on, where it lies in an identifier of the field or at its end: that identifier. The
+    /// tokens are those of the text that the fields are in.
+    pub fn at(&self, tokens: &Tokens, offset: usize) -> Option<FieldName>
         ensures { AreInTextOrder tokens.now self.now.all
             → result ≡ field_on tokens.now offset self.now.all }
     {
@@ -141,30 +142,30 @@ impl FieldList {
 }
 
 /// Writes fields over those of a list that are at their tokens.
-fn write_at_tokens(all: &mut FieldTokens, found: &[(usize, usize)])
-    ensures { (before after : List (ℕ × ℕ)) → HasOthersWithin all.old.items before found.now after
+fn write_at_tokens(all: &mut FieldTokens, found: &[FieldName])
+    ensures { (before after : List FieldName) → HasOthersWithin all.old.items before found.now after
         → all.new.items ≡ before ++ (found.now ++ after) }
 {
     match found.first() {
         None => (),
         Some(first) => {
-            let start = count_before(all, first.0);
+            let start = count_before(all, first.token);
             write_over(all, start, found);
         }
     }
 }
 
 /// How many fields of a list come before a token.
-fn count_before(all: &[(usize, usize)], token: usize) -> usize
-    ensures { IsNonDecreasingBy (λ x. x.0) all.now
-        → IsPartitionPoint (λ x. nat_lt x.0 token ≡ true) (λ x. nat_lt x.0 token ≡ false)
-        all.now result }
+fn count_before(all: &[FieldName], token: usize) -> usize
+    ensures { IsNonDecreasingBy (λ x. x.token) all.now
+        → IsPartitionPoint (λ x. nat_lt x.token token ≡ true)
+        (λ x. nat_lt x.token token ≡ false) all.now result }
 {
-    all.partition_point(|field| field.0 < token)
+    all.partition_point(|field| field.token < token)
 }
 
 /// Writes fields over those of a list from a place on.
-fn write_over(all: &mut FieldTokens, start: usize, found: &[(usize, usize)])
+fn write_over(all: &mut FieldTokens, start: usize, found: &[FieldName])
     ensures { all.new.items ≡ written_over all.old.items start found.now }
 {
     let mut place = start;
@@ -191,7 +192,7 @@ fn all_fields<'a, 't>(
     alloc: Global,
     known: &'a DeclarationTable,
     resolved: &'a Resolved<'t>,
-    declared: &[(usize, usize)],
+    declared: &[FieldName],
 ) -> Result<FieldTokens, AllocError>
     ensures { IfOk result (λ found. found.items
         ≡ if_declared declared.now

@@ -16,6 +16,7 @@ ghost use Rattle.ob0_types_fields.specs.Owned.{marked_field, marked_tree, marked
 ghost use Rattle.ob0_types_fields.specs.Walk.{marked_at, meaning_in, record_shape_in};
 
 use crate::declared::{formals, types, variables};
+use crate::field_name::{FieldName, FieldTokens};
 use ob0_scope_table::Resolved;
 use ob0_tree::{
     Assignment, Block, Call, Compound, Designator, Elsif, Expression, Factor, If, Procedure,
@@ -23,9 +24,6 @@ use ob0_tree::{
 };
 use ob0_types_table::{DeclarationTable, Object, Parts, RecordShape, TypeId, scalar_type};
 use std::alloc::AllocError;
-
-/// Tokens of fields, each with the ordinal of its record.
-pub(crate) type FieldTokens = Vec<(usize, usize)>;
 
 /// A module with the table of its declarations.
 #[derive(Clone, Copy)]
@@ -100,7 +98,8 @@ impl<'a, 't> Owning<'a, 't> {
         match shape.fields.find(text_at(self.resolved.tokens(), name)) {
             None => Ok(None),
             Some(of) => {
-                found.push((name, shape.ordinal))?;
+                let owner = shape.ordinal;
+                found.push(FieldName { token: name, owner })?;
                 Ok(Some(of))
             }
         }

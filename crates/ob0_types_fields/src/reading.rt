@@ -9,18 +9,14 @@ ghost use Rattle.ob0_scope_table.specs.Resolution.{span_at};
 ghost use Rattle.ob0_scope_table.specs.Spans.{is_on};
 ghost use Rattle.ob0_types_fields.specs.Identifiers.{AreInTextOrder, field_on, first, is_field, record_tokens, tokens_among};
 
+use crate::field_name::FieldName;
 use ob0_scan::{Span, Tokens};
-use ob0_scope_table::token_span;
-use ob0_tree::text_at;
+use ob0_scope_table::{is_written, token_span};
 use std::alloc::{AllocError, Global};
 
 /// The first identifier that a place is on. It is found by halving: of identifiers in text order it is the first that
 /// doesn't end before the place, if any.
-pub(crate) fn field_on(
-    tokens: &Tokens,
-    offset: usize,
-    found: &[(usize, usize)],
-) -> Option<(usize, usize)>
+pub(crate) fn field_on(tokens: &Tokens, offset: usize, found: &[FieldName]) -> Option<FieldName>
     ensures { AreInTextOrder tokens.now found.now → result ≡ field_on tokens.now offset found.now }
 {
     // For the proof: what the contract of this call says.
@@ -32,20 +28,20 @@ pub(crate) fn field_on(
 }
 
 /// How many identifiers end before a place.
-fn ended_before(tokens: &Tokens, offset: usize, found: &[(usize, usize)]) -> usize
+fn ended_before(tokens: &Tokens, offset: usize, found: &[FieldName]) -> usize
     ensures bound { result ≤ length found.now }
-    ensures point { IsNonDecreasingBy (λ x. (span_at tokens.now x.0).end) found.now
-        → IsPartitionPoint (λ x. nat_lt (span_at tokens.now x.0).end offset ≡ true)
-        (λ x. nat_lt (span_at tokens.now x.0).end offset ≡ false) found.now result }
+    ensures point { IsNonDecreasingBy (λ x. (span_at tokens.now x.token).end) found.now
+        → IsPartitionPoint (λ x. nat_lt (span_at tokens.now x.token).end offset ≡ true)
+        (λ x. nat_lt (span_at tokens.now x.token).end offset ≡ false) found.now result }
 {
-    found.partition_point(|field| (token_span(tokens, field.0).end as usize) < offset)
+    found.partition_point(|field| (token_span(tokens, field.token).end as usize) < offset)
 }
 
 /// An identifier, where a place is on it.
-fn if_on(tokens: &Tokens, offset: usize, field: (usize, usize)) -> Option<(usize, usize)>
-    ensures { result ≡ (if is_on offset (span_at tokens.now field.0) then Some field else None) }
+fn if_on(tokens: &Tokens, offset: usize, field: FieldName) -> Option<FieldName>
+    ensures { result ≡ (if is_on offset (span_at tokens.now field.token) then Some field else None) }
 {
-    if is_on(offset, token_span(tokens, field.0)) {
+    if is_on(offset, token_span(tokens, field.token)) {
         Some(field)
     } else {
         None
@@ -61,7 +57,7 @@ fn is_on(offset: usize, span: Span) -> bool
 /// The place of the field of this name among those of a record.
 pub(crate) fn place_among(
     tokens: &Tokens,
-    fields: &[(usize, usize)],
+    fields: &[FieldName],
     owner: usize,
     name: &str,
 ) -> Option<usize>
@@ -71,8 +67,8 @@ pub(crate) fn place_among(
 {
     let mut place = 0;
     for field in fields {
-        if field.1 == owner {
-            if is_written(tokens, field.0, name) {
+        if field.owner == owner {
+            if is_written(tokens, field.token, name) {
                 return Some(place);
             }
             place += 1;
@@ -81,17 +77,11 @@ pub(crate) fn place_among(
     None
 }
 
-fn is_written(tokens: &Tokens, token: usize, name: &str) -> bool
-    ensures { result ≡ same_name (text_at tokens.now token) name.now }
-{
-    text_at(tokens, token) == name
-}
-
 /// The tokens of one field among some.
 pub(crate) fn tokens_among(
     alloc: Global,
     tokens: &Tokens,
-    fields: &[(usize, usize)],
+    fields: &[FieldName],
     owner: usize,
     name: &str,
 ) -> Result<Vec<usize>, AllocError>
@@ -101,7 +91,7 @@ pub(crate) fn tokens_among(
     let mut found = Vec::new(alloc);
     for field in fields {
         if is_field(tokens, *field, owner, name) {
-            found.push(field.0)?;
+            found.push(field.token)?;
         }
     }
     Ok(found)
@@ -110,7 +100,7 @@ pub(crate) fn tokens_among(
 /// The first of them.
 pub(crate) fn first_among(
     tokens: &Tokens,
-    fields: &[(usize, usize)],
+    fields: &[FieldName],
     owner: usize,
     name: &str,
 ) -> Option<usize>
@@ -118,14 +108,14 @@ pub(crate) fn first_among(
 {
     for field in fields {
         if is_field(tokens, *field, owner, name) {
-            return Some(field.0);
+            return Some(field.token);
         }
     }
     None
 }
 
-fn is_field(tokens: &Tokens, field: (usize, usize), owner: usize, name: &str) -> bool
+fn is_field(tokens: &Tokens, field: FieldName, owner: usize, name: &str) -> bool
     ensures { result ≡ is_field tokens.now owner name.now field }
 {
-    field.1 == owner && text_at(tokens, field.0) == name
+    field.owner == owner && is_written(tokens, field.token, name)
 }

@@ -20,10 +20,11 @@ use Rattle.ob0_types.specs.declared.meant.Identified.{Identified}
 use Rattle.ob0_types.specs.declared.meant.Meant.{Meant}
 use Rattle.ob0_types.specs.declared.meant.Meant.TheVariants.{Name, Field}
 use Rattle.ob0_types_fields.specs.FieldTypes.{constructed, typed_field_named}
+use Rattle.ob0_types_fields.specs.declared.field_name.FieldName.{FieldName}
 use Rattle.ob0_types_fields.specs.Identifiers.{declared_in_block, field_identifiers, field_on, first, tokens_among}
 use Rattle.ob0_refs.specs.Declarations.{object_hover}
 use Rattle.ob0_refs.specs.Hovers.{field_text, predeclared_text, type_text}
-use Rattle.ob0_refs.specs.Questions.{FieldName, declared_meant, definition_at, field_references, hover_at_place, meant_hover, named_by, named_meant, other_tokens, references_at, renamable_at, renamable_meant}
+use Rattle.ob0_refs.specs.Questions.{declared_meant, definition_at, field_references, hover_at_place, meant_hover, named_by, named_meant, other_tokens, references_at, renamable_at, renamable_meant}
 use Rattle.ob0_refs.specs.Shown.{HoverText}
 use Rattle.ob0_rpc.specs.Requesting.{At}
 use Rattle.ob0_analysis.specs.Analysed.{IsModuleIn}
@@ -73,13 +74,13 @@ module _ (r q : Resolution) (e : Same r.module_read q.module_read) (fields : fie
   -- ---- where it is named
 
   field_referred : (x : FieldName) (include : Bool) → field_references r x include ≡ field_references q x include
-  field_referred x true = λ i. tokens_among (e.source i) x.1 (text_at (e.source i) x.0) (fields i)
+  field_referred x true = λ i. tokens_among (e.source i) x.owner (text_at (e.source i) x.token) (fields i)
   field_referred x false = λ i.
-      other_tokens (first (tokens_among (e.source i) x.1 (text_at (e.source i) x.0) (declared_in_block 0 (module_block (e.tree i))))) (tokens_among (e.source i) x.1 (text_at (e.source i) x.0) (fields i))
+      other_tokens (first (tokens_among (e.source i) x.owner (text_at (e.source i) x.token) (declared_in_block 0 (module_block (e.tree i))))) (tokens_among (e.source i) x.owner (text_at (e.source i) x.token) (fields i))
 
   named_one : (include : Bool) (token : ℕ) (x : Meant) → named_meant r include token x ≡ named_meant q include token x
   named_one include token (Name ordinal) = λ i. map (span_at (e.source i)) (map (λ s. s.0.1) (filter (refers include ordinal) (identifiers_of (e.source i) (e.tree i))))
-  named_one include token (Field k) = λ i. map (span_at (e.source i)) (field_referred (token, k) include i)
+  named_one include token (Field k) = λ i. map (span_at (e.source i)) (field_referred (record { token = token; owner = k }) include i)
 
   named_in_one : (include : Bool) (found : Option Identified) → named_by r include found ≡ named_by q include found
   named_in_one include None = refl

@@ -4,12 +4,13 @@ use Rattle.ob0_scan.specs.Scanned.{Scanned}
 use Rattle.ob0_tree.specs.Order.{IsIdentifierToken}
 use Rattle.ob0_tree.specs.Parsed.{IsParsed}
 use Rattle.ob0_scope_table.specs.Resolution.{Resolution}
+use Rattle.ob0_types_fields.specs.declared.field_name.FieldName.{FieldName}
 use Rattle.ob0_types_fields.specs.Identifiers.{AreInTextOrder, field_at, field_identifiers, field_on}
 use Rattle.ob0_types_fields.proofs.FieldTokens.{field_is_identifier, fields_ascend, fields_are_identifiers}
 use Rattle.ob0_types.proofs.fields.field_at.Goals as goal
 
 -- the fields of a module are in text order
-found_at : (r : Resolution) (source : Scanned) (xs : List (ℕ × ℕ)) (offset : ℕ) (found : Option (ℕ × ℕ)) → IsParsed r.module_read
+found_at : (r : Resolution) (source : Scanned) (xs : List FieldName) (offset : ℕ) (found : Option FieldName) → IsParsed r.module_read
     → source ≡ r.module_read.source → xs ≡ field_identifiers r → (AreInTextOrder source xs → found ≡ field_on source offset xs) → found ≡ field_at r offset
 found_at r source xs offset found parsed read all on =
     on (subst (λ s. AreInTextOrder s xs) (sym read) (subst (AreInTextOrder r.module_read.source) (sym all) (fields_ascend r parsed)))
@@ -27,5 +28,5 @@ returns-clause-are_identifiers c =
     let parsed = c.resolved-names.ensures.well_typed.resolved.parsed in
     let source = c.tokens.ensures ∙ ap (λ (r : Resolution). r.module_read.source) c.resolved-names.ensures.value in
     let same = found_at r _ _ c.args.offset _ parsed source c.fields.ensures.1 c.at.ensures in
-    subst (λ found. IfSome found (λ x. IsIdentifierToken r.module_read.source.tokens x.0)) (sym same)
+    subst (λ found. IfSome found (λ x. IsIdentifierToken r.module_read.source.tokens x.token)) (sym same)
     (field_is_identifier r.module_read.source r.module_read.source.tokens c.args.offset (field_identifiers r) (fields_are_identifiers r parsed))

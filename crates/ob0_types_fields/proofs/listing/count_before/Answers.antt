@@ -6,6 +6,6 @@ use Rattle.ob0_types_fields.proofs.listing.count_before.Goals as goal
 pub returns : goal.returns
 returns c =
     λ rise.
-    IsPartitionPoint-from_clause (λ x. nat_lt x.0 c.args.token) _ _ c.partition_point.ensures.partitioned
-    (IsPartitionedBy-ltb (λ x. x.0) c.args.all.now c.args.token rise)
+    IsPartitionPoint-from_clause (λ x. nat_lt x.token c.args.token) _ _ c.partition_point.ensures.partitioned
+    (IsPartitionedBy-ltb (λ x. x.token) c.args.all.now c.args.token rise)
     (λ a r q k. search rules)

@@ -1,6 +1,7 @@
-use Rattle.std.proofs.Common.{◌≡◌, ℕ, List, true, false, nat_lt, ap, sym, ◌∙◌, subst}
+use Rattle.std.proofs.Common.{◌≡◌, List, true, false, nat_lt, ap, sym, ◌∙◌, subst}
 use Rattle.std.specs.List.Sorted.{IsNonDecreasingBy, IsPartitionPoint}
 use Rattle.std.specs.Prelude.{option_copied}
+use Rattle.ob0_types_fields.specs.declared.field_name.FieldName.{FieldName}
 use Rattle.ob0_types_fields.proofs.WrittenOver.{over_others, rise, start_found, without_others}
 use Rattle.ob0_types_fields.proofs.listing.write_at_tokens.Goals as goal
 
@@ -11,8 +12,8 @@ returns-in-Some c =
     let found = c.args.found.now in
     let first = c.in-Some.first.now in
     let here = sym c.first.ensures.value ∙ ap option_copied c.in-Some.is in
-    let rises = subst (λ (xs : List (ℕ × ℕ)). IsNonDecreasingBy (λ x. x.0) xs) (sym c.deref.ensures.value) (rise all before found after h) in
-    let point = subst (λ (xs : List (ℕ × ℕ)). IsPartitionPoint (λ x. nat_lt x.0 first.0 ≡ true) (λ x. nat_lt x.0 first.0 ≡ false) xs c.count_before-start.result) c.deref.ensures.value (c.count_before-start.ensures rises) in
+    let rises = subst (λ (xs : List FieldName). IsNonDecreasingBy (λ x. x.token) xs) (sym c.deref.ensures.value) (rise all before found after h) in
+    let point = subst (λ (xs : List FieldName). IsPartitionPoint (λ x. nat_lt x.token first.token ≡ true) (λ x. nat_lt x.token first.token ≡ false) xs c.count_before-start.result) c.deref.ensures.value (c.count_before-start.ensures rises) in
     c.write_over.ensures ∙ over_others all before found after h c.count_before-start.result (start_found all before found after h first here c.count_before-start.result point)
 
 pub returns-in-None : goal.returns-in-None

@@ -7,6 +7,6 @@ use Rattle.ob0_types_fields.proofs.reading.ended_before.Goals as goal
 pub returns-clause-point : goal.returns-clause-point
 returns-clause-point c =
     λ rise.
-    IsPartitionPoint-from_clause (λ x. nat_lt (span_at c.args.tokens.now x.0).end c.args.offset) _ _ c.partition_point.ensures.partitioned
-    (IsPartitionedBy-ltb (λ x. (span_at c.args.tokens.now x.0).end) c.args.found.now c.args.offset rise)
+    IsPartitionPoint-from_clause (λ x. nat_lt (span_at c.args.tokens.now x.token).end c.args.offset) _ _ c.partition_point.ensures.partitioned
+    (IsPartitionedBy-ltb (λ x. (span_at c.args.tokens.now x.token).end) c.args.found.now c.args.offset rise)
     (λ a r q k. search rules)

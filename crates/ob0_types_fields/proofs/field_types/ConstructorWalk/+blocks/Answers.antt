@@ -4,8 +4,8 @@ use Rattle.ob0_tree.specs.declared.tree.Block.{out-Block}
 use Rattle.ob0_tree.specs.declared.tree.Procedure.{out-Procedure, roll-out-Procedure}
 use Rattle.ob0_tree.specs.View.{block_of, formals_of, items_of, procedure_of, types_of, variables_of}
 use Rattle.ob0_types_fields.specs.FieldTypes.{constructed}
-use Rattle.ob0_types_fields.specs.Search.{after_all, meanings_in, sought_in}
-use Rattle.ob0_types_fields.proofs.ConstructorWalks.{after_both, items_end, items_go_on}
+use Rattle.ob0_types_fields.specs.Search.{after_all, meanings_in, sought_in, type_in}
+use Rattle.ob0_types_fields.proofs.ConstructorWalks.{after_both, found_stays, items_end, items_go_on}
 use Rattle.ob0_types_fields.proofs.field_types.ConstructorWalk.+blocks.Goals as goal
 
 pub block-loop-p-preserved : goal.block-loop-p-preserved
@@ -27,8 +27,14 @@ block-returns t c =
     ∙ sym (after_both start ts (vs ++ ps))
     ∙ ap (λ z. after_all start (constructed m None z)) (sym (block_parts c.args.b.now))
 
-pub procedure-returns : goal.procedure-returns
-procedure-returns t c =
+pub procedure-returns-in-Found : goal.procedure-returns-in-Found
+procedure-returns-in-Found t c =
+    let w = c.args.self.now in
+    let ts = constructed (meanings_in w) None (procedure_of c.args.p.now) in
+    sym (found_stays (type_in w c.in-Found.of) ts) ∙ ap (λ s. after_all (sought_in w s) ts) (sym c.in-Found.is)
+
+pub procedure-returns-in-Before : goal.procedure-returns-in-Before
+procedure-returns-in-Before t c =
     let p = out-Procedure c.args.p.now in
     let m = meanings_in c.args.self.now in
     let start = sought_in c.args.self.now c.args.search in
