@@ -21,6 +21,7 @@ class Function:
 
     def __init__(self, scope: Scope, name: str, words: list[Word], is_pub: bool) -> None:
         self.crate, self.module, self.owner, self.trait = scope.crate, scope.module, scope.owner, scope.trait
+        self.is_of_reference = scope.is_of_reference
         self.impl_words, self.is_test = scope.impl_words, scope.is_test
         self.name, self.is_pub, self.words = name, is_pub, [it.text for it in words]
         self.file, self.first, self.last = scope.file, words[0].line, words[-1].line
@@ -40,7 +41,8 @@ class Function:
     def checked_as(self) -> str:
         """As the checker names it below its crate: a method of a trait belongs to its type and the trait, in one word."""
         of_trait = "".join(it for it in self.impl_words if it != self.owner)
-        inside = [self.owner + of_trait] if self.owner else []
+        owner = f"Ref{self.owner[:1].upper()}{self.owner[1:]}" if self.is_of_reference else self.owner
+        inside = [owner + of_trait] if owner else []
         return "::".join([*(self.module if self.trait else self.home), *inside, self.name])
 
     @property
@@ -69,7 +71,8 @@ class Function:
             return at == self.places[0] and rest == "::".join([*([self.owner] if self.owner else []), self.name])
         held, _, last = rest.rpartition("::")
         plain = held.replace("_", "").lower()
-        return last == self.name and all(it.replace("_", "").lower() in plain for it in self.impl_words)
+        is_met = last == self.name and all(it.replace("_", "").lower() in plain for it in self.impl_words)
+        return is_met and (not self.is_of_reference or plain.startswith("ref"))
 
 
 class Word:
@@ -89,9 +92,11 @@ class Scope:
         trait: str = "",
         impl_words: tuple[str, ...] = (),
         is_test: bool = False,
+        is_of_reference: bool = False,
     ) -> None:
         self.crate, self.file, self.module, self.owner, self.trait = crate, file, module, owner, trait
-        self.impl_words, self.is_test = impl_words, is_test
+        # (whether a trait is that of references to the owner)
+        self.impl_words, self.is_test, self.is_of_reference = impl_words, is_test, is_of_reference
 
     def inside(self, **changed: Any) -> Scope:
         given = {**self.__dict__, **changed}
@@ -261,7 +266,10 @@ class Source:
             owner = next((it for it in head[0 if cut is None else cut + 1 :] if it.isidentifier()), "()")
             hidden = {"mut", "dyn", "for", *parameters(generics)}
             said = tuple(it for it in dict.fromkeys(head) if it.isidentifier() and it not in hidden)
-            inner = scope.inside(owner=owner, trait="" if cut is None else head[0], impl_words=() if cut is None else said)
+            of = [] if cut is None else head[cut + 1 :]
+            words_said = () if cut is None else said
+            inner = scope.inside(owner=owner, trait="" if cut is None else head[0], impl_words=words_said)
+            inner.is_of_reference = of[:1] == ["&"] and "[" not in of
         self.items(words[opens + 1 : -1], inner)
 
     def is_public(self, module: Module, name: str) -> bool:
