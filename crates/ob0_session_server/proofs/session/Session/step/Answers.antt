@@ -17,8 +17,8 @@ returns-in-Ok-clause-ok g c =
 
 pub returns-in-Err-clause-err : goal.returns-in-Err-clause-err
 returns-in-Err-clause-err g c = (
-      sym c.next.ensures ∙ c.in-Continue.is,
-      (λ failed.
+  sym c.next.ensures ∙ c.in-Continue.is,
+  (λ failed.
       let alike = rw (ap (λ s. s.phase) c.self.view_is ∙ failed) at c.eq.ensures in let both : true ≡ false = sym alike ∙ c.if-eq.false in cc),
-      refl,
-    )
+  refl,
+)
