@@ -120,7 +120,8 @@ fn run_file<R: Input, O: Output, E: Output>(
     print_outcome(outcome.output.as_slice(), outcome.end, out, err)
 }
 
-/// The program that a text is lowered to; else what is wrong with the text is printed.
+/// The program that a text is lowered to; else what is wrong with the text is printed. The analysis is dropped at once:
+/// a run may take long and needs the program alone.
 fn lower_text<O: Output>(
     alloc: Global,
     text: &str,

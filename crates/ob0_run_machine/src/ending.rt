@@ -4,20 +4,14 @@ ghost use Rattle.std.specs.Prelude.{◌≡◌, Some};
 
 use std::alloc::{AllocError, AllocFailed};
 
-/// How a run ends where it doesn't reach the end of the program.
+/// How a run ends where it doesn't reach the end of the program: each as the case of `End` of that name.
 #[derive(Clone, Copy, PartialEq, Eq, Debug)]
 pub enum Ending {
-    /// A result outside the 32 bits.
     Overflow,
-    /// A divisor below 1.
     Divisor,
-    /// An index outside its array.
     Index,
-    /// Nothing left to read.
     InputEnd,
-    /// A call more than may be open.
     CallBound,
-    /// An iteration more than an execution of a loop may make.
     TurnBound,
 }
 
