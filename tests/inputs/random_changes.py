@@ -88,6 +88,22 @@ def word_at(text: str, chance: random.Random) -> tuple[int, int, str]:
     return lexeme.start(), lexeme.end(), chance.choice([*chance.choices(others, k=3), lexeme[0] + "1", "7" if lexeme[0].isdigit() else "q"])
 
 
+OPENING = {";", "BEGIN", "DO", "THEN", "ELSE", "REPEAT"}  # lexemes after which a statement can be put
+
+
+def statement_at(text: str, chance: random.Random) -> tuple[int, int, str]:
+    """A place before a statement, and another one that is put there, over names of the text or one that nothing declares."""
+    found = list(LEXEME.finditer(text))
+    places = [it.end() for it in found if it[0] in OPENING]
+    names = [it[0] for it in found if it[0][0].isalpha() and not it[0].isupper()]
+    if not places or not names:
+        return blank_at(text, chance)
+    one, other = chance.choice(names), chance.choice([*chance.choices(names, k=3), "1", "q"])
+    place = chance.choice(places)
+    new = [f"{one} := {other}", f"{one} := {one} + {other}", one, f"WHILE {one} < {other} DO {one} := {one} + 1 END", f"IF {one} = 1 THEN {one} END"]
+    return place, place, f" {chance.choice(new)};"
+
+
 def replacement(text: str, chance: random.Random) -> str:
     """What is put in: nothing, a piece, or a lexeme or a part of the text."""
     way = chance.random()
@@ -123,10 +139,12 @@ class Edited:
             start, new, old = self.undo.pop()
             return self.put(start, start + len(new), old)
         way = self.chance.random()
-        if way < 0.25:
+        if way < 0.22:
             start, end, new = blank_at(self.text, self.chance)
-        elif way < 0.7:
+        elif way < 0.6:
             start, end, new = word_at(self.text, self.chance)
+        elif way < 0.78:
+            start, end, new = statement_at(self.text, self.chance)
         else:
             start, end = at_random(self.text, self.chance)
             new = replacement(self.text, self.chance)
@@ -189,6 +207,8 @@ def converse(seed: int) -> Counter[str]:
             now = ways.lexed(edited.text)
             way, body = ways.way_of(last, now)
             found.update([way, *(["no fault"] if not published else [])])
+            if way == ways.STATEMENTS and not before and not published:
+                found["statements without a fault"] += 1
             if body:
                 # (the text before had as many lines, and its faults were at the lines where they are now)
                 found.update(ways.faults_about(before, edited.text, body))
@@ -208,13 +228,14 @@ def figures(conversations: list[Counter[str]]) -> str:
     """What conversations gave, as a line."""
     found: Counter[str] = sum(conversations, collections.Counter())
     count = len(conversations) * STEPS
-    missing = [it for it in ["no fault", *KINDS] if not found[it]]
+    missing = [it for it in ["no fault", "statements without a fault", *KINDS] if not found[it]]
     holds(count < 1000 or not missing, f"of {count:,} changes none was {missing}")
     short = sum(found[it] for it in ways.SHORT)
     holds(count < 1000 or short * 2 > count, f"of {count:,} changes only {short:,} leave what is known but for one body")
-    kinds = ", ".join(f"{found[it]:,} {it}" for it in KINDS[:6])
-    faults = ", ".join(f"{found[it]:,} of {it}" for it in KINDS[6:])
+    kinds = ", ".join(f"{found[it]:,} {it}" for it in KINDS[:7])
+    faults = ", ".join(f"{found[it]:,} of {it}" for it in KINDS[7:])
     return (f"{count:,} changes, after each what a new server says: {found['no fault']:,} texts without a fault; {kinds}; "
+            f"of the other statements {found['statements without a fault']:,} with no fault before and after; "
             f"those in one body beside faults: {faults}")
 
 

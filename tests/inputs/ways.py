@@ -1,6 +1,6 @@
 """What can stay of an analysis after a change, by the rule of docs/ARCHITECTURE.md ("What is kept of a text"): all that is known
 where the tokens are written as they were; the tree or the refusal where they are of the kinds that they were, and then all bodies
-but one where the change lies in that one."""
+but one where the change lies in that one; and all else where the statements of one body were replaced by others."""
 from __future__ import annotations
 
 from typing import List, NamedTuple, Optional
@@ -9,9 +9,9 @@ from harness import Message
 from reference.parser import Node, Parser, Refused
 from reference.scanner import Token, scan
 
-WORDS, BODY, REFUSED = "written as before", "in one body", "refused alike"
+WORDS, BODY, REFUSED, STATEMENTS = "written as before", "in one body", "refused alike", "other statements in one body"
 DECLARATIONS, TOKENS, LEXEMES = "not in one body", "other tokens", "faults of lexemes"
-SHORT = (WORDS, BODY, REFUSED)
+SHORT = (WORDS, BODY, REFUSED, STATEMENTS)
 
 
 class Lexed(NamedTuple):
@@ -60,12 +60,38 @@ def changed_body(old: Lexed, new: Lexed) -> tuple[str, Optional[Body]]:
     return (BODY, inside[0]) if inside else (DECLARATIONS, None)
 
 
+def common(one: List[Token], other: List[Token]) -> int:
+    """How many tokens both have in common at the beginning."""
+    count = 0
+    while count < min(len(one), len(other)) and (one[count].kind, one[count].text) == (other[count].kind, other[count].text):
+        count += 1
+    return count
+
+
+def is_inside(text: Lexed, body: Body, first: int, end: int) -> bool:
+    """Whether some tokens, from the one with the number `first` on, lie between a body's first identifier and its END."""
+    inside = [at for at, it in enumerate(text.tokens) if body.start <= it.start and it.end <= body.end]
+    names = [at for at in inside if text.tokens[at].kind == "ident"]
+    return bool(names) and names[0] < first and end <= inside[-1]
+
+
+def are_statements(old: Lexed, new: Lexed) -> bool:
+    """Whether the texts differ in the statements of one body."""
+    trees = tree_of(old), tree_of(new)
+    if trees[0] is None or trees[1] is None:
+        return False
+    first = common(old.tokens, new.tokens)
+    following = min(common(old.tokens[::-1], new.tokens[::-1]), len(old.tokens) - first, len(new.tokens) - first)
+    return all(any(is_inside(text, body, first, len(text.tokens) - following) for body in bodies(tree))
+               for text, tree in zip((old, new), (trees[0], trees[1])))
+
+
 def way_of(old: Optional[Lexed], new: Optional[Lexed]) -> tuple[str, Optional[Body]]:
     """What can stay of the analysis of the last text that had lexemes, and the body in which the change lies, if it lies in one."""
     if old is None or new is None:
         return LEXEMES, None
     if [it.kind for it in old.tokens] != [it.kind for it in new.tokens]:
-        return TOKENS, None
+        return (STATEMENTS if are_statements(old, new) else TOKENS), None
     if [it.text for it in old.tokens] == [it.text for it in new.tokens]:
         return WORDS, None
     return changed_body(old, new)
