@@ -7,3 +7,4 @@ pub mod InLabels
 pub mod FaultTokens
 pub mod BodyAlone
 pub mod OneBody
+pub mod BodyReplaced
