@@ -1,19 +1,16 @@
 -- A module in which the statements of one body were replaced: without them a tree under other names is the tree without
 -- them under these names; all its tokens lie outside what was replaced, and are written as they were.
-use Rattle.std.proofs.Common.{◌≡◌, ℕ, zero, suc, true, List, [], ◌∷◌, Option, Some, None, length, option_map, slice_get, refl, sym, ap, ◌∙◌, subst}
-use Rattle.std.proofs.lemmas.Option.{slice_get-map}
-use Rattle.ob0_scan.specs.Reused.{words_in}
-use Rattle.ob0_scan.specs.Scanned.{Scanned, Word, read_in}
-use Rattle.ob0_scan.specs.declared.lexeme.Token.{Token}
+use Rattle.std.proofs.Common.{◌≡◌, ℕ, zero, suc, true, [], ◌∷◌, length, refl, sym, ap, ◌∙◌, subst}
 use Rattle.ob0_scan.specs.declared.tokens.SameTokens.{SameTokens}
 use Rattle.ob0_tree.specs.Parsed.{Parsed, tree_of}
-use Rattle.ob0_tree.specs.Places.{named, text_at, text_in, value_at, value_in, value_of}
+use Rattle.ob0_tree.specs.Places.{named, text_at, value_at}
 use Rattle.ob0_tree.specs.Tree.{Tree, block, body, declares, declares_procedure, end, has_body, is_module, item, items, mapped, maybe, module_text, more, none, procedure}
 use Rattle.ob0_scope_table.specs.BodyAlone.{EachToken}
 use Rattle.ob0_scope_table.specs.BodyReplaced.{IsBodyReplaced, Way, block_without, moved, procedure_without, procedures_without, way_to, without}
 use Rattle.ob0_scope_table.specs.OneBody.{is_out}
 use Rattle.ob0_scope_table.proofs.BodyOutside.{module_outside}
 use Rattle.ob0_scope_table.proofs.MappedAlike.{mapped_alike, mapped_mapped}
+use Rattle.ob0_scope_table.proofs.OneBody.{text_by_word, value_by_word, word_text, word_value}
 use Rattle.ob0_scope_table.proofs.Placed.{places_ascend}
 
 -- ---- a tree under other names
@@ -39,37 +36,6 @@ module _ {N M : Type 0} (f : N → M) (g : ℕ → ℕ) where
 pub without_mapped : {N M : Type 0} (f : N → M) (g : ℕ → ℕ) (way : Way) (t : Tree N module_text) → without way (mapped f g t) ≡ mapped f g (without way t)
 without_mapped f g way (is_module x b closing) = ap (λ c. is_module (f x) c (f closing)) (block_without_mapped f g way b)
 
--- ---- how a token is written and its number, by its word
-
-abbrev word_text : Option Word → List ℕ
-word_text None = []
-word_text (Some w) = w.text
-
-abbrev word_value : Option Word → ℕ
-word_value None = 0
-word_value (Some w) = value_of w.kind
-
-by_text : (text : List ℕ) (t : Option Token) → text_in text t ≡ word_text (option_map (read_in text) t)
-by_text text None = refl
-by_text text (Some t) = refl
-
-by_value : (text : List ℕ) (t : Option Token) → value_in t ≡ word_value (option_map (read_in text) t)
-by_value text None = refl
-by_value text (Some t) = refl
-
--- a token of one text and a token of another one that are the same word
-module _ (old new : Scanned) (k j : ℕ) (same : slice_get (words_in new.text new.tokens) j ≡ slice_get (words_in old.text old.tokens) k) where
-  words : option_map (read_in new.text) (slice_get new.tokens j) ≡ option_map (read_in old.text) (slice_get old.tokens k)
-  words = sym (slice_get-map (read_in new.text) new.tokens j) ∙ (same ∙ slice_get-map (read_in old.text) old.tokens k)
-
-  -- are written alike
-  pub text_by_word : text_at new j ≡ text_at old k
-  text_by_word = by_text new.text (slice_get new.tokens j) ∙ (ap word_text words ∙ sym (by_text old.text (slice_get old.tokens k)))
-
-  -- and have one value
-  pub value_by_word : value_at new j ≡ value_at old k
-  value_by_word = by_value new.text (slice_get new.tokens j) ∙ (ap word_value words ∙ sym (by_value old.text (slice_get old.tokens k)))
-
 -- ---- what is outside the body
 
 -- what holds of each token out of the range holds of each of the module but for the body
@@ -81,12 +47,20 @@ outside_each P old new way s r out =
 pub outside_out : (old new : Parsed) (way : Way) (s : SameTokens) → IsBodyReplaced old new way s → EachToken (λ i. is_out s.prefix s.old_suffix i ≡ true) (without way (tree_of old))
 outside_out old new way s r = outside_each (λ i. is_out s.prefix s.old_suffix i ≡ true) old new way s r (λ k e. e)
 
+-- so in the new module, by where the range is now
+pub outside_new : (P : ℕ → Type 0) (old new : Parsed) (way : Way) (s : SameTokens) → IsBodyReplaced old new way s → ((k : ℕ) → is_out s.prefix s.new_suffix k ≡ true → P k) → EachToken P (without way (tree_of new))
+outside_new P old new way s r out =
+    subst (λ w. EachToken P (without w (tree_of new))) r.new_way
+    (module_outside s.prefix s.new_suffix P out 0 (length new.source.tokens) (tree_of new) (places_ascend new r.new_parsed) r.new_in_body)
+
 -- a token out of the range is written as it was, where it is now, and has the value that it had
 pub text_moved : (old new : Parsed) (way : Way) (s : SameTokens) → IsBodyReplaced old new way s → (k : ℕ) → is_out s.prefix s.old_suffix k ≡ true → text_at new.source (moved s k) ≡ text_at old.source k
-text_moved old new way s r k e = text_by_word old.source new.source k (moved s k) (r.words k e)
+text_moved old new way s r k e =
+    text_by_word new.source.text new.source.tokens (moved s k) ∙ (ap word_text (r.words k e) ∙ sym (text_by_word old.source.text old.source.tokens k))
 
 pub value_moved : (old new : Parsed) (way : Way) (s : SameTokens) → IsBodyReplaced old new way s → (k : ℕ) → is_out s.prefix s.old_suffix k ≡ true → value_at new.source (moved s k) ≡ value_at old.source k
-value_moved old new way s r k e = value_by_word old.source new.source k (moved s k) (r.words k e)
+value_moved old new way s r k e =
+    value_by_word new.source.text new.source.tokens (moved s k) ∙ (ap word_value (r.words k e) ∙ sym (value_by_word old.source.text old.source.tokens k))
 
 -- but for the body, both modules have the same names and numbers
 pub names_outside : (old new : Parsed) (way : Way) (s : SameTokens) → IsBodyReplaced old new way s → named new.source (without way (tree_of new)) ≡ named old.source (without way (tree_of old))

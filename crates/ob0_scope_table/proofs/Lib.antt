@@ -9,3 +9,5 @@ pub mod OneBody
 pub mod MappedAlike
 pub mod BodyOutside
 pub mod BodyReplaced
+pub mod BodyPlace
+pub mod Moved
