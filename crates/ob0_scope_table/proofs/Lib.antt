@@ -9,5 +9,5 @@ pub mod OneBody
 pub mod MappedAlike
 pub mod BodyOutside
 pub mod BodyReplaced
-pub mod BodyPlace
+pub mod BodyPlaces
 pub mod Moved

@@ -8,4 +8,4 @@ pub mod FaultTokens
 pub mod BodyAlone
 pub mod OneBody
 pub mod BodyReplaced
-pub mod BodyPlace
+pub mod BodyPlaces

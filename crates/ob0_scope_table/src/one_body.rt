@@ -5,7 +5,7 @@ ghost use Rattle.ob0_tree.specs.Parsed.{tree_of};
 ghost use Rattle.ob0_tree.specs.View.{block_of, body_of, procedure_of};
 ghost use Rattle.ob0_tree.specs.Tree.{identifiers};
 ghost use Rattle.ob0_tree.specs.declared.tree.Role.TheVariants as roles;
-ghost use Rattle.ob0_scope_table.specs.BodyPlace.{body_place, place_if, place_in_block, place_in_procedure, tree_in};
+ghost use Rattle.ob0_scope_table.specs.BodyPlaces.{body_place, place_if, place_in_block, place_in_procedure, tree_in};
 ghost use Rattle.ob0_scope_table.specs.OneBody.{begins_by, is_in_body};
 
 use ob0_tree::walk::{Visitor, body};

@@ -2,7 +2,7 @@ use Rattle.std.proofs.Common.{◌≡◌, IfOk, sym, ap, ◌∙◌, arith}
 use Rattle.std.proofs.lemmas.Result.{MatchResult-weaker}
 use Rattle.ob0_tree.specs.View.{body_of, items_of, procedure_of}
 use Rattle.ob0_tree.specs.declared.tree.Block.{out-Block}
-use Rattle.ob0_scope_table.proofs.BodyPlace.{block_place, in_procedure, in_statements, past_end, past_one, place_among}
+use Rattle.ob0_scope_table.proofs.BodyPlaces.{block_place, in_procedure, in_statements, past_end, past_one, place_among}
 use Rattle.ob0_scope_table.proofs.one_body.+places.Goals as goal
 
 pub place_in_block-returns-then-high-p : goal.place_in_block-returns-then-high-p

@@ -1,7 +1,7 @@
 use Rattle.std.proofs.Common.{◌≡◌, drop}
 use Rattle.ob0_tree.specs.View.{body_of, items_of, procedure_of}
 use Rattle.ob0_tree.specs.declared.tree.Block.{out-Block}
-use Rattle.ob0_scope_table.proofs.BodyPlace.{place_among}
+use Rattle.ob0_scope_table.proofs.BodyPlaces.{place_among}
 use Rattle.ob0_scope_table.proofs.one_body.+places.Given as goal
 
 abbrev pub invariant-place_in_block-loop-p : goal.invariant-place_in_block-loop-p

@@ -1,7 +1,6 @@
 -- Where the body is in which a range of tokens lies: by the procedures of a block, one after the other.
-use Rattle.std.proofs.Common.{◌≡◌, ◌<◌, ◌≤◌, ℕ, zero, suc, ◌+◌, Bool, true, false, ◌&&◌, if◌then◌else◌, nat_le, nat_lt, Option, Some, None, is_some, option_map, List, [], ◌∷◌, length, drop, get_or, refl, sym, ap, ◌∙◌}
+use Rattle.std.proofs.Common.{◌≡◌, ◌<◌, ◌≤◌, ℕ, zero, suc, ◌+◌, Bool, true, false, ◌&&◌, if◌then◌else◌, nat_le, nat_lt, Option, Some, None, is_some, option_map, List, [], ◌∷◌, length, drop, get_or, refl, sym, ap, ◌∙◌, arith}
 use Rattle.std.proofs.lemmas.List.{drop_all, drop_more}
-use Rattle.std.proofs.Math.Option.{some-injective}
 use Rattle.ob0_tree.specs.declared.tree.Role.{Role}
 use Rattle.ob0_tree.specs.declared.tree.Role.TheVariants as role
 use Rattle.ob0_tree.specs.Tree.{Tree, block, body, constants, declares, declares_procedure, end, has_body, identifiers, is_module, item, items, maybe, module_text, more, procedure, type_names, variables}
@@ -9,11 +8,17 @@ use Rattle.ob0_tree.specs.View.{block_of, body_of, constants_of, items_of, proce
 use Rattle.ob0_tree.specs.declared.tree.Block.{Block, out-Block}
 use Rattle.ob0_tree.specs.declared.tree.Procedure.{Procedure, out-Procedure}
 use Rattle.ob0_tree.proofs.Viewed.{block_parts, procedure_parts}
-use Rattle.ob0_scope_table.specs.BodyPlace.{body_place, place_if, place_in_block, place_in_procedure}
+use Rattle.ob0_scope_table.specs.BodyPlaces.{body_place, place_if, place_in_block, place_in_procedure}
 use Rattle.ob0_scope_table.specs.BodyReplaced.{Way, body_at, body_in, body_inside, closing_at, closing_in, closing_inside, first_of, later, way_among, way_in_block, way_in_procedure, way_to}
 use Rattle.ob0_scope_table.specs.OneBody.{begins_by, closing_name, is_in_block, is_in_body, is_in_procedure, is_in_procedures}
 use Rattle.ob0_scope_table.specs.declared.one_body.BodyPlace.{BodyPlace}
 use Rattle.ob0_scope_table.proofs.OneBody.{le_false, le_true, less_false, less_true}
+
+abbrev pub a_place : ℕ → ℕ → Option BodyPlace
+a_place first closing = Some (record { first = first; closing = closing })
+
+some_same : {A : Type 0} (x y : A) → Some x ≡ Some y → x ≡ y
+some_same x y e = ap (λ o. elim o [ Some z ↦ z | None ↦ x ]) e
 
 -- ---- what a place says
 
@@ -27,7 +32,7 @@ place_there : (statements : Tree ℕ (maybe body)) (closing : ℕ) (p : BodyPlac
     → option_map (λ first. record { first = first; closing = closing }) o ≡ Some p → IsPlaceOf true statements closing p
 place_there statements closing p None is e = absurd (cc)
 place_there statements closing p (Some first) is e =
-    let same = some-injective (record { first = first; closing = closing }) p e in
+    let same = some_same (record { first = first; closing = closing }) p e in
     record { is_sought = refl; first = is ∙ ap (λ (q : BodyPlace). Some q.first) same; closes = ap (λ (q : BodyPlace). q.closing) same }
 
 place_read : (sought : Bool) (statements : Tree ℕ (maybe body)) (closing : ℕ) (p : BodyPlace) → place_if sought statements closing ≡ Some p → IsPlaceOf sought statements closing p
@@ -39,12 +44,47 @@ pub body_place_read : (low high : ℕ) (t : Tree ℕ module_text) (p : BodyPlace
     → IsPlaceOf (is_in_body low high t) (body_at (way_to low t) t) (closing_at (way_to low t) t) p
 body_place_read low high t p e = place_read (is_in_body low high t) (body_at (way_to low t) t) (closing_at (way_to low t) t) p e
 
+-- ---- of some statements, by their first identifier
+
+abbrev pub place_by : ℕ → ℕ → List (Role × ℕ) → Option BodyPlace
+place_by low closing xs = if begins_by low xs then option_map (λ first. record { first = first; closing = closing }) (first_of xs) else None
+
+module _ (low closing : ℕ) where
+  by_none : (xs : List (Role × ℕ)) → first_of xs ≡ None → None ≡ place_by low closing xs
+  by_none [] e = refl
+  by_none (x ∷ xs) e = absurd (cc)
+
+  by_after : (xs : List (Role × ℕ)) (first : ℕ) → first_of xs ≡ Some first → low < first → None ≡ place_by low closing xs
+  by_after [] first e less = refl
+  by_after (x ∷ xs) first e less =
+      let same = some_same x.1 first e in
+      ap (λ b. if b then a_place x.1 closing else None) (sym (le_false x.1 low (omega (arith, same, less))))
+
+  by_from : (xs : List (Role × ℕ)) (first : ℕ) → first_of xs ≡ Some first → first ≤ low → a_place first closing ≡ place_by low closing xs
+  by_from [] first e le = absurd (cc)
+  by_from (x ∷ xs) first e le =
+      let same = some_same x.1 first e in
+      ap (λ n. a_place n closing) (sym same) ∙ ap (λ b. if b then a_place x.1 closing else None) (sym (le_true x.1 low (omega (arith, same, le))))
+
+  module _ (statements : Tree ℕ (maybe body)) where
+    abbrev own_place : Option BodyPlace
+    own_place = place_if (begins_by low (identifiers role.Declaring statements)) statements closing
+
+    pub placed_none : first_of (identifiers role.Declaring statements) ≡ None → None ≡ own_place
+    placed_none e = by_none (identifiers role.Declaring statements) e
+
+    pub placed_after : (first : ℕ) → first_of (identifiers role.Declaring statements) ≡ Some first → low < first → None ≡ own_place
+    placed_after first e less = by_after (identifiers role.Declaring statements) first e less
+
+    pub placed_from : (first : ℕ) → first_of (identifiers role.Declaring statements) ≡ Some first → first ≤ low → a_place first closing ≡ own_place
+    placed_from first e le = by_from (identifiers role.Declaring statements) first e le
+
 -- ---- among procedures
 
 closes : (q : Procedure) → closing_name (procedure_of q) ≡ (out-Procedure q).closing
 closes q = ap closing_name (procedure_parts q)
 
-module _ {cs : Tree ℕ (maybe constants)} {ts : Tree ℕ (maybe type_names)} {vs : Tree ℕ (maybe variables)} (p : Tree ℕ (item procedure)) (ps : Tree ℕ (items procedure)) (statements : Tree ℕ (maybe body)) where
+module _ (cs : Tree ℕ (maybe constants)) (ts : Tree ℕ (maybe type_names)) (vs : Tree ℕ (maybe variables)) (p : Tree ℕ (item procedure)) (ps : Tree ℕ (items procedure)) (statements : Tree ℕ (maybe body)) where
   body_later : (way : Way) → body_in (later way) (has_body (declares cs ts vs (more p ps)) statements) ≡ body_in way (has_body (declares cs ts vs ps) statements)
   body_later [] = refl
   body_later (k ∷ way) = refl
@@ -73,8 +113,8 @@ module _ (low high own : ℕ) where
       (closing_in (if z then later (way_among low ps) else zero ∷ way_in_procedure low p) own (has_body (declares cs ts vs (more p ps)) statements))
       ≡ (if z then place_among ps statements else place_reached (closing_name p) p)) [
         | true ↦
-            ap (λ b. place_if (is_in_procedures low high ps statements) b (closing_in (later (way_among low ps)) own (has_body (declares cs ts vs (more p ps)) statements))) (body_later p ps statements (way_among low ps))
-            ∙ (ap (place_if (is_in_procedures low high ps statements) (body_in (way_among low ps) (has_body (declares cs ts vs ps) statements))) (closing_later p ps statements (way_among low ps) own)
+            ap (λ b. place_if (is_in_procedures low high ps statements) b (closing_in (later (way_among low ps)) own (has_body (declares cs ts vs (more p ps)) statements))) (body_later cs ts vs p ps statements (way_among low ps))
+            ∙ (ap (place_if (is_in_procedures low high ps statements) (body_in (way_among low ps) (has_body (declares cs ts vs ps) statements))) (closing_later cs ts vs p ps statements (way_among low ps) own)
             ∙ among_block cs ts vs ps statements)
         | false ↦ refl
       ]
@@ -119,16 +159,13 @@ module _ (low high own : ℕ) where
 
 -- ---- a range has a place exactly where it lies in a body
 
-abbrev a_place : ℕ → ℕ → Option BodyPlace
-a_place first closing = Some (record { first = first; closing = closing })
-
 module _ (low high : ℕ) where
   begins_placed : (own : ℕ) (statements : Tree ℕ (maybe body)) → is_some (place_if (begins_by low (identifiers role.Declaring statements)) statements own) ≡ begins_by low (identifiers role.Declaring statements)
   begins_placed own statements = one (identifiers role.Declaring statements)
     where
-      one : (xs : List (Role × ℕ)) → is_some (if begins_by low xs then option_map (λ first. record { first = first; closing = own }) (first_of xs) else None) ≡ begins_by low xs
+      one : (xs : List (Role × ℕ)) → is_some (place_by low own xs) ≡ begins_by low xs
       one [] = refl
-      one (x ∷ xs) = elim (nat_le x.1 low) as (λ z. is_some (if z then a_place x.1 own else None) ≡ z) [ true ↦ refl | false ↦ refl ]
+      one (x ∷ xs) = elim (nat_le x.1 low) as (λ z. is_some {T = BodyPlace} (if z then a_place x.1 own else None) ≡ z) [ true ↦ refl | false ↦ refl ]
 
   mutual
     among_placed : (own : ℕ) (ps : Tree ℕ (items procedure)) (statements : Tree ℕ (maybe body)) → is_some (place_among low high own ps statements) ≡ is_in_procedures low high ps statements
