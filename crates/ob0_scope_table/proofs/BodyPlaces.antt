@@ -184,3 +184,6 @@ module _ (low high : ℕ) where
 
     procedure_placed : (p : Tree ℕ (item procedure)) → is_some (place_in_procedure low high p) ≡ is_in_procedure low high p
     procedure_placed (declares_procedure x fs b closing) = block_placed closing b
+
+  pub module_placed : (own closing : ℕ) (b : Tree ℕ block) (place : Option BodyPlace) → place ≡ place_in_block low high own b → high ≤ closing → is_some place ≡ (nat_le high closing && is_in_block low high b)
+  module_placed own closing b place e le = ap is_some e ∙ (block_placed own b ∙ ap (λ z. z && is_in_block low high b) (sym (le_true high closing le)))
