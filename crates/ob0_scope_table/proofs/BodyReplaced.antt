@@ -4,9 +4,9 @@ use Rattle.std.proofs.Common.{◌≡◌, ℕ, zero, suc, true, [], ◌∷◌, le
 use Rattle.ob0_scan.specs.declared.tokens.SameTokens.{SameTokens}
 use Rattle.ob0_tree.specs.Parsed.{Parsed, tree_of}
 use Rattle.ob0_tree.specs.Places.{named, text_at, value_at}
-use Rattle.ob0_tree.specs.Tree.{Tree, block, body, declares, declares_procedure, end, has_body, is_module, item, items, mapped, maybe, module_text, more, none, procedure}
+use Rattle.ob0_tree.specs.Tree.{Tree, block, declares, declares_procedure, end, has_body, is_module, item, items, mapped, module_text, more, procedure}
 use Rattle.ob0_scope_table.specs.BodyAlone.{EachToken}
-use Rattle.ob0_scope_table.specs.BodyReplaced.{IsBodyReplaced, Way, block_without, moved, procedure_without, procedures_without, way_to, without}
+use Rattle.ob0_scope_table.specs.BodyReplaced.{IsBodyReplaced, Way, block_without, moved, procedure_without, procedures_without, without}
 use Rattle.ob0_scope_table.specs.OneBody.{is_out}
 use Rattle.ob0_scope_table.proofs.BodyOutside.{module_outside}
 use Rattle.ob0_scope_table.proofs.MappedAlike.{mapped_alike, mapped_mapped}

@@ -10,7 +10,6 @@ use Rattle.ob0_tree.specs.declared.tree.Role.{Role}
 use Rattle.ob0_tree.specs.Visited.{visited_all}
 use Rattle.ob0_scope_table.specs.BodyReplaced.{first_of}
 use Rattle.ob0_scope_table.specs.OneBody.{IsBodyChange, is_out, with_first}
-use Rattle.ob0_scope_table.specs.declared.one_body.First.{First}
 
 -- one that was seen stays the first
 stays_first : (xs : List (Role × ℕ)) (t : ℕ) → (visited_all with_first xs (record { token = Some t })).token ≡ Some t
