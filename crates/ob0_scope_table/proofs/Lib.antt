@@ -6,3 +6,8 @@ pub mod TokenOrder
 pub mod FaultTokens
 pub mod Placed
 pub mod OneBody
+pub mod MappedAlike
+pub mod BodyOutside
+pub mod BodyReplaced
+pub mod BodyPlaces
+pub mod Moved

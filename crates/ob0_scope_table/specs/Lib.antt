@@ -7,3 +7,5 @@ pub mod InLabels
 pub mod FaultTokens
 pub mod BodyAlone
 pub mod OneBody
+pub mod BodyReplaced
+pub mod BodyPlaces

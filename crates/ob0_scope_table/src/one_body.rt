@@ -1,14 +1,15 @@
-//! Whether a range of tokens lies in the statements of one block.
+//! Whether a range of tokens lies in the statements of one block, and where these are.
 
 ghost use Rattle.std.specs.Prelude.{◌≡◌, IfOk};
 ghost use Rattle.ob0_tree.specs.Parsed.{tree_of};
 ghost use Rattle.ob0_tree.specs.View.{block_of, body_of, procedure_of};
 ghost use Rattle.ob0_tree.specs.Tree.{identifiers};
 ghost use Rattle.ob0_tree.specs.declared.tree.Role.TheVariants as roles;
-ghost use Rattle.ob0_scope_table.specs.OneBody.{begins_by, is_in_block, is_in_body, is_in_procedure};
+ghost use Rattle.ob0_scope_table.specs.BodyPlaces.{body_place, place_if, place_in_block, place_in_procedure, tree_in};
+ghost use Rattle.ob0_scope_table.specs.OneBody.{begins_by, is_in_body};
 
 use ob0_tree::walk::{Visitor, body};
-use ob0_tree::{Block, Module, Procedure, Role, Statement};
+use ob0_tree::{Block, Module, ModuleTree, Procedure, Role, Statement};
 use std::alloc::AllocError;
 
 /// The first identifier of a part, once there is one.
@@ -30,6 +31,13 @@ impl Visitor for First {
     }
 }
 
+/// Where a body is: the token of its first identifier, and that of the closing name of its block.
+#[derive(Clone, Copy)]
+pub struct BodyPlace {
+    pub first: usize,
+    pub closing: usize,
+}
+
 /// Whether the tokens from `low` on and before `high` lie in the statements of one block of a module: none before the
 /// first identifier of these, and none after the last.
 pub fn is_in_body(read: &Module<'_>, low: usize, high: usize) -> Result<bool, AllocError>
@@ -38,40 +46,77 @@ pub fn is_in_body(read: &Module<'_>, low: usize, high: usize) -> Result<bool, Al
     if high > read.closing() {
         return Ok(false);
     }
-    is_in_block(read.block(), low, high)
+    let place = place_in_block(read.block(), read.closing(), low, high)?;
+    Ok(place.is_some())
 }
 
-#[cycle(blocks)]
-fn is_in_block(b: &Block, low: usize, high: usize) -> Result<bool, AllocError>
-    ensures { IfOk result (λ lies. lies ≡ is_in_block low high (block_of b.now)) }
+/// The place of the body in which the tokens from `low` on and before `high` lie, if they lie in one.
+pub fn place_of_body(
+    tree: &ModuleTree,
+    low: usize,
+    high: usize,
+) -> Result<Option<BodyPlace>, AllocError>
+    ensures { IfOk result (λ place. place ≡ body_place low high (tree_in tree.now)) }
+{
+    if high > tree.closing {
+        return Ok(None);
+    }
+    place_in_block(&tree.block, tree.closing, low, high)
+}
+
+#[cycle(places)]
+fn place_in_block(
+    b: &Block,
+    closing: usize,
+    low: usize,
+    high: usize,
+) -> Result<Option<BodyPlace>, AllocError>
+    ensures { IfOk result (λ place. place ≡ place_in_block low high closing (block_of b.now)) }
 {
     for p in &b.procedures {
         if p.closing >= low {
             if high > p.closing {
-                return Ok(false);
+                return Ok(None);
             }
-            return is_in_procedure(p, low, high);
+            return place_in_procedure(p, low, high);
         }
     }
-    begins_by(&b.body, low)
+    place_of_statements(&b.body, closing, low)
 }
 
-#[cycle(blocks)]
-fn is_in_procedure(p: &Procedure, low: usize, high: usize) -> Result<bool, AllocError>
-    ensures { IfOk result (λ lies. lies ≡ is_in_procedure low high (procedure_of p.now)) }
+#[cycle(places)]
+fn place_in_procedure(
+    p: &Procedure,
+    low: usize,
+    high: usize,
+) -> Result<Option<BodyPlace>, AllocError>
+    ensures { IfOk result (λ place. place ≡ place_in_procedure low high (procedure_of p.now)) }
 {
-    is_in_block(&p.block, low, high)
+    place_in_block(&p.block, p.closing, low, high)
 }
 
-/// Whether some statements have an identifier, the first of which isn't after a token.
-fn begins_by(statements: &Option<Vec<Statement>>, low: usize) -> Result<bool, AllocError>
-    ensures { IfOk result
-        (λ first. first ≡ begins_by low (identifiers roles.Declaring (body_of statements.now))) }
+/// The place of some statements, if they have an identifier, the first of which isn't after a token.
+fn place_of_statements(
+    statements: &Option<Vec<Statement>>,
+    closing: usize,
+    low: usize,
+) -> Result<Option<BodyPlace>, AllocError>
+    ensures { IfOk result (λ place. place
+        ≡ place_if (begins_by low (identifiers roles.Declaring (body_of statements.now)))
+        (body_of statements.now) closing) }
 {
     let mut first = First { token: None };
     body(&mut first, statements)?;
     match first.token {
-        Some(token) => Ok(token <= low),
-        None => Ok(false),
+        Some(token) => {
+            if token > low {
+                return Ok(None);
+            }
+            Ok(Some(BodyPlace {
+                first: token,
+                closing,
+            }))
+        }
+        None => Ok(None),
     }
 }

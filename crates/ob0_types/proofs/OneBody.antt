@@ -1,17 +1,16 @@
 -- A module whose tokens changed in one body: all its other tokens are as they were, and something was reported only of
 -- bodies that are known.
-use Rattle.std.proofs.Common.{◌≡◌, ℕ, Bool, true, [], ◌∷◌, ◌++◌, List, Option, Some, None, length, option_map, slice_get, refl, sym, ap, ◌∙◌}
+use Rattle.std.proofs.Common.{◌≡◌, ℕ, Bool, true, [], ◌∷◌, ◌++◌, length, refl, sym, ap, ◌∙◌}
 use Rattle.std.proofs.lemmas.List.{length-map}
-use Rattle.std.proofs.lemmas.Option.{slice_get-map}
-use Rattle.ob0_scan.specs.Scanned.{Scanned, Word, read_in}
-use Rattle.ob0_scan.specs.Reused.{valueless, words_in}
+use Rattle.ob0_scan.specs.Reused.{valueless}
 use Rattle.ob0_scan.specs.declared.lexeme.Token.{Token}
 use Rattle.ob0_scan.specs.declared.lexeme.TokenKind.{TokenKind}
 use Rattle.ob0_tree.specs.Parsed.{tree_of}
-use Rattle.ob0_tree.specs.Places.{text_at, text_in, value_at, value_in, value_of}
 use Rattle.ob0_scope_table.specs.Bindings.{resolution_by}
 use Rattle.ob0_scope_table.specs.OneBody.{is_out}
 use Rattle.ob0_scope_table.specs.Resolution.{IsResolution, Resolution}
+use Rattle.ob0_scope_table.proofs.BodyOutside.{module_outside}
+use Rattle.ob0_scope_table.proofs.BodyReplaced.{text_by_word, value_by_word}
 use Rattle.ob0_scope_table.proofs.Placed.{places_ascend}
 use Rattle.ob0_types_check.specs.AlikeBut.{AreAlikeBut, IsAlikeAt}
 use Rattle.ob0_types_check.specs.SomeBodies.{WereFaulty, faulty_bodies, is_among}
@@ -19,33 +18,6 @@ use Rattle.ob0_types.specs.OneBody.{WereTypes, body_in_module, over_text}
 use Rattle.ob0_types.specs.declared.checked.ModuleTypes.{ModuleTypes}
 use Rattle.ob0_types.proofs.Among.{all_weaker, among_further, among_last}
 use Rattle.ob0_types.proofs.BodyFound.{ModuleOutside, module_but, module_found}
-
--- how a token is written and its number, by its word
-abbrev word_text : Option Word → List ℕ
-word_text None = []
-word_text (Some w) = w.text
-
-abbrev word_value : Option Word → ℕ
-word_value None = 0
-word_value (Some w) = value_of w.kind
-
-by_text : (text : List ℕ) (t : Option Token) → text_in text t ≡ word_text (option_map (read_in text) t)
-by_text text None = refl
-by_text text (Some t) = refl
-
-by_value : (text : List ℕ) (t : Option Token) → value_in t ≡ word_value (option_map (read_in text) t)
-by_value text None = refl
-by_value text (Some t) = refl
-
-module _ (old new : Scanned) (k : ℕ) (same : slice_get (words_in new.text new.tokens) k ≡ slice_get (words_in old.text old.tokens) k) where
-  words : option_map (read_in new.text) (slice_get new.tokens k) ≡ option_map (read_in old.text) (slice_get old.tokens k)
-  words = sym (slice_get-map (read_in new.text) new.tokens k) ∙ (same ∙ slice_get-map (read_in old.text) old.tokens k)
-
-  text_same : text_at new k ≡ text_at old k
-  text_same = by_text new.text (slice_get new.tokens k) ∙ (ap word_text words ∙ sym (by_text old.text (slice_get old.tokens k)))
-
-  value_same : value_at new k ≡ value_at old k
-  value_same = by_value new.text (slice_get new.tokens k) ∙ (ap word_value words ∙ sym (by_value old.text (slice_get old.tokens k)))
 
 module _ (r : Resolution) (types : ModuleTypes) (low : ℕ) (w : WereTypes r types low) where
   abbrev pub before : Resolution
@@ -60,12 +32,13 @@ module _ (r : Resolution) (types : ModuleTypes) (low : ℕ) (w : WereTypes r typ
   alike_out : (k : ℕ) → is_out low w.high k ≡ true → IsAlikeAt before r k
   alike_out k e =
       let new = r.module_read.source in
-      record { written = text_same w.old new k (w.change.same_words k e); value = value_same w.old new k (w.change.same_words k e); bound = w.bound k e }
+      record { written = text_by_word w.old new k k (w.change.same_words k e); value = value_by_word w.old new k k (w.change.same_words k e); bound = w.bound k e }
 
   -- what holds of tokens that are alike holds of each but those in that body
   pub alike_outside : (P : ℕ → Type 0) → ((k : ℕ) → IsAlikeAt before r k → P k) → IsResolution r → ModuleOutside P low (tree_of r.module_read)
   alike_outside P holds is =
-      module_found low w.high P (λ k e. holds k (alike_out k e)) 0 (length r.module_read.source.tokens) (tree_of r.module_read) (places_ascend r.module_read is.parsed) w.change.in_body
+      module_found P low (tree_of r.module_read)
+      (module_outside low w.high P (λ k e. holds k (alike_out k e)) 0 (length r.module_read.source.tokens) (tree_of r.module_read) (places_ascend r.module_read is.parsed) w.change.in_body)
 
   pub were_alike : (wanted : ℕ → Bool) → IsResolution r → wanted last_body ≡ true → AreAlikeBut wanted before r
   were_alike wanted is is_wanted =

@@ -1,0 +1,189 @@
+-- Where the body is in which a range of tokens lies: by the procedures of a block, one after the other.
+use Rattle.std.proofs.Common.{◌≡◌, ◌<◌, ◌≤◌, ℕ, zero, ◌+◌, Bool, true, false, ◌&&◌, if◌then◌else◌, nat_le, nat_lt, Option, Some, None, is_some, option_map, List, [], ◌∷◌, length, drop, get_or, refl, sym, ap, ◌∙◌, arith}
+use Rattle.std.proofs.lemmas.List.{drop_all, drop_more}
+use Rattle.ob0_tree.specs.declared.tree.Role.{Role}
+use Rattle.ob0_tree.specs.declared.tree.Role.TheVariants as role
+use Rattle.ob0_tree.specs.Tree.{Tree, block, body, constants, declares, declares_procedure, end, has_body, identifiers, item, items, maybe, module_text, more, procedure, type_names, variables}
+use Rattle.ob0_tree.specs.View.{block_of, body_of, constants_of, items_of, procedure_of, types_of, variables_of}
+use Rattle.ob0_tree.specs.declared.tree.Block.{Block, out-Block}
+use Rattle.ob0_tree.specs.declared.tree.Procedure.{Procedure, out-Procedure}
+use Rattle.ob0_tree.proofs.Viewed.{block_parts, procedure_parts}
+use Rattle.ob0_scope_table.specs.BodyPlaces.{body_place, place_if, place_in_block, place_in_procedure}
+use Rattle.ob0_scope_table.specs.BodyReplaced.{Way, body_at, body_in, body_inside, closing_at, closing_in, closing_inside, first_of, later, way_among, way_in_procedure, way_to}
+use Rattle.ob0_scope_table.specs.OneBody.{begins_by, closing_name, is_in_block, is_in_body, is_in_procedure, is_in_procedures}
+use Rattle.ob0_scope_table.specs.declared.one_body.BodyPlace.{BodyPlace}
+use Rattle.ob0_scope_table.proofs.OneBody.{le_false, le_true, less_false, less_true}
+
+abbrev pub a_place : ℕ → ℕ → Option BodyPlace
+a_place first closing = Some (record { first = first; closing = closing })
+
+some_same : {A : Type 0} (x y : A) → Some x ≡ Some y → x ≡ y
+some_same x y e = ap (λ o. elim o [ Some z ↦ z | None ↦ x ]) e
+
+-- ---- what a place says
+
+-- of a body that is sought, with its closing name
+pub record IsPlaceOf (sought : Bool) (statements : Tree ℕ (maybe body)) (closing : ℕ) (p : BodyPlace) : Type 0 where
+  pub is_sought : sought ≡ true
+  pub first : first_of (identifiers role.Declaring statements) ≡ Some p.first
+  pub closes : closing ≡ p.closing
+
+place_there : (statements : Tree ℕ (maybe body)) (closing : ℕ) (p : BodyPlace) (o : Option ℕ) → first_of (identifiers role.Declaring statements) ≡ o
+    → option_map (λ first. record { first = first; closing = closing }) o ≡ Some p → IsPlaceOf true statements closing p
+place_there statements closing p None is e = absurd (cc)
+place_there statements closing p (Some first) is e =
+    let same = some_same (record { first = first; closing = closing }) p e in
+    record { is_sought = refl; first = is ∙ ap (λ (q : BodyPlace). Some q.first) same; closes = ap (λ (q : BodyPlace). q.closing) same }
+
+place_read : (sought : Bool) (statements : Tree ℕ (maybe body)) (closing : ℕ) (p : BodyPlace) → place_if sought statements closing ≡ Some p → IsPlaceOf sought statements closing p
+place_read true statements closing p e = place_there statements closing p (first_of (identifiers role.Declaring statements)) refl e
+place_read false statements closing p e = absurd (cc)
+
+-- of a module
+pub body_place_read : (low high : ℕ) (t : Tree ℕ module_text) (p : BodyPlace) → body_place low high t ≡ Some p
+    → IsPlaceOf (is_in_body low high t) (body_at (way_to low t) t) (closing_at (way_to low t) t) p
+body_place_read low high t p e = place_read (is_in_body low high t) (body_at (way_to low t) t) (closing_at (way_to low t) t) p e
+
+-- ---- of some statements, by their first identifier
+
+abbrev pub place_by : ℕ → ℕ → List (Role × ℕ) → Option BodyPlace
+place_by low closing xs = if begins_by low xs then option_map (λ first. record { first = first; closing = closing }) (first_of xs) else None
+
+module _ (low closing : ℕ) where
+  by_none : (xs : List (Role × ℕ)) → first_of xs ≡ None → None ≡ place_by low closing xs
+  by_none [] e = refl
+  by_none (x ∷ xs) e = absurd (cc)
+
+  by_after : (xs : List (Role × ℕ)) (first : ℕ) → first_of xs ≡ Some first → low < first → None ≡ place_by low closing xs
+  by_after [] first e less = refl
+  by_after (x ∷ xs) first e less =
+      let same = some_same x.1 first e in
+      ap (λ b. if b then a_place x.1 closing else None) (sym (le_false x.1 low (omega (arith, same, less))))
+
+  by_from : (xs : List (Role × ℕ)) (first : ℕ) → first_of xs ≡ Some first → first ≤ low → a_place first closing ≡ place_by low closing xs
+  by_from [] first e le = absurd (cc)
+  by_from (x ∷ xs) first e le =
+      let same = some_same x.1 first e in
+      ap (λ n. a_place n closing) (sym same) ∙ ap (λ b. if b then a_place x.1 closing else None) (sym (le_true x.1 low (omega (arith, same, le))))
+
+  module _ (statements : Tree ℕ (maybe body)) where
+    abbrev own_place : Option BodyPlace
+    own_place = place_if (begins_by low (identifiers role.Declaring statements)) statements closing
+
+    pub placed_none : first_of (identifiers role.Declaring statements) ≡ None → None ≡ own_place
+    placed_none e = by_none (identifiers role.Declaring statements) e
+
+    pub placed_after : (first : ℕ) → first_of (identifiers role.Declaring statements) ≡ Some first → low < first → None ≡ own_place
+    placed_after first e less = by_after (identifiers role.Declaring statements) first e less
+
+    pub placed_from : (first : ℕ) → first_of (identifiers role.Declaring statements) ≡ Some first → first ≤ low → a_place first closing ≡ own_place
+    placed_from first e le = by_from (identifiers role.Declaring statements) first e le
+
+-- ---- among procedures
+
+closes : (q : Procedure) → closing_name (procedure_of q) ≡ (out-Procedure q).closing
+closes q = ap closing_name (procedure_parts q)
+
+module _ (cs : Tree ℕ (maybe constants)) (ts : Tree ℕ (maybe type_names)) (vs : Tree ℕ (maybe variables)) (p : Tree ℕ (item procedure)) (ps : Tree ℕ (items procedure)) (statements : Tree ℕ (maybe body)) where
+  body_later : (way : Way) → body_in (later way) (has_body (declares cs ts vs (more p ps)) statements) ≡ body_in way (has_body (declares cs ts vs ps) statements)
+  body_later [] = refl
+  body_later (k ∷ way) = refl
+
+  closing_later : (way : Way) (own : ℕ) → closing_in (later way) own (has_body (declares cs ts vs (more p ps)) statements) ≡ closing_in way own (has_body (declares cs ts vs ps) statements)
+  closing_later [] own = refl
+  closing_later (k ∷ way) own = refl
+
+module _ (low high own : ℕ) where
+  -- in a procedure that doesn't close before the range
+  abbrev pub place_reached : ℕ → Tree ℕ (item procedure) → Option BodyPlace
+  place_reached closing p = place_if (nat_le high closing && is_in_procedure low high p) (body_inside (way_in_procedure low p) p) (closing_inside (way_in_procedure low p) p)
+
+  -- in procedures, or in the statements of their block
+  abbrev pub place_among : Tree ℕ (items procedure) → Tree ℕ (maybe body) → Option BodyPlace
+  place_among end statements = place_if (begins_by low (identifiers role.Declaring statements)) statements own
+  place_among (more p ps) statements = if nat_lt (closing_name p) low then place_among ps statements else place_reached (closing_name p) p
+
+  pub among_block : (cs : Tree ℕ (maybe constants)) (ts : Tree ℕ (maybe type_names)) (vs : Tree ℕ (maybe variables)) (ps : Tree ℕ (items procedure)) (statements : Tree ℕ (maybe body))
+      → place_in_block low high own (has_body (declares cs ts vs ps) statements) ≡ place_among ps statements
+  among_block cs ts vs end statements = refl
+  among_block cs ts vs (more p ps) statements =
+      elim (nat_lt (closing_name p) low) as (λ z.
+      place_if (if z then is_in_procedures low high ps statements else nat_le high (closing_name p) && is_in_procedure low high p)
+      (body_in (if z then later (way_among low ps) else zero ∷ way_in_procedure low p) (has_body (declares cs ts vs (more p ps)) statements))
+      (closing_in (if z then later (way_among low ps) else zero ∷ way_in_procedure low p) own (has_body (declares cs ts vs (more p ps)) statements))
+      ≡ (if z then place_among ps statements else place_reached (closing_name p) p)) [
+        | true ↦
+            ap (λ b. place_if (is_in_procedures low high ps statements) b (closing_in (later (way_among low ps)) own (has_body (declares cs ts vs (more p ps)) statements))) (body_later cs ts vs p ps statements (way_among low ps))
+            ∙ (ap (place_if (is_in_procedures low high ps statements) (body_in (way_among low ps) (has_body (declares cs ts vs ps) statements))) (closing_later cs ts vs p ps statements (way_among low ps) own)
+            ∙ among_block cs ts vs ps statements)
+        | false ↦ refl
+      ]
+
+  pub block_place : (b : Block) → place_in_block low high own (block_of b) ≡ place_among (items_of procedure_of (out-Block b).procedures.items) (body_of (out-Block b).body)
+  block_place b =
+      ap (place_in_block low high own) (block_parts b)
+      ∙ among_block (constants_of (out-Block b).constants) (types_of (out-Block b).types) (variables_of (out-Block b).variables) (items_of procedure_of (out-Block b).procedures.items) (body_of (out-Block b).body)
+
+  module _ (statements : Tree ℕ (maybe body)) where
+    -- the place in the procedures from one on, or in the statements
+    abbrev pub place_from : ℕ → List Procedure → Option BodyPlace
+    place_from k xs = place_among (items_of procedure_of (drop k xs)) statements
+
+    one_more : (xs : List Procedure) (k : ℕ) (q : Procedure) → k < length xs → q ≡ get_or xs k q
+        → place_from k xs ≡ (if nat_lt (out-Procedure q).closing low then place_from (k + 1) xs else place_reached (out-Procedure q).closing (procedure_of q))
+    one_more xs k q less here =
+        ap (λ ys. place_among (items_of procedure_of ys) statements) (drop_more xs k q less ∙ ap (λ y. y ∷ drop (k + 1) xs) (sym here))
+        ∙ ap (λ n. if nat_lt n low then place_from (k + 1) xs else place_reached n (procedure_of q)) (closes q)
+
+    pub past_one : (xs : List Procedure) (k : ℕ) (q : Procedure) → k < length xs → q ≡ get_or xs k q → (out-Procedure q).closing < low → place_from (k + 1) xs ≡ place_from k xs
+    past_one xs k q less here past =
+        sym (one_more xs k q less here ∙ ap (λ b. if b then place_from (k + 1) xs else place_reached (out-Procedure q).closing (procedure_of q)) (less_true (out-Procedure q).closing low past))
+
+    in_one : (xs : List Procedure) (k : ℕ) (q : Procedure) → k < length xs → q ≡ get_or xs k q → low ≤ (out-Procedure q).closing → place_from k xs ≡ place_reached (out-Procedure q).closing (procedure_of q)
+    in_one xs k q less here le =
+        one_more xs k q less here ∙ ap (λ b. if b then place_from (k + 1) xs else place_reached (out-Procedure q).closing (procedure_of q)) (less_false (out-Procedure q).closing low le)
+
+    -- it is found at the procedure's place, where a test says whether the range reaches past it
+    at_end : (q : Procedure) (b : Bool) → nat_le high (out-Procedure q).closing ≡ b
+        → place_reached (out-Procedure q).closing (procedure_of q) ≡ place_if (b && is_in_procedure low high (procedure_of q)) (body_inside (way_in_procedure low (procedure_of q)) (procedure_of q)) (closing_inside (way_in_procedure low (procedure_of q)) (procedure_of q))
+    at_end q b e = ap (λ b. place_if (b && is_in_procedure low high (procedure_of q)) (body_inside (way_in_procedure low (procedure_of q)) (procedure_of q)) (closing_inside (way_in_procedure low (procedure_of q)) (procedure_of q))) e
+
+    pub past_end : (xs : List Procedure) (k : ℕ) (q : Procedure) → k < length xs → q ≡ get_or xs k q → low ≤ (out-Procedure q).closing → (out-Procedure q).closing < high → place_from k xs ≡ None
+    past_end xs k q less here le far = in_one xs k q less here le ∙ at_end q false (le_false high (out-Procedure q).closing far)
+
+    pub in_procedure : (xs : List Procedure) (k : ℕ) (q : Procedure) → k < length xs → q ≡ get_or xs k q → low ≤ (out-Procedure q).closing → high ≤ (out-Procedure q).closing → place_from k xs ≡ place_in_procedure low high (procedure_of q)
+    in_procedure xs k q less here le near = in_one xs k q less here le ∙ at_end q true (le_true high (out-Procedure q).closing near)
+
+    pub in_statements : (xs : List Procedure) (k : ℕ) → length xs ≤ k → place_from k xs ≡ place_if (begins_by low (identifiers role.Declaring statements)) statements own
+    in_statements xs k all = ap (λ ys. place_among (items_of procedure_of ys) statements) (drop_all k xs all)
+
+-- ---- a range has a place exactly where it lies in a body
+
+module _ (low high : ℕ) where
+  begins_placed : (own : ℕ) (statements : Tree ℕ (maybe body)) → is_some (place_if (begins_by low (identifiers role.Declaring statements)) statements own) ≡ begins_by low (identifiers role.Declaring statements)
+  begins_placed own statements = one (identifiers role.Declaring statements)
+    where
+      one : (xs : List (Role × ℕ)) → is_some (place_by low own xs) ≡ begins_by low xs
+      one [] = refl
+      one (x ∷ xs) = elim (nat_le x.1 low) as (λ z. is_some {T = BodyPlace} (if z then a_place x.1 own else None) ≡ z) [ true ↦ refl | false ↦ refl ]
+
+  mutual
+    among_placed : (own : ℕ) (ps : Tree ℕ (items procedure)) (statements : Tree ℕ (maybe body)) → is_some (place_among low high own ps statements) ≡ is_in_procedures low high ps statements
+    among_placed own end statements = begins_placed own statements
+    among_placed own (more p ps) statements =
+        elim (nat_lt (closing_name p) low) as (λ z. is_some (if z then place_among low high own ps statements else place_reached low high own (closing_name p) p)
+        ≡ (if z then is_in_procedures low high ps statements else nat_le high (closing_name p) && is_in_procedure low high p)) [
+          | true ↦ among_placed own ps statements
+          | false ↦
+              elim (nat_le high (closing_name p)) as (λ z. is_some (place_if (z && is_in_procedure low high p) (body_inside (way_in_procedure low p) p) (closing_inside (way_in_procedure low p) p))
+              ≡ (z && is_in_procedure low high p)) [ true ↦ procedure_placed p | false ↦ refl ]
+        ]
+
+    pub block_placed : (own : ℕ) (b : Tree ℕ block) → is_some (place_in_block low high own b) ≡ is_in_block low high b
+    block_placed own (has_body (declares cs ts vs ps) statements) = ap is_some (among_block low high own cs ts vs ps statements) ∙ among_placed own ps statements
+
+    procedure_placed : (p : Tree ℕ (item procedure)) → is_some (place_in_procedure low high p) ≡ is_in_procedure low high p
+    procedure_placed (declares_procedure x fs b closing) = block_placed closing b
+
+  pub module_placed : (own closing : ℕ) (b : Tree ℕ block) (place : Option BodyPlace) → place ≡ place_in_block low high own b → high ≤ closing → is_some place ≡ (nat_le high closing && is_in_block low high b)
+  module_placed own closing b place e le = ap is_some e ∙ (block_placed own b ∙ ap (λ z. z && is_in_block low high b) (sym (le_true high closing le)))

@@ -1,0 +1,117 @@
+-- A tree under other names twice, and one under names that are alike for its tokens.
+use Rattle.std.proofs.Common.{◌≡◌, ℕ, refl}
+use Rattle.ob0_tree.specs.Tree.{Sort, Tree, adds, array_type, assigns, begins, branches, calls, compares, declares, declares_constant, declares_constants, declares_procedure, declares_type, declares_types, declares_variable, declares_variables, designator, else_branch, elsif_branch, empty, end, field, has_body, index, integer, is_module, listed, mapped, more, multiplies, named_type, negation, no_arguments, no_fields, no_formals, none, one, parenthesised, product, record_type, relates, repeat_loop, runs, some_arguments, some_fields, some_formals, sum, then_argument, then_fields, then_name, then_section, then_statement, value_section, variable_section, while_loop}
+use Rattle.ob0_scope_table.specs.BodyAlone.{EachToken}
+
+-- under other names twice
+pub mapped_mapped : {N M K : Type 0} {s : Sort} (f : M → K) (g : ℕ → ℕ) (u : N → M) (v : ℕ → ℕ) (t : Tree N s) → mapped f g (mapped u v t) ≡ mapped (λ x. f (u x)) (λ n. g (v n)) t
+mapped_mapped f g u v none = refl
+mapped_mapped f g u v (one t) = λ i. one (mapped_mapped f g u v t i)
+mapped_mapped f g u v end = refl
+mapped_mapped f g u v (more t ts) = λ i. more (mapped_mapped f g u v t i) (mapped_mapped f g u v ts i)
+mapped_mapped f g u v (compares left compared) = λ i. compares (mapped_mapped f g u v left i) (mapped_mapped f g u v compared i)
+mapped_mapped f g u v (relates relation right) = λ i. relates relation (mapped_mapped f g u v right i)
+mapped_mapped f g u v (sum sign first terms) = λ i. sum sign (mapped_mapped f g u v first i) (mapped_mapped f g u v terms i)
+mapped_mapped f g u v (adds operator t) = λ i. adds operator (mapped_mapped f g u v t i)
+mapped_mapped f g u v (product first factors) = λ i. product (mapped_mapped f g u v first i) (mapped_mapped f g u v factors i)
+mapped_mapped f g u v (multiplies operator t) = λ i. multiplies operator (mapped_mapped f g u v t i)
+mapped_mapped f g u v (designator name selectors) = λ i. designator (f (u name)) (mapped_mapped f g u v selectors i)
+mapped_mapped f g u v (integer n) = refl
+mapped_mapped f g u v (parenthesised e) = λ i. parenthesised (mapped_mapped f g u v e i)
+mapped_mapped f g u v (negation t) = λ i. negation (mapped_mapped f g u v t i)
+mapped_mapped f g u v (field name) = refl
+mapped_mapped f g u v (index e) = λ i. index (mapped_mapped f g u v e i)
+mapped_mapped f g u v empty = refl
+mapped_mapped f g u v (assigns name selectors e) = λ i. assigns (f (u name)) (mapped_mapped f g u v selectors i) (mapped_mapped f g u v e i)
+mapped_mapped f g u v (calls name args) = λ i. calls (f (u name)) (mapped_mapped f g u v args i)
+mapped_mapped f g u v (branches condition s elsifs rest) = λ i. branches (mapped_mapped f g u v condition i) (mapped_mapped f g u v s i) (mapped_mapped f g u v elsifs i) (mapped_mapped f g u v rest i)
+mapped_mapped f g u v (while_loop condition s) = λ i. while_loop (mapped_mapped f g u v condition i) (mapped_mapped f g u v s i)
+mapped_mapped f g u v (repeat_loop s condition) = λ i. repeat_loop (mapped_mapped f g u v s i) (mapped_mapped f g u v condition i)
+mapped_mapped f g u v no_arguments = refl
+mapped_mapped f g u v (some_arguments e es) = λ i. some_arguments (mapped_mapped f g u v e i) (mapped_mapped f g u v es i)
+mapped_mapped f g u v (then_argument e) = λ i. then_argument (mapped_mapped f g u v e i)
+mapped_mapped f g u v (runs first statements) = λ i. runs (mapped_mapped f g u v first i) (mapped_mapped f g u v statements i)
+mapped_mapped f g u v (then_statement s) = λ i. then_statement (mapped_mapped f g u v s i)
+mapped_mapped f g u v (elsif_branch condition s) = λ i. elsif_branch (mapped_mapped f g u v condition i) (mapped_mapped f g u v s i)
+mapped_mapped f g u v (else_branch s) = λ i. else_branch (mapped_mapped f g u v s i)
+mapped_mapped f g u v (listed name others) = λ i. listed (f (u name)) (mapped_mapped f g u v others i)
+mapped_mapped f g u v (then_name name) = refl
+mapped_mapped f g u v (named_type name) = refl
+mapped_mapped f g u v (array_type size t) = λ i. array_type (mapped_mapped f g u v size i) (mapped_mapped f g u v t i)
+mapped_mapped f g u v (record_type first others) = λ i. record_type (mapped_mapped f g u v first i) (mapped_mapped f g u v others i)
+mapped_mapped f g u v no_fields = refl
+mapped_mapped f g u v (some_fields ns t) = λ i. some_fields (mapped_mapped f g u v ns i) (mapped_mapped f g u v t i)
+mapped_mapped f g u v (then_fields fs) = λ i. then_fields (mapped_mapped f g u v fs i)
+mapped_mapped f g u v no_formals = refl
+mapped_mapped f g u v (some_formals first others) = λ i. some_formals (mapped_mapped f g u v first i) (mapped_mapped f g u v others i)
+mapped_mapped f g u v (value_section ns t) = λ i. value_section (mapped_mapped f g u v ns i) (mapped_mapped f g u v t i)
+mapped_mapped f g u v (variable_section ns t) = λ i. variable_section (mapped_mapped f g u v ns i) (mapped_mapped f g u v t i)
+mapped_mapped f g u v (then_section s) = λ i. then_section (mapped_mapped f g u v s i)
+mapped_mapped f g u v (declares_constant name e) = λ i. declares_constant (f (u name)) (mapped_mapped f g u v e i)
+mapped_mapped f g u v (declares_constants cs) = λ i. declares_constants (mapped_mapped f g u v cs i)
+mapped_mapped f g u v (declares_type name t) = λ i. declares_type (f (u name)) (mapped_mapped f g u v t i)
+mapped_mapped f g u v (declares_types ts) = λ i. declares_types (mapped_mapped f g u v ts i)
+mapped_mapped f g u v (declares_variable ns t) = λ i. declares_variable (mapped_mapped f g u v ns i) (mapped_mapped f g u v t i)
+mapped_mapped f g u v (declares_variables vs) = λ i. declares_variables (mapped_mapped f g u v vs i)
+mapped_mapped f g u v (declares_procedure name fs b closing) = λ i. declares_procedure (f (u name)) (mapped_mapped f g u v fs i) (mapped_mapped f g u v b i) (f (u closing))
+mapped_mapped f g u v (declares cs ts vs ps) = λ i. declares (mapped_mapped f g u v cs i) (mapped_mapped f g u v ts i) (mapped_mapped f g u v vs i) (mapped_mapped f g u v ps i)
+mapped_mapped f g u v (begins s) = λ i. begins (mapped_mapped f g u v s i)
+mapped_mapped f g u v (has_body ds b) = λ i. has_body (mapped_mapped f g u v ds i) (mapped_mapped f g u v b i)
+mapped_mapped f g u v (is_module name b closing) = λ i. is_module (f (u name)) (mapped_mapped f g u v b i) (f (u closing))
+
+-- under names that are alike for each of its tokens
+module _ {M : Type 0} (P : ℕ → Type 0) (f u : ℕ → M) (g v : ℕ → ℕ) (names : (k : ℕ) → P k → f k ≡ u k) (numbers : (k : ℕ) → P k → g k ≡ v k) where
+  pub mapped_alike : {s : Sort} (t : Tree ℕ s) → EachToken P t → mapped f g t ≡ mapped u v t
+  mapped_alike none h = refl
+  mapped_alike (one t) h = λ i. one (mapped_alike t h i)
+  mapped_alike end h = refl
+  mapped_alike (more t ts) h = λ i. more (mapped_alike t h.0 i) (mapped_alike ts h.1 i)
+  mapped_alike (compares left compared) h = λ i. compares (mapped_alike left h.0 i) (mapped_alike compared h.1 i)
+  mapped_alike (relates relation right) h = λ i. relates relation (mapped_alike right h i)
+  mapped_alike (sum sign first terms) h = λ i. sum sign (mapped_alike first h.0 i) (mapped_alike terms h.1 i)
+  mapped_alike (adds operator t) h = λ i. adds operator (mapped_alike t h i)
+  mapped_alike (product first factors) h = λ i. product (mapped_alike first h.0 i) (mapped_alike factors h.1 i)
+  mapped_alike (multiplies operator t) h = λ i. multiplies operator (mapped_alike t h i)
+  mapped_alike (designator name selectors) h = λ i. designator (names name h.0 i) (mapped_alike selectors h.1 i)
+  mapped_alike (integer n) h = λ i. integer (numbers n h i)
+  mapped_alike (parenthesised e) h = λ i. parenthesised (mapped_alike e h i)
+  mapped_alike (negation t) h = λ i. negation (mapped_alike t h i)
+  mapped_alike (field name) h = λ i. field (names name h i)
+  mapped_alike (index e) h = λ i. index (mapped_alike e h i)
+  mapped_alike empty h = refl
+  mapped_alike (assigns name selectors e) h = λ i. assigns (names name h.0 i) (mapped_alike selectors h.1 i) (mapped_alike e h.2 i)
+  mapped_alike (calls name args) h = λ i. calls (names name h.0 i) (mapped_alike args h.1 i)
+  mapped_alike (branches condition s elsifs rest) h = λ i. branches (mapped_alike condition h.0 i) (mapped_alike s h.1 i) (mapped_alike elsifs h.2 i) (mapped_alike rest h.3 i)
+  mapped_alike (while_loop condition s) h = λ i. while_loop (mapped_alike condition h.0 i) (mapped_alike s h.1 i)
+  mapped_alike (repeat_loop s condition) h = λ i. repeat_loop (mapped_alike s h.0 i) (mapped_alike condition h.1 i)
+  mapped_alike no_arguments h = refl
+  mapped_alike (some_arguments e es) h = λ i. some_arguments (mapped_alike e h.0 i) (mapped_alike es h.1 i)
+  mapped_alike (then_argument e) h = λ i. then_argument (mapped_alike e h i)
+  mapped_alike (runs first statements) h = λ i. runs (mapped_alike first h.0 i) (mapped_alike statements h.1 i)
+  mapped_alike (then_statement s) h = λ i. then_statement (mapped_alike s h i)
+  mapped_alike (elsif_branch condition s) h = λ i. elsif_branch (mapped_alike condition h.0 i) (mapped_alike s h.1 i)
+  mapped_alike (else_branch s) h = λ i. else_branch (mapped_alike s h i)
+  mapped_alike (listed name others) h = λ i. listed (names name h.0 i) (mapped_alike others h.1 i)
+  mapped_alike (then_name name) h = λ i. then_name (names name h i)
+  mapped_alike (named_type name) h = λ i. named_type (names name h i)
+  mapped_alike (array_type size t) h = λ i. array_type (mapped_alike size h.0 i) (mapped_alike t h.1 i)
+  mapped_alike (record_type first others) h = λ i. record_type (mapped_alike first h.0 i) (mapped_alike others h.1 i)
+  mapped_alike no_fields h = refl
+  mapped_alike (some_fields ns t) h = λ i. some_fields (mapped_alike ns h.0 i) (mapped_alike t h.1 i)
+  mapped_alike (then_fields fs) h = λ i. then_fields (mapped_alike fs h i)
+  mapped_alike no_formals h = refl
+  mapped_alike (some_formals first others) h = λ i. some_formals (mapped_alike first h.0 i) (mapped_alike others h.1 i)
+  mapped_alike (value_section ns t) h = λ i. value_section (mapped_alike ns h.0 i) (mapped_alike t h.1 i)
+  mapped_alike (variable_section ns t) h = λ i. variable_section (mapped_alike ns h.0 i) (mapped_alike t h.1 i)
+  mapped_alike (then_section s) h = λ i. then_section (mapped_alike s h i)
+  mapped_alike (declares_constant name e) h = λ i. declares_constant (names name h.0 i) (mapped_alike e h.1 i)
+  mapped_alike (declares_constants cs) h = λ i. declares_constants (mapped_alike cs h i)
+  mapped_alike (declares_type name t) h = λ i. declares_type (names name h.0 i) (mapped_alike t h.1 i)
+  mapped_alike (declares_types ts) h = λ i. declares_types (mapped_alike ts h i)
+  mapped_alike (declares_variable ns t) h = λ i. declares_variable (mapped_alike ns h.0 i) (mapped_alike t h.1 i)
+  mapped_alike (declares_variables vs) h = λ i. declares_variables (mapped_alike vs h i)
+  mapped_alike (declares_procedure name fs b closing) h = λ i. declares_procedure (names name h.0 i) (mapped_alike fs h.1 i) (mapped_alike b h.2 i) (names closing h.3 i)
+  mapped_alike (declares cs ts vs ps) h = λ i. declares (mapped_alike cs h.0 i) (mapped_alike ts h.1 i) (mapped_alike vs h.2 i) (mapped_alike ps h.3 i)
+  mapped_alike (begins s) h = λ i. begins (mapped_alike s h i)
+  mapped_alike (has_body ds b) h = λ i. has_body (mapped_alike ds h.0 i) (mapped_alike b h.1 i)
+  mapped_alike (is_module name b closing) h = λ i. is_module (names name h.0 i) (mapped_alike b h.1 i) (names closing h.2 i)

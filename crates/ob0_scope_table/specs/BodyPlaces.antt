@@ -1,0 +1,39 @@
+-- Where a body is: its first identifier, and the closing name of its block.
+-- Rule: none; for contracts: the body in which a range of tokens lies.
+use Rattle.std.specs.Prelude.{ℕ, Bool, Option, None, if◌then◌else◌, option_map}
+use Rattle.ob0_tree.specs.Tree.{Tree, block, body, identifiers, is_module, item, maybe, module_text, procedure}
+use Rattle.ob0_tree.specs.View.{block_of}
+use Rattle.ob0_tree.specs.declared.tree.ModuleTree.{ModuleTree}
+use Rattle.ob0_tree.specs.declared.tree.Role.TheVariants as role
+use Rattle.ob0_scope_table.specs.BodyReplaced.{body_at, body_in, body_inside, closing_at, closing_in, closing_inside, first_of, way_in_block, way_in_procedure, way_to}
+use Rattle.ob0_scope_table.specs.OneBody.{is_in_block, is_in_body, is_in_procedure}
+use Rattle.ob0_scope_table.specs.declared.one_body.BodyPlace.{BodyPlace}
+
+-- a module's tree alone, over indexes of tokens
+abbrev pub tree_in : ModuleTree → Tree ℕ module_text
+tree_in t = is_module t.name (block_of t.block) t.closing
+
+-- the place of a body with this closing name, if it is the one that is sought and has an identifier
+abbrev pub place_if : Bool → Tree ℕ (maybe body) → ℕ → Option BodyPlace
+place_if sought statements closing =
+    if sought
+    then option_map (λ first. record { first = first; closing = closing }) (first_of (identifiers role.Declaring statements))
+    else None
+
+-- the place of the body in a block with this closing name in which a range of tokens lies, if it
+-- lies in one
+abbrev pub place_in_block : ℕ → ℕ → ℕ → Tree ℕ block → Option BodyPlace
+place_in_block low high closing b =
+    place_if (is_in_block low high b) (body_in (way_in_block low b) b)
+    (closing_in (way_in_block low b) closing b)
+
+-- in a procedure
+abbrev pub place_in_procedure : ℕ → ℕ → Tree ℕ (item procedure) → Option BodyPlace
+place_in_procedure low high p =
+    place_if (is_in_procedure low high p) (body_inside (way_in_procedure low p) p)
+    (closing_inside (way_in_procedure low p) p)
+
+-- in a module
+abbrev pub body_place : ℕ → ℕ → Tree ℕ module_text → Option BodyPlace
+body_place low high t =
+    place_if (is_in_body low high t) (body_at (way_to low t) t) (closing_at (way_to low t) t)

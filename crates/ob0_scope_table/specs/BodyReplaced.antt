@@ -1,0 +1,148 @@
+-- A module in which the statements of one body were replaced, so that it has another number of tokens: how one comes
+-- to that body, the module without it, and what is the same in both.
+-- Rule: none; for contracts: what stays where the tokens of one body are replaced.
+use Rattle.std.specs.Prelude.{◌≡◌, ◌<◌, ◌≤◌, ◌+◌, ◌-◌, ℕ, zero, suc, true, nat_lt, List, [], ◌∷◌, Option, Some, None, if◌then◌else◌, slice_get}
+use Rattle.ob0_scan.specs.Reused.{words_in}
+use Rattle.ob0_scan.specs.Scanned.{IsScan}
+use Rattle.ob0_scan.specs.declared.tokens.SameTokens.{SameTokens}
+use Rattle.ob0_tree.specs.Parsed.{IsParsed, Parsed, tree_of}
+use Rattle.ob0_tree.specs.Tree.{Tree, block, body, declares, declares_procedure, end, has_body, identifiers, is_module, item, items, mapped, maybe, module_text, more, none, procedure}
+use Rattle.ob0_tree.specs.declared.tree.Role.{Role}
+use Rattle.ob0_tree.specs.declared.tree.Role.TheVariants as role
+use Rattle.ob0_scope_table.specs.OneBody.{closing_name, is_in_body, is_out}
+
+-- How one comes to a body: which procedure of each block is entered, counted from 0. After the last
+-- one it is the block's own body.
+abbrev pub Way : Type 0
+Way = List ℕ
+
+-- the same procedure, where one more is before it
+abbrev pub later : Way → Way
+later [] = []
+later (k ∷ way) = suc k ∷ way
+
+-- the way to the body in which a range of tokens lies, from `low` on
+abbrev mutual
+  -- in a block
+  pub way_in_block : ℕ → Tree ℕ block → Way
+  way_in_block low (has_body (declares cs ts vs ps) statements) = way_among low ps
+
+  -- through the first procedure that doesn't close before it, if there is one
+  pub way_among : ℕ → Tree ℕ (items procedure) → Way
+  way_among low end = []
+  way_among low (more p ps) =
+      if nat_lt (closing_name p) low then later (way_among low ps)
+      else zero ∷ way_in_procedure low p
+
+  -- in a procedure
+  pub way_in_procedure : ℕ → Tree ℕ (item procedure) → Way
+  way_in_procedure low (declares_procedure x fs b closing) = way_in_block low b
+
+-- the way in a module
+abbrev pub way_to : ℕ → Tree ℕ module_text → Way
+way_to low (is_module x b closing) = way_in_block low b
+
+-- a tree without the statements to which a way leads
+abbrev mutual
+  -- a block
+  pub block_without : {N : Type 0} → Way → Tree N block → Tree N block
+  block_without [] (has_body ds statements) = has_body ds none
+  block_without (k ∷ way) (has_body (declares cs ts vs ps) statements) =
+      has_body (declares cs ts vs (procedures_without k way ps)) statements
+
+  -- procedures, of which the one with this number is entered
+  pub procedures_without : {N : Type 0}
+      → ℕ
+      → Way
+      → Tree N (items procedure)
+      → Tree N (items procedure)
+  procedures_without k way end = end
+  procedures_without zero way (more p ps) = more (procedure_without way p) ps
+  procedures_without (suc k) way (more p ps) = more p (procedures_without k way ps)
+
+  -- a procedure
+  pub procedure_without : {N : Type 0} → Way → Tree N (item procedure) → Tree N (item procedure)
+  procedure_without way (declares_procedure x fs b closing) =
+      declares_procedure x fs (block_without way b) closing
+
+-- a module without the statements to which a way leads
+abbrev pub without : {N : Type 0} → Way → Tree N module_text → Tree N module_text
+without way (is_module x b closing) = is_module x (block_without way b) closing
+
+-- the statements to which a way leads; none where it leads nowhere
+abbrev mutual
+  -- in a block
+  pub body_in : {N : Type 0} → Way → Tree N block → Tree N (maybe body)
+  body_in [] (has_body ds statements) = statements
+  body_in (k ∷ way) (has_body (declares cs ts vs ps) statements) = body_among k way ps
+
+  -- in the procedure with this number
+  pub body_among : {N : Type 0} → ℕ → Way → Tree N (items procedure) → Tree N (maybe body)
+  body_among k way end = none
+  body_among zero way (more p ps) = body_inside way p
+  body_among (suc k) way (more p ps) = body_among k way ps
+
+  -- in a procedure
+  pub body_inside : {N : Type 0} → Way → Tree N (item procedure) → Tree N (maybe body)
+  body_inside way (declares_procedure x fs b closing) = body_in way b
+
+-- in a module
+abbrev pub body_at : {N : Type 0} → Way → Tree N module_text → Tree N (maybe body)
+body_at way (is_module x b closing) = body_in way b
+
+-- the closing name of the block to whose statements a way leads
+abbrev mutual
+  -- in a block with this closing name
+  pub closing_in : {N : Type 0} → Way → N → Tree N block → N
+  closing_in [] own b = own
+  closing_in (k ∷ way) own (has_body (declares cs ts vs ps) statements) =
+      closing_among k way own ps
+
+  -- in the procedure with this number
+  pub closing_among : {N : Type 0} → ℕ → Way → N → Tree N (items procedure) → N
+  closing_among k way own end = own
+  closing_among zero way own (more p ps) = closing_inside way p
+  closing_among (suc k) way own (more p ps) = closing_among k way own ps
+
+  -- in a procedure
+  pub closing_inside : {N : Type 0} → Way → Tree N (item procedure) → N
+  closing_inside way (declares_procedure x fs b closing) = closing_in way closing b
+
+-- in a module
+abbrev pub closing_at : {N : Type 0} → Way → Tree N module_text → N
+closing_at way (is_module x b closing) = closing_in way closing b
+
+-- the first of some identifiers
+abbrev pub first_of : List (Role × ℕ) → Option ℕ
+first_of [] = None
+first_of (x ∷ xs) = Some x.1
+
+-- where a token is now that isn't one of those replaced
+abbrev pub moved : SameTokens → ℕ → ℕ
+moved s i = if nat_lt i s.prefix then i else s.new_suffix + (i - s.old_suffix)
+
+-- Two modules that are the same but for the statements of one body: the tokens of that from
+-- `prefix` on and before `old_suffix` are replaced by those before `new_suffix`. All other tokens are
+-- moved, and written as they were. The body's first identifier is before the range in both, and its
+-- block's END after it.
+pub record IsBodyReplaced (old new : Parsed) (way : Way) (s : SameTokens) : Type 0 where
+  pub old_range : s.prefix ≤ s.old_suffix
+  pub new_range : s.prefix ≤ s.new_suffix
+  pub old_scan : IsScan old.source
+  pub new_scan : IsScan new.source
+  pub old_parsed : IsParsed old
+  pub new_parsed : IsParsed new
+  pub outside : without way (tree_of new) ≡ mapped (moved s) (moved s) (without way (tree_of old))
+  pub words : (i : ℕ) → is_out s.prefix s.old_suffix i ≡ true
+      → slice_get (words_in new.source.text new.source.tokens) (moved s i)
+      ≡ slice_get (words_in old.source.text old.source.tokens) i
+  pub old_way : way_to s.prefix (tree_of old) ≡ way
+  pub new_way : way_to s.prefix (tree_of new) ≡ way
+  pub old_in_body : is_in_body s.prefix s.old_suffix (tree_of old) ≡ true
+  pub new_in_body : is_in_body s.prefix s.new_suffix (tree_of new) ≡ true
+  pub first : ℕ
+  pub old_first : first_of (identifiers role.Declaring (body_at way (tree_of old))) ≡ Some first
+  pub new_first : first_of (identifiers role.Declaring (body_at way (tree_of new))) ≡ Some first
+  pub front : first < s.prefix
+  pub back : s.old_suffix < closing_at way (tree_of old)
+  pub closing : closing_at way (tree_of new) ≡ moved s (closing_at way (tree_of old))
