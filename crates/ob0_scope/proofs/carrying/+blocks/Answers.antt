@@ -2,8 +2,6 @@ use Rattle.std.proofs.Common.{sym, ap, ◌∙◌, arith}
 use Rattle.ob0_tree.specs.View.{body_of}
 use Rattle.ob0_tree.specs.declared.tree.Block.{out-Block}
 use Rattle.ob0_scope.proofs.Bodies.{Place, block_place, in_one, past_all, past_one}
-use Rattle.ob0_scope.proofs.NewBody.{new_body_bound}
-use Rattle.ob0_scope.proofs.StillOnce.{still_once}
 use Rattle.ob0_scope.proofs.carrying.+blocks.Goals as goal
 
 pub body_in-returns-then-p-low-clause-statements : goal.body_in-returns-then-p-low-clause-statements
