@@ -81,5 +81,6 @@ nothing_left (f ∷ fs) e h = absurd (one (is_of_declarations f) e h)
     one true e h = absurd (cc)
     one false e h = absurd (cc)
 
-pub nothing_twice : (m : Parsed) → declared_once (named_tree_of m) ≡ true → twice_in m ≡ []
-nothing_twice m e = nothing_left (twice_in m) (twice_where m ∙ ap not e) (twice_alone m)
+-- nothing is reported of the declarations of a module where none of some faults is of declarations, of which some are exactly where something is
+pub nothing_twice : (m : Parsed) (known : List Fault) → list_any is_of_declarations known ≡ not (declared_once (named_tree_of m)) → list_any is_of_declarations known ≡ false → twice_in m ≡ []
+nothing_twice m known e h = nothing_left (twice_in m) (twice_where m ∙ (sym e ∙ h)) (twice_alone m)

@@ -8,7 +8,7 @@ ghost use Rattle.ob0_scope.specs.NewBody.{WasBoundElsewhere};
 ghost use Rattle.ob0_scope.specs.Carried.{IsNewBody};
 
 use crate::carrying::{BodyNames, BodyRange, body_in, old_place};
-use crate::checks::check;
+use crate::checks::check_again;
 use crate::resolving::bindings_of;
 use crate::table::report_undeclared;
 use ob0_scope_numbering::number_body;
@@ -38,10 +38,10 @@ pub fn rebind_body(
         ordinals,
         declarations,
         occurrences,
-        faults: _,
+        faults: known,
     } = old;
     let ordinals = number_body(alloc, read, ordinals, &declarations, low)?;
-    let mut faults = check(alloc, read)?;
+    let mut faults = check_again(alloc, read, &known)?;
     report_undeclared(&mut faults, tokens, &ordinals, &occurrences)?;
     Ok(Bindings {
         ordinals,
@@ -98,7 +98,7 @@ fn carry_bindings(
     let declarations = range.carry(alloc, &old.declarations, &[])?;
     let ordinals = number_body(alloc, read, table, &declarations, range.first)?;
     let occurrences = range.carry(alloc, &old.occurrences, own)?;
-    let mut faults = check(alloc, read)?;
+    let mut faults = check_again(alloc, read, &old.faults)?;
     report_undeclared(&mut faults, tokens, &ordinals, &occurrences)?;
     Ok(Bindings {
         ordinals,
