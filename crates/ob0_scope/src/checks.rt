@@ -3,12 +3,15 @@
 //! In clauses `Checks` is the list of the faults found so far; each check appends its own. The names of a block or
 //! record are compared with one another where they are at most 16, and are put into a set where they are more.
 
-ghost use Rattle.std.specs.Prelude.{◌≡◌, ◌++◌, [], IfOk, OnOk, map};
+ghost use Rattle.std.specs.Prelude.{◌≡◌, ◌++◌, [], IfOk, OnOk, map, not};
+ghost use Rattle.std.specs.List.{list_any};
+ghost use Rattle.ob0_tree.specs.Parsed.{named_tree_of};
 ghost use Rattle.ob0_tree.specs.Places.{text_at};
 ghost use Rattle.ob0_tree.specs.View.{items_of, names_of, type_of, record_in, fields_of, constants_of, types_of, variables_of, formals_of, procedure_of, block_of};
 ghost use Rattle.ob0_language_names.specs.Names.{same_name};
 ghost use Rattle.ob0_language_names.specs.Parts.{names_listed, constant_names, named_types, variable_names, formal_names, formal_sections, section_constants, section_types, section_variables};
-ghost use Rattle.ob0_language_names.specs.DeclaredOnce.{block_names, group_fields, is_among, procedure_names};
+ghost use Rattle.ob0_language_names.specs.DeclaredOnce.{block_names, declared_once, group_fields, is_among, procedure_names};
+ghost use Rattle.ob0_scope_table.specs.Resolution.{is_of_declarations};
 ghost use Rattle.ob0_scope_table.specs.DeclaredTwice.{again, block_twice, closing_other, duplicate_at, fields_twice, formals_twice, group_twice, procedure_twice, twice_in, types_twice, unless, variables_twice};
 
 use ob0_scan::{Code, Fault, Tokens};
@@ -51,6 +54,41 @@ pub(crate) fn check<'t>(alloc: Global, read: &'t Module<'t>) -> Result<Vec<Fault
     checks.closing(read.tokens(), read.name(), read.closing())?;
     checks.block(read.tokens(), Vec::new(alloc), read.block())?;
     Ok(checks.into_faults())
+}
+
+/// The second declarations of a module, and its closing names that differ, by faults among which some are of declarations
+/// exactly where the module has such names.
+pub(crate) fn check_again<'t>(
+    alloc: Global,
+    read: &'t Module<'t>,
+    known: &[Fault],
+) -> Result<Vec<Fault>, AllocError>
+    requires { list_any is_of_declarations known.now
+        ≡ not (declared_once (named_tree_of read.now)) }
+    ensures { IfOk result (λ faults. faults.items ≡ twice_in read.now) }
+{
+    if has_of_declarations(known) {
+        return check(alloc, read);
+    }
+    Ok(Vec::new(alloc))
+}
+
+/// Whether one of some faults is of a declaration or a closing name.
+fn has_of_declarations(faults: &[Fault]) -> bool
+    ensures { result ≡ list_any is_of_declarations faults.now }
+{
+    for fault in faults {
+        if is_of_declarations(fault) {
+            return true;
+        }
+    }
+    false
+}
+
+fn is_of_declarations(fault: &Fault) -> bool
+    ensures { result ≡ is_of_declarations fault.now }
+{
+    fault.code == Code::Duplicate || fault.code == Code::EndName
 }
 
 /// Whether two identifiers are written alike.

@@ -1,16 +1,21 @@
-//! Binds the names of a module again where the tokens of one body are written otherwise.
+//! Binds the names of a module again where the tokens of one body are written otherwise, or its statements replaced.
 
 ghost use Rattle.std.specs.Prelude.{IfOk};
 ghost use Rattle.ob0_scope_table.specs.Resolution.{IsResolution};
 ghost use Rattle.ob0_scope_table.specs.Bindings.{resolution_by};
 ghost use Rattle.ob0_scope.specs.Rebound.{WasBound};
+ghost use Rattle.ob0_scope.specs.NewBody.{WasBoundElsewhere};
+ghost use Rattle.ob0_scope.specs.Carried.{IsNewBody};
 
-use crate::checks::check;
+use crate::carrying::{BodyNames, BodyRange, body_in, old_place};
+use crate::checks::check_again;
 use crate::resolving::bindings_of;
 use crate::table::report_undeclared;
 use ob0_scope_numbering::number_body;
+use ob0_scan::SameTokens;
 use ob0_scope_table::Bindings;
 use ob0_tree::Module;
+use ob0_tree::walk::body;
 use std::alloc::{AllocError, Global};
 
 /// What the names of a module are bound to, by what they were bound to where the tokens from `low` on and before `high`
@@ -33,10 +38,67 @@ pub fn rebind_body(
         ordinals,
         declarations,
         occurrences,
-        faults: _,
+        faults: known,
     } = old;
     let ordinals = number_body(alloc, read, ordinals, &declarations, low)?;
-    let mut faults = check(alloc, read)?;
+    let mut faults = check_again(alloc, read, &known)?;
+    report_undeclared(&mut faults, tokens, &ordinals, &occurrences)?;
+    Ok(Bindings {
+        ordinals,
+        declarations,
+        occurrences,
+        faults,
+    })
+}
+
+/// What the names of a module are bound to, by what they were bound to where the statements of one body were replaced.
+/// Only that body is numbered again; all else is carried over.
+pub fn rebind_new_body(
+    alloc: Global,
+    read: &Module<'_>,
+    old: Bindings,
+    same: SameTokens,
+) -> Result<Bindings, AllocError>
+    requires { WasBoundElsewhere read.now old same }
+    ensures { IfOk result (λ b. IsResolution (resolution_by read.now b)) }
+{
+    let found = body_in(read.block(), read.closing(), same.prefix);
+    let mut names = BodyNames {
+        first: None,
+        uses: Vec::new(alloc),
+    };
+    body(&mut names, found.statements)?;
+    let Some(first) = names.first else {
+        return bindings_of(alloc, read);
+    };
+    let range = BodyRange {
+        first,
+        old_closing: old_place(same, found.closing),
+        closing: found.closing,
+    };
+    carry_bindings(alloc, read, &old, range, &names.uses)
+}
+
+/// The bindings of a module, by those before the statements in a range of tokens were replaced.
+fn carry_bindings(
+    alloc: Global,
+    read: &Module<'_>,
+    old: &Bindings,
+    range: BodyRange,
+    own: &[usize],
+) -> Result<Bindings, AllocError>
+    requires { IsNewBody read.now old.now range own.now }
+    ensures { IfOk result (λ b. IsResolution (resolution_by read.now b)) }
+{
+    let tokens = read.tokens();
+    let table = range.carry_table(alloc, &old.ordinals)?;
+    if table.len() < tokens.tokens().len() {
+        return bindings_of(alloc, read);
+    }
+    let declarations = range.carry(alloc, &old.declarations, &[])?;
+    let ordinals = number_body(alloc, read, table, &declarations, range.first)?;
+    let occurrences = range.carry(alloc, &old.occurrences, own)?;
+    let mut faults = check_again(alloc, read, &old.faults)?;
     report_undeclared(&mut faults, tokens, &ordinals, &occurrences)?;
     Ok(Bindings {
         ordinals,

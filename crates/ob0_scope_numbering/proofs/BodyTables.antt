@@ -10,7 +10,7 @@ use Rattle.ob0_tree.specs.Tree.{identifiers}
 use Rattle.ob0_tree.proofs.Leaves.{ascending_lower, leaves_ascend}
 use Rattle.ob0_language_names.specs.Names.{as_names}
 use Rattle.ob0_language_names.specs.Scopes.{as_label}
-use Rattle.ob0_scope_table.specs.OneBody.{IsBodyChange, is_out}
+use Rattle.ob0_scope_table.specs.OneBody.{IsBodyChange, is_in_body, is_out}
 use Rattle.ob0_scope_table.specs.Resolution.{declaring_only, ordinal_in}
 use Rattle.ob0_scope_table.proofs.OneBody.{text_out}
 use Rattle.ob0_scope_numbering.specs.Marking.{started, visit_module}
@@ -48,43 +48,47 @@ covers_before out read n covers_none h = h
 covers_before out read n (covers_one m p) h = (h.0, covers_before out read n p h.1)
 covers_before out read n (covers_more m e p) h = covers_before out read n p h.1
 
--- a mark before some is at none of their tokens
-kept_marks : (table : List (Option ℕ)) (i : ℕ) (ordinal : Option ℕ) (ms : List OrdinalMark) (high : ℕ) → Ascending (i + 1) (tokens_of ms) high → HasMarks (ordinal_in table) ms → HasMarks (ordinal_in (set table i ordinal)) ms
-kept_marks table i ordinal [] high ascend has = tt
-kept_marks table i ordinal (m ∷ ms) high ascend has =
-    let other : m.token ≢ i = omega (arith, ascend.0) in
-    (get_or-set_other table i m.token ordinal None other ∙ has.0, kept_marks table i ordinal ms high (ascending_lower (i + 1) (m.token + 1) (tokens_of ms) high (omega (arith, ascend.0)) ascend.1) has.1)
+-- a table has the ordinals of the marks whose tokens pass a test
+abbrev pub HasMarksAt : (ℕ → Bool) → (ℕ → Option ℕ) → List OrdinalMark → Type 0
+HasMarksAt out read [] = Unit {0}
+HasMarksAt out read (m ∷ ms) = (out m.token ≡ true → read m.token ≡ m.ordinal) × HasMarksAt out read ms
 
-alike_tokens : (out : ℕ → Bool) (ms ns : List OrdinalMark) → Alike out ms ns → tokens_of ms ≡ tokens_of ns
-alike_tokens out [] [] h = refl
-alike_tokens out [] (n ∷ ns) h = absurd h
-alike_tokens out (m ∷ ms) [] h = absurd h
-alike_tokens out (m ∷ ms) (n ∷ ns) h = λ i. h.0 i ∷ alike_tokens out ms ns h.1.1 i
+-- a mark before some is at none of their tokens
+kept_marks : (out : ℕ → Bool) (table : List (Option ℕ)) (i : ℕ) (ordinal : Option ℕ) (ms : List OrdinalMark) (high : ℕ) → Ascending (i + 1) (tokens_of ms) high → HasMarksAt out (ordinal_in table) ms → HasMarksAt out (ordinal_in (set table i ordinal)) ms
+kept_marks out table i ordinal [] high ascend has = tt
+kept_marks out table i ordinal (m ∷ ms) high ascend has =
+    let other : m.token ≢ i = omega (arith, ascend.0) in
+    (λ e. get_or-set_other table i m.token ordinal None other ∙ has.0 e, kept_marks out table i ordinal ms high (ascending_lower (i + 1) (m.token + 1) (tokens_of ms) high (omega (arith, ascend.0)) ascend.1) has.1)
+
+-- where marks are alike a table has the ordinals of both
+marks_alike : (out : ℕ → Bool) (read : ℕ → Option ℕ) (os ms : List OrdinalMark) → HasMarks read os → Alike out os ms → HasMarksAt out read ms
+marks_alike out read [] [] has alike = tt
+marks_alike out read [] (m ∷ ms) has alike = absurd alike
+marks_alike out read (o ∷ os) [] has alike = absurd alike
+marks_alike out read (o ∷ os) (m ∷ ms) has alike =
+    (λ e. ap read (sym alike.0) ∙ (has.0 ∙ alike.1.0 (subst (λ i. out i ≡ true) (sym alike.0) e)), marks_alike out read os ms has.1 alike.1.1)
 
 bounds : (low : ℕ) (xs : List ℕ) (high : ℕ) → Ascending low xs high → low ≤ high
 bounds low [] high h = h
 bounds low (x ∷ xs) high h = let later = bounds (x + 1) xs high h.1 in omega (arith, h.0, later)
 
--- a table with the old marks has the new ones once those of the body are in it
-covered_marks : (out : ℕ → Bool) (table : List (Option ℕ)) (os : List OrdinalMark) {ms ns : List OrdinalMark} (low high : ℕ) → HasMarks (ordinal_in table) os → Alike out os ms → Covers out ms ns → Ascending low (tokens_of ms) high → high ≤ length table
+-- a table with the marks out of a body has all once those of the body are in it
+covered_marks : (out : ℕ → Bool) (table : List (Option ℕ)) {ms ns : List OrdinalMark} (low high : ℕ) → HasMarksAt out (ordinal_in table) ms → Covers out ms ns → Ascending low (tokens_of ms) high → high ≤ length table
     → HasMarks (ordinal_in (with_marks table ns)) ms
-covered_marks out table os low high has alike covers_none ascend within = tt
-covered_marks out table [] low high has alike (covers_one m p) ascend within = absurd alike
-covered_marks out table [] low high has alike (covers_more m e p) ascend within = absurd alike
-covered_marks out table (o ∷ os) low high has alike (covers_one {ms} {ns} m p) ascend within =
+covered_marks out table low high has covers_none ascend within = tt
+covered_marks out table low high has (covers_one {ms} {ns} m p) ascend within =
     let next : List (Option ℕ) = set table m.token m.ordinal in
     let here : m.token < m.token + 1 = omega arith in
     let others = covers_ascend out (m.token + 1) high p ascend.1 in
     let last = bounds (m.token + 1) (tokens_of ms) high ascend.1 in
     let inside : m.token < length table = omega (arith, last, within) in
     let still : high ≤ length next = subst (λ n. high ≤ n) (sym (length-set table m.token m.ordinal)) within in
-    let older = kept_marks table m.token m.ordinal os high (subst (λ ts. Ascending (m.token + 1) ts high) (sym (alike_tokens out os ms alike.1.1)) ascend.1) has.1 in
-    (kept_below ns next (m.token + 1) high m.token others here ∙ get_or-set_same table m.token m.ordinal None inside, covered_marks out next os (m.token + 1) high older alike.1.1 p ascend.1 still)
-covered_marks out table (o ∷ os) low high has alike (covers_more {ms} {ns} m e p) ascend within =
+    let older = kept_marks out table m.token m.ordinal ms high ascend.1 has.1 in
+    (kept_below ns next (m.token + 1) high m.token others here ∙ get_or-set_same table m.token m.ordinal None inside, covered_marks out next (m.token + 1) high older p ascend.1 still)
+covered_marks out table low high has (covers_more {ms} {ns} m e p) ascend within =
     let here : m.token < m.token + 1 = omega arith in
     let others = covers_ascend out (m.token + 1) high p ascend.1 in
-    let same : o.ordinal ≡ m.ordinal = alike.1.0 (subst (λ i. out i ≡ true) (sym alike.0) e) in
-    (kept_below ns table (m.token + 1) high m.token others here ∙ (ap (ordinal_in table) (sym alike.0) ∙ (has.0 ∙ same)), covered_marks out table os (m.token + 1) high has.1 alike.1.1 p ascend.1 within)
+    (kept_below ns table (m.token + 1) high m.token others here ∙ has.0 e, covered_marks out table (m.token + 1) high has.1 p ascend.1 within)
 
 -- the marks of the two texts are alike but in the range
 pub body_alike : (old : Scanned) (m : Parsed) (low high : ℕ) → IsParsed m → IsBodyChange old m low high
@@ -100,24 +104,34 @@ pub record Renumbered (m : Parsed) (table : List (Option ℕ)) (made : List (Opt
   pub marks : HasMarks (ordinal_in made) (visit_module (tree_of m) (started (as_in m.source))).marks
   pub elsewhere : (i : ℕ) → list_any (λ j. j == i) (leaves (tree_of m)) ≡ false → ordinal_in made i ≡ ordinal_in table i
 
-pub body_numbered : (old : Scanned) (m : Parsed) (low high : ℕ) (table : List (Option ℕ)) (all : List ℕ) → IsParsed m → IsBodyChange old m low high → HasMarks (ordinal_in table) (visit_module (tree_of m) (started (as_in old))).marks
+-- a table with the ordinals of a module's marks out of a range has all once the body in which the range lies is numbered again
+pub body_renumbered : (m : Parsed) (low high : ℕ) (table : List (Option ℕ)) (all : List ℕ) → IsParsed m → IsScan m.source → is_in_body low high (tree_of m) ≡ true
+    → HasMarksAt (is_out low high) (ordinal_in table) (visit_module (tree_of m) (started (as_in m.source))).marks
     → all ≡ declaring_only (identifiers role.Declaring (tree_of m)) → length m.source.tokens ≤ length table
     → Renumbered m table (module_renumbered all low (tree_of m) (started_over (as_in m.source) table)).marks
-body_numbered old m low high table all parsed change has declared within =
+body_renumbered m low high table all parsed scan lies has declared within =
     let out = is_out low high in
     let w = as_in m.source in
     let n = length m.source.tokens in
     let rising = leaves_ascend m parsed in
     let declared_rise = subst (λ l. Ascending 0 l n) (sym declared) (declaring_ascend (identifiers role.Declaring (tree_of m)) 0 n rising) in
-    let marked = module_marked (as_in old) w all n low high (λ i e. sym (text_out old m low high change i e)) declared_rise (tree_of m) n change.in_body rising declared in
+    let marked = module_marked w w all n low high (λ i e. refl) declared_rise (tree_of m) n lies rising declared in
     let news = (visit_module (tree_of m) (started w)).marks in
     let again = marks_again all low (tree_of m) w in
     let passed = module_passed (λ i. None) (as_label as_names) w (tree_of m) (started w) (at_start w) in
     let ascend : Ascending 0 (tokens_of news) n = subst (λ ts. Ascending 0 ts n) (sym passed.tokens) rising in
-    let few = marks_few m w parsed change.new_scan in
+    let few = marks_few m w parsed scan in
     let kept : with_entries table again ≡ with_marks table again = entries_kept few.read few.bound again table few.small (covers_before out few.read few.bound marked.covers few.before) in
     let made : (module_renumbered all low (tree_of m) (started_over w table)).marks ≡ with_marks table again = body_tabled all low (tree_of m) w table ∙ kept in
     record {
-      marks = subst (λ (t : List (Option ℕ)). HasMarks (ordinal_in t) news) (sym made) (covered_marks out table (visit_module (tree_of m) (started (as_in old))).marks 0 n has marked.alike marked.covers ascend within);
+      marks = subst (λ (t : List (Option ℕ)). HasMarks (ordinal_in t) news) (sym made) (covered_marks out table 0 n has marked.covers ascend within);
       elsewhere = λ i e. ap (λ (t : List (Option ℕ)). ordinal_in t i) made ∙ kept_elsewhere again table i (covers_absent out i marked.covers (ap (list_any (λ j. j == i)) passed.tokens ∙ e));
     }
+
+pub body_numbered : (old : Scanned) (m : Parsed) (low high : ℕ) (table : List (Option ℕ)) (all : List ℕ) → IsParsed m → IsBodyChange old m low high → HasMarks (ordinal_in table) (visit_module (tree_of m) (started (as_in old))).marks
+    → all ≡ declaring_only (identifiers role.Declaring (tree_of m)) → length m.source.tokens ≤ length table
+    → Renumbered m table (module_renumbered all low (tree_of m) (started_over (as_in m.source) table)).marks
+body_numbered old m low high table all parsed change has declared within =
+    let olds = (visit_module (tree_of m) (started (as_in old))).marks in
+    let news = (visit_module (tree_of m) (started (as_in m.source))).marks in
+    body_renumbered m low high table all parsed change.new_scan change.in_body (marks_alike (is_out low high) (ordinal_in table) olds news has (body_alike old m low high parsed change)) declared within

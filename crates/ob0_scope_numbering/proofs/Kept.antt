@@ -43,7 +43,7 @@ few_from from (l ∷ ls) h =
     let bytes = length-append l.text (joined ls) in
     omega (arith, some, one, more, tokens, bytes)
 
-few_tokens : (s : Scanned) → IsScan s → length s.tokens ≤ max_text
+pub few_tokens : (s : Scanned) → IsScan s → length s.tokens ≤ max_text
 few_tokens s scan =
     let few = few_from 0 scan.lexemes (full scan.lexemes [] scan.lexed.each) in
     let tokens : length s.tokens ≡ length (tokens_from 0 scan.lexemes) = ap (λ (ts : List Token). length ts) scan.tokens in

@@ -1,7 +1,8 @@
-use Rattle.std.proofs.Common.{◌≡◌, ◌≤◌, ◌++◌, ℕ, List, Option, length, sym, ap, ◌∙◌, subst, arith}
+use Rattle.std.proofs.Common.{◌≡◌, ◌≤◌, ◌++◌, ℕ, List, Option, length, not, sym, ap, ◌∙◌, subst, arith}
+use Rattle.std.specs.List.{list_any}
 use Rattle.ob0_scan.specs.Scanned.{Scanned}
 use Rattle.ob0_tree.specs.Parsed.{tree_of}
-use Rattle.ob0_scope_table.specs.Resolution.{ordinal_in, undeclared_at}
+use Rattle.ob0_scope_table.specs.Resolution.{is_of_declarations, ordinal_in, undeclared_at}
 use Rattle.ob0_scope_table.specs.Bindings.{resolution_by}
 use Rattle.ob0_scope_numbering.specs.Marking.{started, visit_module}
 use Rattle.ob0_scope_numbering.specs.Renumbering.{module_renumbered, started_over}
@@ -9,8 +10,15 @@ use Rattle.ob0_scope_numbering.specs.Written.{as_in}
 use Rattle.ob0_scope_numbering.proofs.BodyTables.{body_numbered}
 use Rattle.ob0_scope_numbering.proofs.Passing.{HasMarks}
 use Rattle.ob0_scope.proofs.Made.{resolution_marked}
+use Rattle.ob0_scope.proofs.StillOnce.{still_once_written}
 use Rattle.ob0_scope.proofs.TokensWith.{marks_resolved}
 use Rattle.ob0_scope.proofs.rebinding.rebind_body.Goals as goal
+
+pub check_again-requires : goal.check_again-requires
+check_again-requires c =
+    let was = c.requires in
+    ap (list_any is_of_declarations) c.deref-2.ensures.value
+    ∙ (was.resolved.reported.declared_twice ∙ ap not (sym (still_once_written was.old c.args.read.now c.args.low c.args._high was.parsed was.change)))
 
 pub returns : goal.returns
 returns c =
@@ -23,7 +31,7 @@ returns c =
     let within : length m.source.tokens ≤ length b.ordinals.items = omega (arith, c.if-len-tokens.false, c.len.ensures, count, b.ordinals.ok) in
     let numbered = body_numbered was.old m c.args.low c.args._high b.ordinals.items b.declarations.items was.parsed was.change (marks_resolved (resolution_by (record m { source = was.old }) b) was.resolved) was.resolved.declaring within in
     let all = c.in_ok-report_undeclared.ensures
-    ∙ (λ i. c.in_ok-faults.faults.items ++ undeclared_at (c.tokens-tokens.ensures.source i) (c.deref-2.ensures.value i) (c.deref-3.ensures.value i)) in
+    ∙ (λ i. c.in_ok-faults.faults.items ++ undeclared_at (c.tokens-tokens.ensures.source i) (c.deref-3.ensures.value i) (c.deref-4.ensures.value i)) in
     resolution_marked m c.in_ok-ordinals.ordinals.items b.declarations.items b.occurrences.items c.in_ok-faults.faults.items c.report_undeclared.new.faults.items was.parsed
     (subst (λ (os : List (Option ℕ)). HasMarks (ordinal_in os) (visit_module (tree_of m) (started (as_in m.source))).marks) (sym made) numbered.marks)
     (λ token e. ap (λ (os : List (Option ℕ)). ordinal_in os token) made ∙ (numbered.elsewhere token e ∙ was.resolved.names_alone token e))

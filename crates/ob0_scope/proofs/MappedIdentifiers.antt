@@ -1,0 +1,68 @@
+-- The identifiers of a tree whose names are rewritten.
+use Rattle.std.proofs.Common.{◌≡◌, ℕ, List, [], ◌∷◌, ◌++◌, map, refl, ap, sym, ◌∙◌}
+use Rattle.std.proofs.lemmas.List.{map-append}
+use Rattle.ob0_tree.specs.declared.tree.Role.{Role}
+use Rattle.ob0_tree.specs.declared.tree.Role.TheVariants as role
+use Rattle.ob0_tree.specs.Tree.{Sort, Tree, identifiers, mapped, adds, array_type, assigns, begins, branches, calls, compares, declares, declares_constant, declares_constants, declares_procedure, declares_type, declares_types, declares_variable, declares_variables, designator, else_branch, elsif_branch, empty, end, field, has_body, index, integer, is_module, listed, more, multiplies, named_type, negation, no_arguments, no_fields, no_formals, none, one, parenthesised, product, record_type, relates, repeat_loop, runs, some_arguments, some_fields, some_formals, sum, then_argument, then_fields, then_name, then_section, then_statement, value_section, variable_section, while_loop}
+
+-- two lists whose elements go one way, one after the other
+pub both : {A B : Type 0} (p : A → B) {us vs : List B} (xs ys : List A) → us ≡ map p xs → vs ≡ map p ys → us ++ vs ≡ map p (xs ++ ys)
+both p xs ys e h = (λ i. e i ++ h i) ∙ sym (map-append p xs ys)
+
+abbrev pub beside_role : {N M : Type 0} → (N → M) → Role × N → Role × M
+beside_role f x = (x.0, f x.1)
+
+pub identifiers-mapped : {N M : Type 0} {s : Sort} (f : N → M) (g : ℕ → ℕ) (r : Role) (t : Tree N s) → identifiers r (mapped f g t) ≡ map (beside_role f) (identifiers r t)
+identifiers-mapped f g r none = refl
+identifiers-mapped f g r (one a) = identifiers-mapped f g r a
+identifiers-mapped f g r end = refl
+identifiers-mapped f g r (more a b) = both (beside_role f) (identifiers r a) (identifiers r b) (identifiers-mapped f g r a) (identifiers-mapped f g r b)
+identifiers-mapped f g r (compares a b) = both (beside_role f) (identifiers r a) (identifiers r b) (identifiers-mapped f g r a) (identifiers-mapped f g r b)
+identifiers-mapped f g r (relates o b) = identifiers-mapped f g r b
+identifiers-mapped f g r (sum o b c) = both (beside_role f) (identifiers r b) (identifiers r c) (identifiers-mapped f g r b) (identifiers-mapped f g r c)
+identifiers-mapped f g r (adds o b) = identifiers-mapped f g r b
+identifiers-mapped f g r (product a b) = both (beside_role f) (identifiers r a) (identifiers r b) (identifiers-mapped f g r a) (identifiers-mapped f g r b)
+identifiers-mapped f g r (multiplies o b) = identifiers-mapped f g r b
+identifiers-mapped f g r (designator x b) = ap (λ z. (role.LookedUp, f x) ∷ z) (identifiers-mapped f g r b)
+identifiers-mapped f g r (integer n) = refl
+identifiers-mapped f g r (parenthesised a) = identifiers-mapped f g r a
+identifiers-mapped f g r (negation a) = identifiers-mapped f g r a
+identifiers-mapped f g r (field x) = refl
+identifiers-mapped f g r (index a) = identifiers-mapped f g r a
+identifiers-mapped f g r empty = refl
+identifiers-mapped f g r (assigns x b c) = ap (λ z. (role.LookedUp, f x) ∷ z) (both (beside_role f) (identifiers r b) (identifiers r c) (identifiers-mapped f g r b) (identifiers-mapped f g r c))
+identifiers-mapped f g r (calls x b) = ap (λ z. (role.LookedUp, f x) ∷ z) (identifiers-mapped f g r b)
+identifiers-mapped f g r (branches a b c d) = both (beside_role f) (identifiers r a) (identifiers r b ++ (identifiers r c ++ (identifiers r d))) (identifiers-mapped f g r a) (both (beside_role f) (identifiers r b) (identifiers r c ++ (identifiers r d)) (identifiers-mapped f g r b) (both (beside_role f) (identifiers r c) (identifiers r d) (identifiers-mapped f g r c) (identifiers-mapped f g r d)))
+identifiers-mapped f g r (while_loop a b) = both (beside_role f) (identifiers r a) (identifiers r b) (identifiers-mapped f g r a) (identifiers-mapped f g r b)
+identifiers-mapped f g r (repeat_loop a b) = both (beside_role f) (identifiers r a) (identifiers r b) (identifiers-mapped f g r a) (identifiers-mapped f g r b)
+identifiers-mapped f g r no_arguments = refl
+identifiers-mapped f g r (some_arguments a b) = both (beside_role f) (identifiers r a) (identifiers r b) (identifiers-mapped f g r a) (identifiers-mapped f g r b)
+identifiers-mapped f g r (then_argument a) = identifiers-mapped f g r a
+identifiers-mapped f g r (runs a b) = both (beside_role f) (identifiers r a) (identifiers r b) (identifiers-mapped f g r a) (identifiers-mapped f g r b)
+identifiers-mapped f g r (then_statement a) = identifiers-mapped f g r a
+identifiers-mapped f g r (elsif_branch a b) = both (beside_role f) (identifiers r a) (identifiers r b) (identifiers-mapped f g r a) (identifiers-mapped f g r b)
+identifiers-mapped f g r (else_branch a) = identifiers-mapped f g r a
+identifiers-mapped f g r (listed x b) = ap (λ z. (r, f x) ∷ z) (identifiers-mapped f g r b)
+identifiers-mapped f g r (then_name x) = refl
+identifiers-mapped f g r (named_type x) = refl
+identifiers-mapped f g r (array_type a b) = both (beside_role f) (identifiers r a) (identifiers r b) (identifiers-mapped f g r a) (identifiers-mapped f g r b)
+identifiers-mapped f g r (record_type a b) = both (beside_role f) (identifiers r a) (identifiers r b) (identifiers-mapped f g r a) (identifiers-mapped f g r b)
+identifiers-mapped f g r no_fields = refl
+identifiers-mapped f g r (some_fields a b) = both (beside_role f) (identifiers role.FieldName a) (identifiers r b) (identifiers-mapped f g role.FieldName a) (identifiers-mapped f g r b)
+identifiers-mapped f g r (then_fields a) = identifiers-mapped f g r a
+identifiers-mapped f g r no_formals = refl
+identifiers-mapped f g r (some_formals a b) = both (beside_role f) (identifiers r a) (identifiers r b) (identifiers-mapped f g r a) (identifiers-mapped f g r b)
+identifiers-mapped f g r (value_section a b) = both (beside_role f) (identifiers role.Declaring a) (identifiers r b) (identifiers-mapped f g role.Declaring a) (identifiers-mapped f g r b)
+identifiers-mapped f g r (variable_section a b) = both (beside_role f) (identifiers role.Declaring a) (identifiers r b) (identifiers-mapped f g role.Declaring a) (identifiers-mapped f g r b)
+identifiers-mapped f g r (then_section a) = identifiers-mapped f g r a
+identifiers-mapped f g r (declares_constant x b) = ap (λ z. (role.Declaring, f x) ∷ z) (identifiers-mapped f g r b)
+identifiers-mapped f g r (declares_constants a) = identifiers-mapped f g r a
+identifiers-mapped f g r (declares_type x b) = ap (λ z. (role.Declaring, f x) ∷ z) (identifiers-mapped f g r b)
+identifiers-mapped f g r (declares_types a) = identifiers-mapped f g r a
+identifiers-mapped f g r (declares_variable a b) = both (beside_role f) (identifiers role.Declaring a) (identifiers r b) (identifiers-mapped f g role.Declaring a) (identifiers-mapped f g r b)
+identifiers-mapped f g r (declares_variables a) = identifiers-mapped f g r a
+identifiers-mapped f g r (declares_procedure x a b c) = ap (λ z. (role.Declaring, f x) ∷ z) (both (beside_role f) (identifiers r a) (identifiers r b ++ ((role.ClosingName, c) ∷ [])) (identifiers-mapped f g r a) (both (beside_role f) (identifiers r b) ((role.ClosingName, c) ∷ []) (identifiers-mapped f g r b) refl))
+identifiers-mapped f g r (declares a b c d) = both (beside_role f) (identifiers r a) (identifiers r b ++ (identifiers r c ++ (identifiers r d))) (identifiers-mapped f g r a) (both (beside_role f) (identifiers r b) (identifiers r c ++ (identifiers r d)) (identifiers-mapped f g r b) (both (beside_role f) (identifiers r c) (identifiers r d) (identifiers-mapped f g r c) (identifiers-mapped f g r d)))
+identifiers-mapped f g r (begins a) = identifiers-mapped f g r a
+identifiers-mapped f g r (has_body a b) = both (beside_role f) (identifiers r a) (identifiers r b) (identifiers-mapped f g r a) (identifiers-mapped f g r b)
+identifiers-mapped f g r (is_module x b c) = ap (λ z. (role.ModuleName, f x) ∷ z) (both (beside_role f) (identifiers r b) ((role.ModuleName, c) ∷ []) (identifiers-mapped f g r b) refl)

@@ -1,0 +1,414 @@
+-- Where the statements of one body were replaced, what is carried over, with the new body numbered again, is what the module's names are bound to.
+-- Outside the body the labels of both modules are the same: a body declares nothing. A token outside is one of the module
+-- without the body, so its ordinal is the one that it had.
+use Rattle.std.proofs.Common.{◌≡◌, ◌==◌, ◌||◌, ◌<◌, ◌≤◌, ℕ, zero, suc, ◌+◌, ◌-◌, ◌^◌, Bool, true, false, nat_lt, nat_le, if◌then◌else◌, Option, Some, None, List, [], ◌∷◌, ◌++◌, map, length, drop, replicate, get_or, refl, sym, ap, ◌∙◌, subst, arith, append-nil, append_assoc, lt-ltb, le-ltb, eq-eqb, eqb-true}
+use Rattle.std.proofs.Math.Dec.{ltb}
+use Rattle.std.proofs.Math.Nat.{min-eq_left}
+use Rattle.std.proofs.lemmas.Bool.{ltb-false, ltb-true}
+use Rattle.std.proofs.lemmas.Bool.Decides.{nat_tests}
+use Rattle.std.proofs.lemmas.List.{map-append}
+use Rattle.std.proofs.lemmas.List.Folds.{list_any-append}
+use Rattle.std.specs.List.{list_any}
+use Rattle.ob0_scan.specs.declared.fault.Fault.{Fault}
+use Rattle.ob0_scan.specs.declared.tokens.SameTokens.{SameTokens}
+use Rattle.ob0_scan.specs.Scanned.{Scanned}
+use Rattle.ob0_tree.specs.declared.tree.Role.{Role}
+use Rattle.ob0_tree.specs.declared.tree.Role.TheVariants as role
+use Rattle.ob0_tree.specs.Order.{Ascending, leaves, names_only}
+use Rattle.ob0_tree.specs.Parsed.{IsParsed, Parsed, named_tree_of, tree_of}
+use Rattle.ob0_tree.specs.Places.{named, text_at, value_at}
+use Rattle.ob0_tree.specs.Tree.{identifiers, mapped, occurrences}
+use Rattle.ob0_tree.specs.Visited.{visited_all}
+use Rattle.ob0_tree.proofs.Leaves.{leaves_ascend}
+use Rattle.ob0_tree.proofs.Occurring.{looked_up-occurrences, looked_up_only}
+use Rattle.ob0_language_names.specs.Names.{as_names}
+use Rattle.ob0_language_names.specs.Scopes.{as_label, relabelled}
+use Rattle.ob0_scope_table.specs.Bindings.{resolution_by}
+use Rattle.ob0_scope_table.specs.BodyReplaced.{IsBodyReplaced, Way, body_at, closing_at, first_of, moved, way_to, without}
+use Rattle.ob0_scope_table.specs.DeclaredTwice.{twice_in}
+use Rattle.ob0_scope_table.specs.OneBody.{is_out}
+use Rattle.ob0_scope_table.specs.Resolution.{IsBinding, IsResolution, Resolution, bound_at, declaring_only, ordinal_in, undeclared_at, with_ordinal}
+use Rattle.ob0_scope_table.specs.declared.resolved.Bindings.{Bindings}
+use Rattle.ob0_scope_table.proofs.BodyReplaced.{names_outside, without_mapped}
+use Rattle.ob0_scope_table.proofs.Plain.{declares_nothing}
+use Rattle.ob0_scope_numbering.specs.Marking.{started, visit_module}
+use Rattle.ob0_scope_numbering.specs.Marks.{OrdinalMark, with_marks}
+use Rattle.ob0_scope_numbering.specs.Renumbering.{module_renumbered, started_over}
+use Rattle.ob0_scope_numbering.specs.Written.{as_in}
+use Rattle.ob0_scope_numbering.proofs.BodyTables.{HasMarksAt, body_renumbered}
+use Rattle.ob0_scope_numbering.proofs.Covered.{AllBelow, leaves_append}
+use Rattle.ob0_scope_numbering.proofs.Kept.{few_tokens}
+use Rattle.ob0_scope_numbering.proofs.Passing.{HasMarks, at_start, module_passed, tokens_of}
+use Rattle.ob0_scope_numbering.proofs.Tables.{marks_in_table}
+use Rattle.ob0_scope.specs.Carried.{IsNewBody, NamesInBody, carried, carried_table, no_names, old_place, with_name}
+use Rattle.ob0_scope.specs.NewBody.{WasBoundElsewhere}
+use Rattle.ob0_scope.specs.declared.carrying.BodyRange.{BodyRange}
+use Rattle.ob0_scope.proofs.BodyExact.{module_exact}
+use Rattle.ob0_scope.proofs.BodySplit.{split_module}
+use Rattle.ob0_scope.proofs.CarriedLists.{AllFrom, Parted, below_more, carried_picked, far, from_less, parted, picks_declaring, picks_looked_up, same_parts, some_first, table_after, table_before, table_within}
+use Rattle.ob0_scope.proofs.Made.{resolution_marked}
+use Rattle.ob0_scope.proofs.MappedIdentifiers.{beside_role, identifiers-mapped}
+use Rattle.ob0_scope.proofs.Placed.{leaves-mapped}
+use Rattle.ob0_scope.proofs.WithoutRelabelled.{without_relabelled}
+
+-- ---- the names of a body
+
+later_names : (xs : List (Role × ℕ)) (f : ℕ) (us : List ℕ) → visited_all with_name xs (record { first = Some f; uses = us }) ≡ record { first = Some f; uses = us ++ looked_up_only xs }
+later_names [] f us = ap (λ l. record { first = Some f; uses = l }) (sym (append-nil us))
+later_names ((role.LookedUp, i) ∷ xs) f us = later_names xs f (us ++ (i ∷ [])) ∙ ap (λ l. record { first = Some f; uses = l }) (append_assoc us (i ∷ []) (looked_up_only xs))
+later_names ((role.Declaring, i) ∷ xs) f us = later_names xs f us
+later_names ((role.ClosingName, i) ∷ xs) f us = later_names xs f us
+later_names ((role.FieldName, i) ∷ xs) f us = later_names xs f us
+later_names ((role.ModuleName, i) ∷ xs) f us = later_names xs f us
+
+pub names_walked : (xs : List (Role × ℕ)) → visited_all with_name xs no_names ≡ record { first = first_of xs; uses = looked_up_only xs }
+names_walked [] = refl
+names_walked ((role.LookedUp, i) ∷ xs) = later_names xs i (i ∷ [])
+names_walked ((role.Declaring, i) ∷ xs) = later_names xs i []
+names_walked ((role.ClosingName, i) ∷ xs) = later_names xs i []
+names_walked ((role.FieldName, i) ∷ xs) = later_names xs i []
+names_walked ((role.ModuleName, i) ∷ xs) = later_names xs i []
+
+-- ---- where tokens are now
+
+moved_before : (s : SameTokens) (i : ℕ) → i < s.prefix → moved s i ≡ i
+moved_before s i h = ap (λ b. if b then i else s.new_suffix + (i - s.old_suffix)) (lt-ltb i s.prefix h)
+
+moved_after : (s : SameTokens) (i : ℕ) → s.prefix ≤ i → moved s i ≡ s.new_suffix + (i - s.old_suffix)
+moved_after s i h = ap (λ b. if b then i else s.new_suffix + (i - s.old_suffix)) (le-ltb i s.prefix h)
+
+stays : (s : SameTokens) (xs : List (Role × ℕ)) → AllBelow s.prefix (names_only xs) → map (beside_role (moved s)) xs ≡ xs
+stays s [] h = refl
+stays s (x ∷ xs) h = λ i. (x.0, moved_before s x.1 h.0 i) ∷ stays s xs h.1 i
+
+goes_far : (s : SameTokens) (range : BodyRange) (xs : List (Role × ℕ)) → s.prefix ≤ s.old_suffix → s.old_suffix < range.old_closing → range.closing ≡ s.new_suffix + (range.old_closing - s.old_suffix) → AllFrom range.old_closing (names_only xs)
+    → map (beside_role (moved s)) xs ≡ map (beside_role (far range)) xs
+goes_far s range [] le less e h = refl
+goes_far s range (x ∷ xs) le less e h =
+    let here : moved s x.1 ≡ far range x.1 = moved_after s x.1 (omega (arith, le, less, h.0)) ∙ omega (arith, le, less, e, h.0) in
+    λ i. (x.0, here i) ∷ goes_far s range xs le less e h.1 i
+
+far_from : (range : BodyRange) (xs : List (Role × ℕ)) → AllFrom range.closing (names_only (map (beside_role (far range)) xs))
+far_from range [] = tt
+far_from range (x ∷ xs) = (omega arith, far_from range xs)
+
+names_renamed : (f : ℕ → ℕ) (xs : List (Role × ℕ)) → names_only (map (beside_role f) xs) ≡ map f (names_only xs)
+names_renamed f [] = refl
+names_renamed f (x ∷ xs) = λ i. f x.1 ∷ names_renamed f xs i
+
+-- ---- the identifiers of both modules
+
+-- those before the body, in the old one and in the new one, and those after it
+record Known (old new : Parsed) (way : Way) (range : BodyRange) : Type 0 where
+  before : List (Role × ℕ)
+  own : List (Role × ℕ)
+  others : List (Role × ℕ)
+  after : List (Role × ℕ)
+  high : ℕ
+  olds : identifiers role.Declaring (tree_of old) ≡ before ++ (own ++ after)
+  news : identifiers role.Declaring (tree_of new) ≡ before ++ (others ++ map (beside_role (far range)) after)
+  old_rest : identifiers role.Declaring (without way (tree_of old)) ≡ before ++ after
+  new_rest : identifiers role.Declaring (without way (tree_of new)) ≡ before ++ map (beside_role (far range)) after
+  others_are : others ≡ identifiers role.Declaring (body_at way (tree_of new))
+  old_parts : Parted before own after range.first range.old_closing high
+  new_parts : Parted before others (map (beside_role (far range)) after) range.first range.closing (length new.source.tokens)
+  few : high + range.closing ≤ 2 ^ 64 - 1
+
+module _ (old new : Parsed) (way : Way) (s : SameTokens) (r : IsBodyReplaced old new way s) where
+  abbrev old_closing : ℕ
+  old_closing = closing_at way (tree_of old)
+
+  abbrev new_closing : ℕ
+  new_closing = closing_at way (tree_of new)
+
+  abbrev exact : BodyRange
+  exact = record { first = r.first; old_closing = old_closing; closing = new_closing }
+
+  known : Known old new way exact
+  known =
+      let so = split_module way (tree_of old) in
+      let sn = split_module way (tree_of new) in
+      let own = identifiers role.Declaring (body_at way (tree_of old)) in
+      let others = identifiers role.Declaring (body_at way (tree_of new)) in
+      let po = parted so.before own so.after so.closes r.first old_closing (length old.source.tokens) r.old_first (subst (λ l. Ascending 0 (names_only l) (length old.source.tokens)) so.whole_is (leaves_ascend old r.old_parsed)) in
+      let pn = parted sn.before others sn.after sn.closes r.first new_closing (length new.source.tokens) r.new_first (subst (λ l. Ascending 0 (names_only l) (length new.source.tokens)) sn.whole_is (leaves_ascend new r.new_parsed)) in
+      let old_tail : List (Role × ℕ) = (so.closes, old_closing) ∷ so.after in
+      let new_tail : List (Role × ℕ) = (sn.closes, new_closing) ∷ sn.after in
+      let old_range = r.old_range in
+      let back = r.back in
+      let front = r.front in
+      let less = pn.less in
+      let closing : new_closing ≡ s.new_suffix + (old_closing - s.old_suffix) = r.closing ∙ moved_after s old_closing (omega (arith, old_range, back)) in
+      let same : sn.before ++ new_tail ≡ so.before ++ map (beside_role (far exact)) old_tail =
+      sym sn.rest_is
+      ∙ (ap (identifiers role.Declaring) r.outside
+      ∙ (identifiers-mapped (moved s) (moved s) role.Declaring (without way (tree_of old))
+      ∙ (ap (map (beside_role (moved s))) so.rest_is
+      ∙ (map-append (beside_role (moved s)) so.before old_tail
+      ∙ (λ i. stays s so.before (below_more r.first s.prefix (names_only so.before) (omega (arith, front)) po.before_below) i ++ goes_far s exact old_tail old_range back closing po.after_from i))))) in
+      let parts = same_parts r.first sn.before new_tail so.before (map (beside_role (far exact)) old_tail) pn.before_below po.before_below (from_less r.first new_closing (names_only new_tail) (omega (arith, less)) pn.after_from)
+      (from_less r.first new_closing (names_only (map (beside_role (far exact)) old_tail)) (omega (arith, less)) (far_from exact old_tail)) same in
+      let old_tokens = few_tokens old.source r.old_scan in
+      let new_tokens = few_tokens new.source r.new_scan in
+      let inside = pn.few in
+      record {
+        before = so.before;
+        own = own;
+        others = others;
+        after = old_tail;
+        high = length old.source.tokens;
+        olds = so.whole_is;
+        news = sn.whole_is ∙ (λ i. parts.0 i ++ (others ++ parts.1 i));
+        old_rest = so.rest_is;
+        new_rest = sn.rest_is ∙ (λ i. parts.0 i ++ parts.1 i);
+        others_are = refl;
+        old_parts = po;
+        new_parts = subst (λ b. Parted b others (map (beside_role (far exact)) old_tail) r.first new_closing (length new.source.tokens)) parts.0 (subst (λ t. Parted sn.before others t r.first new_closing (length new.source.tokens)) parts.1 pn);
+        few = omega (arith, old_tokens, new_tokens, inside);
+      }
+
+  old_inside : old_closing < length old.source.tokens
+  old_inside =
+      let so = split_module way (tree_of old) in
+      (parted so.before (identifiers role.Declaring (body_at way (tree_of old))) so.after so.closes r.first old_closing (length old.source.tokens) r.old_first
+      (subst (λ l. Ascending 0 (names_only l) (length old.source.tokens)) so.whole_is (leaves_ascend old r.old_parsed))).few
+
+  -- where the closing name was, by where it is
+  place_is : old_place s new_closing ≡ old_closing
+  place_is =
+      let old_range = r.old_range in
+      let back = r.back in
+      let few = few_tokens old.source r.old_scan in
+      let inside = old_inside in
+      let closing : new_closing ≡ s.new_suffix + (old_closing - s.old_suffix) = r.closing ∙ moved_after s old_closing (omega (arith, old_range, back)) in
+      let there : new_closing - s.new_suffix + s.old_suffix ≡ old_closing = omega (arith, closing, back) in
+      min-eq_left (let small : new_closing - s.new_suffix + s.old_suffix ≤ 2 ^ 64 - 1 = omega (arith, there, few, inside) in small) ∙ there
+
+known_in : (old new : Parsed) (way : Way) (s : SameTokens) (range : BodyRange) (r : IsBodyReplaced old new way s) → range.first ≡ r.first → range.closing ≡ closing_at way (tree_of new) → range.old_closing ≡ old_place s range.closing → Known old new way range
+known_in old new way s range r first closing place =
+    let there = place ∙ (ap (old_place s) closing ∙ place_is old new way s r) in
+    let is : exact old new way s r ≡ range = λ i. record { first = sym first i; old_closing = sym there i; closing = sym closing i } in
+    subst (Known old new way) is (known old new way s r)
+
+-- ---- what tokens outside are bound to
+
+-- holds of each of some numbers
+abbrev Each : (ℕ → Type 0) → List ℕ → Type 0
+Each P [] = Unit {0}
+Each P (i ∷ is) = P i × Each P is
+
+each_of : (f g : ℕ → Option ℕ) (h : ℕ → ℕ) (xs : List ℕ) → map f (map h xs) ≡ map g xs → Each (λ i. f (h i) ≡ g i) xs
+each_of f g h [] e = tt
+each_of f g h (x ∷ xs) e = (ap (λ l. get_or l 0 None) e, each_of f g h xs (ap (drop 1) e))
+
+both_each : (f g : ℕ → Option ℕ) (h : ℕ → ℕ) (xs ys : List ℕ) → map f (xs ++ map h ys) ≡ map g (xs ++ ys) → Each (λ i. f i ≡ g i) xs × Each (λ i. f (h i) ≡ g i) ys
+both_each f g h [] ys e = (tt, each_of f g h ys e)
+both_each f g h (x ∷ xs) ys e = let rest = both_each f g h xs ys (ap (drop 1) e) in ((ap (λ l. get_or l 0 None) e, rest.0), rest.1)
+
+ordinals_of : (source : Scanned) (ordinals : List (Option ℕ)) (xs : List ℕ) → map (λ (p : Option ℕ × List ℕ). p.0) (map (bound_at source ordinals) xs) ≡ map (ordinal_in ordinals) xs
+ordinals_of source ordinals [] = refl
+ordinals_of source ordinals (x ∷ xs) = ap (λ l. ordinal_in ordinals x ∷ l) (ordinals_of source ordinals xs)
+
+-- outside, what the names are bound to is what they were bound to
+same_outside : (old new : Parsed) (way : Way) (s : SameTokens) (before now : List (Option ℕ)) → IsBodyReplaced old new way s → IsBinding old before → IsBinding new now
+    → map (ordinal_in now) (leaves (without way (tree_of new))) ≡ map (ordinal_in before) (leaves (without way (tree_of old)))
+same_outside old new way s before now r was is =
+    let outside : (m : Parsed) (ordinals : List (Option ℕ)) → IsBinding m ordinals → relabelled as_names with_ordinal (named m.source (without way (tree_of m))) ≡ mapped (bound_at m.source ordinals) (value_at m.source) (without way (tree_of m)) =
+    λ m ordinals bound.
+    ap (relabelled as_names with_ordinal) (sym (without_mapped (text_at m.source) (value_at m.source) way (tree_of m)))
+    ∙ (sym (without_relabelled as_names with_ordinal way (named_tree_of m))
+    ∙ (ap (without way) bound ∙ without_mapped (bound_at m.source ordinals) (value_at m.source) way (tree_of m))) in
+    let listed : (m : Parsed) (ordinals : List (Option ℕ)) → map (λ (p : Option ℕ × List ℕ). p.0) (leaves (mapped (bound_at m.source ordinals) (value_at m.source) (without way (tree_of m)))) ≡ map (ordinal_in ordinals) (leaves (without way (tree_of m))) =
+    λ m ordinals. ap (map (λ (p : Option ℕ × List ℕ). p.0)) (leaves-mapped (bound_at m.source ordinals) (value_at m.source) (without way (tree_of m))) ∙ ordinals_of m.source ordinals (leaves (without way (tree_of m))) in
+    sym (listed new now)
+    ∙ (ap (λ t. map (λ (p : Option ℕ × List ℕ). p.0) (leaves t)) (sym (outside new now is) ∙ (ap (relabelled as_names with_ordinal) (names_outside old new way s r) ∙ outside old before was))
+    ∙ listed old before)
+
+-- ---- the marks
+
+-- what a table has at some tokens, of those that pass a test
+abbrev AgreeAt : (ℕ → Bool) → (ℕ → Option ℕ) → (ℕ → Option ℕ) → List ℕ → Type 0
+AgreeAt out f g [] = Unit {0}
+AgreeAt out f g (i ∷ is) = (out i ≡ true → f i ≡ g i) × AgreeAt out f g is
+
+agree_both : (out : ℕ → Bool) (f g : ℕ → Option ℕ) (xs ys : List ℕ) → AgreeAt out f g xs → AgreeAt out f g ys → AgreeAt out f g (xs ++ ys)
+agree_both out f g [] ys h k = k
+agree_both out f g (x ∷ xs) ys h k = (h.0, agree_both out f g xs ys h.1 k)
+
+marks_at : (out : ℕ → Bool) (f g : ℕ → Option ℕ) (ms : List OrdinalMark) → HasMarks g ms → AgreeAt out f g (tokens_of ms) → HasMarksAt out f ms
+marks_at out f g [] has agree = tt
+marks_at out f g (m ∷ ms) has agree = ((λ e. agree.0 e ∙ has.0), marks_at out f g ms has.1 agree.1)
+
+not_out : (low high i : ℕ) → low ≤ i → i < high → is_out low high i ≡ true → ⊥
+not_out low high i le less e = one (nat_lt i low) (nat_le high i) refl refl e
+  where
+    one : (b c : Bool) → nat_lt i low ≡ b → nat_le high i ≡ c → (b || c) ≡ true → ⊥
+    one true c f g h = absurd (grind (arith, nat_tests))
+    one false true f g h = absurd (grind (arith, nat_tests))
+    one false false f g h = absurd (cc)
+
+module _ (range : BodyRange) (table : List (Option ℕ)) (now : ℕ → Option ℕ) (less : range.first < range.closing) where
+  abbrev kept : ℕ → Option ℕ
+  kept = ordinal_in (carried_table range table)
+
+  agree_before : (xs : List ℕ) → AllBelow range.first xs → Each (λ i. now i ≡ ordinal_in table i) xs → AgreeAt (is_out range.first range.closing) kept now xs
+  agree_before [] h k = tt
+  agree_before (x ∷ xs) h k = ((λ e. table_before range table (omega (arith, less)) x h.0 ∙ sym k.0), agree_before xs h.1 k.1)
+
+  agree_within : (xs : List ℕ) → AllFrom range.first xs → AllBelow range.closing xs → AgreeAt (is_out range.first range.closing) kept now xs
+  agree_within [] h k = tt
+  agree_within (x ∷ xs) h k = ((λ e. absurd (not_out range.first range.closing x h.0 k.0 e)), agree_within xs h.1 k.1)
+
+  agree_after : (xs : List ℕ) → AllFrom range.old_closing xs → Each (λ i. now (far range i) ≡ ordinal_in table i) xs → AgreeAt (is_out range.first range.closing) kept now (map (far range) xs)
+  agree_after [] h k = tt
+  agree_after (x ∷ xs) h k =
+      let back : range.old_closing + (far range x - range.closing) ≡ x = omega (arith, h.0) in
+      ((λ e. table_after range table (omega (arith, less)) (far range x) (omega arith) ∙ (ap (ordinal_in table) back ∙ sym k.0)), agree_after xs h.1 k.1)
+
+-- ---- tokens that are no identifiers
+
+both_false : (a b : Bool) → (a || b) ≡ false → (a ≡ false) × (b ≡ false)
+both_false true b e = absurd (cc)
+both_false false b e = (refl, e)
+
+absent_below : (j n : ℕ) (xs : List ℕ) → n ≤ j → AllBelow n xs → list_any (λ i. i == j) xs ≡ false
+absent_below j n [] le h = refl
+absent_below j n (x ∷ xs) le h = one (x == j) refl ∙ absent_below j n xs le h.1
+  where
+    one : (b : Bool) → (x == j) ≡ b → (b || list_any (λ i. i == j) xs) ≡ list_any (λ i. i == j) xs
+    one true e = absurd (omega (arith, le, h.0, eqb-true x j e))
+    one false e = refl
+
+absent_from : (j n : ℕ) (xs : List ℕ) → j < n → AllFrom n xs → list_any (λ i. i == j) xs ≡ false
+absent_from j n [] less h = refl
+absent_from j n (x ∷ xs) less h = one (x == j) refl ∙ absent_from j n xs less h.1
+  where
+    one : (b : Bool) → (x == j) ≡ b → (b || list_any (λ i. i == j) xs) ≡ list_any (λ i. i == j) xs
+    one true e = absurd (omega (arith, less, h.0, eqb-true x j e))
+    one false e = refl
+
+absent_back : (f : ℕ → ℕ) (j : ℕ) (xs : List ℕ) → list_any (λ i. i == f j) (map f xs) ≡ false → list_any (λ i. i == j) xs ≡ false
+absent_back f j [] e = refl
+absent_back f j (x ∷ xs) e = one (x == j) refl ∙ absent_back f j xs h.1
+  where
+    h : ((f x == f j) ≡ false) × (list_any (λ i. i == f j) (map f xs) ≡ false)
+    h = both_false (f x == f j) (list_any (λ i. i == f j) (map f xs)) e
+
+    one : (b : Bool) → (x == j) ≡ b → (b || list_any (λ i. i == j) xs) ≡ list_any (λ i. i == j) xs
+    one true g = absurd (let same : (f x == f j) ≡ true = eq-eqb (f x) (f j) (ap f (eqb-true x j g)) in cc)
+    one false g = refl
+
+absent_all : (j : ℕ) (a b c : List ℕ) → list_any (λ i. i == j) a ≡ false → list_any (λ i. i == j) b ≡ false → list_any (λ i. i == j) c ≡ false → list_any (λ i. i == j) (a ++ (b ++ c)) ≡ false
+absent_all j a b c e f g = list_any-append (λ i. i == j) a (b ++ c) ∙ (λ k. e k || (list_any-append (λ i. i == j) b c ∙ (λ l. f l || g l)) k)
+
+three : (a b c : List (Role × ℕ)) → names_only (a ++ (b ++ c)) ≡ names_only a ++ (names_only b ++ names_only c)
+three a b c = leaves_append a (b ++ c) ∙ ap (λ z. names_only a ++ z) (leaves_append b c)
+
+module _ (old new : Parsed) (way : Way) (range : BodyRange) (known : Known old new way range) (table : List (Option ℕ)) (alone : (token : ℕ) → list_any (λ i. i == token) (leaves (tree_of old)) ≡ false → ordinal_in table token ≡ None) where
+  abbrev before_names : List ℕ
+  before_names = names_only known.before
+
+  abbrev after_names : List ℕ
+  after_names = names_only known.after
+
+  old_names : leaves (tree_of old) ≡ before_names ++ (names_only known.own ++ after_names)
+  old_names = ap names_only known.olds ∙ three known.before known.own known.after
+
+  new_names : leaves (tree_of new) ≡ before_names ++ (names_only known.others ++ map (far range) after_names)
+  new_names = ap names_only known.news ∙ (three known.before known.others (map (beside_role (far range)) known.after) ∙ ap (λ z. before_names ++ (names_only known.others ++ z)) (names_renamed (far range) known.after))
+
+  first_less : range.first ≤ range.closing
+  first_less = let less = known.new_parts.less in omega (arith, less)
+
+  kept_alone : (token : ℕ) → list_any (λ i. i == token) (leaves (tree_of new)) ≡ false → ordinal_in (carried_table range table) token ≡ None
+  kept_alone token e = one (ltb token range.first) (ltb token range.closing) refl refl
+    where
+      absent : list_any (λ i. i == token) (before_names ++ (names_only known.others ++ map (far range) after_names)) ≡ false
+      absent = ap (list_any (λ i. i == token)) (sym new_names) ∙ e
+
+      apart : (list_any (λ i. i == token) before_names ≡ false) × (list_any (λ i. i == token) (names_only known.others ++ map (far range) after_names) ≡ false)
+      apart = both_false (list_any (λ i. i == token) before_names) (list_any (λ i. i == token) (names_only known.others ++ map (far range) after_names)) (sym (list_any-append (λ i. i == token) before_names (names_only known.others ++ map (far range) after_names)) ∙ absent)
+
+      last : list_any (λ i. i == token) (map (far range) after_names) ≡ false
+      last = (both_false (list_any (λ i. i == token) (names_only known.others)) (list_any (λ i. i == token) (map (far range) after_names)) (sym (list_any-append (λ i. i == token) (names_only known.others) (map (far range) after_names)) ∙ apart.1)).1
+
+      first_case : token < range.first → ordinal_in (carried_table range table) token ≡ None
+      first_case h =
+          let less = known.old_parts.less in
+          table_before range table first_less token h
+          ∙ alone token (ap (list_any (λ i. i == token)) old_names ∙ absent_all token before_names (names_only known.own) after_names apart.0
+          (absent_from token range.first (names_only known.own) h known.old_parts.own_from) (absent_from token range.old_closing after_names (omega (arith, h, less)) known.old_parts.after_from))
+
+      last_case : range.closing ≤ token → ordinal_in (carried_table range table) token ≡ None
+      last_case h =
+          let less = known.old_parts.less in
+          let j = range.old_closing + (token - range.closing) in
+          let there : far range j ≡ token = omega (arith, h) in
+          table_after range table first_less token h
+          ∙ alone j (ap (list_any (λ i. i == j)) old_names ∙ absent_all j before_names (names_only known.own) after_names
+          (absent_below j range.first before_names (omega (arith, less)) known.old_parts.before_below) (absent_below j range.old_closing (names_only known.own) (omega arith) known.old_parts.own_below)
+          (absent_back (far range) j after_names (subst (λ t. list_any (λ i. i == t) (map (far range) after_names) ≡ false) (sym there) last)))
+
+      one : (b c : Bool) → ltb token range.first ≡ b → ltb token range.closing ≡ c → ordinal_in (carried_table range table) token ≡ None
+      one true c f g = first_case (ltb-true token range.first f)
+      one false true f g = table_within range table first_less token (ltb-false token range.first f) (ltb-true token range.closing g)
+      one false false f g = last_case (ltb-false token range.closing g)
+
+-- ---- all together
+
+pub new_body_bound : (m : Parsed) (b : Bindings) (range : BodyRange) (own : List ℕ) (ordinals : List (Option ℕ)) (declarations uses : List ℕ) (once faults : List Fault) → IsNewBody m b range own
+    → length m.source.tokens ≤ length (carried_table range b.ordinals.items) → declarations ≡ carried range b.declarations.items []
+    → ordinals ≡ (module_renumbered declarations range.first (tree_of m) (started_over (as_in m.source) (carried_table range b.ordinals.items))).marks → uses ≡ carried range b.occurrences.items own
+    → once ≡ twice_in m → faults ≡ once ++ undeclared_at m.source ordinals uses
+    → IsResolution (record { module_read = m; ordinals = ordinals; declarations = declarations; uses = uses; faults = faults })
+new_body_bound m b range own ordinals declarations uses once faults n long declared numbered used twice all =
+    let was = n.was in
+    let old = was.old in
+    let way = was.way in
+    let s = n.same in
+    let r = was.replaced in
+    let res = was.resolved in
+    let w = as_in m.source in
+    let there : way_to s.prefix (tree_of m) ≡ way = r.new_way in
+    let first : range.first ≡ r.first = some_first (sym n.first ∙ (ap (λ y. first_of (identifiers role.Declaring (body_at y (tree_of m)))) there ∙ r.new_first)) in
+    let front = r.front in
+    let lies = module_exact s.prefix s.new_suffix range.first range.closing (omega (arith, first, front)) (tree_of m) (length m.source.tokens) r.new_in_body (leaves_ascend m r.new_parsed) n.first n.closing in
+    let known = known_in old m way s range r first (n.closing ∙ ap (λ y. closing_at y (tree_of m)) there) n.old_closing in
+    let table = b.ordinals.items in
+    let kept_table = carried_table range table in
+    let marks = (visit_module (tree_of m) (started w)).marks in
+    let full = with_marks (replicate (length m.source.tokens) None) marks in
+    let has : HasMarks (ordinal_in full) marks = marks_in_table m w (visit_module (tree_of m) (started w)) full r.new_parsed refl refl in
+    let paired = module_passed (ordinal_in full) with_ordinal w (tree_of m) (started w) (at_start w) in
+    let binding : IsBinding m full = (paired.agree has).1 in
+    let before = names_only known.before in
+    let after = names_only known.after in
+    let same : map (ordinal_in full) (before ++ map (far range) after) ≡ map (ordinal_in table) (before ++ after) =
+    ap (map (ordinal_in full)) (sym (ap names_only known.new_rest ∙ (leaves_append known.before (map (beside_role (far range)) known.after) ∙ ap (λ z. before ++ z) (names_renamed (far range) known.after))))
+    ∙ (same_outside old m way s table full r res.binding binding ∙ ap (map (ordinal_in table)) (ap names_only known.old_rest ∙ leaves_append known.before known.after)) in
+    let each = both_each (ordinal_in full) (ordinal_in table) (far range) before after same in
+    let less = known.new_parts.less in
+    let out = is_out range.first range.closing in
+    let agree : AgreeAt out (ordinal_in kept_table) (ordinal_in full) (before ++ (names_only known.others ++ map (far range) after)) =
+    agree_both out (ordinal_in kept_table) (ordinal_in full) before (names_only known.others ++ map (far range) after) (agree_before range table (ordinal_in full) less before known.new_parts.before_below each.0)
+    (agree_both out (ordinal_in kept_table) (ordinal_in full) (names_only known.others) (map (far range) after) (agree_within range table (ordinal_in full) less (names_only known.others) known.new_parts.own_from known.new_parts.own_below)
+    (agree_after range table (ordinal_in full) less after known.old_parts.after_from each.1)) in
+    let tokens : tokens_of marks ≡ before ++ (names_only known.others ++ map (far range) after) = paired.tokens ∙ new_names old m way range known table res.names_alone in
+    let outside = marks_at out (ordinal_in kept_table) (ordinal_in full) marks has (subst (AgreeAt out (ordinal_in kept_table) (ordinal_in full)) (sym tokens) agree) in
+    let nothing : declaring_only known.others ≡ [] = ap declaring_only known.others_are ∙ (declares_nothing tt (body_at way (tree_of m))).plain in
+    let declaring : declarations ≡ declaring_only (identifiers role.Declaring (tree_of m)) =
+    declared
+    ∙ ((λ i. carried range ((res.declaring ∙ ap declaring_only known.olds) i) (sym nothing i))
+    ∙ (carried_picked range declaring_only known.before known.own known.after known.others known.high picks_declaring known.old_parts known.few ∙ ap declaring_only (sym known.news))) in
+    let own_is : own ≡ looked_up_only known.others = n.uses ∙ (ap (λ y. occurrences (body_at y (tree_of m))) there ∙ (sym (looked_up-occurrences role.Declaring (λ n xs. refl) (body_at way (tree_of m))) ∙ ap looked_up_only (sym known.others_are))) in
+    let old_uses : b.occurrences.items ≡ looked_up_only (known.before ++ (known.own ++ known.after)) = res.occurring ∙ (sym (looked_up-occurrences role.Declaring (λ n xs. refl) (tree_of old)) ∙ ap looked_up_only known.olds) in
+    let occurring : uses ≡ occurrences (tree_of m) =
+    used
+    ∙ ((λ i. carried range (old_uses i) (own_is i))
+    ∙ (carried_picked range looked_up_only known.before known.own known.after known.others known.high picks_looked_up known.old_parts known.few
+    ∙ (ap looked_up_only (sym known.news) ∙ looked_up-occurrences role.Declaring (λ n xs. refl) (tree_of m)))) in
+    let renumbered = body_renumbered m range.first range.closing kept_table declarations r.new_parsed r.new_scan lies outside declaring long in
+    resolution_marked m ordinals declarations uses once faults r.new_parsed
+    (subst (λ (os : List (Option ℕ)). HasMarks (ordinal_in os) marks) (sym numbered) renumbered.marks)
+    (λ token e. ap (λ (os : List (Option ℕ)). ordinal_in os token) numbered ∙ (renumbered.elsewhere token e ∙ kept_alone old m way range known table res.names_alone token e))
+    declaring occurring twice all

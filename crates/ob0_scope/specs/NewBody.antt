@@ -1,0 +1,15 @@
+-- What a module's names were bound to before the statements of one body were replaced.
+-- Rule: none; for contracts of `rebind_new_body`.
+use Rattle.ob0_scan.specs.declared.tokens.SameTokens.{SameTokens}
+use Rattle.ob0_tree.specs.Parsed.{Parsed}
+use Rattle.ob0_scope_table.specs.Bindings.{resolution_by}
+use Rattle.ob0_scope_table.specs.BodyReplaced.{IsBodyReplaced, Way}
+use Rattle.ob0_scope_table.specs.Resolution.{IsResolution}
+use Rattle.ob0_scope_table.specs.declared.resolved.Bindings.{Bindings}
+
+-- these were the bindings of the module before the statements of one body were replaced
+pub record WasBoundElsewhere (m : Parsed) (b : Bindings) (s : SameTokens) : Type 0 where
+  pub old : Parsed
+  pub way : Way
+  pub replaced : IsBodyReplaced old m way s
+  pub resolved : IsResolution (resolution_by old b)

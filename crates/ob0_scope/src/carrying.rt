@@ -1,0 +1,176 @@
+//! What is known of a module's names, carried over to one in which the statements of one body were replaced.
+
+ghost use Rattle.std.specs.Prelude.{◌≡◌, ◌++◌, ◌∷◌, [], IfOk, OnOk};
+ghost use Rattle.ob0_tree.specs.View.{block_of, body_of, procedure_of};
+ghost use Rattle.ob0_scope_table.specs.BodyReplaced.{body_in, body_inside, closing_in, closing_inside, way_in_block, way_in_procedure};
+ghost use Rattle.ob0_scope.specs.Carried.{after_body, before_body, carried, carried_table, old_place, shifted};
+
+use ob0_scan::SameTokens;
+use ob0_scope_table::OrdinalEntry;
+use ob0_tree::walk::Visitor;
+use ob0_tree::{Block, Procedure, Role, Statement};
+use std::alloc::{AllocError, Global};
+use std::marker::Model;
+
+/// Where the statements of a body are: from the token of their first identifier on, and before that of the closing name
+/// of their block, which was elsewhere before the statements were replaced.
+#[derive(Clone, Copy)]
+pub(crate) struct BodyRange {
+    pub(crate) first: usize,
+    pub(crate) old_closing: usize,
+    pub(crate) closing: usize,
+}
+
+/// The statements of a block, with the block's closing name.
+#[derive(Clone, Copy)]
+pub(crate) struct Body<'t> {
+    pub(crate) statements: &'t Option<Vec<Statement>>,
+    pub(crate) closing: usize,
+}
+
+/// The first identifier of a body, once there is one, and its occurrences so far.
+#[derive(Drop)]
+pub(crate) struct BodyNames {
+    pub(crate) first: Option<usize>,
+    pub(crate) uses: Vec<usize>,
+}
+
+impl Model for BodyNames {
+    ghost use Rattle.ob0_scope.specs.Carried.{NamesInBody};
+
+    ghost Value = { NamesInBody };
+
+    ghost view = { λ names. record { first = names.first; uses = names.uses.items } };
+}
+
+impl Visitor for BodyNames {
+    ghost use Rattle.ob0_scope.specs.Carried.{with_name};
+
+    ghost seen = { with_name };
+
+    fn see(&mut self, role: Role, token: usize) -> Result<(), AllocError> {
+        if self.first.is_none() {
+            self.first = Some(token);
+        }
+        match role {
+            Role::LookedUp => self.add_use(token),
+            Role::Declaring => Ok(()),
+            Role::ClosingName => Ok(()),
+            Role::FieldName => Ok(()),
+            Role::ModuleName => Ok(()),
+        }
+    }
+}
+
+impl BodyNames {
+    fn add_use(&mut self, token: usize) -> Result<(), AllocError>
+        ensures { OnOk result (self.new ≡ record self.old { uses = self.old.uses ++ (token ∷ []) }) }
+    {
+        self.uses.push(token)?;
+        Ok(())
+    }
+}
+
+/// The body in which the tokens from `low` on lie, in a block with this closing name or in one in it.
+#[cycle(blocks)]
+pub(crate) fn body_in<'t>(inner: &'t Block, own: usize, low: usize) -> Body<'t>
+    ensures statements { body_of result.statements.now
+        ≡ body_in (way_in_block low (block_of inner.now)) (block_of inner.now) }
+    ensures closing { result.closing
+        ≡ closing_in (way_in_block low (block_of inner.now)) own (block_of inner.now) }
+{
+    for p in &inner.procedures {
+        if p.closing >= low {
+            return body_inside(p, low);
+        }
+    }
+    Body {
+        statements: &inner.body,
+        closing: own,
+    }
+}
+
+#[cycle(blocks)]
+fn body_inside<'t>(p: &'t Procedure, low: usize) -> Body<'t>
+    ensures statements { body_of result.statements.now
+        ≡ body_inside (way_in_procedure low (procedure_of p.now)) (procedure_of p.now) }
+    ensures closing { result.closing
+        ≡ closing_inside (way_in_procedure low (procedure_of p.now)) (procedure_of p.now) }
+{
+    body_in(&p.block, p.closing, low)
+}
+
+/// Where the closing name of a body's block was, at most the largest index.
+pub(crate) fn old_place(same: SameTokens, closing: usize) -> usize
+    ensures { result ≡ old_place same closing }
+{
+    closing
+        .saturating_sub(same.new_suffix)
+        .saturating_add(same.old_suffix)
+}
+
+impl BodyRange {
+    /// Where a token after the body is now, at most the largest index.
+    fn shifted(self, token: usize) -> usize
+        ensures { result ≡ shifted self token }
+    {
+        token
+            .saturating_sub(self.old_closing)
+            .saturating_add(self.closing)
+    }
+
+    /// Adds those of some tokens that are before the body.
+    fn add_before(self, out: &mut Vec<usize>, tokens: &[usize]) -> Result<(), AllocError>
+        ensures { OnOk result (out.new.items ≡ out.old.items ++ before_body self tokens.now) }
+    {
+        for token in tokens {
+            if *token < self.first {
+                out.push(*token)?;
+            }
+        }
+        Ok(())
+    }
+
+    /// Adds those of some tokens that are after the body, where they are now.
+    fn add_after(self, out: &mut Vec<usize>, tokens: &[usize]) -> Result<(), AllocError>
+        ensures { OnOk result (out.new.items ≡ out.old.items ++ after_body self tokens.now) }
+    {
+        for token in tokens {
+            if *token >= self.old_closing {
+                out.push(self.shifted(*token))?;
+            }
+        }
+        Ok(())
+    }
+
+    /// Tokens of the module before, with those of the new body.
+    pub(crate) fn carry(
+        self,
+        alloc: Global,
+        tokens: &[usize],
+        own: &[usize],
+    ) -> Result<Vec<usize>, AllocError>
+        ensures { IfOk result (λ all. all.items ≡ carried self tokens.now own.now) }
+    {
+        let mut all = Vec::with_capacity(alloc, tokens.len())?;
+        self.add_before(&mut all, tokens)?;
+        all.extend_from_slice(own)?;
+        self.add_after(&mut all, tokens)?;
+        Ok(all)
+    }
+
+    /// The ordinals of the module before, with none in the new body.
+    pub(crate) fn carry_table(
+        self,
+        alloc: Global,
+        old: &[OrdinalEntry],
+    ) -> Result<Vec<OrdinalEntry>, AllocError>
+        ensures { IfOk result (λ table. table.items ≡ carried_table self old.now) }
+    {
+        let mut table = Vec::with_capacity(alloc, old.len())?;
+        table.extend_from_slice(&old[..self.first.min(old.len())])?;
+        table.resize(self.closing, OrdinalEntry::new(None))?;
+        table.extend_from_slice(&old[self.old_closing.min(old.len())..])?;
+        Ok(table)
+    }
+}
