@@ -17,7 +17,8 @@ tree_in t = is_module t.name (block_of t.block) t.closing
 abbrev pub place_if : Bool → Tree ℕ (maybe body) → ℕ → Option BodyPlace
 place_if sought statements closing =
     if sought
-    then option_map (λ first. record { first = first; closing = closing }) (first_of (identifiers role.Declaring statements))
+    then option_map (λ first. record { first = first; closing = closing })
+    (first_of (identifiers role.Declaring statements))
     else None
 
 -- the place of the body in a block with this closing name in which a range of tokens lies, if it
