@@ -7,6 +7,7 @@ use Rattle.ob0_tree.specs.Order.{Ascending, leaves, names_only}
 use Rattle.ob0_tree.specs.Tree.{Tree, block, body, declares, declares_procedure, end, has_body, identifiers, is_module, item, items, maybe, module_text, more, none, procedure}
 use Rattle.ob0_scope_table.specs.BodyReplaced.{Way, body_among, body_at, body_in, body_inside, closing_among, closing_at, closing_in, closing_inside, first_of, later, way_among, way_in_block, way_in_procedure, way_to}
 use Rattle.ob0_scope_table.specs.OneBody.{begins_by, closing_name, is_in_block, is_in_body, is_in_procedure, is_in_procedures}
+use Rattle.ob0_scope_table.proofs.OneBody.{le_true}
 use Rattle.ob0_scope_numbering.proofs.Covered.{AllBelow, ascend_first, ascend_second, leaves_append}
 use Rattle.ob0_scope.proofs.Bodies.{Place, among, one_later}
 use Rattle.ob0_scope.proofs.BodySplit.{Split, split_among, split_inside}
@@ -19,13 +20,6 @@ from_second n (x ∷ xs) ys h = from_second n xs ys h.1
 both_true : (a b : Bool) → (a && b) ≡ true → (a ≡ true) × (b ≡ true)
 both_true true b e = (refl, e)
 both_true false b e = absurd (cc)
-
-le_true : (a b : ℕ) → a ≤ b → nat_le a b ≡ true
-le_true a b le = one (nat_le a b) refl
-  where
-    one : (x : Bool) → nat_le a b ≡ x → x ≡ true
-    one true e = refl
-    one false e = absurd (grind (arith, nat_tests))
 
 -- the first of some identifiers is among them
 first_from : (n first : ℕ) (ids : List (Role × ℕ)) (others : List ℕ) → first_of ids ≡ Some first → AllFrom n (names_only ids ++ others) → n ≤ first

@@ -30,6 +30,7 @@ use Rattle.ob0_scope_table.specs.OneBody.{is_out}
 use Rattle.ob0_scope_table.specs.Resolution.{IsBinding, IsResolution, Resolution, bound_at, declaring_only, ordinal_in, undeclared_at, with_ordinal}
 use Rattle.ob0_scope_table.specs.declared.resolved.Bindings.{Bindings}
 use Rattle.ob0_scope_table.proofs.BodyReplaced.{names_outside, without_mapped}
+use Rattle.ob0_scope_table.proofs.Moved.{moved_above, moved_below}
 use Rattle.ob0_scope_table.proofs.Plain.{declares_nothing}
 use Rattle.ob0_scope_numbering.specs.Marking.{started, visit_module}
 use Rattle.ob0_scope_numbering.specs.Marks.{OrdinalMark, with_marks}
@@ -71,21 +72,15 @@ names_walked ((role.ModuleName, i) ∷ xs) = later_names xs i []
 
 -- ---- where tokens are now
 
-moved_before : (s : SameTokens) (i : ℕ) → i < s.prefix → moved s i ≡ i
-moved_before s i h = ap (λ b. if b then i else s.new_suffix + (i - s.old_suffix)) (lt-ltb i s.prefix h)
-
-moved_after : (s : SameTokens) (i : ℕ) → s.prefix ≤ i → moved s i ≡ s.new_suffix + (i - s.old_suffix)
-moved_after s i h = ap (λ b. if b then i else s.new_suffix + (i - s.old_suffix)) (le-ltb i s.prefix h)
-
 stays : (s : SameTokens) (xs : List (Role × ℕ)) → AllBelow s.prefix (names_only xs) → map (beside_role (moved s)) xs ≡ xs
 stays s [] h = refl
-stays s (x ∷ xs) h = λ i. (x.0, moved_before s x.1 h.0 i) ∷ stays s xs h.1 i
+stays s (x ∷ xs) h = λ i. (x.0, moved_below s x.1 h.0 i) ∷ stays s xs h.1 i
 
 goes_far : (s : SameTokens) (range : BodyRange) (xs : List (Role × ℕ)) → s.prefix ≤ s.old_suffix → s.old_suffix < range.old_closing → range.closing ≡ s.new_suffix + (range.old_closing - s.old_suffix) → AllFrom range.old_closing (names_only xs)
     → map (beside_role (moved s)) xs ≡ map (beside_role (far range)) xs
 goes_far s range [] le less e h = refl
 goes_far s range (x ∷ xs) le less e h =
-    let here : moved s x.1 ≡ far range x.1 = moved_after s x.1 (omega (arith, le, less, h.0)) ∙ omega (arith, le, less, e, h.0) in
+    let here : moved s x.1 ≡ far range x.1 = moved_above s x.1 le (omega (arith, less, h.0)) ∙ omega (arith, le, less, e, h.0) in
     λ i. (x.0, here i) ∷ goes_far s range xs le less e h.1 i
 
 far_from : (range : BodyRange) (xs : List (Role × ℕ)) → AllFrom range.closing (names_only (map (beside_role (far range)) xs))
@@ -138,7 +133,7 @@ module _ (old new : Parsed) (way : Way) (s : SameTokens) (r : IsBodyReplaced old
       let back = r.back in
       let front = r.front in
       let less = pn.less in
-      let closing : new_closing ≡ s.new_suffix + (old_closing - s.old_suffix) = r.closing ∙ moved_after s old_closing (omega (arith, old_range, back)) in
+      let closing : new_closing ≡ s.new_suffix + (old_closing - s.old_suffix) = r.closing ∙ moved_above s old_closing old_range (omega (arith, back)) in
       let same : sn.before ++ new_tail ≡ so.before ++ map (beside_role (far exact)) old_tail =
       sym sn.rest_is
       ∙ (ap (identifiers role.Declaring) r.outside
@@ -176,11 +171,10 @@ module _ (old new : Parsed) (way : Way) (s : SameTokens) (r : IsBodyReplaced old
   -- where the closing name was, by where it is
   place_is : old_place s new_closing ≡ old_closing
   place_is =
-      let old_range = r.old_range in
       let back = r.back in
       let few = few_tokens old.source r.old_scan in
       let inside = old_inside in
-      let closing : new_closing ≡ s.new_suffix + (old_closing - s.old_suffix) = r.closing ∙ moved_after s old_closing (omega (arith, old_range, back)) in
+      let closing : new_closing ≡ s.new_suffix + (old_closing - s.old_suffix) = r.closing ∙ moved_above s old_closing r.old_range (omega (arith, back)) in
       let there : new_closing - s.new_suffix + s.old_suffix ≡ old_closing = omega (arith, closing, back) in
       min-eq_left (let small : new_closing - s.new_suffix + s.old_suffix ≤ 2 ^ 64 - 1 = omega (arith, there, few, inside) in small) ∙ there
 
