@@ -17,7 +17,7 @@ use Rattle.ob0_types_check.proofs.BoundModules.{labels-bound}
 use Rattle.ob0_types_check.proofs.DeclaredModules.{module_counted, numbering_of}
 use Rattle.ob0_types_check.proofs.DeclaredNames.{BlockPlaced, Each, IsBound, Numbering, block_placed}
 
--- ---- the same ordinals
+-- ---- ordinals are what they were
 
 mutual
   pub after_block-without : {N : Type 0} (way : Way) (k : ℕ) (b : Tree N block) → after_block k (block_without way b) ≡ after_block k b
