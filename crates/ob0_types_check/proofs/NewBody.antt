@@ -1,5 +1,5 @@
 -- Where all of a module fits but for the statements of one body, nothing is reported but of these.
-use Rattle.std.proofs.Common.{◌≡◌, ℕ, zero, suc, Bool, true, false, ◌||◌, List, [], ◌∷◌, ◌++◌, eq-eqb, refl, sym, ap, ◌∙◌, subst}
+use Rattle.std.proofs.Common.{◌≡◌, ℕ, zero, suc, Bool, true, false, ◌||◌, [], ◌∷◌, ◌++◌, eq-eqb, refl, sym, ap, ◌∙◌, subst}
 use Rattle.ob0_tree.specs.Parsed.{tree_of}
 use Rattle.ob0_tree.specs.Tree.{Tree, block, body, constants, declares, declares_procedure, end, has_body, item, items, maybe, more, none, procedure, type_names, variables}
 use Rattle.ob0_language_names.specs.Names.{as_names}

@@ -1,6 +1,6 @@
 -- A body declares nothing: without the statements of one the same names are declared, with the same ordinals, and
 -- the names that are left are bound to what they were. So where all fits but those statements, each other name is bound.
-use Rattle.std.proofs.Common.{◌≡◌, ℕ, zero, suc, ◌+◌, ◌≤◌, false, true≢false, Option, Some, None, List, [], ◌∷◌, map, refl, sym, ap, ◌∙◌, subst, arith}
+use Rattle.std.proofs.Common.{◌≡◌, ℕ, zero, suc, false, true≢false, Option, Some, None, List, [], ◌∷◌, map, refl, sym, ap, ◌∙◌, subst, arith}
 use Rattle.ob0_tree.specs.Parsed.{tree_of}
 use Rattle.ob0_tree.specs.Places.{named, text_at, value_at}
 use Rattle.ob0_tree.specs.Tree.{Tree, block, declares, declares_procedure, end, has_body, is_module, item, items, mapped, module_text, more, occurrences, procedure}
@@ -17,7 +17,7 @@ use Rattle.ob0_types_check.proofs.BoundModules.{labels-bound}
 use Rattle.ob0_types_check.proofs.DeclaredModules.{module_counted, numbering_of}
 use Rattle.ob0_types_check.proofs.DeclaredNames.{BlockPlaced, Each, IsBound, Numbering, block_placed}
 
--- ---- the same ordinals
+-- ---- ordinals are what they were
 
 mutual
   pub after_block-without : {N : Type 0} (way : Way) (k : ℕ) (b : Tree N block) → after_block k (block_without way b) ≡ after_block k b
