@@ -88,16 +88,6 @@ def word_at(text: str, chance: random.Random) -> tuple[int, int, str]:
     return lexeme.start(), lexeme.end(), chance.choice([*chance.choices(others, k=3), lexeme[0] + "1", "7" if lexeme[0].isdigit() else "q"])
 
 
-def statement_at(text: str, chance: random.Random) -> tuple[int, int, str]:
-    """A place before a semicolon or END, and a statement with a name of the text: often the tokens of one body are others."""
-    found = [it for it in LEXEME.finditer(text) if it[0] in (";", "END")]
-    names = [it[0] for it in LEXEME.finditer(text) if it[0][0].isalpha() and not it[0].isupper()]
-    if not found or not names:
-        return blank_at(text, chance)
-    place, name = chance.choice(found).start(), chance.choice(names)
-    return place, place, chance.choice([f"; {name} := {name} + 1 ", f"; {name} ", ";", f"; IF {name} = 1 THEN {name} := 2 END "])
-
-
 def replacement(text: str, chance: random.Random) -> str:
     """What is put in: nothing, a piece, or a lexeme or a part of the text."""
     way = chance.random()
@@ -137,8 +127,6 @@ class Edited:
             start, end, new = blank_at(self.text, self.chance)
         elif way < 0.7:
             start, end, new = word_at(self.text, self.chance)
-        elif way < 0.82:
-            start, end, new = statement_at(self.text, self.chance)
         else:
             start, end = at_random(self.text, self.chance)
             new = replacement(self.text, self.chance)
@@ -224,8 +212,8 @@ def figures(conversations: list[Counter[str]]) -> str:
     holds(count < 1000 or not missing, f"of {count:,} changes none was {missing}")
     short = sum(found[it] for it in ways.SHORT)
     holds(count < 1000 or short * 2 > count, f"of {count:,} changes only {short:,} leave what is known but for one body")
-    kinds = ", ".join(f"{found[it]:,} {it}" for it in KINDS[:7])
-    faults = ", ".join(f"{found[it]:,} of {it}" for it in KINDS[7:])
+    kinds = ", ".join(f"{found[it]:,} {it}" for it in KINDS[:6])
+    faults = ", ".join(f"{found[it]:,} of {it}" for it in KINDS[6:])
     return (f"{count:,} changes, after each what a new server says: {found['no fault']:,} texts without a fault; {kinds}; "
             f"those in one body beside faults: {faults}")
 

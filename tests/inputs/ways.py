@@ -1,7 +1,6 @@
 """What can stay of an analysis after a change, by the rule of docs/ARCHITECTURE.md ("What is kept of a text"): all that is known
 where the tokens are written as they were; the tree or the refusal where they are of the kinds that they were, and then all bodies
-but one where the change lies in that one; and of other tokens all but one body where those that differ lie in that one, after its
-first identifier."""
+but one where the change lies in that one."""
 from __future__ import annotations
 
 from typing import List, NamedTuple, Optional
@@ -10,9 +9,9 @@ from harness import Message
 from reference.parser import Node, Parser, Refused
 from reference.scanner import Token, scan
 
-WORDS, BODY, REPLACED, REFUSED = "written as before", "in one body", "other tokens in one body", "refused alike"
+WORDS, BODY, REFUSED = "written as before", "in one body", "refused alike"
 DECLARATIONS, TOKENS, LEXEMES = "not in one body", "other tokens", "faults of lexemes"
-SHORT = (WORDS, BODY, REPLACED, REFUSED)
+SHORT = (WORDS, BODY, REFUSED)
 
 
 class Lexed(NamedTuple):
@@ -61,42 +60,12 @@ def changed_body(old: Lexed, new: Lexed) -> tuple[str, Optional[Body]]:
     return (BODY, inside[0]) if inside else (DECLARATIONS, None)
 
 
-def common(one: List[Token], other: List[Token]) -> int:
-    """How many tokens two lists begin with that are of the same kinds and written alike."""
-    pairs = zip(one, other)
-    return next((at for at, (a, b) in enumerate(pairs) if (a.kind, a.text) != (b.kind, b.text)), min(len(one), len(other)))
-
-
-def body_around(text: Lexed, first: int, last: int) -> Optional[int]:
-    """Which token the BEGIN of the body is that has the tokens from `first` on and before `last`, after an identifier and before its
-    END. None where none has."""
-    tree = tree_of(text)
-    if tree is None:
-        return None
-    places = [it.start for it in text.tokens]
-    for body in bodies(tree):
-        begin = next(at for at, it in enumerate(text.tokens) if it.end == body.start)
-        closing = places.index(body.end)
-        named = any(it.kind == "ident" for it in text.tokens[begin:first])
-        if named and first <= last < closing:
-            return begin
-    return None
-
-
-def is_replaced(old: Lexed, new: Lexed) -> bool:
-    """Whether the tokens that differ lie in one body of both texts."""
-    front = common(old.tokens, new.tokens)
-    back = common(old.tokens[front:][::-1], new.tokens[front:][::-1])
-    was, now = (body_around(it, front, len(it.tokens) - back) for it in (old, new))
-    return was is not None and was == now
-
-
 def way_of(old: Optional[Lexed], new: Optional[Lexed]) -> tuple[str, Optional[Body]]:
     """What can stay of the analysis of the last text that had lexemes, and the body in which the change lies, if it lies in one."""
     if old is None or new is None:
         return LEXEMES, None
     if [it.kind for it in old.tokens] != [it.kind for it in new.tokens]:
-        return (REPLACED if is_replaced(old, new) else TOKENS), None
+        return TOKENS, None
     if [it.text for it in old.tokens] == [it.text for it in new.tokens]:
         return WORDS, None
     return changed_body(old, new)
