@@ -4,3 +4,7 @@ mod Refusals
 mod Pieces
 mod GivenBack
 mod OneBody
+mod NoBegin
+mod Marked
+mod Ways
+mod NewBody

@@ -19,13 +19,13 @@ use Rattle.ob0_types.specs.OneBody.{WereTypes}
 use Rattle.ob0_types.specs.declared.checked.ModuleTypes.{ModuleTypes}
 use Rattle.ob0_analysis.specs.OneBody.{HadTree}
 
-get_taken : {A : Type 0} (k : ℕ) (xs : List A) (i : ℕ) → i < k → slice_get (take k xs) i ≡ slice_get xs i
+pub get_taken : {A : Type 0} (k : ℕ) (xs : List A) (i : ℕ) → i < k → slice_get (take k xs) i ≡ slice_get xs i
 get_taken zero xs i less = absurd (omega (arith, less))
 get_taken (suc k) [] i less = refl
 get_taken (suc k) (x ∷ xs) zero less = refl
 get_taken (suc k) (x ∷ xs) (suc i) less = get_taken k xs i (omega (arith, less))
 
-get_dropped : {A : Type 0} (k : ℕ) (xs : List A) (i j : ℕ) → k + i ≡ j → slice_get (drop k xs) i ≡ slice_get xs j
+pub get_dropped : {A : Type 0} (k : ℕ) (xs : List A) (i j : ℕ) → k + i ≡ j → slice_get (drop k xs) i ≡ slice_get xs j
 get_dropped zero xs i j e = let here : i ≡ j = omega (arith, e) in ap (slice_get xs) here
 get_dropped (suc k) [] i j e = refl
 get_dropped (suc k) (x ∷ xs) i zero e = absurd (omega (arith, e))

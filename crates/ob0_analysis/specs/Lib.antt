@@ -3,6 +3,7 @@ pub mod Diagnosed
 pub mod Found
 pub mod Before
 pub mod OneBody
+pub mod NewBody
 pub mod RunsKept
 pub mod Texts
 pub mod Pieces

@@ -9,6 +9,7 @@ mod diagnosing;
 mod differences;
 mod fault_places;
 pub mod laws;
+mod new_body;
 mod one_body;
 mod parts;
 mod read_text;

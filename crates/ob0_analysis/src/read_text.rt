@@ -14,6 +14,7 @@ ghost use Rattle.ob0_analysis.specs.Before.{AreKeptBefore, IsModuleBefore, IsUnr
 ghost use Rattle.ob0_analysis.specs.declared.read_text.NotRead.TheVariants as not_read;
 ghost use Rattle.ob0_analysis.specs.declared.read_text.Reading.TheVariants.{NoTree};
 ghost use Rattle.ob0_analysis.specs.Diagnosed.{IsWellTypedModule, Reports, complaint_in};
+ghost use Rattle.ob0_analysis.specs.NewBody.{HadModule};
 ghost use Rattle.ob0_analysis.specs.OneBody.{HadTree};
 ghost use Rattle.ob0_types.specs.OneBody.{WereTypes};
 
@@ -21,6 +22,7 @@ use crate::diagnoses::Diagnosis;
 use crate::diagnosing::{diagnose_module, diagnose_refusal};
 use crate::differences::Difference;
 use crate::fault_places::{FaultPlaces, move_bindings, move_types};
+use crate::new_body::module_after;
 use crate::one_body::{bind_again, check_again, is_in_one_body};
 use crate::parts::ModuleParts;
 use ob0_parse::{Kept, tree_after};
@@ -28,7 +30,7 @@ use ob0_parse_descent::ParseRefusal;
 use ob0_scan::laws::one_scan;
 use ob0_scan::{Fault, NotRescanned, RescanInPlace, SameTokens, Tokens, rescan_in_place};
 use ob0_scope::laws::{bindings_keep_tokens, bindings_stay};
-use ob0_scope_table::Bindings;
+use ob0_scope_table::{Bindings, place_of_body};
 use ob0_tree::ModuleTree;
 use ob0_types::ModuleTypes;
 use ob0_types::laws::types_keep_tokens;
@@ -270,8 +272,7 @@ impl ReadText {
         } = changed;
         let tokens = rescan.tokens;
         if !same_kinds {
-            let kept = Kept::of(alloc, tree).after(alloc, same)?;
-            return ReadText::of_tokens(alloc, tokens, kept);
+            return ReadText::of_other_kinds(alloc, tokens, tree, bindings, types, same);
         }
         if same_words {
             if places.keep_front(&tokens) {
@@ -279,6 +280,37 @@ impl ReadText {
             }
         }
         ReadText::of_same_tree(alloc, tokens, tree, bindings, types, same, same_names)
+    }
+
+    /// A text whose tokens are of other kinds, by the procedures of the tree of the text before. Where the two differ in
+    /// one body alone, also by the names and the types of that text.
+    fn of_other_kinds(
+        alloc: Global,
+        tokens: Tokens,
+        tree: ModuleTree,
+        bindings: Bindings,
+        types: ModuleTypes,
+        same: SameTokens,
+    ) -> Result<ReadText, AllocError>
+        requires { HadModule tokens tree bindings types same }
+        ensures { IfOk result (λ r. r ≡ tokens.text) }
+    {
+        let before = place_of_body(&tree, same.prefix, same.old_suffix)?;
+        let mut kept = Kept::of(alloc, tree).after(alloc, same)?;
+        match tree_after(alloc, &tokens, &mut kept) {
+            Ok(tree) => {
+                let parts = module_after(alloc, tokens, tree, bindings, types, same, before)?;
+                Ok(ReadText::of_module(parts))
+            }
+            Err(ParseRefusal::Memory) => Err(AllocError),
+            Err(refusal) => Ok(ReadText {
+                reading: Reading::NoTree(IllFormed {
+                    tokens,
+                    refusal,
+                    kept,
+                }),
+            }),
+        }
     }
 
     /// A text with the tree of the text before. The bindings of that text are its own where the identifiers are written

@@ -3,10 +3,19 @@ use Rattle.ob0_tree.specs.Parsed.{parsed_by}
 use Rattle.ob0_parse.proofs.Stays.{tree_stays}
 use Rattle.ob0_analysis.proofs.read_text.ReadText.of_scan.Goals as goal
 
-pub of_tokens-requires : goal.of_tokens-requires
-of_tokens-requires c =
+pub of_other_kinds-requires : goal.of_other_kinds-requires
+of_other_kinds-requires c =
     let before = c.requires in
-    c.in_ok-kept.ensures before.old.tokens _ before.same (c.of.ensures before.old before.was.parsed)
+    record {
+      old = before.old;
+      old_scan = before.old_scan;
+      new_scan = before.new_scan;
+      parsed = before.was.parsed;
+      resolved = before.was.resolved;
+      types_are = before.was.types_are;
+      same = before.same;
+      written = before.written;
+    }
 
 pub of_same_words-requires : goal.of_same_words-requires
 of_same_words-requires c =

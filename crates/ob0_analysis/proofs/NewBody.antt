@@ -1,0 +1,265 @@
+-- Where a text differs from the one before in one body, it is the same module but for that: its tree is the only one that is spelled so.
+use Rattle.std.proofs.Common.{◌≡◌, ◌<◌, ◌≤◌, ◌+◌, ◌-◌, ℕ, zero, suc, Bool, true, false, nat_lt, if◌then◌else◌, Option, Some, List, [], ◌∷◌, ◌++◌, map, take, drop, length, slice_get, refl, sym, ap, ◌∙◌, subst, arith, append_assoc, length-append, ⊎_elim}
+use Rattle.std.proofs.lemmas.List.{drop-drop, drop_at, map-append, take-take, take_at}
+use Rattle.ob0_scan.specs.declared.lexeme.TokenKind.{TokenKind}
+use Rattle.ob0_scan.specs.declared.lexeme.TokenKind.TheVariants as kind
+use Rattle.ob0_scan.specs.declared.lexeme.Reserved.TheVariants as reserved
+use Rattle.ob0_scan.specs.declared.tokens.SameTokens.{SameTokens}
+use Rattle.ob0_scan.specs.Reused.{kinds, words_in}
+use Rattle.ob0_scan.specs.SameKinds.{HasSameTokens, HasSameWords}
+use Rattle.ob0_scan.specs.Scanned.{IsScan, Scanned, Word}
+use Rattle.ob0_tree.specs.Lexeme.{EndOfText, Mark, Name, Number, Terminal, relabelled}
+use Rattle.ob0_tree.specs.Order.{names_only}
+use Rattle.ob0_tree.specs.Parsed.{IsParsed, Parsed, parsed_by, tree_of}
+use Rattle.ob0_tree.specs.declared.tree.ModuleTree.{ModuleTree}
+use Rattle.ob0_tree.specs.Tree.{Tree, begins, body, identifiers, item, mapped, maybe, module_text, none, one, spell}
+use Rattle.ob0_tree.specs.declared.tree.Role.{Role}
+use Rattle.ob0_tree.specs.declared.tree.Role.TheVariants as role
+use Rattle.ob0_tree.proofs.Leaves.{leaves_spelled, lexeme_names}
+use Rattle.ob0_tree.proofs.Mapped.{spell_mapped}
+use Rattle.ob0_parse_descent.proofs.Unique.{same}
+use Rattle.ob0_scope.specs.NewBody.{WasBoundElsewhere}
+use Rattle.ob0_scope_table.specs.Bindings.{resolution_by}
+use Rattle.ob0_scope_table.specs.BodyPlaces.{body_place, tree_in}
+use Rattle.ob0_scope_table.specs.BodyReplaced.{IsBodyReplaced, Way, body_at, closing_at, first_of, moved, way_to, without}
+use Rattle.ob0_scope_table.specs.OneBody.{is_out}
+use Rattle.ob0_scope_table.proofs.BodyPlaces.{body_place_read}
+use Rattle.ob0_scope_table.proofs.Moved.{moved_above, moved_below, out_cases}
+use Rattle.ob0_scope_table.proofs.OneBody.{less_false}
+use Rattle.ob0_scope_table.specs.declared.one_body.BodyPlace.{BodyPlace}
+use Rattle.ob0_scope_table.specs.declared.resolved.Bindings.{Bindings}
+use Rattle.ob0_types.specs.NewBody.{WereTypesElsewhere}
+use Rattle.ob0_types.specs.declared.checked.ModuleTypes.{ModuleTypes}
+use Rattle.ob0_analysis.specs.NewBody.{HadBody, IsSameBody}
+use Rattle.ob0_analysis.proofs.Marked.{drop_marked, marked, moved_on, name_index, spelled_marked, take_marked}
+use Rattle.ob0_analysis.proofs.OneBody.{get_dropped, get_taken}
+use Rattle.ob0_analysis.proofs.NoBegin.{NoBegin, begin_mark, first_part, last_begin, no_begin}
+use Rattle.ob0_analysis.proofs.Ways.{around_body, way_less, way_moved}
+
+-- ---- a body up to its first identifier
+
+record UpTo (xs : List (Terminal ℕ)) (n : ℕ) : Type 0 where
+  pub front : List (Terminal ℕ)
+  pub back : List (Terminal ℕ)
+  pub is : xs ≡ front ++ (Name n ∷ back)
+
+up_to_name : (xs : List (Terminal ℕ)) (n : ℕ) (ns : List ℕ) → lexeme_names xs ≡ n ∷ ns → UpTo xs n
+up_to_name [] n ns e = absurd (cc (e))
+up_to_name (Name k ∷ xs) n ns e = let same_name : k ≡ n = cc (e) in record { front = []; back = xs; is = ap (λ (m : ℕ). Name m ∷ xs) same_name }
+up_to_name (Number k ∷ xs) n ns e = let h = up_to_name xs n ns e in record { front = Number k ∷ h.front; back = h.back; is = ap (λ l. Number k ∷ l) h.is }
+up_to_name (Mark k ∷ xs) n ns e = let h = up_to_name xs n ns e in record { front = Mark k ∷ h.front; back = h.back; is = ap (λ l. Mark k ∷ l) h.is }
+up_to_name (EndOfText ∷ xs) n ns e = let h = up_to_name xs n ns e in record { front = EndOfText ∷ h.front; back = h.back; is = ap (λ l. EndOfText ∷ l) h.is }
+
+of_some : {a b : ℕ} → Some a ≡ Some b → a ≡ b
+of_some e = cc
+
+up_to_first : (ids : List (Role × ℕ)) (xs : List (Terminal ℕ)) (n : ℕ) → names_only ids ≡ lexeme_names xs → first_of ids ≡ Some n → UpTo xs n
+up_to_first [] xs n names e = absurd (cc (e))
+up_to_first (x ∷ ids) xs n names e =
+    let same_name : x.1 ≡ n = of_some e in
+    up_to_name xs n (names_only ids) (sym names ∙ ap (λ m. m ∷ names_only ids) same_name)
+
+-- BEGIN, then tokens other than BEGIN, then the first identifier
+record Opened (statements : Tree ℕ (maybe body)) (n : ℕ) : Type 0 where
+  pub written : Tree ℕ (item body)
+  pub is : statements ≡ one written
+  pub front : List (Terminal ℕ)
+  pub back : List (Terminal ℕ)
+  pub spelled : spell statements ≡ begin_mark ∷ (front ++ (Name n ∷ back))
+  pub plain : NoBegin front
+
+opened : (statements : Tree ℕ (maybe body)) (n : ℕ) → first_of (identifiers role.Declaring statements) ≡ Some n → Opened statements n
+opened none n e = absurd (cc (e))
+opened (one (begins s)) n e =
+    let h = up_to_first (identifiers role.Declaring s) (spell s) n (leaves_spelled role.Declaring s) e in
+    record {
+      written = begins s;
+      is = refl;
+      front = h.front;
+      back = h.back;
+      spelled = ap (λ l. begin_mark ∷ l) h.is;
+      plain = first_part h.front (Name n ∷ h.back) (subst NoBegin h.is (no_begin s refl));
+    }
+
+-- ---- a module around a body
+
+up_to_last : {A : Type 0} (f : List A) (b : A) (u : List A) (n : A) (v z : List A) → f ++ ((b ∷ (u ++ (n ∷ v))) ++ z) ≡ (f ++ (b ∷ u)) ++ (n ∷ (v ++ z))
+up_to_last f b u n v z = ap (λ l. f ++ (b ∷ l)) (append_assoc u (n ∷ v) z) ∙ sym (append_assoc f (b ∷ u) (n ∷ (v ++ z)))
+
+up_to_end : {A : Type 0} (f x : List A) (e c : A) (z : List A) → f ++ (x ++ (e ∷ c ∷ z)) ≡ ((f ++ x) ++ (e ∷ [])) ++ (c ∷ z)
+up_to_end f x e c z = sym (append_assoc f x (e ∷ c ∷ z)) ∙ sym (append_assoc (f ++ x) (e ∷ []) (c ∷ z))
+
+record Halves (m : Parsed) (way : Way) (first closing : ℕ) : Type 0 where
+  pub front : List (Terminal ℕ)
+  pub inside : List (Terminal ℕ)
+  pub back : List (Terminal ℕ)
+  pub less : spell (without way (tree_of m)) ≡ front ++ back
+  pub until : take first (marked 0 (kinds m.source.tokens)) ≡ front ++ (begin_mark ∷ inside)
+  pub plain : NoBegin inside
+  pub shorter : length front < first
+  pub front_is : front ≡ take (length front) (marked 0 (kinds m.source.tokens))
+  pub before : ℕ
+  pub closes : before + 1 ≡ closing
+  pub back_is : back ≡ drop before (marked 0 (kinds m.source.tokens))
+
+halves : (m : Parsed) → IsParsed m → (way : Way) (first closing : ℕ) → first_of (identifiers role.Declaring (body_at way (tree_of m))) ≡ Some first → closing_at way (tree_of m) ≡ closing → Halves m way first closing
+halves m parsed way first closing is_first is_closing =
+    let t : Tree ℕ module_text = tree_of m in
+    let c : ℕ = closing_at way t in
+    let o = opened (body_at way t) first is_first in
+    let a = around_body way t o.written o.is in
+    let end_mark : Terminal ℕ = Mark (kind.Reserved reserved.End) in
+    let back : List (Terminal ℕ) = end_mark ∷ Name c ∷ a.back in
+    let all : List (Terminal ℕ) = marked 0 (kinds m.source.tokens) in
+    let start : List (Terminal ℕ) = a.front ++ (begin_mark ∷ o.front) in
+    let upper : List (Terminal ℕ) = a.front ++ spell (body_at way t) in
+    let whole : all ≡ a.front ++ (spell (body_at way t) ++ back) = sym (spelled_marked m parsed) ∙ a.whole_is in
+    let at_first : all ≡ start ++ (Name first ∷ (o.back ++ back)) =
+    whole ∙ (ap (λ l. a.front ++ (l ++ back)) o.spelled ∙ up_to_last a.front begin_mark o.front (Name first) o.back back) in
+    let at_closing : all ≡ (upper ++ (end_mark ∷ [])) ++ (Name c ∷ a.back) = whole ∙ up_to_end a.front (spell (body_at way t)) end_mark (Name c) a.back in
+    let first_index : first ≡ 0 + length start = name_index 0 first (kinds m.source.tokens) start (o.back ++ back) at_first in
+    let closing_index : c ≡ 0 + length (upper ++ (end_mark ∷ [])) = name_index 0 c (kinds m.source.tokens) (upper ++ (end_mark ∷ [])) a.back at_closing in
+    let first_count : length start ≡ length a.front + length (begin_mark ∷ o.front) = length-append a.front (begin_mark ∷ o.front) in
+    let closing_count : length (upper ++ (end_mark ∷ [])) ≡ length upper + 1 = length-append upper (end_mark ∷ []) in
+    record {
+      front = a.front;
+      inside = o.front;
+      back = back;
+      less = a.less_is;
+      until = ap (take first) at_first ∙ take_at start (Name first ∷ (o.back ++ back)) first (omega (arith, first_index));
+      plain = o.plain;
+      shorter = omega (arith, first_index, first_count);
+      front_is = sym (ap (take (length a.front)) whole ∙ take_at a.front (spell (body_at way t) ++ back) (length a.front) refl);
+      before = length upper;
+      closes = omega (arith, closing_index, closing_count, is_closing);
+      back_is = sym (ap (drop (length upper)) (whole ∙ sym (append_assoc a.front (spell (body_at way t)) back)) ∙ drop_at upper back (length upper) refl);
+    }
+
+-- ---- the tokens of both
+
+take_short : {A : Type 0} (n : ℕ) (xs : List A) → length (take n xs) ≤ n
+take_short zero xs = omega arith
+take_short (suc n) [] = omega arith
+take_short (suc n) (x ∷ xs) = let h = take_short n xs in omega (arith, h)
+
+module _ (s : SameTokens) (old_range : s.prefix ≤ s.old_suffix) (new_range : s.prefix ≤ s.new_suffix) where
+  -- a token is before the range where it was
+  same_side : (c : ℕ) → nat_lt (moved s c) s.prefix ≡ nat_lt c s.prefix
+  same_side c = one (nat_lt c s.prefix) refl
+    where
+      one : (b : Bool) → nat_lt c s.prefix ≡ b → nat_lt (if b then c else s.new_suffix + (c - s.old_suffix)) s.prefix ≡ b
+      one true e = e
+      one false e = less_false (s.new_suffix + (c - s.old_suffix)) s.prefix (omega (arith, new_range))
+
+  -- so one comes to the body as one came to it
+  same_way : (old new : Parsed) → without (way_to s.prefix (tree_of new)) (tree_of new) ≡ mapped (moved s) (moved s) (without (way_to s.prefix (tree_of old)) (tree_of old)) → way_to s.prefix (tree_of new) ≡ way_to s.prefix (tree_of old)
+  same_way old new e =
+      sym (way_less s.prefix (way_to s.prefix (tree_of new)) (tree_of new))
+      ∙ (ap (way_to s.prefix) e
+      ∙ (way_moved s.prefix (moved s) same_side (without (way_to s.prefix (tree_of old)) (tree_of old))
+      ∙ way_less s.prefix (way_to s.prefix (tree_of old)) (tree_of old)))
+
+module _ (old new : Parsed) (s : SameTokens) (tokens : HasSameTokens s old.source.tokens new.source.tokens) (old_range : s.prefix ≤ s.old_suffix) (new_range : s.prefix ≤ s.new_suffix) where
+  -- the module without the body is the old one without it, moved
+  without_same : (way new_way : Way) (first closing now_closing : ℕ) → Halves old way first closing → Halves new new_way first now_closing → first < s.prefix → s.old_suffix < closing → now_closing + s.old_suffix ≡ closing + s.new_suffix
+      → without new_way (tree_of new) ≡ mapped (moved s) (moved s) (without way (tree_of old))
+  without_same way new_way first closing now_closing was is front_side back_side same_closing =
+      let ks : List TokenKind = kinds old.source.tokens in
+      let js : List TokenKind = kinds new.source.tokens in
+      let r : Terminal ℕ → Terminal ℕ = relabelled (moved s) (moved s) in
+      let same_take : take first ks ≡ take first js =
+      sym (take-take first s.prefix ks (omega (arith, front_side))) ∙ (ap (take first) (sym tokens.front) ∙ take-take first s.prefix js (omega (arith, front_side))) in
+      let same_start : was.front ++ (begin_mark ∷ was.inside) ≡ is.front ++ (begin_mark ∷ is.inside) =
+      sym was.until ∙ (take_marked first 0 ks ∙ (ap (marked 0) same_take ∙ (sym (take_marked first 0 js) ∙ is.until))) in
+      let same_front : was.front ≡ is.front = last_begin was.front was.inside is.front is.inside was.plain is.plain same_start in
+      let n : ℕ = length was.front in
+      let front_marked : was.front ≡ marked 0 (take n ks) = was.front_is ∙ take_marked n 0 ks in
+      let short : length (take n ks) ≤ n = take_short n ks in
+      let stays : (d : ℕ) → d < length (take n ks) → moved s (0 + d) ≡ 0 + d = λ d less. let here : 0 + d < s.prefix = omega (arith, less, short, was.shorter, front_side) in moved_below s (0 + d) here in
+      let front_moved : map r was.front ≡ is.front =
+      ap (map r) front_marked ∙ (moved_on (moved s) 0 0 (take n ks) stays ∙ (sym front_marked ∙ same_front)) in
+      let d : ℕ = was.before - s.old_suffix in
+      let there : s.old_suffix + d ≡ was.before = omega (arith, was.closes, back_side) in
+      let here : s.new_suffix + d ≡ is.before = omega (arith, was.closes, is.closes, back_side, same_closing) in
+      let same_drop : drop was.before ks ≡ drop is.before js =
+      ap (λ k. drop k ks) (sym there) ∙ (sym (drop-drop d s.old_suffix ks) ∙ (ap (drop d) (sym tokens.back) ∙ (drop-drop d s.new_suffix js ∙ ap (λ k. drop k js) here))) in
+      let back_marked : was.back ≡ marked was.before (drop was.before ks) = was.back_is ∙ drop_marked was.before 0 was.before ks (omega arith) in
+      let goes : (e : ℕ) → e < length (drop was.before ks) → moved s (was.before + e) ≡ is.before + e =
+      λ e less. let high : s.old_suffix ≤ was.before + e = omega (arith, there) in moved_above s (was.before + e) old_range high ∙ omega (arith, there, here) in
+      let back_moved : map r was.back ≡ is.back =
+      ap (map r) back_marked ∙ (moved_on (moved s) was.before is.before (drop was.before ks) goes ∙ (ap (marked is.before) same_drop ∙ (sym (drop_marked is.before 0 is.before js (omega arith)) ∙ sym is.back_is))) in
+      let spelled : spell (without new_way (tree_of new)) ≡ spell (mapped (moved s) (moved s) (without way (tree_of old))) =
+      is.less
+      ∙ (sym (ap (λ l. l ++ is.back) front_moved ∙ ap (λ l. is.front ++ l) refl)
+      ∙ (sym (ap (λ l. map r was.front ++ l) back_moved)
+      ∙ (sym (map-append r was.front was.back) ∙ (ap (map r) (sym was.less) ∙ sym (spell_mapped (moved s) (moved s) (without way (tree_of old))))))) in
+      (same (without new_way (tree_of new)) (mapped (moved s) (moved s) (without way (tree_of old))) [] [] tt tt (ap (λ l. l ++ []) spelled)).0
+
+-- ---- tokens outside the range are written as before
+
+words_outside : (s : SameTokens) (old new : Scanned) → HasSameWords s old new → s.prefix ≤ s.old_suffix → (i : ℕ) → is_out s.prefix s.old_suffix i ≡ true
+    → slice_get (words_in new.text new.tokens) (moved s i) ≡ slice_get (words_in old.text old.tokens) i
+words_outside s old new written range i out = ⊎_elim
+    (λ less. ap (slice_get (words_in new.text new.tokens)) (moved_below s i less)
+    ∙ (sym (get_taken s.prefix (words_in new.text new.tokens) i less)
+    ∙ (ap (λ (l : List Word). slice_get l i) written.front ∙ get_taken s.prefix (words_in old.text old.tokens) i less)))
+    (λ le. let here : s.old_suffix + (i - s.old_suffix) ≡ i = omega (arith, le) in
+    ap (slice_get (words_in new.text new.tokens)) (moved_above s i range le)
+    ∙ (sym (get_dropped s.new_suffix (words_in new.text new.tokens) (i - s.old_suffix) (s.new_suffix + (i - s.old_suffix)) refl)
+    ∙ (ap (λ (l : List Word). slice_get l (i - s.old_suffix)) written.back ∙ get_dropped s.old_suffix (words_in old.text old.tokens) (i - s.old_suffix) i here)))
+    (out_cases s.prefix s.old_suffix i out)
+
+pub body_replaced : (old new : Parsed) (s : SameTokens) → IsScan old.source → IsScan new.source → IsParsed old → IsParsed new → HasSameTokens s old.source.tokens new.source.tokens → HasSameWords s old.source new.source
+    → IsSameBody (body_place s.prefix s.old_suffix (tree_of old)) (body_place s.prefix s.new_suffix (tree_of new)) s → IsBodyReplaced old new (way_to s.prefix (tree_of old)) s
+body_replaced old new s old_scan new_scan old_parsed new_parsed tokens written b =
+    let way : Way = way_to s.prefix (tree_of old) in
+    let new_way : Way = way_to s.prefix (tree_of new) in
+    let first : ℕ = b.old_place.first in
+    let p = body_place_read s.prefix s.old_suffix (tree_of old) b.old_place b.was in
+    let q = body_place_read s.prefix s.new_suffix (tree_of new) b.new_place b.is in
+    let is_first : first_of (identifiers role.Declaring (body_at new_way (tree_of new))) ≡ Some first = q.first ∙ ap Some (sym b.first) in
+    let was = halves old old_parsed way first b.old_place.closing p.first p.closes in
+    let is = halves new new_parsed new_way first b.new_place.closing is_first q.closes in
+    let moved_too : without new_way (tree_of new) ≡ mapped (moved s) (moved s) (without way (tree_of old)) =
+    without_same old new s tokens b.old_range b.new_range way new_way first b.old_place.closing b.new_place.closing was is b.front b.back b.closing in
+    let back : s.old_suffix ≤ b.old_place.closing = omega (arith, b.back) in
+    let closes : closing_at new_way (tree_of new) ≡ moved s (closing_at way (tree_of old)) =
+    q.closes ∙ sym (ap (moved s) p.closes ∙ (moved_above s b.old_place.closing b.old_range back ∙ omega (arith, b.closing, back))) in
+    let one_way : new_way ≡ way = same_way s b.old_range b.new_range old new moved_too in
+    record {
+      old_range = b.old_range;
+      new_range = b.new_range;
+      old_scan = old_scan;
+      new_scan = new_scan;
+      old_parsed = old_parsed;
+      new_parsed = new_parsed;
+      outside = subst (λ w. without w (tree_of new) ≡ mapped (moved s) (moved s) (without way (tree_of old))) one_way moved_too;
+      words = words_outside s old.source new.source written b.old_range;
+      old_way = refl;
+      new_way = one_way;
+      old_in_body = p.is_sought;
+      new_in_body = q.is_sought;
+      first = first;
+      old_first = p.first;
+      new_first = subst (λ w. first_of (identifiers role.Declaring (body_at w (tree_of new))) ≡ Some first) one_way is_first;
+      front = b.front;
+      back = subst (λ n. s.old_suffix < n) (sym p.closes) b.back;
+      closing = subst (λ w. closing_at w (tree_of new) ≡ moved s (closing_at way (tree_of old))) one_way closes;
+    }
+
+-- ---- what is taken over
+
+module _ (new : Scanned) (tree : ModuleTree) (b : Bindings) (types : ModuleTypes) (s : SameTokens) (before now : Option BodyPlace) (h : HadBody new b types s before) (placed : now ≡ body_place s.prefix s.new_suffix (tree_in tree)) (parsed : IsParsed (parsed_by new tree)) (one_body : IsSameBody before now s) where
+  abbrev before_it : Parsed
+  before_it = parsed_by h.had.old h.tree
+
+  is_replaced : IsBodyReplaced before_it (parsed_by new tree) (way_to s.prefix (tree_of before_it)) s
+  is_replaced =
+      body_replaced before_it (parsed_by new tree) s h.had.old_scan h.had.new_scan h.had.parsed parsed h.had.same h.had.written
+      (subst (λ o. IsSameBody o (body_place s.prefix s.new_suffix (tree_in tree)) s) h.placed (subst (λ o. IsSameBody before o s) placed one_body))
+
+  pub was_bound_elsewhere : WasBoundElsewhere (parsed_by new tree) b s
+  was_bound_elsewhere = record { old = before_it; way = way_to s.prefix (tree_of before_it); replaced = is_replaced; resolved = h.had.resolved }
+
+  pub were_types_elsewhere : (c : Bindings) → WereTypesElsewhere (resolution_by (parsed_by new tree) c) types s
+  were_types_elsewhere c = record { old = resolution_by before_it b; way = way_to s.prefix (tree_of before_it); replaced = is_replaced; types_are = h.had.types_are }
