@@ -52,7 +52,7 @@ ghost use Rattle.std.specs.Prelude.{◌≡◌, ◌++◌, [], IfOk, OnOk, map, op
 ghost use Rattle.std.specs.List.{filter};
 ghost use Rattle.ob0_scope_table.specs.Resolution.{is_of_occurrences};
 ghost use Rattle.ob0_types_table.specs.Tables.{AreEntriesInOrder};
-ghost use Rattle.ob0_types_check.specs.NewBody.{FitsWithout, IsCleanReportOf};
+ghost use Rattle.ob0_types_check.specs.NewBody.{FitsWithout};
 ghost use Rattle.ob0_types_check.specs.SoFar.{at_first};
 ghost use Rattle.ob0_types_check.specs.SomeBodies.{HasWalked, IsReportOf, WereFaulty, every, is_among, module_with, wants};
 ghost use Rattle.ob0_types_check.specs.SupposedFacts.{known_meaning, so_far_in, table_in};
@@ -125,30 +125,24 @@ pub fn report_bodies<'t>(
     report_wanted(alloc, resolved, &these)
 }
 
-/// What `report_faults` finds, where it finds no fault, of a module that fits but for the statements of the block with
-/// this closing name: its declarations and these statements are gone through, and no other body. None where something is
-/// reported.
+/// What `report_faults` finds, where the module fits without the statements of the block with this closing name, whatever
+/// these are: its declarations and these are gone through, and no other body.
 pub fn report_body<'t>(
     alloc: Global,
     resolved: &'t Resolved<'t>,
     closing: usize,
-) -> Result<Option<Report>, AllocError>
+) -> Result<Report, AllocError>
     requires { FitsWithout resolved.now closing }
-    ensures { IfOk result (IsCleanReportOf resolved.now) }
+    ensures { IfOk result (IsReportOf resolved.now) }
 {
     // For the proof: what the contract of this call says.
     let _module = resolved.module();
     let bodies = [closing];
-    let these = Wanted {
+    let only = Wanted {
         every: false,
         these: &bodies,
     };
-    let report = report_wanted(alloc, resolved, &these)?;
-    if report.faults.is_empty() {
-        Ok(Some(report))
-    } else {
-        Ok(None)
-    }
+    report_wanted(alloc, resolved, &only)
 }
 
 /// What is reported of a module, of which nothing is reported but of its declarations and of these bodies.
