@@ -113,6 +113,13 @@ static CHANGES: &[(&str, u64, u64, &str)] = changes![
     "MODULE M; VAR x: INTEGER; PROCEDURE P; BEGIN x := 1 END P; PROCEDURE Q; BEGIN P; y := 1 END Q; BEGIN Q END M.",
         51, 51, "; x := TRUE";
     "MODULE M; VAR x: INTEGER; PROCEDURE P; BEGIN x := z END P; PROCEDURE Q; BEGIN P; y := 1 END Q; BEGIN Q END M.", 86, 88, "";
+    // A statement more in a body of a module without faults: one that fits, one that doesn't, one with a name that nothing
+    // declares, and one that selects fields before others do.
+    TWO_VARIABLES, 41, 41, "; y := x + 1";
+    TWO_VARIABLES, 41, 41, "; y := TRUE";
+    TWO_VARIABLES, 41, 41, "; z := 1";
+    "MODULE M; TYPE T = RECORD f, g: INTEGER END; VAR t: T; PROCEDURE P(a, b: T); BEGIN a := b; a.f := t.g END P; \
+        BEGIN P(t, t); t := t END M.", 101, 101, "; a.g := b.f";
     // A name in the body of a procedure in another one: a local one, a parameter, one of a block around it, one that is
     // declared after it, its own, and one that nothing declares; with names at fault before it, in it and after it.
     "MODULE M; VAR x, u: INTEGER; PROCEDURE P(a: INTEGER); VAR y: BOOLEAN; PROCEDURE Q(x: BOOLEAN); BEGIN x := y \
