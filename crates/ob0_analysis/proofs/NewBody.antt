@@ -4,6 +4,7 @@ use Rattle.std.proofs.lemmas.List.{drop-drop, drop_at, map-append, take-take, ta
 use Rattle.ob0_scan.specs.declared.lexeme.TokenKind.{TokenKind}
 use Rattle.ob0_scan.specs.declared.lexeme.TokenKind.TheVariants as kind
 use Rattle.ob0_scan.specs.declared.lexeme.Reserved.TheVariants as reserved
+use Rattle.ob0_scan.specs.declared.tokens.RescanInPlace.{RescanInPlace}
 use Rattle.ob0_scan.specs.declared.tokens.SameTokens.{SameTokens}
 use Rattle.ob0_scan.specs.Reused.{kinds, words_in}
 use Rattle.ob0_scan.specs.SameKinds.{HasSameTokens, HasSameWords}
@@ -30,7 +31,9 @@ use Rattle.ob0_scope_table.specs.declared.one_body.BodyPlace.{BodyPlace}
 use Rattle.ob0_scope_table.specs.declared.resolved.Bindings.{Bindings}
 use Rattle.ob0_types.specs.NewBody.{WereTypesElsewhere}
 use Rattle.ob0_types.specs.declared.checked.ModuleTypes.{ModuleTypes}
+use Rattle.ob0_analysis.specs.Before.{HadModule, IsModuleBefore}
 use Rattle.ob0_analysis.specs.NewBody.{HadBody, IsSameBody}
+use Rattle.ob0_analysis.specs.declared.fault_places.FaultPlaces.{FaultPlaces}
 use Rattle.ob0_analysis.proofs.Marked.{drop_marked, marked, moved_on, name_index, spelled_marked, take_marked}
 use Rattle.ob0_analysis.proofs.OneBody.{get_dropped, get_taken}
 use Rattle.ob0_analysis.proofs.NoBegin.{NoBegin, begin_mark, first_part, last_begin, no_begin}
@@ -248,6 +251,19 @@ body_replaced old new s old_scan new_scan old_parsed new_parsed tokens written b
     }
 
 -- ---- what is taken over
+
+-- the text before was a module; nothing else of what is known of it
+abbrev pub had_module : (c : RescanInPlace) (tree : ModuleTree) (b : Bindings) (types : ModuleTypes) (places : FaultPlaces) → IsModuleBefore c tree b types places → HadModule c.rescan.tokens tree b types c.same
+had_module c tree b types places h = record {
+  old = h.old;
+  old_scan = h.old_scan;
+  new_scan = h.new_scan;
+  parsed = h.was.parsed;
+  resolved = h.was.resolved;
+  types_are = h.was.types_are;
+  same = h.same;
+  written = h.written;
+}
 
 module _ (new : Scanned) (tree : ModuleTree) (b : Bindings) (types : ModuleTypes) (s : SameTokens) (before now : Option BodyPlace) (h : HadBody new b types s before) (placed : now ≡ body_place s.prefix s.new_suffix (tree_in tree)) (parsed : IsParsed (parsed_by new tree)) (one_body : IsSameBody before now s) where
   abbrev before_it : Parsed

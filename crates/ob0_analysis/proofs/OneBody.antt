@@ -67,29 +67,29 @@ module _ (s : SameTokens) (old new : Scanned) (alike : kinds new.tokens ≡ kind
           past false f g = absurd (cc)
 
 module _ {new : Scanned} {tree : ModuleTree} {b : Bindings} {types : ModuleTypes} {s : SameTokens} (h : HadTree new tree b types s) (lies : is_in_body s.prefix s.old_suffix (tree_of (parsed_by new tree)) ≡ true) where
-  body_change : IsBodyChange h.old (parsed_by new tree) s.prefix s.old_suffix
+  body_change : IsBodyChange h.had.old (parsed_by new tree) s.prefix s.old_suffix
   body_change = record {
-    old_scan = h.old_scan;
-    new_scan = h.new_scan;
+    old_scan = h.had.old_scan;
+    new_scan = h.had.new_scan;
     same_kinds = h.same_kinds;
-    same_words = same_outside s h.old new h.same_kinds h.same h.written;
+    same_words = same_outside s h.had.old new h.same_kinds h.had.same h.had.written;
     in_body = lies;
   }
 
   pub was_bound : IsParsed (parsed_by new tree) → WasBound (parsed_by new tree) b s.prefix s.old_suffix
-  was_bound parsed = record { old = h.old; change = body_change; parsed = parsed; resolved = h.resolved }
+  was_bound parsed = record { old = h.had.old; change = body_change; parsed = parsed; resolved = h.had.resolved }
 
   -- where they were bound again
   pub were_types : (c : Bindings) → IsResolution (resolution_by (parsed_by new tree) c) → WereTypes (resolution_by (parsed_by new tree) c) types s.prefix
   were_types c resolved = record {
     high = s.old_suffix;
-    old = h.old;
+    old = h.had.old;
     bindings = b;
     change = body_change;
-    bound = ordinals_outside h.old (parsed_by new tree) s.prefix s.old_suffix b c body_change h.resolved resolved;
-    types_are = h.types_are;
+    bound = ordinals_outside h.had.old (parsed_by new tree) s.prefix s.old_suffix b c body_change h.had.resolved resolved;
+    types_are = h.had.types_are;
   }
 
   -- where the names are bound as they were
   pub kept_types : WereTypes (resolution_by (parsed_by new tree) b) types s.prefix
-  kept_types = record { high = s.old_suffix; old = h.old; bindings = b; change = body_change; bound = λ token e. refl; types_are = h.types_are }
+  kept_types = record { high = s.old_suffix; old = h.had.old; bindings = b; change = body_change; bound = λ token e. refl; types_are = h.had.types_are }

@@ -8,6 +8,7 @@ use Rattle.ob0_scan.specs.Scanned.{IsScan, IsScannable, Scanned}
 use Rattle.ob0_scan.specs.declared.rescanning.NotRescanned.{NotRescanned}
 use Rattle.ob0_scan.specs.declared.rescanning.NotRescanned.TheVariants as rescanned
 use Rattle.ob0_scan.specs.declared.tokens.RescanInPlace.{RescanInPlace}
+use Rattle.ob0_scan.specs.declared.tokens.SameTokens.{SameTokens}
 use Rattle.ob0_tree.specs.declared.tree.ModuleTree.{ModuleTree}
 use Rattle.ob0_tree.specs.Parsed.{IsParsed, parsed_by}
 use Rattle.ob0_scope_table.specs.Bindings.{resolution_by}
@@ -78,6 +79,20 @@ pub record IsModuleBefore
       → names_in c.rescan.tokens.text c.rescan.tokens.tokens ≡ names_in old.text old.tokens
   pub same_words : c.same_words ≡ true
       → words_in c.rescan.tokens.text c.rescan.tokens.tokens ≡ words_in old.text old.tokens
+
+-- The text before was a module with this tree, these names and these types. The first and the last
+-- of its tokens were of the kinds that they are now, and written as they are now.
+pub record HadModule
+    (new : Scanned) (tree : ModuleTree) (b : Bindings) (types : ModuleTypes) (s : SameTokens)
+    : Type 0 where
+  pub old : Scanned
+  pub old_scan : IsScan old
+  pub new_scan : IsScan new
+  pub parsed : IsParsed (parsed_by old tree)
+  pub resolved : IsResolution (resolution_by (parsed_by old tree) b)
+  pub types_are : AreTypesOf (resolution_by (parsed_by old tree) b) types
+  pub same : HasSameTokens s old.tokens new.tokens
+  pub written : HasSameWords s old new
 
 -- the text before was such a module, and its tokens are written as those of this one
 pub record IsWrittenAsBefore

@@ -10,11 +10,10 @@ ghost use Rattle.ob0_scope_table.specs.Bindings.{resolution_by};
 ghost use Rattle.ob0_scope_table.specs.Resolution.{IsResolution};
 ghost use Rattle.ob0_parse.specs.KeptTokens.{AreKept};
 ghost use Rattle.ob0_analysis.specs.Found.{IsRead, IsRefusedByParser, IsUnread};
-ghost use Rattle.ob0_analysis.specs.Before.{AreKeptBefore, IsModuleBefore, IsUnreadModule, IsUnreadRefusal, IsWrittenAsBefore};
+ghost use Rattle.ob0_analysis.specs.Before.{AreKeptBefore, HadModule, IsModuleBefore, IsUnreadModule, IsUnreadRefusal, IsWrittenAsBefore};
 ghost use Rattle.ob0_analysis.specs.declared.read_text.NotRead.TheVariants as not_read;
 ghost use Rattle.ob0_analysis.specs.declared.read_text.Reading.TheVariants.{NoTree};
 ghost use Rattle.ob0_analysis.specs.Diagnosed.{IsWellTypedModule, Reports, complaint_in};
-ghost use Rattle.ob0_analysis.specs.NewBody.{HadModule};
 ghost use Rattle.ob0_analysis.specs.OneBody.{HadTree};
 ghost use Rattle.ob0_types.specs.OneBody.{WereTypes};
 

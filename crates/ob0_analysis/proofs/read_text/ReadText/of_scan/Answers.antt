@@ -1,21 +1,11 @@
 use Rattle.std.proofs.Common.{refl, ◌∙◌}
 use Rattle.ob0_tree.specs.Parsed.{parsed_by}
 use Rattle.ob0_parse.proofs.Stays.{tree_stays}
+use Rattle.ob0_analysis.proofs.NewBody.{had_module}
 use Rattle.ob0_analysis.proofs.read_text.ReadText.of_scan.Goals as goal
 
 pub of_other_kinds-requires : goal.of_other_kinds-requires
-of_other_kinds-requires c =
-    let before = c.requires in
-    record {
-      old = before.old;
-      old_scan = before.old_scan;
-      new_scan = before.new_scan;
-      parsed = before.was.parsed;
-      resolved = before.was.resolved;
-      types_are = before.was.types_are;
-      same = before.same;
-      written = before.written;
-    }
+of_other_kinds-requires c = had_module c.args.changed c.args.tree c.args.bindings c.args.types c.args.places c.requires
 
 pub of_same_words-requires : goal.of_same_words-requires
 of_same_words-requires c =
@@ -50,14 +40,4 @@ of_same_tree-requires-clause-resolved c =
 
 pub of_same_tree-requires-clause-before : goal.of_same_tree-requires-clause-before
 of_same_tree-requires-clause-before c =
-    let before = c.requires in
-    record {
-      old = before.old;
-      old_scan = before.old_scan;
-      new_scan = before.new_scan;
-      resolved = before.was.resolved;
-      types_are = before.was.types_are;
-      same_kinds = before.alike c.if-not-same_kinds.false;
-      same = before.same;
-      written = before.written;
-    }
+    record { had = had_module c.args.changed c.args.tree c.args.bindings c.args.types c.args.places c.requires; same_kinds = c.requires.alike c.if-not-same_kinds.false }
