@@ -1,5 +1,5 @@
 -- A range of tokens that lies in a body: so does the one from the first identifier of that body to the closing name of its block.
-use Rattle.std.proofs.Common.{◌≡◌, ◌<◌, ◌≤◌, ℕ, zero, suc, ◌+◌, Bool, true, false, ◌&&◌, nat_le, nat_lt, if◌then◌else◌, Option, Some, None, List, [], ◌∷◌, ◌++◌, refl, sym, ap, ◌∙◌, subst, arith, append_assoc, append-nil, lt-ltb, le-ltb}
+use Rattle.std.proofs.Common.{◌≡◌, ◌<◌, ◌≤◌, ℕ, zero, ◌+◌, Bool, true, false, ◌&&◌, nat_le, nat_lt, if◌then◌else◌, Some, List, [], ◌∷◌, ◌++◌, refl, sym, ap, ◌∙◌, subst, arith, append_assoc, append-nil, lt-ltb, le-ltb}
 use Rattle.std.proofs.lemmas.Bool.Decides.{nat_tests}
 use Rattle.ob0_tree.specs.declared.tree.Role.{Role}
 use Rattle.ob0_tree.specs.declared.tree.Role.TheVariants as role
@@ -10,8 +10,8 @@ use Rattle.ob0_scope_table.specs.OneBody.{begins_by, closing_name, is_in_block, 
 use Rattle.ob0_scope_table.proofs.OneBody.{le_true}
 use Rattle.ob0_scope_numbering.proofs.Covered.{AllBelow, ascend_first, ascend_second, leaves_append}
 use Rattle.ob0_scope.proofs.Bodies.{Place, among, one_later}
-use Rattle.ob0_scope.proofs.BodySplit.{Split, split_among, split_inside}
-use Rattle.ob0_scope.proofs.CarriedLists.{AllFrom, ascending_below, ascending_from, below_second, some_first}
+use Rattle.ob0_scope.proofs.BodySplit.{split_among, split_inside}
+use Rattle.ob0_scope.proofs.CarriedLists.{AllFrom, ascending_from, below_second, some_first}
 
 from_second : (n : ℕ) (xs ys : List ℕ) → AllFrom n (xs ++ ys) → AllFrom n ys
 from_second n [] ys h = h

@@ -3,7 +3,7 @@
 use Rattle.std.proofs.Common.{◌≡◌, ℕ, zero, suc, List, [], ◌∷◌, ◌++◌, refl, sym, ap, ◌∙◌, append_assoc, append-nil}
 use Rattle.ob0_tree.specs.declared.tree.Role.{Role}
 use Rattle.ob0_tree.specs.declared.tree.Role.TheVariants as role
-use Rattle.ob0_tree.specs.Tree.{Tree, block, declares, declares_procedure, end, has_body, identifiers, is_module, item, items, module_text, more, none, procedure}
+use Rattle.ob0_tree.specs.Tree.{Tree, block, declares, declares_procedure, end, has_body, identifiers, is_module, item, items, module_text, more, procedure}
 use Rattle.ob0_scope_table.specs.BodyReplaced.{Way, block_without, body_among, body_at, body_in, body_inside, closing_among, closing_at, closing_in, closing_inside, procedure_without, procedures_without, without}
 
 -- identifiers with those of a body, and without them; a closing name is the first after it
@@ -27,7 +27,6 @@ prepend {own = own} {closing = closing} xs s =
 
 split_is : {N : Type 0} {whole whole' rest rest' own : List (Role × N)} {closing : N} → whole' ≡ whole → rest' ≡ rest → Split whole rest own closing → Split whole' rest' own closing
 split_is e h s = record { before = s.before; closes = s.closes; after = s.after; whole_is = e ∙ s.whole_is; rest_is = h ∙ s.rest_is }
-
 
 -- lists in a block, one after the other, with others after it
 in_block : {X : Type 0} (c t v p s rest : List X) → ((c ++ (t ++ (v ++ p))) ++ s) ++ rest ≡ (c ++ (t ++ v)) ++ (p ++ (s ++ rest))

@@ -1,11 +1,9 @@
 -- What is carried over from lists of a module's tokens, and from its table, where the tokens of one body give way to others.
-use Rattle.std.proofs.Common.{◌≡◌, ◌≢◌, ◌==◌, ◌||◌, ◌<◌, ◌≤◌, ℕ, zero, suc, ◌+◌, ◌-◌, ◌^◌, min, Bool, true, false, nat_lt, if◌then◌else◌, Option, Some, None, List, [], ◌∷◌, ◌++◌, map, length, take, drop, replicate, get_or, refl, sym, ap, ◌∙◌, subst, arith, append-nil, length-append, lt-ltb, le-ltb, eq-eqb, eqb-true}
+use Rattle.std.proofs.Common.{◌≡◌, ◌<◌, ◌≤◌, ℕ, zero, suc, ◌+◌, ◌-◌, ◌^◌, Bool, true, false, nat_lt, if◌then◌else◌, Option, Some, None, List, [], ◌∷◌, ◌++◌, map, length, take, drop, replicate, get_or, refl, sym, ap, ◌∙◌, subst, arith, append-nil, length-append, lt-ltb, le-ltb}
 use Rattle.std.proofs.Math.ListN.{get_or-append}
 use Rattle.std.proofs.Math.Nat.{min-eq_left}
 use Rattle.std.proofs.Math.Seq.{get_or-append_right}
-use Rattle.std.proofs.lemmas.Bool.{eqb-false}
 use Rattle.std.proofs.lemmas.List.{get_or-drop, length-replicate}
-use Rattle.std.specs.List.{list_any}
 use Rattle.ob0_tree.specs.declared.tree.Role.{Role}
 use Rattle.ob0_tree.specs.declared.tree.Role.TheVariants as role
 use Rattle.ob0_tree.specs.Order.{Ascending, names_only}
@@ -15,7 +13,7 @@ use Rattle.ob0_scope_table.specs.Resolution.{declaring_only, ordinal_in}
 use Rattle.ob0_scope_table.proofs.Plain.{declaring_only-append}
 use Rattle.ob0_scope_numbering.proofs.Covered.{AllBelow, ascend_second, before_one, leaves_append}
 use Rattle.ob0_scope_numbering.proofs.Tables.{none_at}
-use Rattle.ob0_scope.specs.Carried.{after_body, before_body, carried, carried_table, padded, shifted}
+use Rattle.ob0_scope.specs.Carried.{after_body, before_body, carried, carried_table, shifted}
 use Rattle.ob0_scope.specs.declared.carrying.BodyRange.{BodyRange}
 use Rattle.ob0_scope.proofs.MappedIdentifiers.{beside_role}
 

@@ -1,7 +1,7 @@
 -- Where the statements of one body were replaced, what is carried over, with the new body numbered again, is what the module's names are bound to.
 -- Outside the body the labels of both modules are the same: a body declares nothing. A token outside is one of the module
 -- without the body, so its ordinal is the one that it had.
-use Rattle.std.proofs.Common.{◌≡◌, ◌==◌, ◌||◌, ◌<◌, ◌≤◌, ℕ, zero, suc, ◌+◌, ◌-◌, ◌^◌, Bool, true, false, nat_lt, nat_le, if◌then◌else◌, Option, Some, None, List, [], ◌∷◌, ◌++◌, map, length, drop, replicate, get_or, refl, sym, ap, ◌∙◌, subst, arith, append-nil, append_assoc, lt-ltb, le-ltb, eq-eqb, eqb-true}
+use Rattle.std.proofs.Common.{◌≡◌, ◌==◌, ◌||◌, ◌<◌, ◌≤◌, ℕ, ◌+◌, ◌-◌, ◌^◌, Bool, true, false, nat_lt, nat_le, Option, Some, None, List, [], ◌∷◌, ◌++◌, map, length, drop, replicate, get_or, refl, sym, ap, ◌∙◌, subst, arith, append-nil, append_assoc, eq-eqb, eqb-true}
 use Rattle.std.proofs.Math.Dec.{ltb}
 use Rattle.std.proofs.Math.Nat.{min-eq_left}
 use Rattle.std.proofs.lemmas.Bool.{ltb-false, ltb-true}
@@ -15,19 +15,18 @@ use Rattle.ob0_scan.specs.Scanned.{Scanned}
 use Rattle.ob0_tree.specs.declared.tree.Role.{Role}
 use Rattle.ob0_tree.specs.declared.tree.Role.TheVariants as role
 use Rattle.ob0_tree.specs.Order.{Ascending, leaves, names_only}
-use Rattle.ob0_tree.specs.Parsed.{IsParsed, Parsed, named_tree_of, tree_of}
+use Rattle.ob0_tree.specs.Parsed.{Parsed, named_tree_of, tree_of}
 use Rattle.ob0_tree.specs.Places.{named, text_at, value_at}
 use Rattle.ob0_tree.specs.Tree.{identifiers, mapped, occurrences}
 use Rattle.ob0_tree.specs.Visited.{visited_all}
 use Rattle.ob0_tree.proofs.Leaves.{leaves_ascend}
 use Rattle.ob0_tree.proofs.Occurring.{looked_up-occurrences, looked_up_only}
 use Rattle.ob0_language_names.specs.Names.{as_names}
-use Rattle.ob0_language_names.specs.Scopes.{as_label, relabelled}
-use Rattle.ob0_scope_table.specs.Bindings.{resolution_by}
+use Rattle.ob0_language_names.specs.Scopes.{relabelled}
 use Rattle.ob0_scope_table.specs.BodyReplaced.{IsBodyReplaced, Way, body_at, closing_at, first_of, moved, way_to, without}
 use Rattle.ob0_scope_table.specs.DeclaredTwice.{twice_in}
 use Rattle.ob0_scope_table.specs.OneBody.{is_out}
-use Rattle.ob0_scope_table.specs.Resolution.{IsBinding, IsResolution, Resolution, bound_at, declaring_only, ordinal_in, undeclared_at, with_ordinal}
+use Rattle.ob0_scope_table.specs.Resolution.{IsBinding, IsResolution, bound_at, declaring_only, ordinal_in, undeclared_at, with_ordinal}
 use Rattle.ob0_scope_table.specs.declared.resolved.Bindings.{Bindings}
 use Rattle.ob0_scope_table.proofs.BodyReplaced.{names_outside, without_mapped}
 use Rattle.ob0_scope_table.proofs.Moved.{moved_above, moved_below}
@@ -41,8 +40,7 @@ use Rattle.ob0_scope_numbering.proofs.Covered.{AllBelow, leaves_append}
 use Rattle.ob0_scope_numbering.proofs.Kept.{few_tokens}
 use Rattle.ob0_scope_numbering.proofs.Passing.{HasMarks, at_start, module_passed, tokens_of}
 use Rattle.ob0_scope_numbering.proofs.Tables.{marks_in_table}
-use Rattle.ob0_scope.specs.Carried.{IsNewBody, NamesInBody, carried, carried_table, no_names, old_place, with_name}
-use Rattle.ob0_scope.specs.NewBody.{WasBoundElsewhere}
+use Rattle.ob0_scope.specs.Carried.{IsNewBody, carried, carried_table, no_names, old_place, with_name}
 use Rattle.ob0_scope.specs.declared.carrying.BodyRange.{BodyRange}
 use Rattle.ob0_scope.proofs.BodyExact.{module_exact}
 use Rattle.ob0_scope.proofs.BodySplit.{split_module}

@@ -1,9 +1,9 @@
 -- Where the tokens of one body are written otherwise, the names outside are bound as before.
-use Rattle.std.proofs.Common.{◌≡◌, ◌==◌, ◌||◌, ℕ, Bool, true, false, Option, None, List, [], ◌∷◌, refl, sym, ap, ◌∙◌, subst, eqb-true}
+use Rattle.std.proofs.Common.{◌≡◌, ◌==◌, ◌||◌, ℕ, Bool, true, false, Option, None, List, [], ◌∷◌, refl, sym, ap, ◌∙◌, eqb-true}
 use Rattle.std.specs.List.{list_any}
 use Rattle.ob0_scan.specs.Scanned.{Scanned}
 use Rattle.ob0_tree.specs.Order.{leaves}
-use Rattle.ob0_tree.specs.Parsed.{IsParsed, Parsed, tree_of}
+use Rattle.ob0_tree.specs.Parsed.{Parsed, tree_of}
 use Rattle.ob0_language_names.specs.Names.{as_names}
 use Rattle.ob0_language_names.specs.Scopes.{as_label}
 use Rattle.ob0_scope_table.specs.Bindings.{resolution_by}

@@ -1,9 +1,9 @@
 -- A module without a body, with labels: the labels are those of the module, since a body declares nothing.
-use Rattle.std.proofs.Common.{◌≡◌, ℕ, zero, suc, [], ◌∷◌, Some, None, refl, sym, ap, ◌∙◌}
+use Rattle.std.proofs.Common.{◌≡◌, ℕ, zero, suc, [], ◌∷◌, Some, None, refl, sym, ap}
 use Rattle.ob0_tree.specs.Tree.{Tree, block, declares, declares_procedure, end, has_body, is_module, item, items, module_text, more, procedure}
 use Rattle.ob0_language_names.specs.Names.{Naming}
 use Rattle.ob0_language_names.specs.Parts.{constant_names, formal_names, formal_sections, named_types, procedure_name, section_constants, section_types, section_variables, variable_names}
-use Rattle.ob0_language_names.specs.Scopes.{Labels, Scope, after_block, after_names, after_procedure, after_procedures, body_scope, declare_names, declare_procedure_names, first_procedure, predeclared_scope, procedures_scope, relabel_block, relabel_constant_section, relabel_formals, relabel_procedure, relabel_procedures, relabel_type_section, relabel_uses, relabel_variable_section, relabelled}
+use Rattle.ob0_language_names.specs.Scopes.{Labels, Scope, after_block, after_names, after_procedure, after_procedures, declare_names, declare_procedure_names, predeclared_scope, relabel_block, relabel_constant_section, relabel_formals, relabel_procedure, relabel_procedures, relabel_type_section, relabel_uses, relabel_variable_section, relabelled}
 use Rattle.ob0_scope_table.specs.BodyReplaced.{Way, block_without, procedure_without, procedures_without, without}
 
 -- ---- as many declarations

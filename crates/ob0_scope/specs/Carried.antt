@@ -1,7 +1,7 @@
--- What is carried over to a module in which the statements of one body were replaced: all that is known of the tokens before
--- that body, and of those after it, which are elsewhere now.
+-- What is carried over to a module in which the statements of one body were replaced: all that is known
+-- of the tokens before that body, and of those after it, which are elsewhere now.
 -- Rule: none; for private contracts: what is known of a module's names, carried over.
-use Rattle.std.specs.Prelude.{◌≡◌, ◌≤◌, ◌<◌, ℕ, ◌+◌, ◌-◌, ◌^◌, min, nat_lt, List, [], ◌∷◌, ◌++◌, Option, Some, None, if◌then◌else◌, is_some, length, take, drop, replicate}
+use Rattle.std.specs.Prelude.{◌≡◌, ℕ, ◌+◌, ◌-◌, ◌^◌, min, nat_lt, List, [], ◌∷◌, ◌++◌, Option, Some, None, if◌then◌else◌, is_some, length, take, drop, replicate}
 use Rattle.ob0_scan.specs.declared.tokens.SameTokens.{SameTokens}
 use Rattle.ob0_tree.specs.declared.tree.Role.{Role}
 use Rattle.ob0_tree.specs.declared.tree.Role.TheVariants as role

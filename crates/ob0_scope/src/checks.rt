@@ -56,8 +56,8 @@ pub(crate) fn check<'t>(alloc: Global, read: &'t Module<'t>) -> Result<Vec<Fault
     Ok(checks.into_faults())
 }
 
-/// The second declarations of a module, and its closing names that differ, by faults among which some are of declarations
-/// exactly where the module has such names.
+/// The second declarations of a module, and its closing names that differ. Faults of these kinds are known already
+/// exactly where the module has some.
 pub(crate) fn check_again<'t>(
     alloc: Global,
     read: &'t Module<'t>,

@@ -1,12 +1,11 @@
 -- Two walks through a part, by two ways of writing the names: where these agree at all declarations, the same names are visible at
 -- each place and the same ordinals are next, and marks are the same wherever the names are.
-use Rattle.std.proofs.Common.{◌≡◌, ℕ, zero, suc, ◌+◌, ◌-◌, Bool, true, Option, Some, None, List, [], ◌∷◌, ◌++◌, map, length, drop, refl, sym, ap, ap₂, ◌∙◌, subst, append_assoc, append-nil}
-use Rattle.std.proofs.lemmas.List.{map-append}
+use Rattle.std.proofs.Common.{◌≡◌, ℕ, zero, suc, ◌+◌, ◌-◌, Bool, true, Option, Some, None, List, [], ◌∷◌, ◌++◌, map, length, drop, refl, sym, ap, ◌∙◌, subst, append_assoc, append-nil}
 use Rattle.ob0_tree.specs.declared.tree.Role.{Role}
 use Rattle.ob0_tree.specs.declared.tree.Role.TheVariants as role
 use Rattle.ob0_tree.specs.Order.{leaves, names_only}
-use Rattle.ob0_tree.specs.Tree.{Sort, Tree, block, body, constant, constants, declares, declares_constant, declares_constants, declares_procedure, declares_type, declares_types, declares_variable, declares_variables, end, formals, further_name, further_section, has_body, identifiers, item, items, listed, maybe, more, names, no_formals, none, one, procedure, section, some_formals, then_name, then_section, type_name, type_names, value_section, variable, variable_section, variables}
-use Rattle.ob0_language_names.specs.Names.{Name, as_names}
+use Rattle.ob0_tree.specs.Tree.{Sort, Tree, block, constant, constants, declares, declares_constant, declares_constants, declares_procedure, declares_type, declares_types, declares_variable, declares_variables, end, formals, further_name, further_section, has_body, identifiers, item, items, listed, maybe, more, names, no_formals, none, one, procedure, section, some_formals, then_name, then_section, type_name, type_names, value_section, variable, variable_section, variables}
+use Rattle.ob0_language_names.specs.Names.{as_names}
 use Rattle.ob0_language_names.specs.Parts.{further_names, names_listed}
 use Rattle.ob0_language_names.specs.Scopes.{declare_names, ordinal_of}
 use Rattle.ob0_scope_numbering.specs.Marking.{Visit, after_heading, found, found_all, leave_block, left_to, marked, numbered_all, numbered_at, used, visible_from, visit_block, visit_constant, visit_constant_section, visit_constants, visit_formals, visit_procedure, visit_procedures, visit_section, visit_sections, visit_type, visit_type_section, visit_types, visit_variable, visit_variable_section, visit_variables}

@@ -1,27 +1,25 @@
 -- The walk to one body marks there what the walk through all marks, and a table that had the marks of the text before has all then.
-use Rattle.std.proofs.Common.{◌≡◌, ◌<◌, ◌≤◌, ℕ, zero, suc, ◌+◌, Bool, true, false, ◌&&◌, nat_le, nat_lt, if◌then◌else◌, Option, Some, None, List, [], ◌∷◌, ◌++◌, map, length, drop, refl, sym, ap, ◌∙◌, subst, arith, append_assoc, append-nil}
+use Rattle.std.proofs.Common.{◌≡◌, ◌<◌, ◌≤◌, ℕ, ◌+◌, Bool, true, false, ◌&&◌, nat_le, nat_lt, if◌then◌else◌, Option, Some, None, List, [], ◌∷◌, ◌++◌, length, drop, refl, sym, ap, ◌∙◌, subst, arith, append_assoc, append-nil}
 use Rattle.std.proofs.lemmas.Bool.Decides.{nat_tests}
 use Rattle.std.proofs.lemmas.List.{append_cancel_left, map-append}
 use Rattle.std.proofs.Math.Seq.{drop-append_seam}
 use Rattle.ob0_tree.specs.declared.tree.Role.{Role}
 use Rattle.ob0_tree.specs.declared.tree.Role.TheVariants as role
 use Rattle.ob0_tree.specs.Order.{Ascending, leaves, names_only}
-use Rattle.ob0_tree.specs.Places.{value_at}
-use Rattle.ob0_tree.specs.Tree.{Tree, block, body, constants, declares, declares_procedure, end, formals, has_body, identifiers, is_module, item, items, maybe, module_text, more, procedure, type_names, variables}
-use Rattle.ob0_language_names.specs.Names.{Name, as_names}
+use Rattle.ob0_tree.specs.Tree.{Tree, block, body, declares, declares_procedure, end, has_body, identifiers, is_module, item, items, maybe, module_text, more, procedure}
+use Rattle.ob0_language_names.specs.Names.{Name}
 use Rattle.ob0_language_names.specs.Parts.{procedure_name}
-use Rattle.ob0_language_names.specs.Scopes.{Scope}
 use Rattle.ob0_scope_table.specs.OneBody.{closing_name, is_in_block, is_in_body, is_in_procedure, is_in_procedures, is_out}
 use Rattle.ob0_scope_table.specs.Resolution.{declaring_only}
 use Rattle.ob0_scope_table.proofs.Plain.{declares_nothing, declaring_only-append}
-use Rattle.ob0_scope_numbering.specs.Marking.{Visit, after_heading, leave_block, marked, numbered_at, put, started, used, visit_block, visit_constant_section, visit_formals, visit_module, visit_procedure, visit_procedures, visit_type_section, visit_variable_section}
+use Rattle.ob0_scope_numbering.specs.Marking.{Visit, after_heading, marked, numbered_at, put, started, used, visit_block, visit_constant_section, visit_formals, visit_module, visit_procedure, visit_procedures, visit_type_section, visit_variable_section}
 use Rattle.ob0_scope_numbering.specs.Marks.{OrdinalMark}
 use Rattle.ob0_scope_numbering.specs.Renumbering.{caught_up, first_before, passed_over, renumber_block, renumber_procedure, renumber_procedures}
 use Rattle.ob0_scope_numbering.specs.Written.{Writing, name_at}
-use Rattle.ob0_scope_numbering.proofs.Alongside.{Adds, Alike, AllOut, Beside, Goes, Sees, adds_then, block_goes, declared_goes, ending_goes, goes_then, heading_goes, marked_goes, out_parts, out_split, procedure_goes, procedures_go, used_adds, used_goes}
+use Rattle.ob0_scope_numbering.proofs.Alongside.{Adds, Alike, AllOut, Beside, Goes, adds_then, declared_goes, ending_goes, goes_then, heading_goes, marked_goes, out_parts, out_split, procedure_goes, procedures_go, used_adds, used_goes}
 use Rattle.ob0_scope_numbering.proofs.Covered.{AllBelow, Covers, above_out, ascend_first, ascend_second, before_one, below_block, below_out, below_procedures, covers_all, covers_both, covers_more, covers_none, covers_same, is_above_out, leaves_append}
 use Rattle.ob0_scope_numbering.proofs.Tabled.{marks_again}
-use Rattle.ob0_scope_numbering.proofs.Passing.{At, Passed, at_itself, at_start, block_passed, constant_section_passed, heading_passed, pass_then, procedure_passed, procedures_passed, spelled, tokens_of, type_section_passed, used_passed, variable_section_passed}
+use Rattle.ob0_scope_numbering.proofs.Passing.{At, at_itself, at_start, constant_section_passed, heading_passed, pass_then, procedure_passed, procedures_passed, spelled, tokens_of, type_section_passed, used_passed, variable_section_passed}
 
 -- ---- lists
 

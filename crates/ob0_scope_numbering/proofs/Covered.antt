@@ -1,5 +1,5 @@
 -- A walk that goes to one body alone: it sees there what the walk through all sees, and whatever it passes over has no token of the range.
-use Rattle.std.proofs.Common.{◌≡◌, ◌<◌, ◌≤◌, ℕ, zero, suc, ◌+◌, Bool, true, false, ◌&&◌, ◌||◌, nat_le, nat_lt, if◌then◌else◌, Option, Some, None, List, [], ◌∷◌, ◌++◌, map, length, drop, refl, sym, ap, ap₂, ◌∙◌, subst, arith, append_assoc, append-nil}
+use Rattle.std.proofs.Common.{◌≡◌, ◌<◌, ◌≤◌, ℕ, ◌+◌, Bool, true, false, ◌&&◌, ◌||◌, nat_le, nat_lt, if◌then◌else◌, List, [], ◌∷◌, ◌++◌, refl, subst, arith, append_assoc}
 use Rattle.std.proofs.lemmas.List.{map-append}
 use Rattle.std.proofs.lemmas.Bool.Decides.{nat_tests}
 use Rattle.ob0_tree.specs.declared.tree.Role.{Role}
@@ -7,12 +7,10 @@ use Rattle.ob0_tree.specs.declared.tree.Role.TheVariants as role
 use Rattle.ob0_tree.specs.Order.{Ascending, leaves, names_only}
 use Rattle.ob0_tree.specs.Tree.{Tree, block, body, declares, declares_procedure, end, has_body, identifiers, item, items, maybe, more, procedure}
 use Rattle.ob0_tree.proofs.Leaves.{ascending_bounds, ascending_lower}
-use Rattle.ob0_language_names.specs.Names.{Name, as_names}
-use Rattle.ob0_language_names.specs.Parts.{procedure_name}
 use Rattle.ob0_scope_table.specs.OneBody.{begins_by, closing_name, is_in_block, is_in_procedure, is_in_procedures, is_out}
 use Rattle.ob0_scope_table.specs.Resolution.{declaring_only}
 use Rattle.ob0_scope_numbering.specs.Marks.{OrdinalMark}
-use Rattle.ob0_scope_numbering.proofs.Alongside.{AllOut, out_both, out_split}
+use Rattle.ob0_scope_numbering.proofs.Alongside.{AllOut}
 use Rattle.ob0_scope_numbering.proofs.Passing.{tokens_of}
 
 -- ---- numbers that ascend

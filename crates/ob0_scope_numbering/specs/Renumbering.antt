@@ -7,7 +7,6 @@ use Rattle.ob0_language_names.specs.Names.{as_names}
 use Rattle.ob0_language_names.specs.Parts.{procedure_name}
 use Rattle.ob0_language_names.specs.Scopes.{predeclared_scope}
 use Rattle.ob0_scope_numbering.specs.Tabling as tabling
-use Rattle.ob0_scope_numbering.specs.Visiting as visit
 use Rattle.ob0_scope_numbering.specs.Visiting.{Visit, after_heading, numbered_at, used, visible, visit_constant_section, visit_formals, visit_type_section, visit_variable_section}
 use Rattle.ob0_scope_numbering.specs.Written.{Writing}
 use Rattle.ob0_scope_table.specs.OneBody.{closing_name}

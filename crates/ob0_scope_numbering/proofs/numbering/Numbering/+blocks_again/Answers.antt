@@ -1,11 +1,11 @@
 use Rattle.std.proofs.Common.{◌≡◌, OnOk, sym, ap, ◌∙◌, subst, arith, drop, ◌+◌, ◌∷◌}
 use Rattle.std.proofs.lemmas.List.{drop_more}
-use Rattle.ob0_tree.specs.View.{items_of, procedure_of, body_of, types_of, variables_of}
+use Rattle.ob0_tree.specs.View.{procedure_of, body_of, types_of, variables_of}
 use Rattle.ob0_tree.proofs.Viewed.{block_parts}
 use Rattle.ob0_tree.specs.declared.tree.Block.{out-Block}
 use Rattle.ob0_tree.specs.declared.tree.Procedure.{out-Procedure}
-use Rattle.ob0_scope_numbering.specs.Renumbering.{passed_over, renumber_block, renumber_procedure, renumber_procedures}
-use Rattle.ob0_scope_numbering.specs.Tabling.{put, used, visit_type_section, visit_variable_section}
+use Rattle.ob0_scope_numbering.specs.Renumbering.{passed_over, renumber_block, renumber_procedure}
+use Rattle.ob0_scope_numbering.specs.Tabling.{put, visit_type_section, visit_variable_section}
 use Rattle.ob0_scope_numbering.proofs.Again.{enters_one, going, passes_one}
 use Rattle.ob0_scope_numbering.proofs.Going.{goes_on, gone_through}
 use Rattle.ob0_scope_numbering.proofs.numbering.Numbering.+blocks_again.Goals as goal
