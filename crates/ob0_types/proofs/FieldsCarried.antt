@@ -1,6 +1,6 @@
 -- The fields of a module that are carried over to one in which the statements of one body were replaced: those before the
 -- body, and those after it where they are now.
-use Rattle.std.proofs.Common.{◌≡◌, ◌<◌, ◌≤◌, ℕ, List, [], ◌∷◌, ◌++◌, map, Some, None, if◌then◌else◌, refl, ap, ◌∙◌, lt-ltb, le-ltb}
+use Rattle.std.proofs.Common.{◌≡◌, ◌<◌, ◌≤◌, ℕ, List, [], ◌∷◌, ◌++◌, map, Option, Some, None, if◌then◌else◌, refl, ap, ◌∙◌, lt-ltb, le-ltb}
 use Rattle.ob0_scope_table.proofs.Placed.{AllOf}
 use Rattle.ob0_types_fields.specs.declared.field_name.FieldName.{FieldName}
 use Rattle.ob0_types_fields.specs.declared.listing.BodyRange.{BodyRange}

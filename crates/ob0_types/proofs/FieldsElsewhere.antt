@@ -1,6 +1,6 @@
 -- The fields of a module by those that it had before the statements of one body were replaced: all others have the owners
 -- that they had, where they are now, since the module without that body is written as it was.
-use Rattle.std.proofs.Common.{◌≡◌, ◌<◌, ◌≤◌, ◌^◌, ℕ, ◌+◌, ◌-◌, List, [], ◌∷◌, ◌++◌, length, map, min, Option, Some, None, refl, sym, ap, ◌∙◌, subst, arith}
+use Rattle.std.proofs.Common.{◌≡◌, ◌<◌, ◌≤◌, ◌^◌, ℕ, ◌+◌, ◌-◌, true, List, [], ◌∷◌, ◌++◌, length, map, min, Option, Some, None, refl, sym, ap, ◌∙◌, subst, arith}
 use Rattle.std.proofs.Math.Nat.{min-eq_left}
 use Rattle.std.proofs.lemmas.List.{map-append}
 use Rattle.ob0_language_fields.specs.Fields.{refielded}
@@ -16,7 +16,7 @@ use Rattle.ob0_scope_table.proofs.BodyReplaced.{names_outside, without_mapped}
 use Rattle.ob0_scope_table.proofs.Moved.{moved_above, moved_below}
 use Rattle.ob0_scope_table.proofs.Placed.{AllOf}
 use Rattle.ob0_tree.specs.Order.{Ascending, leaves, names_only}
-use Rattle.ob0_tree.specs.Parsed.{Parsed, named_tree_of, tree_of}
+use Rattle.ob0_tree.specs.Parsed.{IsParsed, Parsed, named_tree_of, tree_of}
 use Rattle.ob0_tree.specs.Places.{text_at, value_at}
 use Rattle.ob0_tree.specs.Tree.{Tree, body, identifiers, mapped, maybe, module_text}
 use Rattle.ob0_tree.specs.declared.tree.Role.{Role}
@@ -26,7 +26,7 @@ use Rattle.ob0_types_fields.specs.declared.field_name.FieldName.{FieldName}
 use Rattle.ob0_types_fields.specs.declared.listing.BodyRange.{BodyRange}
 use Rattle.ob0_types_fields.specs.Identifiers.{declared_fields, field_identifiers, tokens_of}
 use Rattle.ob0_types_fields.specs.Listed.{AreFields, Listed, after_body, before_body, shifted}
-use Rattle.ob0_types_fields.specs.Owned.{HasOwners, fields_among, marked_tree, owned, owned_module, token_objects}
+use Rattle.ob0_types_fields.specs.Owned.{HasOwners, fields_among, marked_tree, owned, owned_module, owned_tokens, token_objects}
 use Rattle.ob0_types_fields.specs.Owners.{of_records}
 use Rattle.ob0_types_fields.proofs.MappedIdentifiers.{beside_role, identifiers-mapped}
 use Rattle.ob0_types_fields.proofs.MarkedFields.{among-append, marked_tree-fields}
@@ -37,7 +37,7 @@ use Rattle.ob0_types.specs.NewBody.{WereTypesElsewhere}
 use Rattle.ob0_types.specs.declared.checked.ModuleTypes.{ModuleTypes}
 use Rattle.ob0_types.proofs.FewTokens.{few_tokens}
 use Rattle.ob0_types.proofs.FieldsCarried.{after_all, after_rest, all_stay, before_is, of_fields}
-use Rattle.ob0_types.proofs.FieldsMoved.{Bounds, KeepsOwner, all_second, bounds, ends_moved, fields_moved, has_first, has_second, moved_field, moved_mark, owners_kept, with_owner}
+use Rattle.ob0_types.proofs.FieldsMoved.{AreEnds, Bounds, KeepsOwner, all_second, bounds, ends_moved, fields_moved, has_first, has_second, moved_field, moved_mark, owners_kept, with_owner}
 use Rattle.ob0_types.proofs.FieldsParted.{Marks, Parted, module_parted}
 use Rattle.ob0_types.proofs.FieldsWithout.{refielded_without}
 

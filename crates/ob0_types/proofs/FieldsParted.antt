@@ -5,7 +5,7 @@ use Rattle.ob0_language_types.specs.Declarations.{after_formals, after_types, af
 use Rattle.ob0_language_types.specs.Expressions.{Meanings}
 use Rattle.ob0_language_values.specs.Values.{Shape}
 use Rattle.ob0_scope_table.specs.BodyReplaced.{Way, block_without, body_among, body_at, body_in, closing_among, closing_at, closing_in, procedure_without, procedures_without, without}
-use Rattle.ob0_tree.specs.Tree.{Tree, block, declares, declares_procedure, end, has_body, is_module, item, items, module_text, more, procedure}
+use Rattle.ob0_tree.specs.Tree.{Tree, block, body, declares, declares_procedure, end, has_body, is_module, item, items, maybe, module_text, more, none, procedure}
 use Rattle.ob0_types_fields.specs.Owned.{owned, owned_block, owned_formals, owned_module, owned_procedure, owned_procedures, owned_type_section, owned_variable_section, unowned}
 use Rattle.ob0_types.proofs.NewBody.{procedure_count}
 

@@ -4,8 +4,8 @@ use Rattle.std.proofs.Common.{◌≡◌, ℕ, zero, suc, ◌+◌, Bool, true, fa
 use Rattle.ob0_language_names.specs.DeclaredOnce.{are_distinct, block_names, block_once, declared_once, formals_once, procedure_names, procedure_once, procedures_once, types_once, variables_once}
 use Rattle.ob0_language_names.specs.Names.{Name, Naming, as_names, same_name}
 use Rattle.ob0_language_names.specs.Parts.{constant_names, formal_names, formal_sections, named_types, procedure_formals, procedure_name, section_constants, section_types, section_variables, variable_names}
-use Rattle.ob0_language_types.specs.Declarations.{after_variables, block_constructors, declare_first, formals_constructors, procedure_constructors, procedures_constructors, types_constructors, variables_constructors}
-use Rattle.ob0_language_types.specs.WellTyped.{TypeEnvironment, WellTyped, bind_typed, block_fits, fits_over, heading, procedure_fits, procedures_fit, some_and, typed_parameters}
+use Rattle.ob0_language_types.specs.Declarations.{after_types, after_variables, block_constructors, declare_first, formals_constructors, procedure_constructors, procedures_constructors, types_constructors, variables_constructors}
+use Rattle.ob0_language_types.specs.WellTyped.{TypeEnvironment, WellTyped, bind_typed, block_fits, body_fits, declare_typed, fits_over, heading, procedure_fits, procedures_fit, some_and, typed_parameters}
 use Rattle.ob0_tree.specs.Tree.{Tree, block, body, constants, declares, declares_procedure, end, has_body, is_module, item, items, maybe, module_text, more, none, procedure, type_names, variables}
 use Rattle.ob0_tree.specs.Parsed.{named_tree_of, tree_of}
 use Rattle.ob0_tree.specs.Places.{named, text_at, value_at}

@@ -1,4 +1,4 @@
-use Rattle.std.proofs.Common.{sym, ap, ◌∙◌, arith}
+use Rattle.std.proofs.Common.{Some, sym, ap, ◌∙◌, refl, arith}
 use Rattle.ob0_tree.specs.Parsed.{tree_of}
 use Rattle.ob0_tree.specs.View.{body_of}
 use Rattle.ob0_types.specs.OneBody.{OneBody, body_in_module}
