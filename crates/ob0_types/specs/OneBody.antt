@@ -1,9 +1,8 @@
 -- What was found of a module's types before its tokens changed in the statements of one body.
 -- Rule: docs/LANGUAGE.md, Types 8, Faults of scopes and types 1.
-use Rattle.std.specs.Prelude.{◌≡◌, ℕ, true, nat_lt, if◌then◌else◌, Some, is_some}
+use Rattle.std.specs.Prelude.{◌≡◌, ℕ, true, nat_lt, if◌then◌else◌}
 use Rattle.ob0_tree.specs.Tree.{Tree, block, body, declares, declares_procedure, end, has_body, is_module, item, items, maybe, module_text, more, procedure}
 use Rattle.ob0_tree.specs.View.{body_of}
-use Rattle.ob0_tree.specs.declared.tree.Role.{Role}
 use Rattle.ob0_scan.specs.Scanned.{Scanned}
 use Rattle.ob0_scope_table.specs.Bindings.{resolution_by}
 use Rattle.ob0_scope_table.specs.OneBody.{IsBodyChange, closing_name, is_out}
@@ -13,7 +12,6 @@ use Rattle.ob0_tree.specs.Parsed.{Parsed}
 use Rattle.ob0_types.specs.CheckedModules.{AreTypesOf}
 use Rattle.ob0_types.specs.declared.checked.ModuleTypes.{ModuleTypes}
 use Rattle.ob0_types.specs.declared.one_body.Body.{Body}
-use Rattle.ob0_types.specs.declared.one_body.First.{First}
 
 -- the statements of a block, with the block's closing name
 pub record OneBody : Type 0 where
@@ -23,11 +21,6 @@ pub record OneBody : Type 0 where
 -- as the code has it
 abbrev pub body_seen : Body → OneBody
 body_seen b = record { closing = b.closing; statements = body_of b.statements.now }
-
--- the first identifier, or the one before it
-abbrev pub with_first : Role → ℕ → First → First
-with_first r token first =
-    record { token = if is_some first.token then first.token else Some token }
 
 -- the body in which a range of tokens lies, from `low` on
 abbrev mutual

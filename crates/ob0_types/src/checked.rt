@@ -5,9 +5,8 @@
 //! elsewhere, which takes no memory.
 //!
 //! Faults are sorted by (start, end, code). The lists of fields are made for a module that fits (`known_fields`), or by
-//! those of the text before where one body changed (`fields_again`) or its statements were replaced
-//! (`fields_with_new_body`); in `Checked`'s invariant is that they are the module's fields where it has no fault, so that
-//! the value of a `Checked` doesn't have them.
+//! those of the text before where one body changed (`fields_again`); in `Checked`'s invariant is that they are the
+//! module's fields where it has no fault, so that the value of a `Checked` doesn't have them.
 
 ghost use Rattle.ob0_scope_table.specs.Resolution.{is_of_declarations};
 ghost use Rattle.ob0_types.specs.CheckedModules.{AreFieldsWhereTyped, AreTypesOf, IsChecked, IsKnownWhereTyped, checked_by};
@@ -19,13 +18,13 @@ ghost use Rattle.std.specs.List.{filter};
 ghost use Rattle.std.specs.Prelude.{◌≡◌, ◌≤◌, ◌↔◌, ◌++◌, [], length, IfOk, OnOk, MatchOption};
 ghost use Rattle.ob0_scan.specs.Scanned.{max_faults};
 
-use crate::one_body::{body_from, first_identifier};
+use crate::one_body::body_from;
 use ob0_language_values::Scalar;
 use ob0_scan::{Code, Fault, MAX_FAULTS, SameTokens};
-use ob0_scope_table::{PREDECLARED, Resolved};
+use ob0_scope_table::{PREDECLARED, Resolved, place_in_module};
 use ob0_types_check::laws::{modules_fit, no_fault_in_modules};
 use ob0_types_check::{Report, report_bodies, report_body, report_faults};
-use ob0_types_fields::{BodyRange, FieldList, FieldName, typed_field};
+use ob0_types_fields::{FieldList, FieldName, typed_field};
 use ob0_types_table::{DeclarationTable, FieldOf, Parts, TypeId};
 use std::alloc::{AllocError, Global};
 use std::borrow::Cow;
@@ -151,8 +150,9 @@ pub fn types_again<'t>(
     types_reported(resolved, report, fields)
 }
 
-/// What checking a module finds, by what was found before the statements of one body were replaced by others, of another
-/// number of tokens. Where the module was well-typed, its declarations and that body alone are checked again.
+/// What checking a module finds, by what was found before the statements of one body were replaced by others, of
+/// another number of tokens. Where the module was well-typed, its declarations and that body alone are checked again,
+/// and the fields of that body alone are looked for again.
 pub fn types_with_new_body<'t>(
     alloc: Global,
     resolved: &'t Resolved<'t>,
@@ -179,10 +179,16 @@ fn types_by_body<'t>(
     requires none { before.faults.items ≡ [] }
     ensures { IfOk result (AreTypesOf resolved.now) }
 {
+    if !resolved.faults().is_empty() {
+        return types_of(alloc, resolved);
+    }
     no_fault_in_modules();
     let body = body_from(resolved.module(), same.prefix);
-    let report = report_body(alloc, resolved, body.closing)?;
-    let fields = fields_with_new_body(alloc, resolved, &report.known, &before, same)?;
+    let found = report_body(alloc, resolved, body.closing)?;
+    let Some(report) = found else {
+        return types_of(alloc, resolved);
+    };
+    let fields = fields_with_new_body(alloc, resolved, &report.known, before, same)?;
     types_reported(resolved, report, fields)
 }
 
@@ -269,34 +275,29 @@ fn fields_with_new_body<'t>(
     alloc: Global,
     resolved: &'t Resolved<'t>,
     known: &Option<DeclarationTable>,
-    before: &ModuleTypes,
+    before: ModuleTypes,
     same: SameTokens,
 ) -> Result<FieldList, AllocError>
-    requires before { WereTypesElsewhere resolved.now before.now same }
-    requires none { before.now.faults.items ≡ [] }
+    requires before { WereTypesElsewhere resolved.now before same }
+    requires none { before.faults.items ≡ [] }
     requires known { IsKnownWhereTyped resolved.now known.now }
     ensures { IfOk result (AreFieldsWhereTyped resolved.now) }
 {
-    let Some(table) = known else {
-        return known_fields(alloc, resolved, known);
-    };
+    let ModuleTypes {
+        known: _,
+        fields,
+        faults: _,
+        faulty: _,
+    } = before;
     let body = body_from(resolved.module(), same.prefix);
-    let found = first_identifier(body.statements)?;
-    let Some(first) = found else {
+    let found = place_in_module(resolved.module(), same.prefix, same.new_suffix)?;
+    let Some(place) = found else {
         return known_fields(alloc, resolved, known);
     };
-    let moved_back = body.closing.saturating_sub(same.new_suffix);
-    let Some(old_closing) = moved_back.checked_add(same.old_suffix) else {
-        return known_fields(alloc, resolved, known);
+    let Some(table) = known else {
+        return Ok(fields);
     };
-    let range = BodyRange {
-        first,
-        old_closing,
-        closing: body.closing,
-    };
-    let fields = before
-        .fields
-        .with_new_body(alloc, table, resolved, body.statements, range)?;
+    let fields = fields.with_new_body(alloc, table, resolved, body.statements, place, same)?;
     Ok(fields)
 }
 

@@ -1,12 +1,11 @@
 -- The fields of a module in lists, as they are kept with it.
 -- Rule: none; for contracts: fields in lists.
-use Rattle.std.specs.Prelude.{◌≡◌, ◌==◌, ◌+◌, ◌-◌, ◌^◌, ℕ, min, nat_lt, List, [], ◌∷◌, ◌++◌, length, set, if◌then◌else◌}
+use Rattle.std.specs.Prelude.{◌≡◌, ◌==◌, ◌+◌, ℕ, List, [], ◌∷◌, ◌++◌, length, set, if◌then◌else◌}
 use Rattle.ob0_tree.specs.Order.{Ascending}
 use Rattle.ob0_tree.specs.Parsed.{tree_of}
 use Rattle.ob0_scope_table.specs.Resolution.{Resolution}
 use Rattle.ob0_types_table.specs.KnownTables.{Tables, declared_in}
 use Rattle.ob0_types_fields.specs.declared.field_name.FieldName.{FieldName}
-use Rattle.ob0_types_fields.specs.declared.listing.BodyRange.{BodyRange}
 use Rattle.ob0_types_fields.specs.Identifiers.{declared_fields, field_identifiers, tokens_of}
 use Rattle.ob0_types_fields.specs.Owned.{marked_module, token_objects}
 
@@ -36,23 +35,6 @@ AreFields r f = (f.declared ≡ declared_fields r.module_read) × (f.all ≡ fie
 abbrev pub written_over : List FieldName → ℕ → List FieldName → List FieldName
 written_over xs k [] = xs
 written_over xs k (y ∷ ys) = written_over (set xs k y) (k + 1) ys
-
--- where a token after a body is now, at most the largest index
-abbrev pub shifted : BodyRange → ℕ → ℕ
-shifted range i = min (i - range.old_closing + range.closing) (2 ^ 64 - 1)
-
--- those of some fields that are before a body
-abbrev pub before_body : BodyRange → List FieldName → List FieldName
-before_body range [] = []
-before_body range (f ∷ fs) =
-    if nat_lt f.token range.first then f ∷ before_body range fs else before_body range fs
-
--- those of some fields that are after a body, where they are now
-abbrev pub after_body : BodyRange → List FieldName → List FieldName
-after_body range [] = []
-after_body range (f ∷ fs) =
-    if nat_lt f.token range.old_closing then after_body range fs
-    else record { token = shifted range f.token; owner = f.owner } ∷ after_body range fs
 
 -- Fields in text order, some of which have others in their places between these two ends, at the
 -- same tokens.

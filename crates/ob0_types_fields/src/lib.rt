@@ -12,4 +12,4 @@ mod reading;
 
 pub use field_name::FieldName;
 pub use field_types::{TypedField, typed_field};
-pub use listing::{BodyRange, FieldList};
+pub use listing::FieldList;

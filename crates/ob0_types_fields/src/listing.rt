@@ -8,13 +8,10 @@
 //! (`FieldList::with_body`): nothing moves, since the fields of a well-typed module are all identifiers that are written
 //! as fields (`fields_listed`).
 //!
-//! Where the statements of one body were replaced, so that those after it are other tokens now, its fields are found
-//! again and put between those before it and those after it (`FieldList::with_new_body`).
-//!
 //! A list doesn't hold its text, and a token that a text hasn't got has the empty span at its start, so the
 //! clause of `FieldList::at` has a premise (`AreInTextOrder`). A module's fields fulfil it (`fields_ascend`).
 
-ghost use Rattle.std.specs.Prelude.{◌≡◌, ◌++◌, List, [], false, true, nat_lt, IfOk, OnOk};
+ghost use Rattle.std.specs.Prelude.{◌≡◌, ◌++◌, List, [], false, true, nat_lt, IfOk};
 ghost use Rattle.std.specs.List.{position_from};
 ghost use Rattle.std.specs.List.Sorted.{IsNonDecreasingBy, IsPartitionPoint};
 ghost use Rattle.ob0_tree.specs.Parsed.{tree_of};
@@ -24,7 +21,7 @@ ghost use Rattle.ob0_language_names.specs.Names.{same_name};
 ghost use Rattle.ob0_types_table.specs.KnownTables.{declared_in};
 ghost use Rattle.ob0_types_fields.specs.declared.field_name.FieldName.{FieldName};
 ghost use Rattle.ob0_types_fields.specs.Identifiers.{AreInTextOrder, declared_fields, field_on, first, record_tokens, tokens_among};
-ghost use Rattle.ob0_types_fields.specs.Listed.{HasOthersWithin, after_body, before_body, if_declared, listed_by, shifted, written_over};
+ghost use Rattle.ob0_types_fields.specs.Listed.{HasOthersWithin, if_declared, listed_by, written_over};
 ghost use Rattle.ob0_types_fields.specs.Owned.{marked_module, marked_tree, token_objects};
 
 use crate::declaring::block;
@@ -43,15 +40,6 @@ use std::marker::Model;
 pub struct FieldList {
     declared: FieldTokens,
     all: FieldTokens,
-}
-
-/// Where the statements of a body are: from the token of their first identifier on, and before that of the closing name
-/// of their block, which was elsewhere before the statements were replaced.
-#[derive(Clone, Copy)]
-pub struct BodyRange {
-    pub first: usize,
-    pub old_closing: usize,
-    pub closing: usize,
 }
 
 impl Model for FieldList {
@@ -112,32 +100,6 @@ impl FieldList {
         Ok(FieldList { declared, all })
     }
 
-    /// These fields, those of the module before the statements of one body were replaced: but for those that its old
-    /// statements select, and with those that its new ones do. Those that are declared are found again too.
-    pub fn with_new_body<'a, 't>(
-        &self,
-        alloc: Global,
-        known: &'a DeclarationTable,
-        resolved: &'a Resolved<'t>,
-        statements: &Option<Vec<Statement>>,
-        range: BodyRange,
-    ) -> Result<FieldList, AllocError>
-        ensures declared { IfOk result
-            (λ f. f.declared ≡ declared_fields resolved.now.module_read) }
-        ensures all { IfOk result (λ f. f.all
-            ≡ before_body range self.now.all
-            ++ (marked_tree (token_objects (declared_in known.now) resolved.now) (body_of statements.now)
-            ++ after_body range self.now.all)) }
-    {
-        let mut all = Vec::new(alloc);
-        range.add_before(&mut all, &self.all)?;
-        let walk = Owning { known, resolved };
-        walk.body(&mut all, statements)?;
-        range.add_after(&mut all, &self.all)?;
-        let declared = declared_fields(alloc, resolved)?;
-        Ok(FieldList { declared, all })
-    }
-
     /// The field that a place is on, where it lies in an identifier of the field or at its end: that identifier. The
     /// tokens are those of the text that the fields are in.
     pub fn at(&self, tokens: &Tokens, offset: usize) -> Option<FieldName>
@@ -176,44 +138,6 @@ impl FieldList {
             (record_tokens owner self.now.declared) }
     {
         place_among(tokens, &self.declared, owner, name)
-    }
-}
-
-impl BodyRange {
-    /// Where a token after the body is now, at most the largest index.
-    fn shifted(self, token: usize) -> usize
-        ensures { result ≡ shifted self token }
-    {
-        token
-            .saturating_sub(self.old_closing)
-            .saturating_add(self.closing)
-    }
-
-    /// Adds those of some fields that are before the body.
-    fn add_before(self, out: &mut FieldTokens, fields: &[FieldName]) -> Result<(), AllocError>
-        ensures { OnOk result (out.new.items ≡ out.old.items ++ before_body self fields.now) }
-    {
-        for field in fields {
-            if field.token < self.first {
-                out.push(*field)?;
-            }
-        }
-        Ok(())
-    }
-
-    /// Adds those of some fields that are after the body, where they are now.
-    fn add_after(self, out: &mut FieldTokens, fields: &[FieldName]) -> Result<(), AllocError>
-        ensures { OnOk result (out.new.items ≡ out.old.items ++ after_body self fields.now) }
-    {
-        for field in fields {
-            if field.token >= self.old_closing {
-                out.push(FieldName {
-                    token: self.shifted(field.token),
-                    owner: field.owner,
-                })?;
-            }
-        }
-        Ok(())
     }
 }
 
