@@ -32,4 +32,3 @@ few_tokens s scan =
     let bytes : length (joined scan.lexemes) ≡ length s.text = ap (λ (bs : List ℕ). length bs) scan.lexed.whole in
     let short = scan.short in
     omega (arith, few, tokens, bytes, short)
-

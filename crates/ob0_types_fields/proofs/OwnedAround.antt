@@ -1,6 +1,6 @@
 -- The identifiers of a module before and after the statements to which a way leads: these are those of the module without them.
-use Rattle.std.proofs.Common.{◌≡◌, ℕ, zero, suc, ◌+◌, List, [], ◌∷◌, ◌++◌, Some, None, Option, refl, ap, ◌∙◌, sym, append_assoc, append-nil}
-use Rattle.ob0_tree.specs.Tree.{Tree, block, body, declares, declares_procedure, end, has_body, is_module, item, items, maybe, module_text, more, none, procedure}
+use Rattle.std.proofs.Common.{◌≡◌, ℕ, zero, suc, ◌+◌, List, [], ◌∷◌, ◌++◌, None, Option, refl, ap, ◌∙◌, sym, append_assoc, append-nil}
+use Rattle.ob0_tree.specs.Tree.{Tree, block, declares, declares_procedure, end, has_body, is_module, item, items, module_text, more, procedure}
 use Rattle.ob0_language_types.specs.Declarations.{after_formals, after_types, after_variables, block_constructors, formals_constructors, procedure_constructors, procedures_constructors, types_constructors, variables_constructors}
 use Rattle.ob0_language_types.specs.Expressions.{Meanings}
 use Rattle.ob0_language_names.specs.Parts.{formal_sections, section_types, section_variables}

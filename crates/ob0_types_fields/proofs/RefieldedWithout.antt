@@ -6,7 +6,7 @@ use Rattle.ob0_language_names.specs.Names.{Name, as_names}
 use Rattle.ob0_language_types.specs.Declarations.{after_formals, after_types, after_variables, declare_first, procedure_constructors}
 use Rattle.ob0_language_types.specs.Environments.{meanings, outermost}
 use Rattle.ob0_language_types.specs.WellTyped.{TypeEnvironment, bind_typed}
-use Rattle.ob0_scope_table.specs.BodyReplaced.{Way, block_without, procedure_without, procedures_without, without}
+use Rattle.ob0_scope_table.specs.BodyReplaced.{Way, block_without, procedures_without, without}
 use Rattle.ob0_tree.specs.Tree.{Tree, block, declares, declares_procedure, end, has_body, is_module, item, items, module_text, more, procedure}
 use Rattle.ob0_types_fields.proofs.OwnedAround.{procedure_counted}
 

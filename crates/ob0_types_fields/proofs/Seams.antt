@@ -1,5 +1,5 @@
 -- Identifiers in text order around a closing name: which are before it and after it, and the fields among them.
-use Rattle.std.proofs.Common.{◌≡◌, ℕ, ◌+◌, ◌<◌, ◌≤◌, Bool, true, false, nat_le, nat_lt, if◌then◌else◌, List, [], ◌∷◌, ◌++◌, map, Some, None, Option, unwrap_or, refl, ap, ◌∙◌, sym, subst, arith, le_refl, append-nil}
+use Rattle.std.proofs.Common.{◌≡◌, ℕ, ◌+◌, ◌<◌, ◌≤◌, Bool, true, false, if◌then◌else◌, List, [], ◌∷◌, ◌++◌, Some, None, Option, unwrap_or, refl, ap, ◌∙◌, arith, le_refl, append-nil}
 use Rattle.std.proofs.lemmas.List.Elements.{filter-append}
 use Rattle.std.specs.List.{AllByRecursion, filter}
 use Rattle.ob0_tree.specs.declared.tree.Role.{Role}
