@@ -1,6 +1,6 @@
 -- The tokens of a module's names and numbers but for those in one body are before the range of tokens that lies in that
 -- body, or after it: they ascend, and the body's first identifier isn't after the range begins.
-use Rattle.std.proofs.Common.{◌≡◌, ◌<◌, ◌≤◌, ℕ, zero, suc, ◌+◌, Bool, true, false, ◌&&◌, ◌||◌, nat_le, nat_lt, if◌then◌else◌, List, [], ◌∷◌, ◌++◌, refl, sym, ap, ◌∙◌, subst, arith, append_assoc, le_refl, lt-ltb, le-leb, leb-true, ltb-true}
+use Rattle.std.proofs.Common.{◌≡◌, ◌<◌, ◌≤◌, ℕ, zero, ◌+◌, Bool, true, false, ◌&&◌, ◌||◌, nat_le, nat_lt, if◌then◌else◌, List, [], ◌∷◌, ◌++◌, refl, sym, ap, ◌∙◌, subst, arith, append_assoc, le_refl, lt-ltb, le-leb, leb-true, ltb-true}
 use Rattle.ob0_tree.specs.declared.tree.Role.{Role}
 use Rattle.ob0_tree.specs.declared.tree.Role.TheVariants as role
 use Rattle.ob0_tree.specs.Lexeme.{EndOfText, Mark, Name, Number, Terminal}
@@ -82,11 +82,11 @@ out_if_above : (a b : Bool) → b ≡ true → (a || b) ≡ true
 out_if_above true b e = refl
 out_if_above false b e = e
 
--- ---- in the body and out of it
+-- ---- of the tokens of a block without a body
 
-module _ (low high : ℕ) (P : ℕ → Type 0) (out : (k : ℕ) → is_out low high k ≡ true → P k) where
+module _ (P : ℕ → Type 0) where
   -- of the tokens of a block's procedures and statements, without those to which a way leads
-  abbrev Among : Way → Tree ℕ (items procedure) → Tree ℕ (maybe body) → Type 0
+  abbrev pub Among : Way → Tree ℕ (items procedure) → Tree ℕ (maybe body) → Type 0
   Among [] ps statements = EachToken P ps
   Among (k ∷ way) ps statements = EachToken P (procedures_without k way ps) × EachToken P statements
 
@@ -99,6 +99,9 @@ module _ (low high : ℕ) (P : ℕ → Type 0) (out : (k : ℕ) → is_out low h
   block_among [] cs ts vs ps statements c t v h = ((c, t, v, h), tt)
   block_among (k ∷ way) cs ts vs ps statements c t v h = ((c, t, v, h.0), h.1)
 
+-- ---- in the body and out of it
+
+module _ (low high : ℕ) (P : ℕ → Type 0) (out : (k : ℕ) → is_out low high k ≡ true → P k) where
   is_below : (k : ℕ) → k < low → P k
   is_below k less = out k (out_if_below (nat_lt k low) (nat_le high k) (lt-ltb k low less))
 
@@ -133,7 +136,7 @@ module _ (low high : ℕ) (P : ℕ → Type 0) (out : (k : ℕ) → is_out low h
   BlockFound b = Found (EachToken P (block_without (way_in_block low b) b)) (places b)
 
   abbrev ProceduresFound : Tree ℕ (items procedure) → Tree ℕ (maybe body) → Type 0
-  ProceduresFound ps statements = Found (Among (way_among low ps) ps statements) (places ps ++ places statements)
+  ProceduresFound ps statements = Found (Among P (way_among low ps) ps statements) (places ps ++ places statements)
 
   own_found : (least top : ℕ) (statements : Tree ℕ (maybe body)) → Ascending least (places statements) top → begins_by low (identifiers role.Declaring statements) ≡ true → ProceduresFound end statements
   own_found least top statements h e = record {
@@ -186,7 +189,7 @@ module _ (low high : ℕ) (P : ℕ → Type 0) (out : (k : ℕ) → is_out low h
         let begins₁ = begins_before b.middle low (places vs) of_procedures top b.last f.begins in
         let begins₂ = begins_before a.middle low (places ts) of_variables top a.last begins₁ in
         record {
-          outside = block_among (way_among low ps) cs ts vs ps statements
+          outside = block_among P (way_among low ps) cs ts vs ps statements
               (each_of P cs (all_before least (places cs) of_types top all begins₂))
               (each_of P ts (all_before a.middle (places ts) of_variables top a.last begins₁))
               (each_of P vs (all_before b.middle (places vs) of_procedures top b.last f.begins))
@@ -203,11 +206,11 @@ module _ (low high : ℕ) (P : ℕ → Type 0) (out : (k : ℕ) → is_out low h
         let all = subst (λ l. Ascending least l top) e h in
         let s = split least (places p) others top all in
         (elim (nat_lt (closing_name p) low) as (λ z. nat_lt (closing_name p) low ≡ z → (if z then is_in_procedures low high rest statements else nat_le high (closing_name p) && is_in_procedure low high p) ≡ true
-        → Found (Among (if z then later (way_among low rest) else zero ∷ way_in_procedure low p) (more p rest) statements) (places (more p rest) ++ places statements)) [
+        → Found (Among P (if z then later (way_among low rest) else zero ∷ way_in_procedure low p) (more p rest) statements) (places (more p rest) ++ places statements)) [
           | true ↦ λ before is.
               let f = procedures_found s.middle top rest statements s.last le is in
               record {
-                outside = among_later (way_among low rest) p rest statements (passed_over p least s.middle s.first (ltb-true (closing_name p) low before)) f.outside;
+                outside = among_later P (way_among low rest) p rest statements (passed_over p least s.middle s.first (ltb-true (closing_name p) low before)) f.outside;
                 begins = subst (Begins low) (sym e) (begins_before least low (places p) others top all f.begins);
               }
           | false ↦ λ after is.

@@ -1,16 +1,18 @@
 -- A module in which the statements of one body were replaced: without them a tree under other names is the tree without
 -- them under these names; all its tokens lie outside what was replaced, and are written as they were.
-use Rattle.std.proofs.Common.{◌≡◌, ℕ, zero, suc, true, [], ◌∷◌, length, refl, sym, ap, ◌∙◌, subst}
+use Rattle.std.proofs.Common.{◌≡◌, ℕ, zero, suc, true, [], ◌∷◌, length, slice_get, refl, sym, ap, ◌∙◌, subst}
+use Rattle.ob0_scan.specs.Reused.{words_in}
+use Rattle.ob0_scan.specs.Scanned.{Scanned}
 use Rattle.ob0_scan.specs.declared.tokens.SameTokens.{SameTokens}
 use Rattle.ob0_tree.specs.Parsed.{Parsed, tree_of}
 use Rattle.ob0_tree.specs.Places.{named, text_at, value_at}
-use Rattle.ob0_tree.specs.Tree.{Tree, block, body, declares, declares_procedure, end, has_body, is_module, item, items, mapped, maybe, module_text, more, none, procedure}
+use Rattle.ob0_tree.specs.Tree.{Tree, block, declares, declares_procedure, end, has_body, is_module, item, items, mapped, module_text, more, procedure}
 use Rattle.ob0_scope_table.specs.BodyAlone.{EachToken}
-use Rattle.ob0_scope_table.specs.BodyReplaced.{IsBodyReplaced, Way, block_without, moved, procedure_without, procedures_without, way_to, without}
+use Rattle.ob0_scope_table.specs.BodyReplaced.{IsBodyReplaced, Way, block_without, moved, procedure_without, procedures_without, without}
 use Rattle.ob0_scope_table.specs.OneBody.{is_out}
 use Rattle.ob0_scope_table.proofs.BodyOutside.{module_outside}
 use Rattle.ob0_scope_table.proofs.MappedAlike.{mapped_alike, mapped_mapped}
-use Rattle.ob0_scope_table.proofs.OneBody.{text_by_word, value_by_word, word_text, word_value}
+use Rattle.ob0_scope_table.proofs.OneBody.{text_in_word, value_in_word, word_text, word_value}
 use Rattle.ob0_scope_table.proofs.Placed.{places_ascend}
 
 -- ---- a tree under other names
@@ -53,14 +55,22 @@ outside_new P old new way s r out =
     subst (λ w. EachToken P (without w (tree_of new))) r.new_way
     (module_outside s.prefix s.new_suffix P out 0 (length new.source.tokens) (tree_of new) (places_ascend new r.new_parsed) r.new_in_body)
 
+-- a token of one text and a token of another one that are the same word
+module _ (old new : Scanned) (k j : ℕ) (same : slice_get (words_in new.text new.tokens) j ≡ slice_get (words_in old.text old.tokens) k) where
+  -- are written alike
+  pub text_by_word : text_at new j ≡ text_at old k
+  text_by_word = text_in_word new.text new.tokens j ∙ (ap word_text same ∙ sym (text_in_word old.text old.tokens k))
+
+  -- and have one value
+  pub value_by_word : value_at new j ≡ value_at old k
+  value_by_word = value_in_word new.text new.tokens j ∙ (ap word_value same ∙ sym (value_in_word old.text old.tokens k))
+
 -- a token out of the range is written as it was, where it is now, and has the value that it had
 pub text_moved : (old new : Parsed) (way : Way) (s : SameTokens) → IsBodyReplaced old new way s → (k : ℕ) → is_out s.prefix s.old_suffix k ≡ true → text_at new.source (moved s k) ≡ text_at old.source k
-text_moved old new way s r k e =
-    text_by_word new.source.text new.source.tokens (moved s k) ∙ (ap word_text (r.words k e) ∙ sym (text_by_word old.source.text old.source.tokens k))
+text_moved old new way s r k e = text_by_word old.source new.source k (moved s k) (r.words k e)
 
 pub value_moved : (old new : Parsed) (way : Way) (s : SameTokens) → IsBodyReplaced old new way s → (k : ℕ) → is_out s.prefix s.old_suffix k ≡ true → value_at new.source (moved s k) ≡ value_at old.source k
-value_moved old new way s r k e =
-    value_by_word new.source.text new.source.tokens (moved s k) ∙ (ap word_value (r.words k e) ∙ sym (value_by_word old.source.text old.source.tokens k))
+value_moved old new way s r k e = value_by_word old.source new.source k (moved s k) (r.words k e)
 
 -- but for the body, both modules have the same names and numbers
 pub names_outside : (old new : Parsed) (way : Way) (s : SameTokens) → IsBodyReplaced old new way s → named new.source (without way (tree_of new)) ≡ named old.source (without way (tree_of old))

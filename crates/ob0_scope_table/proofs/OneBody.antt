@@ -10,7 +10,6 @@ use Rattle.ob0_tree.specs.declared.tree.Role.{Role}
 use Rattle.ob0_tree.specs.Visited.{visited_all}
 use Rattle.ob0_scope_table.specs.BodyReplaced.{first_of}
 use Rattle.ob0_scope_table.specs.OneBody.{IsBodyChange, is_out, with_first}
-use Rattle.ob0_scope_table.specs.declared.one_body.First.{First}
 
 -- one that was seen stays the first
 stays_first : (xs : List (Role × ℕ)) (t : ℕ) → (visited_all with_first xs (record { token = Some t })).token ≡ Some t
@@ -60,16 +59,16 @@ abbrev pub word_value : Option Word → ℕ
 word_value None = 0
 word_value (Some w) = value_of w.kind
 
-pub text_by_word : (text : List ℕ) (ts : List Token) (i : ℕ) → text_in text (slice_get ts i) ≡ word_text (slice_get (words_in text ts) i)
-text_by_word text [] i = refl
-text_by_word text (t ∷ ts) zero = refl
-text_by_word text (t ∷ ts) (suc i) = text_by_word text ts i
+pub text_in_word : (text : List ℕ) (ts : List Token) (i : ℕ) → text_in text (slice_get ts i) ≡ word_text (slice_get (words_in text ts) i)
+text_in_word text [] i = refl
+text_in_word text (t ∷ ts) zero = refl
+text_in_word text (t ∷ ts) (suc i) = text_in_word text ts i
 
-pub value_by_word : (text : List ℕ) (ts : List Token) (i : ℕ) → value_in (slice_get ts i) ≡ word_value (slice_get (words_in text ts) i)
-value_by_word text [] i = refl
-value_by_word text (t ∷ ts) zero = refl
-value_by_word text (t ∷ ts) (suc i) = value_by_word text ts i
+pub value_in_word : (text : List ℕ) (ts : List Token) (i : ℕ) → value_in (slice_get ts i) ≡ word_value (slice_get (words_in text ts) i)
+value_in_word text [] i = refl
+value_in_word text (t ∷ ts) zero = refl
+value_in_word text (t ∷ ts) (suc i) = value_in_word text ts i
 
 pub text_out : (old : Scanned) (m : Parsed) (low high : ℕ) → IsBodyChange old m low high → (i : ℕ) → is_out low high i ≡ true → text_at m.source i ≡ text_at old i
 text_out old m low high change i e =
-    text_by_word m.source.text m.source.tokens i ∙ (ap word_text (change.same_words i e) ∙ sym (text_by_word old.text old.tokens i))
+    text_in_word m.source.text m.source.tokens i ∙ (ap word_text (change.same_words i e) ∙ sym (text_in_word old.text old.tokens i))

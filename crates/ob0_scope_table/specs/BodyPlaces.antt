@@ -1,7 +1,7 @@
 -- Where a body is: its first identifier, and the closing name of its block.
 -- Rule: none; for contracts: the body in which a range of tokens lies.
 use Rattle.std.specs.Prelude.{ℕ, Bool, Option, None, if◌then◌else◌, option_map}
-use Rattle.ob0_tree.specs.Tree.{Tree, block, body, declares, declares_procedure, has_body, identifiers, is_module, item, maybe, module_text, procedure}
+use Rattle.ob0_tree.specs.Tree.{Tree, block, body, identifiers, is_module, item, maybe, module_text, procedure}
 use Rattle.ob0_tree.specs.View.{block_of}
 use Rattle.ob0_tree.specs.declared.tree.ModuleTree.{ModuleTree}
 use Rattle.ob0_tree.specs.declared.tree.Role.TheVariants as role

@@ -1,4 +1,4 @@
-use Rattle.std.proofs.Common.{◌≡◌, ◌≤◌, ◌∙◌, ap, arith}
+use Rattle.std.proofs.Common.{◌∙◌, ap, arith}
 use Rattle.ob0_tree.specs.View.{block_of}
 use Rattle.ob0_scope_table.specs.BodyPlaces.{place_in_block}
 use Rattle.ob0_scope_table.proofs.BodyPlaces.{module_placed}
