@@ -5,6 +5,7 @@ use Rattle.std.specs.List.{AllByRecursion, filter}
 use Rattle.ob0_tree.specs.declared.tree.Role.{Role}
 use Rattle.ob0_tree.specs.Order.{Ascending, names_only}
 use Rattle.ob0_scope_table.specs.BodyReplaced.{first_of}
+use Rattle.ob0_scope_table.proofs.OneBody.{le_true}
 use Rattle.ob0_types_fields.specs.declared.field_name.FieldName.{FieldName}
 use Rattle.ob0_types_fields.specs.Listed.{fields_from}
 use Rattle.ob0_types_fields.specs.Owned.{fields_among}
@@ -140,4 +141,4 @@ fields_around before inner after closing = among-append before (inner ++ ((closi
 -- all are from the first token on
 pub all_from_start : (xs : List FieldName) → fields_from 0 xs ≡ xs
 all_from_start [] = refl
-all_from_start (x ∷ xs) = ap (λ l. x ∷ l) (all_from_start xs)
+all_from_start (x ∷ xs) = (λ i. if le_true 0 x.token (omega arith) i then x ∷ fields_from 0 xs else fields_from 0 xs) ∙ ap (λ l. x ∷ l) (all_from_start xs)
