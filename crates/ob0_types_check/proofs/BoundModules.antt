@@ -126,7 +126,7 @@ label-bound : (env : TypeEnvironment Label) (x : Label) (o : Object Shape Signat
 label-bound env (declared k) o h = refl
 label-bound env (as_written x) o h = let no : None ≡ Some o = sym (only-written env x) ∙ h in absurd (cc)
 
-labels-bound : (m : Tree Label module_text) → fits_over as_labels m ≡ true → Each (λ x. is_unbound x ≡ false) (occurrences m)
+pub labels-bound : (m : Tree Label module_text) → fits_over as_labels m ≡ true → Each (λ x. is_unbound x ≡ false) (occurrences m)
 unfolding fits_over
 labels-bound (is_module x b closing) h = block-bound (λ x. is_unbound x ≡ false) as_labels label-bound b 0 (outermost as_labels) h
 

@@ -47,3 +47,5 @@ pub mod SameFaults
 pub mod SameModules
 pub mod SomeBodies
 pub mod DeclarationsStay
+pub mod WithoutNames
+pub mod NewBody

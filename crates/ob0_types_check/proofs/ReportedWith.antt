@@ -110,11 +110,11 @@ mutual
       forget_first (reported_variables r (section_variables vs)) (λ s. procedures_with every (further w s) ps >>= (λ t. body_if true own t a)) (λ s. reported_procedures s ps >>= (λ t. reported_body t a))
       (λ s. forget_next (procedures_with every (further w s) ps) (reported_procedures s ps) (λ t. body_if true own t a) (λ t. reported_body t a) (procedures_forget (further w s) ps) (λ t. body_forgets own t a))))
 
-  procedures_forget : (w : Walked) (ps : Tree ℕ (items procedure)) → forget (procedures_with every w ps) ≡ reported_procedures w.so_far ps
+  pub procedures_forget : (w : Walked) (ps : Tree ℕ (items procedure)) → forget (procedures_with every w ps) ≡ reported_procedures w.so_far ps
   procedures_forget w end = refl
   procedures_forget w (more d rest) = forget_next (procedure_with every w d) (reported_procedure w.so_far d) (λ v. procedures_with every v rest) (λ q. reported_procedures q rest) (procedure_forgets w d) (λ v. procedures_forget v rest)
 
-  procedure_forgets : (w : Walked) (d : Tree ℕ (item procedure)) → forget (procedure_with every w d) ≡ reported_procedure w.so_far d
+  pub procedure_forgets : (w : Walked) (d : Tree ℕ (item procedure)) → forget (procedure_with every w d) ≡ reported_procedure w.so_far d
   procedure_forgets w (declares_procedure x fs b closing) =
       forget_first (reported_sections (record { formals = []; following = w.so_far }) (formal_sections fs)) (λ h. block_with every closing (further w (after_heading x h)) b) (λ h. reported_block (after_heading x h) b)
       (λ h. block_forgets closing (further w (after_heading x h)) b)

@@ -13,3 +13,4 @@ pub mod WellTypedLaws
 pub mod ModuleLaws
 pub mod AlikeBut
 pub mod SomeBodies
+pub mod NewBody

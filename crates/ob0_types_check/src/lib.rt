@@ -5,4 +5,4 @@
 pub mod laws;
 mod reporting;
 
-pub use reporting::{Report, report_bodies, report_faults};
+pub use reporting::{Report, report_bodies, report_body, report_faults};

@@ -32,6 +32,9 @@
 //! through the declarations, that body and those that were faulty, and leaves out all others. The walk says which bodies
 //! are faulty.
 //!
+//! Where the statements of one body are others, of which nothing is known, and all else fits, nothing is reported but of
+//! these (`NewBody` of the proofs): `report_body` goes through the declarations and that body.
+//!
 //! No counter of ARRAY and RECORD goes along. Each makes one type, those inside before the one around them, so where
 //! nothing is reported the ordinal of a word is how many were made and how many are around it (`ordinal_here`). A sum
 //! that 64 bits can't hold is out of memory, so the definition has no cap; no text is long enough for it.
@@ -49,6 +52,7 @@ ghost use Rattle.std.specs.Prelude.{◌≡◌, ◌++◌, [], IfOk, OnOk, map, op
 ghost use Rattle.std.specs.List.{filter};
 ghost use Rattle.ob0_scope_table.specs.Resolution.{is_of_occurrences};
 ghost use Rattle.ob0_types_table.specs.Tables.{AreEntriesInOrder};
+ghost use Rattle.ob0_types_check.specs.NewBody.{FitsWithout, IsCleanReportOf};
 ghost use Rattle.ob0_types_check.specs.SoFar.{at_first};
 ghost use Rattle.ob0_types_check.specs.SomeBodies.{HasWalked, IsReportOf, WereFaulty, every, is_among, module_with, wants};
 ghost use Rattle.ob0_types_check.specs.SupposedFacts.{known_meaning, so_far_in, table_in};
@@ -119,6 +123,32 @@ pub fn report_bodies<'t>(
         these: bodies,
     };
     report_wanted(alloc, resolved, &these)
+}
+
+/// What `report_faults` finds, where it finds no fault, of a module that fits but for the statements of the block with
+/// this closing name: its declarations and these statements are gone through, and no other body. None where something is
+/// reported.
+pub fn report_body<'t>(
+    alloc: Global,
+    resolved: &'t Resolved<'t>,
+    closing: usize,
+) -> Result<Option<Report>, AllocError>
+    requires { FitsWithout resolved.now closing }
+    ensures { IfOk result (IsCleanReportOf resolved.now) }
+{
+    // For the proof: what the contract of this call says.
+    let _module = resolved.module();
+    let bodies = [closing];
+    let these = Wanted {
+        every: false,
+        these: &bodies,
+    };
+    let report = report_wanted(alloc, resolved, &these)?;
+    if report.faults.is_empty() {
+        Ok(Some(report))
+    } else {
+        Ok(None)
+    }
 }
 
 /// What is reported of a module, of which nothing is reported but of its declarations and of these bodies.
