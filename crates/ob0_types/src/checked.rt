@@ -11,6 +11,7 @@
 ghost use Rattle.ob0_scope_table.specs.Resolution.{is_of_declarations};
 ghost use Rattle.ob0_types.specs.CheckedModules.{AreFieldsWhereTyped, AreTypesOf, IsChecked, IsKnownWhereTyped, checked_by};
 ghost use Rattle.ob0_types.specs.FaultOrder.{AreFirstOf};
+ghost use Rattle.ob0_types.specs.NewBody.{WereTypesElsewhere};
 ghost use Rattle.ob0_types.specs.OneBody.{WereTypes};
 ghost use Rattle.ob0_types_check.specs.SomeBodies.{IsReportOf};
 ghost use Rattle.std.specs.List.{filter};
@@ -19,10 +20,10 @@ ghost use Rattle.ob0_scan.specs.Scanned.{max_faults};
 
 use crate::one_body::body_from;
 use ob0_language_values::Scalar;
-use ob0_scan::{Code, Fault, MAX_FAULTS};
+use ob0_scan::{Code, Fault, MAX_FAULTS, SameTokens};
 use ob0_scope_table::{PREDECLARED, Resolved};
 use ob0_types_check::laws::{modules_fit, no_fault_in_modules};
-use ob0_types_check::{Report, report_bodies, report_faults};
+use ob0_types_check::{Report, report_bodies, report_body, report_faults};
 use ob0_types_fields::{FieldList, FieldName, typed_field};
 use ob0_types_table::{DeclarationTable, FieldOf, Parts, TypeId};
 use std::alloc::{AllocError, Global};
@@ -146,6 +147,47 @@ pub fn types_again<'t>(
     bodies.push(body.closing)?;
     let report = report_bodies(alloc, resolved, bodies.as_slice())?;
     let fields = fields_again(alloc, resolved, &report.known, before, low)?;
+    types_reported(resolved, report, fields)
+}
+
+/// What checking a module finds, by what was found before the statements of one body were replaced by others, of another
+/// number of tokens. Where the module was well-typed, its declarations and that body alone are checked again.
+pub fn types_with_new_body<'t>(
+    alloc: Global,
+    resolved: &'t Resolved<'t>,
+    before: ModuleTypes,
+    same: SameTokens,
+) -> Result<ModuleTypes, AllocError>
+    requires { WereTypesElsewhere resolved.now before same }
+    ensures { IfOk result (AreTypesOf resolved.now) }
+{
+    if before.faults.is_empty() {
+        return types_by_body(alloc, resolved, before, same);
+    }
+    types_of(alloc, resolved)
+}
+
+/// What checking a module finds that was well-typed before the statements of one body were replaced.
+fn types_by_body<'t>(
+    alloc: Global,
+    resolved: &'t Resolved<'t>,
+    before: ModuleTypes,
+    same: SameTokens,
+) -> Result<ModuleTypes, AllocError>
+    requires before { WereTypesElsewhere resolved.now before same }
+    requires none { before.faults.items ≡ [] }
+    ensures { IfOk result (AreTypesOf resolved.now) }
+{
+    if !resolved.faults().is_empty() {
+        return types_of(alloc, resolved);
+    }
+    no_fault_in_modules();
+    let body = body_from(resolved.module(), same.prefix);
+    let found = report_body(alloc, resolved, body.closing)?;
+    let Some(report) = found else {
+        return types_of(alloc, resolved);
+    };
+    let fields = known_fields(alloc, resolved, &report.known)?;
     types_reported(resolved, report, fields)
 }
 

@@ -1,0 +1,20 @@
+use Rattle.std.proofs.Common.{ap, sym, ◌∙◌, subst}
+use Rattle.ob0_tree.specs.Parsed.{tree_of}
+use Rattle.ob0_types_check.specs.NewBody.{FitsWithout, IsCleanReportOf}
+use Rattle.ob0_types.specs.OneBody.{OneBody, body_in_module}
+use Rattle.ob0_types.proofs.AllReported.{known_where_typed}
+use Rattle.ob0_types.proofs.NewBody.{fits_elsewhere}
+use Rattle.ob0_types.proofs.checked.types_by_body.Goals as goal
+
+pub report_body-requires : goal.report_body-requires
+report_body-requires c =
+    let r = c.args.resolved.now in
+    let here = ap (λ (b : OneBody). b.closing) (c.body_from-body.ensures ∙ ap (λ m. body_in_module c.args.same.prefix (tree_of m)) c.module.ensures.value) in
+    subst (FitsWithout r) (sym here) (fits_elsewhere r c.args.before c.args.same c.requires.before c.requires.none)
+
+pub known_fields-requires : goal.known_fields-requires
+known_fields-requires c =
+    known_where_typed c.args.resolved.now c.in-Some.report c.no_fault_in_modules.ensures c.module.ensures.resolved (subst (IsCleanReportOf c.args.resolved.now) c.in-Some.is c.in_ok-found.ensures).0
+
+pub types_reported-requires-clause-report : goal.types_reported-requires-clause-report
+types_reported-requires-clause-report c = (subst (IsCleanReportOf c.args.resolved.now) c.in-Some.is c.in_ok-found.ensures).0
