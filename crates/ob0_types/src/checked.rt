@@ -21,7 +21,7 @@ ghost use Rattle.ob0_scan.specs.Scanned.{max_faults};
 use crate::one_body::body_from;
 use ob0_language_values::Scalar;
 use ob0_scan::{Code, Fault, MAX_FAULTS, SameTokens};
-use ob0_scope_table::{PREDECLARED, Resolved};
+use ob0_scope_table::{PREDECLARED, Resolved, place_in_module};
 use ob0_types_check::laws::{modules_fit, no_fault_in_modules};
 use ob0_types_check::{Report, report_bodies, report_body, report_faults};
 use ob0_types_fields::{FieldList, FieldName, typed_field};
@@ -150,8 +150,9 @@ pub fn types_again<'t>(
     types_reported(resolved, report, fields)
 }
 
-/// What checking a module finds, by what was found before the statements of one body were replaced by others, of another
-/// number of tokens. Where the module was well-typed, its declarations and that body alone are checked again.
+/// What checking a module finds, by what was found before the statements of one body were replaced by others, of
+/// another number of tokens. Where the module was well-typed, its declarations and that body alone are checked again,
+/// and the fields of that body alone are looked for again.
 pub fn types_with_new_body<'t>(
     alloc: Global,
     resolved: &'t Resolved<'t>,
@@ -187,7 +188,7 @@ fn types_by_body<'t>(
     let Some(report) = found else {
         return types_of(alloc, resolved);
     };
-    let fields = known_fields(alloc, resolved, &report.known)?;
+    let fields = fields_with_new_body(alloc, resolved, &report.known, before, same)?;
     types_reported(resolved, report, fields)
 }
 
@@ -267,6 +268,37 @@ fn fields_again<'t>(
         return Ok(fields);
     }
     known_fields(alloc, resolved, known)
+}
+
+/// The fields of a well-typed module, by those that it had before the statements of one body were replaced.
+fn fields_with_new_body<'t>(
+    alloc: Global,
+    resolved: &'t Resolved<'t>,
+    known: &Option<DeclarationTable>,
+    before: ModuleTypes,
+    same: SameTokens,
+) -> Result<FieldList, AllocError>
+    requires before { WereTypesElsewhere resolved.now before same }
+    requires none { before.faults.items ≡ [] }
+    requires known { IsKnownWhereTyped resolved.now known.now }
+    ensures { IfOk result (AreFieldsWhereTyped resolved.now) }
+{
+    let ModuleTypes {
+        known: _,
+        fields,
+        faults: _,
+        faulty: _,
+    } = before;
+    let body = body_from(resolved.module(), same.prefix);
+    let found = place_in_module(resolved.module(), same.prefix, same.new_suffix)?;
+    let Some(place) = found else {
+        return known_fields(alloc, resolved, known);
+    };
+    let Some(table) = known else {
+        return Ok(fields);
+    };
+    let fields = fields.with_new_body(alloc, table, resolved, body.statements, place, same)?;
+    Ok(fields)
 }
 
 /// The faults of scopes and types, sorted by start, end and number, the first 100. Names that nothing binds are

@@ -9,7 +9,8 @@
 //! as fields (`fields_listed`).
 //!
 //! Where the statements of one body were replaced by others, of another number of tokens, the fields before that body
-//! stay, those after it are moved to where their tokens are now, and its own are found again (`FieldList::with_new_body`).
+//! stay, those after it are moved to where their tokens are now, and its own are found again
+//! (`FieldList::with_new_body`).
 //!
 //! A list doesn't hold its text, and a token that a text hasn't got has the empty span at its start, so the
 //! clause of `FieldList::at` has a premise (`AreInTextOrder`). A module's fields fulfil it (`fields_ascend`).

@@ -12,8 +12,8 @@ report_body-requires c =
     let here = ap (λ (b : OneBody). b.closing) (c.body_from-body.ensures ∙ ap (λ m. body_in_module c.args.same.prefix (tree_of m)) c.module.ensures.value) in
     subst (FitsWithout r) (sym here) (fits_elsewhere r c.args.before c.args.same c.requires.before c.requires.none)
 
-pub known_fields-requires : goal.known_fields-requires
-known_fields-requires c =
+pub fields_with_new_body-requires-clause-known : goal.fields_with_new_body-requires-clause-known
+fields_with_new_body-requires-clause-known c =
     known_where_typed c.args.resolved.now c.in-Some.report c.no_fault_in_modules.ensures c.module.ensures.resolved (subst (IsCleanReportOf c.args.resolved.now) c.in-Some.is c.in_ok-found.ensures).0
 
 pub types_reported-requires-clause-report : goal.types_reported-requires-clause-report
