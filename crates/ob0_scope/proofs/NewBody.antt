@@ -37,7 +37,7 @@ use Rattle.ob0_scope_numbering.specs.Renumbering.{module_renumbered, started_ove
 use Rattle.ob0_scope_numbering.specs.Written.{as_in}
 use Rattle.ob0_scope_numbering.proofs.BodyTables.{HasMarksAt, body_renumbered}
 use Rattle.ob0_scope_numbering.proofs.Covered.{AllBelow, leaves_append}
-use Rattle.ob0_scope_numbering.proofs.Kept.{few_tokens}
+use Rattle.ob0_scope_table.proofs.FewTokens.{few_tokens}
 use Rattle.ob0_scope_numbering.proofs.Passing.{HasMarks, at_start, module_passed, tokens_of}
 use Rattle.ob0_scope_numbering.proofs.Tables.{marks_in_table}
 use Rattle.ob0_scope.specs.Carried.{IsNewBody, carried, carried_table, no_names, old_place, with_name}

@@ -1,13 +1,7 @@
 -- A text has fewer declarations than an entry has ordinals, so that entries have the ordinals of all marks.
-use Rattle.std.proofs.Common.{◌≡◌, ℕ, suc, ◌+◌, ◌≤◌, Option, Some, None, List, [], ◌∷◌, length, replicate, set, refl, sym, ap, ◌∙◌, subst, arith, append-nil, length-append}
+use Rattle.std.proofs.Common.{◌≡◌, ℕ, suc, ◌+◌, ◌≤◌, Option, Some, None, List, [], ◌∷◌, length, replicate, set, refl, sym, ap, ◌∙◌, subst, arith, append-nil}
 use Rattle.std.proofs.Math.Nat.{min-eq_left}
-use Rattle.ob0_scan.specs.declared.lexeme.LexemeKind.{LexemeKind}
-use Rattle.ob0_scan.specs.declared.lexeme.LexemeKind.TheVariants as lexeme
-use Rattle.ob0_scan.specs.declared.lexeme.Span.{Span}
-use Rattle.ob0_scan.specs.declared.lexeme.Token.{Token}
-use Rattle.ob0_scan.specs.Lexed.{Lexeme, joined}
-use Rattle.ob0_scan.specs.Scanned.{IsScan, Scanned, max_text, span_from, token_at, tokens_from}
-use Rattle.ob0_scan.proofs.AtLexemes.{Full, full}
+use Rattle.ob0_scan.specs.Scanned.{IsScan}
 use Rattle.ob0_tree.specs.declared.tree.Role.{Role}
 use Rattle.ob0_tree.specs.declared.tree.Role.TheVariants as role
 use Rattle.ob0_tree.specs.Order.{Ascending, names_only}
@@ -17,39 +11,13 @@ use Rattle.ob0_tree.proofs.Leaves.{leaves_ascend}
 use Rattle.ob0_scope_table.specs.Entries.{greatest, kept}
 use Rattle.ob0_language_names.specs.Names.{as_names}
 use Rattle.ob0_scope_table.specs.Resolution.{ordinal_in}
+use Rattle.ob0_scope_table.proofs.FewTokens.{few_tokens}
 use Rattle.ob0_language_names.specs.Scopes.{as_label}
 use Rattle.ob0_scope_numbering.specs.Marking.{started, visit_module}
 use Rattle.ob0_scope_numbering.specs.Marks.{OrdinalMark, with_marks}
 use Rattle.ob0_scope_numbering.specs.Written.{Writing}
 use Rattle.ob0_scope_numbering.proofs.Passing.{AreInOrder, HasMarks, IsBefore, at_start, module_passed, tokens_of}
 use Rattle.ob0_scope_numbering.proofs.Tables.{marks_in_table}
-
--- ---- a text has no more tokens than bytes
-
-one_token : (k : LexemeKind) (place : Span) → length (token_at k place) ≤ 1
-one_token lexeme.Space place = omega arith
-one_token lexeme.Comment place = omega arith
-one_token (lexeme.Token k) place = omega arith
-
-few_from : (from : ℕ) (ls : List Lexeme) → Full ls → length (tokens_from from ls) ≤ length (joined ls)
-few_from from [] h = omega arith
-few_from from (l ∷ ls) h =
-    let place = span_from from (length l.text) in
-    let rest = tokens_from (from + length l.text) ls in
-    let some = h.0 in
-    let one = one_token l.kind place in
-    let more = few_from (from + length l.text) ls h.1 in
-    let tokens = length-append (token_at l.kind place) rest in
-    let bytes = length-append l.text (joined ls) in
-    omega (arith, some, one, more, tokens, bytes)
-
-pub few_tokens : (s : Scanned) → IsScan s → length s.tokens ≤ max_text
-few_tokens s scan =
-    let few = few_from 0 scan.lexemes (full scan.lexemes [] scan.lexed.each) in
-    let tokens : length s.tokens ≡ length (tokens_from 0 scan.lexemes) = ap (λ (ts : List Token). length ts) scan.tokens in
-    let bytes : length (joined scan.lexemes) ≡ length s.text = ap (λ (bs : List ℕ). length bs) scan.lexed.whole in
-    let short = scan.short in
-    omega (arith, few, tokens, bytes, short)
 
 few_between : (low : ℕ) (xs : List ℕ) (high : ℕ) → Ascending low xs high → low + length xs ≤ high
 few_between low [] high h = omega (arith, h)

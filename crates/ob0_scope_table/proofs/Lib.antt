@@ -11,3 +11,4 @@ pub mod BodyOutside
 pub mod BodyReplaced
 pub mod BodyPlaces
 pub mod Moved
+pub mod FewTokens

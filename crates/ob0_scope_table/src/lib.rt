@@ -10,7 +10,7 @@ mod resolved;
 mod table;
 
 pub use fault_tokens::{FaultAt, faults_at_tokens, tokens_of_faults};
-pub use one_body::{BodyPlace, is_in_body, place_of_body};
+pub use one_body::{BodyPlace, is_in_body, place_in_module, place_of_body};
 pub use ordinal_entry::OrdinalEntry;
 pub use predeclared_names::{FALSE, PREDECLARED, READ, TRUE, WRITE, WRITE_LN};
 pub use resolved::{Bindings, Resolved};

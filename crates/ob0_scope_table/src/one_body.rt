@@ -64,6 +64,20 @@ pub fn place_of_body(
     place_in_block(&tree.block, tree.closing, low, high)
 }
 
+/// The place of the body of a module in which the tokens from `low` on and before `high` lie, if they lie in one.
+pub fn place_in_module(
+    read: &Module<'_>,
+    low: usize,
+    high: usize,
+) -> Result<Option<BodyPlace>, AllocError>
+    ensures { IfOk result (λ place. place ≡ body_place low high (tree_of read.now)) }
+{
+    if high > read.closing() {
+        return Ok(None);
+    }
+    place_in_block(read.block(), read.closing(), low, high)
+}
+
 #[cycle(places)]
 fn place_in_block(
     b: &Block,

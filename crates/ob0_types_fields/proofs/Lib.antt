@@ -25,4 +25,9 @@ pub mod ConstructorWalks
 pub mod DeclaredTypes
 pub mod TypedFields
 pub mod MarkedSame
+pub mod OwnedAround
+pub mod RefieldedWithout
+pub mod DeclaredMoved
+pub mod Seams
+pub mod FieldsElsewhere
 mod WrittenOver

@@ -11,7 +11,7 @@ use Rattle.ob0_language_values.specs.Values.{Shape, integer_shape}
 use Rattle.ob0_types_fields.specs.declared.field_name.FieldName.{FieldName}
 use Rattle.ob0_types_fields.specs.Owned.{fields_among, marked_field, marked_tree, marked_block, marked_group, marked_groups, marked_module, marked_names, marked_path, marked_procedures, marked_sections, marked_type, marked_types, marked_variables, owned, owned_block, owned_formals, owned_group, owned_groups, owned_module, owned_procedure, owned_procedures, owned_section, owned_sections, owned_type, owned_type_section, owned_types, owned_variable_section, owned_variables, owner, after_selector, unowned, unowned_among}
 
-among-append : (xs ys : List (ℕ × Option ℕ)) → fields_among (xs ++ ys) ≡ fields_among xs ++ fields_among ys
+pub among-append : (xs ys : List (ℕ × Option ℕ)) → fields_among (xs ++ ys) ≡ fields_among xs ++ fields_among ys
 among-append [] ys = refl
 among-append ((x, None) ∷ xs) ys = among-append xs ys
 among-append ((x, Some k) ∷ xs) ys = ap (λ z. record { token = x; owner = k } ∷ z) (among-append xs ys)
@@ -54,7 +54,7 @@ after_selector-none m (declares_procedure a b c d) = refl
 after_selector-none m (begins a) = refl
 
 mutual
-  marked_tree-fields : {P : Type 0} {sort : Sort} (m : Meanings ℕ Shape P) (t : Tree ℕ sort) → fields_among (owned m None t) ≡ marked_tree m t
+  pub marked_tree-fields : {P : Type 0} {sort : Sort} (m : Meanings ℕ Shape P) (t : Tree ℕ sort) → fields_among (owned m None t) ≡ marked_tree m t
   marked_tree-fields m none = refl
   marked_tree-fields m (one a) = marked_tree-fields m a
   marked_tree-fields m end = refl

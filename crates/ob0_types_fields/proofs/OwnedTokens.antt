@@ -30,7 +30,7 @@ both-tokens [] ys (u ∷ us) vs e f = absurd (cc)
 both-tokens (x ∷ xs) ys [] vs e f = absurd (cc)
 both-tokens (x ∷ xs) ys (u ∷ us) vs e f = map-append (λ x. x.0) (x ∷ xs) ys ∙ ((λ i. e i ++ f i) ∙ sym (map-append (λ x. x.1) (u ∷ us) vs))
 
-owned-tokens : {P : Type 0} {sort : Sort} (m : Meanings ℕ Shape P) (s : Option Shape) (t : Tree ℕ sort) → tokens (owned m s t) ≡ names_only (identifiers role.Declaring t)
+pub owned-tokens : {P : Type 0} {sort : Sort} (m : Meanings ℕ Shape P) (s : Option Shape) (t : Tree ℕ sort) → tokens (owned m s t) ≡ names_only (identifiers role.Declaring t)
 owned-tokens m s none = refl
 owned-tokens m s (one a) = owned-tokens m None a
 owned-tokens m s end = refl
@@ -175,7 +175,7 @@ module-tokens m (is_module x b closing) =
 
 -- ---- the table
 
-ascends_to : (low : ℕ) (xs : List ℕ) (high : ℕ) → Ascending low xs high → low ≤ high
+pub ascends_to : (low : ℕ) (xs : List ℕ) (high : ℕ) → Ascending low xs high → low ≤ high
 ascends_to low [] high h = h
 ascends_to low (x ∷ xs) high h = let later = ascends_to (x + 1) xs high h.1 in omega (arith, h.0, later)
 

@@ -8,10 +8,14 @@
 //! (`FieldList::with_body`): nothing moves, since the fields of a well-typed module are all identifiers that are written
 //! as fields (`fields_listed`).
 //!
+//! Where the statements of one body were replaced by others, of another number of tokens, the fields before that body
+//! stay, those after it are moved to where their tokens are now, and its own are found again
+//! (`FieldList::with_new_body`).
+//!
 //! A list doesn't hold its text, and a token that a text hasn't got has the empty span at its start, so the
 //! clause of `FieldList::at` has a premise (`AreInTextOrder`). A module's fields fulfil it (`fields_ascend`).
 
-ghost use Rattle.std.specs.Prelude.{◌≡◌, ◌++◌, List, [], false, true, nat_lt, IfOk};
+ghost use Rattle.std.specs.Prelude.{◌≡◌, ◌++◌, List, [], false, true, map, nat_lt, IfOk, OnOk};
 ghost use Rattle.std.specs.List.{position_from};
 ghost use Rattle.std.specs.List.Sorted.{IsNonDecreasingBy, IsPartitionPoint};
 ghost use Rattle.ob0_tree.specs.Parsed.{tree_of};
@@ -21,15 +25,15 @@ ghost use Rattle.ob0_language_names.specs.Names.{same_name};
 ghost use Rattle.ob0_types_table.specs.KnownTables.{declared_in};
 ghost use Rattle.ob0_types_fields.specs.declared.field_name.FieldName.{FieldName};
 ghost use Rattle.ob0_types_fields.specs.Identifiers.{AreInTextOrder, declared_fields, field_on, first, record_tokens, tokens_among};
-ghost use Rattle.ob0_types_fields.specs.Listed.{HasOthersWithin, if_declared, listed_by, written_over};
+ghost use Rattle.ob0_types_fields.specs.Listed.{HasOthersWithin, field_now, fields_before, fields_from, if_declared, listed_by, place_before, place_now, written_over};
 ghost use Rattle.ob0_types_fields.specs.Owned.{marked_module, marked_tree, token_objects};
 
 use crate::declaring::block;
 use crate::field_name::{FieldName, FieldTokens};
 use crate::owning::Owning;
 use crate::reading::{field_on, first_among, place_among, tokens_among};
-use ob0_scan::Tokens;
-use ob0_scope_table::Resolved;
+use ob0_scan::{SameTokens, Tokens};
+use ob0_scope_table::{BodyPlace, Resolved};
 use ob0_tree::Statement;
 use ob0_types_table::DeclarationTable;
 use std::alloc::{AllocError, Global};
@@ -97,6 +101,35 @@ impl FieldList {
         let mut found = Vec::new(alloc);
         walk.body(&mut found, statements)?;
         write_at_tokens(&mut all, &found);
+        Ok(FieldList { declared, all })
+    }
+
+    /// These fields where the statements of one body were replaced by others: those before the body's first identifier
+    /// stay, those that its new statements select are found, and those from its block's closing name on are moved.
+    /// `place` is that of the new body; token indexes that would pass the largest are the largest.
+    pub fn with_new_body<'a, 't>(
+        self,
+        alloc: Global,
+        known: &'a DeclarationTable,
+        resolved: &'a Resolved<'t>,
+        statements: &Option<Vec<Statement>>,
+        place: BodyPlace,
+        same: SameTokens,
+    ) -> Result<FieldList, AllocError>
+        ensures declared { IfOk result (λ f. f.declared ≡ map (field_now same) self.declared) }
+        ensures all { IfOk result (λ f. f.all
+            ≡ fields_before place.first self.all
+            ++ (marked_tree (token_objects (declared_in known.now) resolved.now)
+            (body_of statements.now)
+            ++ map (field_now same) (fields_from (place_before same place.closing) self.all))) }
+    {
+        let walk = Owning { known, resolved };
+        let mut all = Vec::with_capacity(alloc, self.all.len())?;
+        add_before(&mut all, &self.all, place.first)?;
+        walk.body(&mut all, statements)?;
+        add_moved(&mut all, &self.all, place_before(place.closing, same), same)?;
+        let mut declared = Vec::with_capacity(alloc, self.declared.len())?;
+        add_moved(&mut declared, &self.declared, 0, same)?;
         Ok(FieldList { declared, all })
     }
 
@@ -175,6 +208,62 @@ fn write_over(all: &mut FieldTokens, start: usize, found: &[FieldName])
             place += 1;
         }
     }
+}
+
+/// Where a token is now that isn't one of those replaced.
+fn place_now(token: usize, same: SameTokens) -> usize
+    ensures { result ≡ place_now same token }
+{
+    if token < same.prefix {
+        token
+    } else {
+        token
+            .saturating_sub(same.old_suffix)
+            .saturating_add(same.new_suffix)
+    }
+}
+
+/// Where a token after those replaced was before.
+fn place_before(token: usize, same: SameTokens) -> usize
+    ensures { result ≡ place_before same token }
+{
+    token
+        .saturating_sub(same.new_suffix)
+        .saturating_add(same.old_suffix)
+}
+
+/// Adds those of some fields that are before a token.
+fn add_before(found: &mut FieldTokens, fields: &[FieldName], token: usize) -> Result<(), AllocError>
+    ensures { OnOk result (found.new.items ≡ found.old.items ++ fields_before token fields.now) }
+{
+    for field in fields {
+        if field.token < token {
+            found.push(*field)?;
+        }
+    }
+    Ok(())
+}
+
+/// Adds those of some fields that are at a token or after it, where they are now.
+fn add_moved(
+    found: &mut FieldTokens,
+    fields: &[FieldName],
+    token: usize,
+    same: SameTokens,
+) -> Result<(), AllocError>
+    ensures { OnOk result (found.new.items
+        ≡ found.old.items ++ map (field_now same) (fields_from token fields.now)) }
+{
+    for field in fields {
+        if field.token >= token {
+            let moved = FieldName {
+                token: place_now(field.token, same),
+                owner: field.owner,
+            };
+            found.push(moved)?;
+        }
+    }
+    Ok(())
 }
 
 /// The fields that a module declares, each with the ordinal of its record.
