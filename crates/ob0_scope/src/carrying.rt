@@ -23,7 +23,7 @@ pub(crate) struct BodyRange {
 
 /// The statements of a block, with the block's closing name.
 #[derive(Clone, Copy)]
-pub(crate) struct Body<'t> {
+pub(crate) struct ReplacedBody<'t> {
     pub(crate) statements: &'t Option<Vec<Statement>>,
     pub(crate) closing: usize,
 }
@@ -73,7 +73,7 @@ impl BodyNames {
 
 /// The body in which the tokens from `low` on lie, in a block with this closing name or in one in it.
 #[cycle(blocks)]
-pub(crate) fn body_in<'t>(inner: &'t Block, own: usize, low: usize) -> Body<'t>
+pub(crate) fn body_in<'t>(inner: &'t Block, own: usize, low: usize) -> ReplacedBody<'t>
     ensures statements { body_of result.statements.now
         ≡ body_in (way_in_block low (block_of inner.now)) (block_of inner.now) }
     ensures closing { result.closing
@@ -84,14 +84,14 @@ pub(crate) fn body_in<'t>(inner: &'t Block, own: usize, low: usize) -> Body<'t>
             return body_inside(p, low);
         }
     }
-    Body {
+    ReplacedBody {
         statements: &inner.body,
         closing: own,
     }
 }
 
 #[cycle(blocks)]
-fn body_inside<'t>(p: &'t Procedure, low: usize) -> Body<'t>
+fn body_inside<'t>(p: &'t Procedure, low: usize) -> ReplacedBody<'t>
     ensures statements { body_of result.statements.now
         ≡ body_inside (way_in_procedure low (procedure_of p.now)) (procedure_of p.now) }
     ensures closing { result.closing

@@ -179,15 +179,9 @@ fn types_by_body<'t>(
     requires none { before.faults.items ≡ [] }
     ensures { IfOk result (AreTypesOf resolved.now) }
 {
-    if !resolved.faults().is_empty() {
-        return types_of(alloc, resolved);
-    }
     no_fault_in_modules();
     let body = body_from(resolved.module(), same.prefix);
-    let found = report_body(alloc, resolved, body.closing)?;
-    let Some(report) = found else {
-        return types_of(alloc, resolved);
-    };
+    let report = report_body(alloc, resolved, body.closing)?;
     let fields = fields_with_new_body(alloc, resolved, &report.known, before, same)?;
     types_reported(resolved, report, fields)
 }

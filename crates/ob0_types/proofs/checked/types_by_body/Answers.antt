@@ -1,6 +1,6 @@
 use Rattle.std.proofs.Common.{ap, sym, ◌∙◌, subst}
 use Rattle.ob0_tree.specs.Parsed.{tree_of}
-use Rattle.ob0_types_check.specs.NewBody.{FitsWithout, IsCleanReportOf}
+use Rattle.ob0_types_check.specs.NewBody.{FitsWithout}
 use Rattle.ob0_types.specs.OneBody.{OneBody, body_in_module}
 use Rattle.ob0_types.proofs.AllReported.{known_where_typed}
 use Rattle.ob0_types.proofs.NewBody.{fits_elsewhere}
@@ -13,8 +13,4 @@ report_body-requires c =
     subst (FitsWithout r) (sym here) (fits_elsewhere r c.args.before c.args.same c.requires.before c.requires.none)
 
 pub fields_with_new_body-requires-clause-known : goal.fields_with_new_body-requires-clause-known
-fields_with_new_body-requires-clause-known c =
-    known_where_typed c.args.resolved.now c.in-Some.report c.no_fault_in_modules.ensures c.module.ensures.resolved (subst (IsCleanReportOf c.args.resolved.now) c.in-Some.is c.in_ok-found.ensures).0
-
-pub types_reported-requires-clause-report : goal.types_reported-requires-clause-report
-types_reported-requires-clause-report c = (subst (IsCleanReportOf c.args.resolved.now) c.in-Some.is c.in_ok-found.ensures).0
+fields_with_new_body-requires-clause-known c = known_where_typed c.args.resolved.now c.in_ok-report.report c.no_fault_in_modules.ensures c.module.ensures.resolved c.in_ok-report.ensures
