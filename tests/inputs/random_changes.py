@@ -88,20 +88,19 @@ def word_at(text: str, chance: random.Random) -> tuple[int, int, str]:
     return lexeme.start(), lexeme.end(), chance.choice([*chance.choices(others, k=3), lexeme[0] + "1", "7" if lexeme[0].isdigit() else "q"])
 
 
-OPENING = {";", "BEGIN", "DO", "THEN", "ELSE", "REPEAT"}  # lexemes after which a statement can be put
-
-
 def statement_at(text: str, chance: random.Random) -> tuple[int, int, str]:
-    """A place before a statement, and another one that is put there, over names of the text or one that nothing declares."""
+    """A place before a semicolon or END after some BEGIN, and a statement that is put there, over names of the text or one that
+    nothing declares."""
     found = list(LEXEME.finditer(text))
-    places = [it.end() for it in found if it[0] in OPENING]
+    begin = next((it.start() for it in found if it[0] == "BEGIN"), 0)
+    places = [it.start() for it in found if it[0] in (";", "END") and it.start() > begin]
     names = [it[0] for it in found if it[0][0].isalpha() and not it[0].isupper()]
     if not places or not names:
         return blank_at(text, chance)
-    one, other = chance.choice(names), chance.choice([*chance.choices(names, k=3), "1", "q"])
+    one, other = chance.choice(names), chance.choice([*chance.choices(names, k=2), "1", "1", "q"])
     place = chance.choice(places)
-    new = [f"{one} := {other}", f"{one} := {one} + {other}", one, f"WHILE {one} < {other} DO {one} := {one} + 1 END", f"IF {one} = 1 THEN {one} END"]
-    return place, place, f" {chance.choice(new)};"
+    same = [f"{one} := {one}", f"{one} := {one} + {other}", f"WHILE {one} < {other} DO {one} := {one} + 1 END", f"IF {one} = 1 THEN {one} END"]
+    return place, place, f"; {chance.choice([*same, f'{one} := {other}', one])} "
 
 
 def replacement(text: str, chance: random.Random) -> str:
