@@ -25,6 +25,10 @@ no_names = record { first = None; uses = [] }
 abbrev pub first_or : Option ℕ → ℕ → Option ℕ
 first_or first i = if is_some first then first else Some i
 
+-- one more occurrence
+abbrev pub with_use : ℕ → NamesInBody → NamesInBody
+with_use i names = record names { uses = names.uses ++ (i ∷ []) }
+
 -- one more identifier of a body
 abbrev pub with_name : Role → ℕ → NamesInBody → NamesInBody
 with_name role.LookedUp i names =

@@ -3,7 +3,7 @@
 ghost use Rattle.std.specs.Prelude.{◌≡◌, ◌++◌, ◌∷◌, [], IfOk, OnOk};
 ghost use Rattle.ob0_tree.specs.View.{block_of, body_of, procedure_of};
 ghost use Rattle.ob0_scope_table.specs.BodyReplaced.{body_in, body_inside, closing_in, closing_inside, way_in_block, way_in_procedure};
-ghost use Rattle.ob0_scope.specs.Carried.{after_body, before_body, carried, carried_table, old_place, shifted};
+ghost use Rattle.ob0_scope.specs.Carried.{after_body, before_body, carried, carried_table, old_place, shifted, with_use};
 
 use ob0_scan::SameTokens;
 use ob0_scope_table::OrdinalEntry;
@@ -64,7 +64,7 @@ impl Visitor for BodyNames {
 
 impl BodyNames {
     fn add_use(&mut self, token: usize) -> Result<(), AllocError>
-        ensures { OnOk result (self.new ≡ record self.old { uses = self.old.uses ++ (token ∷ []) }) }
+        ensures { OnOk result (self.new ≡ with_use token self.old) }
     {
         self.uses.push(token)?;
         Ok(())

@@ -49,12 +49,6 @@ outside_each P old new way s r out =
 pub outside_out : (old new : Parsed) (way : Way) (s : SameTokens) → IsBodyReplaced old new way s → EachToken (λ i. is_out s.prefix s.old_suffix i ≡ true) (without way (tree_of old))
 outside_out old new way s r = outside_each (λ i. is_out s.prefix s.old_suffix i ≡ true) old new way s r (λ k e. e)
 
--- so in the new module, by where the range is now
-pub outside_new : (P : ℕ → Type 0) (old new : Parsed) (way : Way) (s : SameTokens) → IsBodyReplaced old new way s → ((k : ℕ) → is_out s.prefix s.new_suffix k ≡ true → P k) → EachToken P (without way (tree_of new))
-outside_new P old new way s r out =
-    subst (λ w. EachToken P (without w (tree_of new))) r.new_way
-    (module_outside s.prefix s.new_suffix P out 0 (length new.source.tokens) (tree_of new) (places_ascend new r.new_parsed) r.new_in_body)
-
 -- a token of one text and a token of another one that are the same word
 module _ (old new : Scanned) (k j : ℕ) (same : slice_get (words_in new.text new.tokens) j ≡ slice_get (words_in old.text old.tokens) k) where
   -- are written alike

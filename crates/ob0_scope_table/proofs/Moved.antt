@@ -1,6 +1,5 @@
--- Tokens outside the range that is replaced: where they are now, they are outside it too, and in the same order.
-use Rattle.std.proofs.Common.{◌≡◌, ◌<◌, ◌≤◌, ◌+◌, ◌-◌, ◌||◌, ◌⊎◌, ℕ, Bool, true, false, nat_le, nat_lt, if◌then◌else◌, refl, sym, ap, ◌∙◌, arith, inl, inr, leb-true, ltb-true, ⊎_elim}
-use Rattle.std.proofs.lemmas.Bool.{cases_lt}
+-- Tokens outside the range that is replaced, and where they are now.
+use Rattle.std.proofs.Common.{◌≡◌, ◌<◌, ◌≤◌, ◌+◌, ◌-◌, ◌||◌, ◌⊎◌, ℕ, Bool, true, false, nat_le, nat_lt, if◌then◌else◌, refl, sym, ap, ◌∙◌, arith, inl, inr, leb-true, ltb-true}
 use Rattle.ob0_scan.specs.declared.tokens.SameTokens.{SameTokens}
 use Rattle.ob0_scope_table.specs.BodyReplaced.{moved}
 use Rattle.ob0_scope_table.specs.OneBody.{is_out}
@@ -30,30 +29,3 @@ module _ (s : SameTokens) where
 
   pub moved_above : (k : ℕ) → s.prefix ≤ s.old_suffix → s.old_suffix ≤ k → moved s k ≡ s.new_suffix + (k - s.old_suffix)
   moved_above k range le = ap (λ b. if b then k else s.new_suffix + (k - s.old_suffix)) (less_false k s.prefix (omega (arith, range, le)))
-
-  module _ (old_range : s.prefix ≤ s.old_suffix) (new_range : s.prefix ≤ s.new_suffix) where
-    pub moved_out : (k : ℕ) → is_out s.prefix s.old_suffix k ≡ true → is_out s.prefix s.new_suffix (moved s k) ≡ true
-    moved_out k out = ⊎_elim
-        (λ less. below_out s.prefix s.new_suffix (moved s k) (let e = moved_below k less in omega (arith, e, less)))
-        (λ le. above_out s.prefix s.new_suffix (moved s k) (let e = moved_above k old_range le in omega (arith, e)))
-        (out_cases s.prefix s.old_suffix k out)
-
-    -- they keep their order
-    pub moved_order : (i j : ℕ) → is_out s.prefix s.old_suffix i ≡ true → is_out s.prefix s.old_suffix j ≡ true → i < j → moved s i < moved s j
-    moved_order i j out_i out_j less = ⊎_elim
-        (λ low. ⊎_elim
-        (λ below. let e = moved_below i low in let f = moved_below j below in omega (arith, e, f, less))
-        (λ above. let e = moved_below i low in let f = moved_above j old_range above in omega (arith, e, f, low, new_range))
-        (out_cases s.prefix s.old_suffix j out_j))
-        (λ high. let e = moved_above i old_range high in let f = moved_above j old_range (omega (arith, high, less)) in omega (arith, e, f, high, less))
-        (out_cases s.prefix s.old_suffix i out_i)
-
-    -- and no two are moved to one place
-    pub moved_apart : (i j : ℕ) → is_out s.prefix s.old_suffix i ≡ true → is_out s.prefix s.old_suffix j ≡ true → moved s i ≡ moved s j → i ≡ j
-    moved_apart i j out_i out_j same = ⊎_elim
-        (λ less. let h = moved_order i j out_i out_j less in absurd (omega (arith, h, same)))
-        (λ upper. ⊎_elim
-        (λ less. let h = moved_order j i out_j out_i less in absurd (omega (arith, h, same)))
-        (λ lower. omega (arith, upper, lower))
-        (cases_lt j i))
-        (cases_lt i j)
