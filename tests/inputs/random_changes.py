@@ -6,6 +6,7 @@ import collections
 import concurrent.futures
 import json
 import random
+import re
 from typing import Counter
 
 import corpus
@@ -125,6 +126,8 @@ class Edited:
     def __init__(self, text: str, chance: random.Random) -> None:
         self.text, self.chance = text, chance
         self.undo: list[tuple[int, str, str]] = []  # where something was put in, that, and what was there
+        self.typing: list[str] = []  # what is left of a statement that is being typed
+        self.cursor = 0  # where it goes
 
     def put(self, start: int, end: int, new: str) -> Message:
         """Changes the text, and gives the change."""
@@ -134,6 +137,9 @@ class Edited:
 
     def change(self) -> Message | None:
         """A change, or None where the last one is to be taken back and there is none."""
+        if self.typing and self.chance.random() < 0.8:
+            return self.type(self.cursor, self.typing)
+        self.typing = []
         if self.undo and (self.chance.random() < 0.57 or len(self.text) > 6000):
             start, new, old = self.undo.pop()
             return self.put(start, start + len(new), old)
@@ -144,6 +150,8 @@ class Edited:
             start, end, new = word_at(self.text, self.chance)
         elif way < 0.78:
             start, end, new = statement_at(self.text, self.chance)
+            if way < 0.72 and is_border(self.text, start) and ways.is_module(self.text):
+                return self.type(start, re.findall(r"\s*\S{1,3}|\s+", new))
         else:
             start, end = at_random(self.text, self.chance)
             new = replacement(self.text, self.chance)
@@ -154,6 +162,13 @@ class Edited:
             return None
         self.undo.append((start, new, old))
         return self.put(start, end, new)
+
+    def type(self, at: int, pieces: list[str]) -> Message:
+        """Puts in the first of some pieces, and leaves the others to be typed after it."""
+        first, *self.typing = pieces
+        self.cursor = at + len(first)
+        self.undo.append((at, first, ""))
+        return self.put(at, at, first)
 
 
 def answer_of(server: Server, uri: str, method: str, where: Message) -> str:
@@ -196,7 +211,7 @@ def converse(seed: int) -> Counter[str]:
     chance = random.Random(f"changes {seed}")
     edited = Edited(first_text(seed, chance), chance)
     found: Counter[str] = collections.Counter()
-    last = ways.lexed(edited.text)
+    last = module = ways.lexed(edited.text)
     with Server(capabilities=LITERALS) as keeping, Server(capabilities=LITERALS) as fresh:
         before = keeping.notify(did_open(edited.text, URI))
         for step in range(STEPS):
@@ -204,14 +219,14 @@ def converse(seed: int) -> Counter[str]:
                 pass
             published = keeping.notify(did_change([change], URI, step + 2))
             now = ways.lexed(edited.text)
-            way, body = ways.way_of(last, now)
+            way, body = ways.way_of(last, now, module)
             found.update([way, *(["no fault"] if not published else [])])
             if way == ways.STATEMENTS and not before and not published:
                 found["statements without a fault"] += 1
             if body:
                 # (the text before had as many lines, and its faults were at the lines where they are now)
                 found.update(ways.faults_about(before, edited.text, body))
-            last, before = now or last, published
+            last, module, before = now or last, ways.last_module(module, now), published
             same_as_new(keeping, fresh, edited, published, f"file:///n{step}", f"seed {seed}, step {step}")
         for it in (keeping, fresh):
             same(it.end(), 0, "the status")
@@ -220,7 +235,9 @@ def converse(seed: int) -> Counter[str]:
 
 # What has to be among many changes: each kind, and changes of one body of a module with faults of each kind in each place.
 PLACES = ["before it", "in it", "after it"]
-KINDS = [*ways.SHORT, ways.DECLARATIONS, ways.TOKENS, ways.LEXEMES, *(f"{of} {where}" for of in ("names", "types") for where in PLACES)]
+WAYS = [*ways.SHORT, ways.DECLARATIONS, ways.TOKENS, ways.LEXEMES]
+FAULTS = [f"{of} {where}" for of in ("names", "types") for where in PLACES]
+KINDS = [*WAYS, *FAULTS]
 
 
 def figures(conversations: list[Counter[str]]) -> str:
@@ -231,8 +248,8 @@ def figures(conversations: list[Counter[str]]) -> str:
     holds(count < 1000 or not missing, f"of {count:,} changes none was {missing}")
     short = sum(found[it] for it in ways.SHORT)
     holds(count < 1000 or short * 2 > count, f"of {count:,} changes only {short:,} leave what is known but for one body")
-    kinds = ", ".join(f"{found[it]:,} {it}" for it in KINDS[:7])
-    faults = ", ".join(f"{found[it]:,} of {it}" for it in KINDS[7:])
+    kinds = ", ".join(f"{found[it]:,} {it}" for it in WAYS)
+    faults = ", ".join(f"{found[it]:,} of {it}" for it in FAULTS)
     return (f"{count:,} changes, after each what a new server says: {found['no fault']:,} texts without a fault; {kinds}; "
             f"of the other statements {found['statements without a fault']:,} with no fault before and after; "
             f"those in one body beside faults: {faults}")

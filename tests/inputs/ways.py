@@ -1,6 +1,7 @@
 """What can stay of an analysis after a change, by the rule of docs/ARCHITECTURE.md ("What is kept of a text"): all that is known
 where the tokens are written as they were; the tree or the refusal where they are of the kinds that they were, and then all bodies
-but one where the change lies in that one; and all else where the statements of one body were replaced by others."""
+but one where the change lies in that one; and all else where the statements of one body were replaced by others, also where texts
+without a tree lie between."""
 from __future__ import annotations
 
 from typing import List, NamedTuple, Optional
@@ -10,8 +11,9 @@ from reference.parser import Node, Parser, Refused
 from reference.scanner import Token, scan
 
 WORDS, BODY, REFUSED, STATEMENTS = "written as before", "in one body", "refused alike", "other statements in one body"
+MENDED = "mended in one body"
 DECLARATIONS, TOKENS, LEXEMES = "not in one body", "other tokens", "faults of lexemes"
-SHORT = (WORDS, BODY, REFUSED, STATEMENTS)
+SHORT = (WORDS, BODY, REFUSED, STATEMENTS, MENDED)
 
 
 class Lexed(NamedTuple):
@@ -49,6 +51,11 @@ def tree_of(text: Lexed) -> Optional[Node]:
         return None
 
 
+def is_module(text: str) -> bool:
+    found = lexed(text)
+    return found is not None and tree_of(found) is not None
+
+
 def changed_body(old: Lexed, new: Lexed) -> tuple[str, Optional[Body]]:
     """What stays where the tokens are of the kinds that they were, and the body of the new text in which the change lies."""
     tree = tree_of(new)
@@ -75,23 +82,40 @@ def is_inside(text: Lexed, body: Body, first: int, end: int) -> bool:
     return bool(names) and names[0] < first and end <= inside[-1]
 
 
-def are_statements(old: Lexed, new: Lexed) -> bool:
-    """Whether the texts differ in the statements of one body."""
-    trees = tree_of(old), tree_of(new)
-    if trees[0] is None or trees[1] is None:
-        return False
+def different(old: Lexed, new: Lexed) -> tuple[int, int]:
+    """How many tokens two texts have in common at the beginning, and how many of the others at the end."""
     first = common(old.tokens, new.tokens)
-    following = min(common(old.tokens[::-1], new.tokens[::-1]), len(old.tokens) - first, len(new.tokens) - first)
-    return all(any(is_inside(text, body, first, len(text.tokens) - following) for body in bodies(tree))
-               for text, tree in zip((old, new), (trees[0], trees[1])))
+    return first, min(common(old.tokens[::-1], new.tokens[::-1]), len(old.tokens) - first, len(new.tokens) - first)
 
 
-def way_of(old: Optional[Lexed], new: Optional[Lexed]) -> tuple[str, Optional[Body]]:
-    """What can stay of the analysis of the last text that had lexemes, and the body in which the change lies, if it lies in one."""
+def is_in_one_body(text: Lexed, other: Lexed) -> bool:
+    """Whether a text is a module and differs from another one in the statements of one body."""
+    tree = tree_of(text)
+    first, following = different(text, other)
+    return tree is not None and any(is_inside(text, body, first, len(text.tokens) - following) for body in bodies(tree))
+
+
+def are_statements(old: Lexed, new: Lexed) -> bool:
+    """Whether the texts are modules that differ in the statements of one body."""
+    return is_in_one_body(old, new) and is_in_one_body(new, old)
+
+
+def last_module(module: Optional[Lexed], new: Optional[Lexed]) -> Optional[Lexed]:
+    """The last text that was a module, as long as all that was changed since lies in one body of it."""
+    if new is None or tree_of(new) is not None:
+        return new or module
+    return module if module is not None and is_in_one_body(module, new) else None
+
+
+def way_of(old: Optional[Lexed], new: Optional[Lexed], module: Optional[Lexed]) -> tuple[str, Optional[Body]]:
+    """What can stay of the analysis of the last text that had lexemes, where this was the last module, and the body in which the
+    change lies, if it lies in one."""
     if old is None or new is None:
         return LEXEMES, None
     if [it.kind for it in old.tokens] != [it.kind for it in new.tokens]:
-        return (STATEMENTS if are_statements(old, new) else TOKENS), None
+        if are_statements(old, new):
+            return STATEMENTS, None
+        return (MENDED if module is not None and module is not old and are_statements(module, new) else TOKENS), None
     if [it.text for it in old.tokens] == [it.text for it in new.tokens]:
         return WORDS, None
     return changed_body(old, new)

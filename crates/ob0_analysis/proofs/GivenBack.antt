@@ -1,5 +1,5 @@
 -- A text with faults gives the old tokens back, of which all is known that was known before.
-use Rattle.std.proofs.Common.{ℕ, List, subst, sym}
+use Rattle.std.proofs.Common.{ℕ, IfSome, List, Option, subst, sym}
 use Rattle.ob0_scan.specs.Refused.{IsRightRefusalOver}
 use Rattle.ob0_scan.specs.Scanned.{Scanned}
 use Rattle.ob0_scan.specs.declared.rescanning.NotRescanned.{NotRescanned}
@@ -16,11 +16,19 @@ use Rattle.ob0_types.specs.CheckedModules.{AreTypesOf}
 use Rattle.ob0_types.specs.declared.checked.ModuleTypes.{ModuleTypes}
 use Rattle.ob0_analysis.specs.Before.{IsUnreadModule, IsUnreadRefusal}
 use Rattle.ob0_analysis.specs.Found.{IsRefusedByParser}
+use Rattle.ob0_analysis.specs.LastModule.{WasLast}
+use Rattle.ob0_analysis.specs.declared.last_module.LastModule.{LastModule}
 
-pub refusal_given_back : (old : Scanned) (text : List ℕ) (refusal : ParseRefusal) (kept : Kept) (unread : NotRescanned) → IsRightRefusalOver old text unread → IsRefusedByParser old refusal → AreKept old.tokens kept → IsUnreadRefusal text refusal kept unread
-refusal_given_back old text refusal kept (rescanned.Faults faults tokens) by r k =
-    (by.0, by.1, subst (λ (s : Scanned). IsRefusedByParser s refusal) (sym by.2) r, subst (λ (s : Scanned). AreKept s.tokens kept) (sym by.2) k)
-refusal_given_back old text refusal kept rescanned.Memory by r k = tt
+pub refusal_given_back : (old : Scanned) (text : List ℕ) (refusal : ParseRefusal) (kept : Kept) (last : Option LastModule) (unread : NotRescanned) → IsRightRefusalOver old text unread
+    → IsRefusedByParser old refusal → AreKept old.tokens kept → IfSome last (WasLast old) → IsUnreadRefusal text refusal kept last unread
+refusal_given_back old text refusal kept last (rescanned.Faults faults tokens) by r k l = (
+  by.0,
+  by.1,
+  subst (λ (s : Scanned). IsRefusedByParser s refusal) (sym by.2) r,
+  subst (λ (s : Scanned). AreKept s.tokens kept) (sym by.2) k,
+  subst (λ (s : Scanned). IfSome last (WasLast s)) (sym by.2) l,
+)
+refusal_given_back old text refusal kept last rescanned.Memory by r k l = tt
 
 pub module_given_back : (old : Scanned) (text : List ℕ) (tree : ModuleTree) (b : Bindings) (types : ModuleTypes) (unread : NotRescanned) → IsRightRefusalOver old text unread
     → IsParsed (parsed_by old tree) → IsResolution (resolution_by (parsed_by old tree) b) → AreTypesOf (resolution_by (parsed_by old tree) b) types → IsUnreadModule text tree b types unread

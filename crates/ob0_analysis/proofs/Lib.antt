@@ -8,3 +8,4 @@ mod NoBegin
 mod Marked
 mod Ways
 mod NewBody
+mod LastModule

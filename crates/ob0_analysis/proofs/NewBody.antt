@@ -31,8 +31,10 @@ use Rattle.ob0_scope_table.specs.declared.one_body.BodyPlace.{BodyPlace}
 use Rattle.ob0_scope_table.specs.declared.resolved.Bindings.{Bindings}
 use Rattle.ob0_types.specs.NewBody.{WereTypesElsewhere}
 use Rattle.ob0_types.specs.declared.checked.ModuleTypes.{ModuleTypes}
-use Rattle.ob0_analysis.specs.Before.{HadModule, IsModuleBefore}
-use Rattle.ob0_analysis.specs.NewBody.{HadBody, IsSameBody}
+use Rattle.ob0_analysis.specs.Before.{IsModuleBefore}
+use Rattle.ob0_analysis.specs.LastModule.{HadModule, WasLast}
+use Rattle.ob0_analysis.specs.NewBody.{IsSameBody}
+use Rattle.ob0_analysis.specs.declared.last_module.LastModule.{LastModule}
 use Rattle.ob0_analysis.specs.declared.fault_places.FaultPlaces.{FaultPlaces}
 use Rattle.ob0_analysis.proofs.Marked.{drop_marked, marked, moved_on, name_index, spelled_marked, take_marked}
 use Rattle.ob0_analysis.proofs.OneBody.{get_dropped, get_taken}
@@ -213,21 +215,21 @@ words_outside s old new written range i out = ⊎_elim
     (out_cases s.prefix s.old_suffix i out)
 
 pub body_replaced : (old new : Parsed) (s : SameTokens) → IsScan old.source → IsScan new.source → IsParsed old → IsParsed new → HasSameTokens s old.source.tokens new.source.tokens → HasSameWords s old.source new.source
-    → IsSameBody (body_place s.prefix s.old_suffix (tree_of old)) (body_place s.prefix s.new_suffix (tree_of new)) s → IsBodyReplaced old new (way_to s.prefix (tree_of old)) s
-body_replaced old new s old_scan new_scan old_parsed new_parsed tokens written b =
+    → (was : BodyPlace) → body_place s.prefix s.old_suffix (tree_of old) ≡ Some was → IsSameBody was (body_place s.prefix s.new_suffix (tree_of new)) s → IsBodyReplaced old new (way_to s.prefix (tree_of old)) s
+body_replaced old new s old_scan new_scan old_parsed new_parsed tokens written place placed b =
     let way : Way = way_to s.prefix (tree_of old) in
     let new_way : Way = way_to s.prefix (tree_of new) in
-    let first : ℕ = b.old_place.first in
-    let p = body_place_read s.prefix s.old_suffix (tree_of old) b.old_place b.was in
-    let q = body_place_read s.prefix s.new_suffix (tree_of new) b.new_place b.is in
+    let first : ℕ = place.first in
+    let p = body_place_read s.prefix s.old_suffix (tree_of old) place placed in
+    let q = body_place_read s.prefix s.new_suffix (tree_of new) b.place b.is in
     let is_first : first_of (identifiers role.Declaring (body_at new_way (tree_of new))) ≡ Some first = q.first ∙ ap Some (sym b.first) in
-    let was = halves old old_parsed way first b.old_place.closing p.first p.closes in
-    let is = halves new new_parsed new_way first b.new_place.closing is_first q.closes in
+    let was = halves old old_parsed way first place.closing p.first p.closes in
+    let is = halves new new_parsed new_way first b.place.closing is_first q.closes in
     let moved_too : without new_way (tree_of new) ≡ mapped (moved s) (moved s) (without way (tree_of old)) =
-    without_same old new s tokens b.old_range b.new_range way new_way first b.old_place.closing b.new_place.closing was is b.front b.back b.closing in
-    let back : s.old_suffix ≤ b.old_place.closing = omega (arith, b.back) in
+    without_same old new s tokens b.old_range b.new_range way new_way first place.closing b.place.closing was is b.front b.back b.closing in
+    let back : s.old_suffix ≤ place.closing = omega (arith, b.back) in
     let closes : closing_at new_way (tree_of new) ≡ moved s (closing_at way (tree_of old)) =
-    q.closes ∙ sym (ap (moved s) p.closes ∙ (moved_above s b.old_place.closing b.old_range back ∙ omega (arith, b.closing, back))) in
+    q.closes ∙ sym (ap (moved s) p.closes ∙ (moved_above s place.closing b.old_range back ∙ omega (arith, b.closing, back))) in
     let one_way : new_way ≡ way = same_way s b.old_range b.new_range old new moved_too in
     record {
       old_range = b.old_range;
@@ -265,17 +267,17 @@ had_module c tree b types places h = record {
   written = h.written;
 }
 
-module _ (new : Scanned) (tree : ModuleTree) (b : Bindings) (types : ModuleTypes) (s : SameTokens) (before now : Option BodyPlace) (h : HadBody new b types s before) (placed : now ≡ body_place s.prefix s.new_suffix (tree_in tree)) (parsed : IsParsed (parsed_by new tree)) (one_body : IsSameBody before now s) where
+module _ (new : Scanned) (tree : ModuleTree) (last : LastModule) (now : Option BodyPlace) (h : WasLast new last) (placed : now ≡ body_place last.same.prefix last.same.new_suffix (tree_in tree)) (parsed : IsParsed (parsed_by new tree)) (one_body : IsSameBody last.place now last.same) where
   abbrev before_it : Parsed
   before_it = parsed_by h.had.old h.tree
 
-  is_replaced : IsBodyReplaced before_it (parsed_by new tree) (way_to s.prefix (tree_of before_it)) s
+  is_replaced : IsBodyReplaced before_it (parsed_by new tree) (way_to last.same.prefix (tree_of before_it)) last.same
   is_replaced =
-      body_replaced before_it (parsed_by new tree) s h.had.old_scan h.had.new_scan h.had.parsed parsed h.had.same h.had.written
-      (subst (λ o. IsSameBody o (body_place s.prefix s.new_suffix (tree_in tree)) s) h.placed (subst (λ o. IsSameBody before o s) placed one_body))
+      body_replaced before_it (parsed_by new tree) last.same h.had.old_scan h.had.new_scan h.had.parsed parsed h.had.same h.had.written
+      last.place h.placed (subst (λ o. IsSameBody last.place o last.same) placed one_body)
 
-  pub was_bound_elsewhere : WasBoundElsewhere (parsed_by new tree) b s
-  was_bound_elsewhere = record { old = before_it; way = way_to s.prefix (tree_of before_it); replaced = is_replaced; resolved = h.had.resolved }
+  pub was_bound_elsewhere : WasBoundElsewhere (parsed_by new tree) last.bindings last.same
+  was_bound_elsewhere = record { old = before_it; way = way_to last.same.prefix (tree_of before_it); replaced = is_replaced; resolved = h.had.resolved }
 
-  pub were_types_elsewhere : (c : Bindings) → WereTypesElsewhere (resolution_by (parsed_by new tree) c) types s
-  were_types_elsewhere c = record { old = resolution_by before_it b; way = way_to s.prefix (tree_of before_it); replaced = is_replaced; types_are = h.had.types_are }
+  pub were_types_elsewhere : (c : Bindings) → WereTypesElsewhere (resolution_by (parsed_by new tree) c) last.types last.same
+  were_types_elsewhere c = record { old = resolution_by before_it last.bindings; way = way_to last.same.prefix (tree_of before_it); replaced = is_replaced; types_are = h.had.types_are }

@@ -1,6 +1,6 @@
 -- What is known of the text before a change.
 -- Rule: none; for private contracts: what an analysis takes over.
-use Rattle.std.specs.Prelude.{◌≡◌, ◌==◌, ℕ, true, List, map}
+use Rattle.std.specs.Prelude.{◌≡◌, ◌==◌, ℕ, true, IfSome, List, Option, map}
 use Rattle.ob0_scan.specs.Refused.{AreFaults}
 use Rattle.ob0_scan.specs.Reused.{kinds, names_in, words_in}
 use Rattle.ob0_scan.specs.SameKinds.{HasSameTokens, HasSameWords}
@@ -22,14 +22,19 @@ use Rattle.ob0_parse_descent.specs.declared.refusal.ParseRefusal.{ParseRefusal}
 use Rattle.ob0_types.specs.CheckedModules.{AreTypesOf}
 use Rattle.ob0_types.specs.declared.checked.ModuleTypes.{ModuleTypes}
 use Rattle.ob0_analysis.specs.Found.{IsRefusedByParser}
+use Rattle.ob0_analysis.specs.LastModule.{WasLast}
+use Rattle.ob0_analysis.specs.declared.last_module.LastModule.{LastModule}
 use Rattle.ob0_analysis.specs.declared.fault_places.FaultPlaces.{FaultPlaces}
 
--- the text before has the tokens of these procedures
-pub record AreKeptBefore (c : RescanInPlace) (procedures : Kept) : Type 0 where
+-- the text before has the tokens of these procedures, and had this last module before it
+pub record AreKeptBefore (c : RescanInPlace) (procedures : Kept) (last : Option LastModule) : Type 0 where
   pub old : Scanned
+  pub new_scan : IsScan c.rescan.tokens
   pub same : HasSameTokens c.same old.tokens c.rescan.tokens.tokens
+  pub written : HasSameWords c.same old c.rescan.tokens
   pub kept : AreKept old.tokens procedures
   pub alike : c.alike ≡ true → AreKept c.rescan.tokens.tokens procedures
+  pub was : IfSome last (WasLast old)
 
 -- the tokens where a module is at fault, and whether its text begins with a token
 pub record ArePlacesOf
@@ -80,20 +85,6 @@ pub record IsModuleBefore
   pub same_words : c.same_words ≡ true
       → words_in c.rescan.tokens.text c.rescan.tokens.tokens ≡ words_in old.text old.tokens
 
--- The text before was a module with this tree, these names and these types. The first and the last
--- of its tokens were of the kinds that they are now, and written as they are now.
-pub record HadModule
-    (new : Scanned) (tree : ModuleTree) (b : Bindings) (types : ModuleTypes) (s : SameTokens)
-    : Type 0 where
-  pub old : Scanned
-  pub old_scan : IsScan old
-  pub new_scan : IsScan new
-  pub parsed : IsParsed (parsed_by old tree)
-  pub resolved : IsResolution (resolution_by (parsed_by old tree) b)
-  pub types_are : AreTypesOf (resolution_by (parsed_by old tree) b) types
-  pub same : HasSameTokens s old.tokens new.tokens
-  pub written : HasSameWords s old new
-
 -- the text before was such a module, and its tokens are written as those of this one
 pub record IsWrittenAsBefore
     (new : Scanned) (tree : ModuleTree) (b : Bindings) (types : ModuleTypes) (places : FaultPlaces)
@@ -104,13 +95,19 @@ pub record IsWrittenAsBefore
   pub parsed : IsParsed (parsed_by new tree)
 
 -- why a changed text has no tokens; the old tokens, where it gives them back, are refused so
-abbrev pub IsUnreadRefusal : List ℕ → ParseRefusal → Kept → NotRescanned → Type 0
-IsUnreadRefusal text refusal procedures (rescanned.Faults faults tokens) =
+abbrev pub IsUnreadRefusal : List ℕ
+    → ParseRefusal
+    → Kept
+    → Option LastModule
+    → NotRescanned
+    → Type 0
+IsUnreadRefusal text refusal procedures last (rescanned.Faults faults tokens) =
     (IsScannable text → ⊥)
     × AreFaults text faults.items
     × IsRefusedByParser tokens refusal
     × AreKept tokens.tokens procedures
-IsUnreadRefusal text refusal procedures rescanned.Memory = Unit {0}
+    × IfSome last (WasLast tokens)
+IsUnreadRefusal text refusal procedures last rescanned.Memory = Unit {0}
 
 -- the same, where the old tokens are a module's
 abbrev pub IsUnreadModule : List ℕ

@@ -1,12 +1,13 @@
 -- What a text is found to be.
 -- Rule: none; for private contracts: what an analysis keeps.
-use Rattle.std.specs.Prelude.{ℕ, List, string_bytes}
+use Rattle.std.specs.Prelude.{ℕ, IfSome, List, string_bytes}
 use Rattle.ob0_scan.specs.Refused.{AreFaults}
 use Rattle.ob0_scan.specs.Scanned.{Scanned, IsScannable}
 use Rattle.ob0_parse.specs.KeptTokens.{AreKept}
 use Rattle.ob0_parse.specs.RefusedBy.{RefusedBy}
 use Rattle.ob0_parse_descent.specs.declared.refusal.ParseRefusal.{ParseRefusal}
 use Rattle.ob0_parse_descent.specs.declared.refusal.ParseRefusal.TheVariants.{Syntax, TooDeep, Memory}
+use Rattle.ob0_analysis.specs.LastModule.{WasLast}
 use Rattle.ob0_analysis.specs.declared.analysis.Findings.{Findings}
 use Rattle.ob0_analysis.specs.declared.analysis.Findings.TheVariants.{NoLexemes, Read}
 use Rattle.ob0_analysis.specs.declared.read_text.NotRead.{NotRead}
@@ -29,9 +30,12 @@ abbrev pub text_read : Reading → List ℕ
 text_read (NoTree ill) = ill.tokens.text
 text_read (Module m) = m.module_read.source.text
 
--- a text without a tree is refused so, and its tokens have the procedures that are kept
+-- a text without a tree is refused so; its tokens have the procedures that are kept, and the last module was this
 abbrev pub IsRead : Reading → Type 0
-IsRead (NoTree ill) = IsRefusedByParser ill.tokens ill.refusal × AreKept ill.tokens.tokens ill.kept
+IsRead (NoTree ill) =
+    IsRefusedByParser ill.tokens ill.refusal
+    × AreKept ill.tokens.tokens ill.kept
+    × IfSome ill.last (WasLast ill.tokens)
 IsRead (Module m) = Unit {0}
 
 -- why a changed text has no tokens: its faults, or that memory ran out

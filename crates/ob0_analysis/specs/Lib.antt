@@ -2,6 +2,7 @@ pub mod Analysed
 pub mod Diagnosed
 pub mod Found
 pub mod Before
+pub mod LastModule
 pub mod OneBody
 pub mod NewBody
 pub mod RunsKept

@@ -7,7 +7,7 @@ use Rattle.ob0_scan.specs.declared.tokens.SameTokens.{SameTokens}
 use Rattle.ob0_tree.specs.declared.tree.ModuleTree.{ModuleTree}
 use Rattle.ob0_scope_table.specs.declared.resolved.Bindings.{Bindings}
 use Rattle.ob0_types.specs.declared.checked.ModuleTypes.{ModuleTypes}
-use Rattle.ob0_analysis.specs.Before.{HadModule}
+use Rattle.ob0_analysis.specs.LastModule.{HadModule}
 
 -- the text before was a module, and all its tokens were of the kinds that they are now
 pub record HadTree

@@ -16,7 +16,8 @@
 //! Where a kind changed, procedures of the module's own block are taken over (`tree_after` of `ob0_parse`). Where the
 //! tokens that differ lie in one body of both modules, after its first identifier, what was found of all else is moved
 //! (`new_body.rt`): without that body both are spelled alike, since a body begins at the last BEGIN before its first
-//! identifier, and tokens are spelled by one tree (`body_replaced` in `proofs/NewBody.antt`).
+//! identifier, and tokens are spelled by one tree (`body_replaced` in `proofs/NewBody.antt`). Texts that the parser refuses
+//! may lie between these two modules: what was found of the one before is kept over them (`last_module.rt`).
 //!
 //! Where all tokens are written as they were (`words_in`), after a blank, a line end or a comment, all stays
 //! (`of_same_words`): the tree has the same names and numbers, and what is at fault is at fault at the same tokens
@@ -92,7 +93,7 @@ impl Analysis {
     {
         match scan(alloc, text) {
             Ok(tokens) => {
-                let read = ReadText::of_tokens(alloc, tokens, Kept::none(alloc))?;
+                let read = ReadText::of_tokens(alloc, tokens, Kept::none(alloc), None)?;
                 Ok(Analysis {
                     found: Findings::Read(read),
                 })

@@ -8,6 +8,7 @@ mod diagnoses;
 mod diagnosing;
 mod differences;
 mod fault_places;
+mod last_module;
 pub mod laws;
 mod new_body;
 mod one_body;

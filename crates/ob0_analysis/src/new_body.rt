@@ -1,4 +1,4 @@
-//! A text in which the statements of one body were replaced: its names and its types, by those of the text before.
+//! A text in which the statements of one body were replaced: its names and its types, by those of the last module.
 
 ghost use Rattle.std.specs.Prelude.{◌≡◌, true, IfOk};
 ghost use Rattle.ob0_tree.specs.Parsed.{IsParsed, parsed_by};
@@ -7,8 +7,10 @@ ghost use Rattle.ob0_scope_table.specs.Bindings.{resolution_by};
 ghost use Rattle.ob0_scope_table.specs.Resolution.{IsResolution};
 ghost use Rattle.ob0_types.specs.CheckedModules.{AreTypesOf};
 ghost use Rattle.ob0_types.specs.NewBody.{WereTypesElsewhere};
-ghost use Rattle.ob0_analysis.specs.NewBody.{HadBody, IsSameBody};
+ghost use Rattle.ob0_analysis.specs.LastModule.{WasLast};
+ghost use Rattle.ob0_analysis.specs.NewBody.{IsSameBody};
 
+use crate::last_module::LastModule;
 use crate::parts::ModuleParts;
 use ob0_scan::{SameTokens, Tokens};
 use ob0_scope::rebind_new_body;
@@ -17,23 +19,26 @@ use ob0_tree::{Module, ModuleTree};
 use ob0_types::{ModuleTypes, types_with_new_body};
 use std::alloc::{AllocError, Global};
 
-/// A module by the names and types of the text before, whose tokens that may differ lay in the body at this place, if
-/// they lay in one. Where they still lie in that, only that one is bound and checked again.
+/// A module by the names and types of the last one. Where the tokens that may differ still lie in the body in which
+/// they lay, only that one is bound and checked again.
 pub(crate) fn module_after(
     alloc: Global,
     tokens: Tokens,
     tree: ModuleTree,
-    bindings: Bindings,
-    types: ModuleTypes,
-    same: SameTokens,
-    before: Option<BodyPlace>,
+    last: LastModule,
 ) -> Result<ModuleParts, AllocError>
     requires parsed { IsParsed (parsed_by tokens tree) }
-    requires before { HadBody tokens bindings types same before }
+    requires before { WasLast tokens last }
     ensures { IfOk result (λ m. m.module_read ≡ parsed_by tokens tree) }
 {
+    let LastModule {
+        bindings,
+        types,
+        same,
+        place,
+    } = last;
     let now = place_of_body(&tree, same.prefix, same.new_suffix)?;
-    if !is_same_body(before, now, same) {
+    if !is_same_body(place, now, same) {
         return ModuleParts::of(alloc, tokens, tree);
     }
     let names = bind_new_body(alloc, &tokens, &tree, bindings, same)?;
@@ -41,15 +46,12 @@ pub(crate) fn module_after(
     Ok(ModuleParts::from_parts(tokens, tree, names, types))
 }
 
-/// Whether two places are those of one body, all of whose tokens that may differ are after its first identifier and
-/// before its block's END.
-fn is_same_body(before: Option<BodyPlace>, now: Option<BodyPlace>, same: SameTokens) -> bool
-    ensures { result ≡ true → IsSameBody before now same }
+/// Whether a body is the one that was at a place. Both begin with one identifier before the tokens that may differ, and
+/// end as far after them.
+fn is_same_body(was: BodyPlace, now: Option<BodyPlace>, same: SameTokens) -> bool
+    ensures { result ≡ true → IsSameBody was now same }
 {
-    let Some(old) = before else {
-        return false;
-    };
-    let Some(new) = now else {
+    let Some(place) = now else {
         return false;
     };
     if same.prefix > same.old_suffix {
@@ -58,19 +60,19 @@ fn is_same_body(before: Option<BodyPlace>, now: Option<BodyPlace>, same: SameTok
     if same.prefix > same.new_suffix {
         return false;
     }
-    if old.first != new.first {
+    if was.first != place.first {
         return false;
     }
-    if old.first >= same.prefix {
+    if was.first >= same.prefix {
         return false;
     }
-    if old.closing <= same.old_suffix {
+    if was.closing <= same.old_suffix {
         return false;
     }
-    if new.closing <= same.new_suffix {
+    if place.closing <= same.new_suffix {
         return false;
     }
-    new.closing - same.new_suffix == old.closing - same.old_suffix
+    place.closing - same.new_suffix == was.closing - same.old_suffix
 }
 
 /// What the names are bound to: only those of the body that was replaced are bound again.
@@ -100,7 +102,8 @@ fn check_new_body(
 ) -> Result<ModuleTypes, AllocError>
     requires parsed { IsParsed (parsed_by tokens.now tree.now) }
     requires resolved { IsResolution (resolution_by (parsed_by tokens.now tree.now) bindings.now) }
-    requires before { WereTypesElsewhere (resolution_by (parsed_by tokens.now tree.now) bindings.now) types same }
+    requires before { WereTypesElsewhere
+        (resolution_by (parsed_by tokens.now tree.now) bindings.now) types same }
     ensures { IfOk result
         (AreTypesOf (resolution_by (parsed_by tokens.now tree.now) bindings.now)) }
 {

@@ -1,6 +1,6 @@
 //! A text that has lexemes: its tokens, and the module that they are or why the parser refuses them.
 
-ghost use Rattle.std.specs.Prelude.{◌≡◌, [], true, IfErr, IfOk, MatchOption, map};
+ghost use Rattle.std.specs.Prelude.{◌≡◌, [], true, IfErr, IfOk, IfSome, MatchOption, map};
 ghost use Rattle.ob0_scan.specs.Refused.{AreFaults, IsRightRefusalOver};
 ghost use Rattle.ob0_scan.specs.Reused.{kinds, names_in, words_in};
 ghost use Rattle.ob0_scan.specs.SameKinds.{HasSameTokens, HasSameWords};
@@ -10,7 +10,8 @@ ghost use Rattle.ob0_scope_table.specs.Bindings.{resolution_by};
 ghost use Rattle.ob0_scope_table.specs.Resolution.{IsResolution};
 ghost use Rattle.ob0_parse.specs.KeptTokens.{AreKept};
 ghost use Rattle.ob0_analysis.specs.Found.{IsRead, IsRefusedByParser, IsUnread};
-ghost use Rattle.ob0_analysis.specs.Before.{AreKeptBefore, HadModule, IsModuleBefore, IsUnreadModule, IsUnreadRefusal, IsWrittenAsBefore};
+ghost use Rattle.ob0_analysis.specs.Before.{AreKeptBefore, IsModuleBefore, IsUnreadModule, IsUnreadRefusal, IsWrittenAsBefore};
+ghost use Rattle.ob0_analysis.specs.LastModule.{HadModule, WasLast};
 ghost use Rattle.ob0_analysis.specs.declared.read_text.NotRead.TheVariants as not_read;
 ghost use Rattle.ob0_analysis.specs.declared.read_text.Reading.TheVariants.{NoTree};
 ghost use Rattle.ob0_analysis.specs.Diagnosed.{IsWellTypedModule, Reports, complaint_in};
@@ -21,6 +22,7 @@ use crate::diagnoses::Diagnosis;
 use crate::diagnosing::{diagnose_module, diagnose_refusal};
 use crate::differences::Difference;
 use crate::fault_places::{FaultPlaces, move_bindings, move_types};
+use crate::last_module::LastModule;
 use crate::new_body::module_after;
 use crate::one_body::{bind_again, check_again, is_in_one_body};
 use crate::parts::ModuleParts;
@@ -29,19 +31,21 @@ use ob0_parse_descent::ParseRefusal;
 use ob0_scan::laws::one_scan;
 use ob0_scan::{Fault, NotRescanned, RescanInPlace, SameTokens, Tokens, rescan_in_place};
 use ob0_scope::laws::{bindings_keep_tokens, bindings_stay};
-use ob0_scope_table::{Bindings, place_of_body};
+use ob0_scope_table::Bindings;
 use ob0_tree::ModuleTree;
 use ob0_types::ModuleTypes;
 use ob0_types::laws::types_keep_tokens;
 use std::alloc::{AllocError, Global};
 use std::marker::Model;
 
-/// A text that has lexemes and no tree: its tokens, why the parser refuses them, and procedures for the next parse.
+/// A text that has lexemes and no tree: its tokens, why the parser refuses them, procedures for the next parse, and the
+/// last text that was a module, if it differs in one body alone.
 #[derive(Drop)]
 pub(crate) struct IllFormed {
     tokens: Tokens,
     refusal: ParseRefusal,
     kept: Kept,
+    last: Option<LastModule>,
 }
 
 /// What the tokens of a text are read as.
@@ -85,34 +89,46 @@ impl From<AllocError> for NotRead {
 }
 
 impl ReadText {
-    /// The text with these tokens, of which these procedures are known.
+    /// The text with these tokens, of which these procedures are known, after this module.
     pub(crate) fn of_tokens(
         alloc: Global,
         tokens: Tokens,
         kept: Kept,
+        last: Option<LastModule>,
     ) -> Result<ReadText, AllocError>
-        requires { AreKept tokens.tokens kept }
+        requires kept { AreKept tokens.tokens kept }
+        requires last { IfSome last (WasLast tokens) }
         ensures { IfOk result (λ r. r ≡ tokens.text) }
     {
         let mut kept = kept;
         match tree_after(alloc, &tokens, &mut kept) {
-            Ok(tree) => ReadText::of_tree(alloc, tokens, tree),
+            Ok(tree) => ReadText::of_tree(alloc, tokens, tree, last),
             Err(ParseRefusal::Memory) => Err(AllocError),
             Err(refusal) => Ok(ReadText {
                 reading: Reading::NoTree(IllFormed {
                     tokens,
                     refusal,
                     kept,
+                    last,
                 }),
             }),
         }
     }
 
-    fn of_tree(alloc: Global, tokens: Tokens, tree: ModuleTree) -> Result<ReadText, AllocError>
-        requires { IsParsed (parsed_by tokens tree) }
+    fn of_tree(
+        alloc: Global,
+        tokens: Tokens,
+        tree: ModuleTree,
+        last: Option<LastModule>,
+    ) -> Result<ReadText, AllocError>
+        requires parsed { IsParsed (parsed_by tokens tree) }
+        requires last { IfSome last (WasLast tokens) }
         ensures { IfOk result (λ r. r ≡ tokens.text) }
     {
-        let parts = ModuleParts::of(alloc, tokens, tree)?;
+        let parts = match last {
+            Some(last) => module_after(alloc, tokens, tree, last)?,
+            None => ModuleParts::of(alloc, tokens, tree)?,
+        };
         Ok(ReadText::of_module(parts))
     }
 
@@ -149,10 +165,11 @@ impl ReadText {
             tokens,
             refusal,
             kept,
+            last,
         } = ill;
         match scan_changed(alloc, tokens, text) {
-            Ok(changed) => Ok(ReadText::of_refused_scan(alloc, changed, refusal, kept)?),
-            Err(unread) => Err(ReadText::unread_refusal(text, unread, refusal, kept)),
+            Ok(changed) => Ok(ReadText::of_refused_scan(alloc, changed, refusal, kept, last)?),
+            Err(unread) => Err(ReadText::unread_refusal(text, unread, refusal, kept, last)),
         }
     }
 
@@ -162,35 +179,38 @@ impl ReadText {
         unread: NotRescanned,
         refusal: ParseRefusal,
         kept: Kept,
+        last: Option<LastModule>,
     ) -> NotRead
-        requires { IsUnreadRefusal _text.now refusal kept unread }
+        requires { IsUnreadRefusal _text.now refusal kept last unread }
         ensures { IsUnread _text.now result }
     {
         match unread {
             NotRescanned::Faults(faults, tokens) => {
-                let last = ReadText {
+                let before = ReadText {
                     reading: Reading::NoTree(IllFormed {
                         tokens,
                         refusal,
                         kept,
+                        last,
                     }),
                 };
-                NotRead::Faults(faults, last)
+                NotRead::Faults(faults, before)
             }
             NotRescanned::Memory => NotRead::Memory,
         }
     }
 
-    /// A text by the refusal of the text before, which is its own where the tokens are alike, and by the procedures
-    /// that were kept of it.
+    /// A text by the refusal of the text before, which is its own where the tokens are alike, by the procedures that
+    /// were kept of it, and by the last module.
     fn of_refused_scan(
         alloc: Global,
         changed: RescanInPlace,
         refusal: ParseRefusal,
         kept: Kept,
+        last: Option<LastModule>,
     ) -> Result<ReadText, AllocError>
         requires alike { changed.alike ≡ true → IsRefusedByParser changed.rescan.tokens refusal }
-        requires kept { AreKeptBefore changed kept }
+        requires before { AreKeptBefore changed kept last }
         ensures { IfOk result (λ r. r ≡ changed.rescan.tokens.text) }
     {
         let RescanInPlace {
@@ -201,15 +221,17 @@ impl ReadText {
             same_words: _,
         } = changed;
         let tokens = rescan.tokens;
+        let last = LastModule::after(last, same);
         if !alike {
             let kept = kept.after(alloc, same)?;
-            return ReadText::of_tokens(alloc, tokens, kept);
+            return ReadText::of_tokens(alloc, tokens, kept, last);
         }
         Ok(ReadText {
             reading: Reading::NoTree(IllFormed {
                 tokens,
                 refusal,
                 kept,
+                last,
             }),
         })
     }
@@ -294,22 +316,9 @@ impl ReadText {
         requires { HadModule tokens tree bindings types same }
         ensures { IfOk result (λ r. r ≡ tokens.text) }
     {
-        let before = place_of_body(&tree, same.prefix, same.old_suffix)?;
-        let mut kept = Kept::of(alloc, tree).after(alloc, same)?;
-        match tree_after(alloc, &tokens, &mut kept) {
-            Ok(tree) => {
-                let parts = module_after(alloc, tokens, tree, bindings, types, same, before)?;
-                Ok(ReadText::of_module(parts))
-            }
-            Err(ParseRefusal::Memory) => Err(AllocError),
-            Err(refusal) => Ok(ReadText {
-                reading: Reading::NoTree(IllFormed {
-                    tokens,
-                    refusal,
-                    kept,
-                }),
-            }),
-        }
+        let last = LastModule::of(&tokens, &tree, bindings, types, same)?;
+        let kept = Kept::of(alloc, tree).after(alloc, same)?;
+        ReadText::of_tokens(alloc, tokens, kept, last)
     }
 
     /// A text with the tree of the text before. The bindings of that text are its own where the identifiers are written

@@ -7,13 +7,16 @@ pub of_refused_scan-requires-clause-alike : goal.of_refused_scan-requires-clause
 of_refused_scan-requires-clause-alike c =
     λ alike. (refusal_stays c.args.ill.tokens c.in-Ok.changed.rescan.tokens c.args.ill.refusal (c.in-Ok.ensures.alike alike) c.requires.0.0, c.requires.0.1)
 
-pub of_refused_scan-requires-clause-kept : goal.of_refused_scan-requires-clause-kept
-of_refused_scan-requires-clause-kept c = record {
+pub of_refused_scan-requires-clause-before : goal.of_refused_scan-requires-clause-before
+of_refused_scan-requires-clause-before c = record {
   old = c.args.ill.tokens;
+  new_scan = c.in-Ok.ensures.ok.scan;
   same = c.in-Ok.ensures.same;
+  written = c.in-Ok.ensures.written;
   kept = c.requires.1;
   alike = λ alike. kept_stay c.args.ill.tokens.tokens c.in-Ok.changed.rescan.tokens.tokens c.args.ill.kept (c.in-Ok.ensures.alike alike) c.requires.1;
+  was = c.requires.2;
 }
 
 pub unread_refusal-requires : goal.unread_refusal-requires
-unread_refusal-requires c = refusal_given_back c.args.ill.tokens _ c.args.ill.refusal c.args.ill.kept _ c.in-Err.ensures.err c.requires.0 c.requires.1
+unread_refusal-requires c = refusal_given_back c.args.ill.tokens _ c.args.ill.refusal c.args.ill.kept c.args.ill.last _ c.in-Err.ensures.err c.requires.0 c.requires.1 c.requires.2

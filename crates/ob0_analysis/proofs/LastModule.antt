@@ -1,0 +1,120 @@
+-- The last text that was a module, where the text changes again.
+use Rattle.std.proofs.Common.{◌≡◌, ◌≤◌, ◌+◌, ◌-◌, ℕ, List, Option, Some, map, take, drop, length, sym, ap, ◌∙◌, arith, length-drop}
+use Rattle.std.proofs.lemmas.List.{drop-drop, length-map, take-take}
+use Rattle.ob0_scan.specs.declared.lexeme.Token.{Token}
+use Rattle.ob0_scan.specs.declared.tokens.SameTokens.{SameTokens}
+use Rattle.ob0_scan.specs.Reused.{kinds, valueless, words_in}
+use Rattle.ob0_scan.specs.SameKinds.{HasSameTokens, HasSameWords}
+use Rattle.ob0_scan.specs.Scanned.{IsScan, Scanned}
+use Rattle.ob0_tree.specs.declared.tree.ModuleTree.{ModuleTree}
+use Rattle.ob0_scope_table.specs.BodyPlaces.{body_place, tree_in}
+use Rattle.ob0_scope_table.specs.declared.one_body.BodyPlace.{BodyPlace}
+use Rattle.ob0_scope_table.specs.declared.resolved.Bindings.{Bindings}
+use Rattle.ob0_types.specs.declared.checked.ModuleTypes.{ModuleTypes}
+use Rattle.ob0_analysis.specs.LastModule.{HadModule, IsStillSame, WasLast}
+use Rattle.ob0_analysis.specs.declared.last_module.LastModule.{LastModule}
+
+less_front : {A : Type 0} (n m : ℕ) (xs ys : List A) → n ≤ m → take m xs ≡ take m ys → take n xs ≡ take n ys
+less_front n m xs ys le e = sym (take-take n m xs le) ∙ (ap (take n) e ∙ take-take n m ys le)
+
+less_back : {A : Type 0} (i j d n m : ℕ) (xs ys : List A) → i + d ≡ n → j + d ≡ m → drop i xs ≡ drop j ys → drop n xs ≡ drop m ys
+less_back i j d n m xs ys p q e =
+    ap (λ k. drop k xs) (sym p) ∙ (sym (drop-drop d i xs) ∙ (ap (drop d) e ∙ (drop-drop d j ys ∙ ap (λ k. drop k ys) q)))
+
+count_kinds : (ts : List Token) → length (kinds ts) ≡ length ts
+count_kinds ts = length-map ts (λ (t : Token). valueless t.kind)
+
+-- as many tokens are after the range as there were
+as_many : (s : SameTokens) (old new : List Token) → HasSameTokens s old new → length new + s.old_suffix ≡ length old + s.new_suffix
+as_many s old new h =
+    let left : length (kinds new) - s.new_suffix ≡ length (kinds old) - s.old_suffix =
+    sym (length-drop s.new_suffix (kinds new)) ∙ (ap length h.back ∙ length-drop s.old_suffix (kinds old)) in
+    omega (arith, left, count_kinds new, count_kinds old, h.back_inside, h.old_back_inside)
+
+module _ (s wider : SameTokens) (still : IsStillSame s wider) where
+  abbrev more : ℕ
+  more = wider.old_suffix - s.old_suffix
+
+  there : s.old_suffix + more ≡ wider.old_suffix
+  there = omega (arith, still.back)
+
+  here : s.new_suffix + more ≡ wider.new_suffix
+  here = omega (arith, still.back, still.as_far)
+
+  tokens_still : (old new : List Token) → HasSameTokens s old new → wider.old_suffix ≤ length old → HasSameTokens wider old new
+  tokens_still old new h inside = record {
+    front_inside = omega (arith, still.front, h.front_inside);
+    back_inside = omega (arith, still.as_far, inside, as_many s old new h);
+    old_front_inside = omega (arith, still.front, h.old_front_inside);
+    old_back_inside = inside;
+    front = less_front wider.prefix s.prefix (kinds new) (kinds old) still.front h.front;
+    back = less_back s.new_suffix s.old_suffix more wider.new_suffix wider.old_suffix (kinds new) (kinds old) here there h.back;
+  }
+
+  words_still : (old new : Scanned) → HasSameWords s old new → HasSameWords wider old new
+  words_still old new h = record {
+    front = less_front wider.prefix s.prefix _ _ still.front h.front;
+    back = less_back s.new_suffix s.old_suffix more wider.new_suffix wider.old_suffix _ _ here there h.back;
+  }
+
+  -- a range that ends inside the new text ended inside the old one
+  inside_old : (old new : List Token) → HasSameTokens s old new → wider.new_suffix ≤ length new → wider.old_suffix ≤ length old
+  inside_old old new h inside = omega (arith, still.as_far, inside, as_many s old new h)
+
+-- ---- two changes
+
+joined : (s t : SameTokens) (old mid new : List Token) → t.prefix ≡ s.prefix → t.old_suffix ≡ s.new_suffix → HasSameTokens s old mid → HasSameTokens t mid new → HasSameTokens (record { prefix = s.prefix; old_suffix = s.old_suffix; new_suffix = t.new_suffix }) old new
+joined s t old mid new p q h k = record {
+  front_inside = omega (arith, p, k.front_inside);
+  back_inside = k.back_inside;
+  old_front_inside = h.old_front_inside;
+  old_back_inside = h.old_back_inside;
+  front = ap (λ n. take n (kinds new)) (sym p) ∙ (k.front ∙ (ap (λ n. take n (kinds mid)) p ∙ h.front));
+  back = k.back ∙ (ap (λ n. drop n (kinds mid)) q ∙ h.back);
+}
+
+joined_words : (s t : SameTokens) (old mid new : Scanned) → t.prefix ≡ s.prefix → t.old_suffix ≡ s.new_suffix → HasSameWords s old mid → HasSameWords t mid new → HasSameWords (record { prefix = s.prefix; old_suffix = s.old_suffix; new_suffix = t.new_suffix }) old new
+joined_words s t old mid new p q h k = record {
+  front = ap (λ n. take n (words_in new.text new.tokens)) (sym p) ∙ (k.front ∙ (ap (λ n. take n (words_in mid.text mid.tokens)) p ∙ h.front));
+  back = k.back ∙ (ap (λ n. drop n (words_in mid.text mid.tokens)) q ∙ h.back);
+}
+
+-- ---- the last module
+
+-- the module of the text before, where a wider range is said to differ
+pub is_last : (new : Scanned) (tree : ModuleTree) (b : Bindings) (types : ModuleTypes) (s wider : SameTokens) (place : BodyPlace) → HadModule new tree b types s → IsStillSame s wider → wider.new_suffix ≤ length new.tokens
+    → body_place wider.prefix wider.old_suffix (tree_in tree) ≡ Some place → WasLast new (record { bindings = b; types = types; same = wider; place = place })
+is_last new tree b types s wider place h still inside placed = record {
+  tree = tree;
+  had = record {
+    old = h.old;
+    old_scan = h.old_scan;
+    new_scan = h.new_scan;
+    parsed = h.parsed;
+    resolved = h.resolved;
+    types_are = h.types_are;
+    same = tokens_still s wider still h.old.tokens new.tokens h.same (inside_old s wider still h.old.tokens new.tokens h.same inside);
+    written = words_still s wider still h.old new h.written;
+  };
+  placed = placed;
+}
+
+-- it is the last module after a further change too
+pub last_stays : (mid new : Scanned) (last : LastModule) (change wider : SameTokens) → WasLast mid last → HasSameTokens change mid.tokens new.tokens → HasSameWords change mid new → IsScan new → IsStillSame change wider → wider.prefix ≡ last.same.prefix → wider.old_suffix ≡ last.same.new_suffix
+    → WasLast new (record { bindings = last.bindings; types = last.types; same = record { prefix = last.same.prefix; old_suffix = last.same.old_suffix; new_suffix = wider.new_suffix }; place = last.place })
+last_stays mid new last change wider w tokens words scan still p q =
+    let inside : wider.old_suffix ≤ length mid.tokens = omega (arith, q, w.had.same.back_inside) in
+    record {
+      tree = w.tree;
+      had = record {
+        old = w.had.old;
+        old_scan = w.had.old_scan;
+        new_scan = scan;
+        parsed = w.had.parsed;
+        resolved = w.had.resolved;
+        types_are = w.had.types_are;
+        same = joined last.same wider w.had.old.tokens mid.tokens new.tokens p q w.had.same (tokens_still change wider still mid.tokens new.tokens tokens inside);
+        written = joined_words last.same wider w.had.old mid new p q w.had.written (words_still change wider still mid new words);
+      };
+      placed = w.placed;
+    }
