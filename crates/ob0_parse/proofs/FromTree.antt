@@ -183,5 +183,5 @@ of_tree s tree parsed b left without ss ps k is_b is_ss is_left is_ps made =
     let statements : ss ≡ (out-Block tree.block).body = is_ss ∙ ap (λ x. (out-Block x).body) is_b in (
       subst (λ (v : Vec Procedure Global). Each (IsMade s.tokens) v.items) (sym all) (tree_made m parsed),
       some_as (IsMadeBody ps.items ss tree.closing) (IsBodyThere s.tokens) k
-      (λ x h. body_made m parsed x (subst (λ (v : Vec Procedure Global). IsMadeBody v.items (out-Block tree.block).body tree.closing x) all (subst (λ o. IsMadeBody ps.items o tree.closing x) statements h))) made,
+          (λ x h. body_made m parsed x (subst (λ (v : Vec Procedure Global). IsMadeBody v.items (out-Block tree.block).body tree.closing x) all (subst (λ o. IsMadeBody ps.items o tree.closing x) statements h))) made,
     )

@@ -57,7 +57,7 @@ pub struct Kept {
     pub made: Vec<Procedure>,
     /// Those to which it didn't come, the last one first.
     pub waiting: Vec<KeptProcedure>,
-    /// The body, where the last parse didn't take it over.
+    /// The body that an earlier parse made, where the last one didn't take it over.
     pub body: Option<KeptBody>,
 }
 

@@ -17,8 +17,8 @@ use ob0_scan::{Reserved, Symbol};
 use ob0_tree::{Block, Constant, MAX_NESTING, Procedure, Statement, TypeDeclaration, Variables};
 use std::mem;
 
-/// The declarations and the body of a module. Its procedures are left with those that are kept, a body that is taken
-/// over isn't.
+/// The declarations and the body of a module. Its procedures are left with those that are kept; a body that is taken
+/// over is kept no longer.
 fn own_block(parser: &Parser<'_>, at: usize, kept: &mut Kept) -> Parsed<OwnParts>
     requires at { at ≤ length parser.now.tokens.now }
     requires kept { AreKept parser.now.tokens.now kept.old }
@@ -92,8 +92,8 @@ fn own_body(
     }
 }
 
-/// Takes the kept body where its BEGIN is this token and END is after its statements. Another one stays kept: an
-/// identifier before BEGIN or END is a syntax fault, and its body is taken over when that is mended.
+/// Takes the kept body where its BEGIN is this token and END is after its statements. Else it stays kept: what is
+/// before BEGIN or END may be a syntax fault, and once it is mended the body is taken over.
 fn kept_body(
     parser: &Parser<'_>,
     at: usize,
