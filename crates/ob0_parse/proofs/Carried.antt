@@ -1,15 +1,16 @@
--- Kept procedures in another text, and one after another.
-use Rattle.std.proofs.Common.{◌≡◌, ℕ, zero, suc, ◌+◌, ◌-◌, ◌<◌, ◌≤◌, List, [], ◌∷◌, ◌++◌, take, drop, length, refl, sym, ◌∙◌, ap, arith, slice_range, length-drop}
+-- What is kept in another text, and one after another.
+use Rattle.std.proofs.Common.{◌≡◌, ℕ, zero, suc, ◌+◌, ◌-◌, ◌<◌, ◌≤◌, Option, Some, None, IfSome, List, [], ◌∷◌, ◌++◌, take, drop, length, refl, sym, ◌∙◌, ap, arith, slice_range, length-drop}
 use Rattle.std.proofs.lemmas.List.{drop-drop, length-map}
 use Rattle.ob0_scan.specs.declared.lexeme.Token.{Token}
 use Rattle.ob0_scan.specs.declared.tokens.SameTokens.{SameTokens}
 use Rattle.ob0_scan.specs.Reused.{valueless, kinds}
 use Rattle.ob0_tree.specs.declared.tree.Procedure.{Procedure, out-Procedure, roll-out-Procedure}
-use Rattle.ob0_tree.specs.Tree.{procedure, item, Tree, declares_procedure}
-use Rattle.ob0_tree.specs.View.{procedure_of, formals_of, block_of}
+use Rattle.ob0_tree.specs.Tree.{Sort, Tree, declares_procedure}
+use Rattle.ob0_tree.specs.View.{procedure_of, formals_of, block_of, body_of}
 use Rattle.ob0_tree.proofs.Viewed.{procedure_made}
 use Rattle.ob0_scan.specs.SameKinds.{HasSameTokens}
-use Rattle.ob0_parse.specs.KeptTokens.{lexemes_by, first_of, end_of, IsThere, IsMade, IsWaiting, Each, AreKept}
+use Rattle.ob0_parse.specs.KeptTokens.{lexemes_by, first_of, end_of, IsThere, IsMade, IsWaiting, IsBodyThere, CarriesBody, CarriesAnyBody, Each, AreKept}
+use Rattle.ob0_parse.specs.declared.kept.KeptBody.{KeptBody}
 use Rattle.ob0_parse.specs.declared.kept.Kept.{Kept}
 
 -- ---- each of several
@@ -40,29 +41,29 @@ within_front [] (suc at) (suc count) (suc front) h = refl
 within_front (x ∷ xs) (suc at) count zero h = absurd (omega (arith, h))
 within_front (x ∷ xs) (suc at) count (suc front) h = within_front xs at count front (omega (arith, h))
 
--- a procedure is where tokens of the same kinds are
-there_again : (old new : List Token) (at next here end : ℕ) (t : Tree ℕ (item procedure)) → IsThere old at next t → slice_range (kinds old) at next ≡ slice_range (kinds new) here end → here < end → end ≤ length new → IsThere new here end t
-there_again old new at next here end t p same forward within = record {
-  spelled = p.spelled ∙ ap (λ ks. lexemes_by (first_of t) ks) same;
+-- a tree is where tokens of the same kinds are
+there_again : {s : Sort} (old new : List Token) (from at next here end : ℕ) (t : Tree ℕ s) → IsThere old from at next t → slice_range (kinds old) at next ≡ slice_range (kinds new) here end → here < end → end ≤ length new → IsThere new from here end t
+there_again old new from at next here end t p same forward within = record {
+  spelled = p.spelled ∙ ap (λ ks. lexemes_by from ks) same;
   shallow = p.shallow;
   forward = forward;
   within = within;
 }
 
-pub front_stays : (old new : List Token) (same : SameTokens) (at next : ℕ) (t : Tree ℕ (item procedure)) → HasSameTokens same old new → next ≤ same.prefix → IsThere old at next t → IsThere new at next t
-front_stays old new same at next t h inside p =
+pub front_stays : {s : Sort} (old new : List Token) (same : SameTokens) (from at next : ℕ) (t : Tree ℕ s) → HasSameTokens same old new → next ≤ same.prefix → IsThere old from at next t → IsThere new from at next t
+front_stays old new same from at next t h inside p =
     let small : at + (next - at) ≤ same.prefix = omega (arith, p.forward, inside) in
     let alike : slice_range (kinds old) at next ≡ slice_range (kinds new) at next =
     sym (within_front (kinds old) at (next - at) same.prefix small) ∙ ap (λ ks. take (next - at) (drop at ks)) (sym h.front) ∙ within_front (kinds new) at (next - at) same.prefix small in
-    there_again old new at next at next t p alike p.forward (omega (arith, inside, h.front_inside))
+    there_again old new from at next at next t p alike p.forward (omega (arith, inside, h.front_inside))
 
 count_kinds : (ts : List Token) (i : ℕ) → length (drop i (kinds ts)) ≡ length ts - i
 count_kinds ts i = length-drop i (kinds ts) ∙ ap (λ n. n - i) (length-map ts (λ (t : Token). valueless t.kind))
 
-pub back_moves : (old new : List Token) (same : SameTokens) (at next here end : ℕ) (t : Tree ℕ (item procedure)) → HasSameTokens same old new
+pub back_moves : {s : Sort} (old new : List Token) (same : SameTokens) (from at next here end : ℕ) (t : Tree ℕ s) → HasSameTokens same old new
     → same.old_suffix ≤ at → here + same.old_suffix ≡ at + same.new_suffix → same.old_suffix ≤ next → end + same.old_suffix ≡ next + same.new_suffix
-    → IsThere old at next t → IsThere new here end t
-back_moves old new same at next here end t h in_at to_here in_next to_end p =
+    → IsThere old from at next t → IsThere new from here end t
+back_moves old new same from at next here end t h in_at to_here in_next to_end p =
     let i : ℕ = at - same.old_suffix in
     let old_place : same.old_suffix + i ≡ at = omega (arith, in_at) in
     let new_place : same.new_suffix + i ≡ here = omega (arith, in_at, to_here) in
@@ -70,7 +71,7 @@ back_moves old new same at next here end t h in_at to_here in_next to_end p =
     let both : length old - same.old_suffix ≡ length new - same.new_suffix = sym (count_kinds old same.old_suffix) ∙ ap (λ ks. length ks) (sym h.back) ∙ count_kinds new same.new_suffix in
     let dropped : drop at (kinds old) ≡ drop here (kinds new) =
     ap (λ n. drop n (kinds old)) (sym old_place) ∙ sym (drop-drop i same.old_suffix (kinds old)) ∙ ap (drop i) (sym h.back) ∙ drop-drop i same.new_suffix (kinds new) ∙ ap (λ n. drop n (kinds new)) new_place in
-    there_again old new at next here end t p (ap (λ n. take n (drop at (kinds old))) count ∙ ap (take (end - here)) dropped)
+    there_again old new from at next here end t p (ap (λ n. take n (drop at (kinds old))) count ∙ ap (take (end - here)) dropped)
     (omega (arith, in_at, to_here, in_next, to_end, p.forward)) (omega (arith, both, in_next, to_end, p.within, h.back_inside, h.old_back_inside))
 
 -- ---- by the code's values
@@ -85,13 +86,23 @@ each_as : {A : Type 0} (P Q : A → Type 0) (xs : List A) → ((x : A) → P x �
 each_as P Q [] f p = tt
 each_as P Q (x ∷ xs) f p = (f x p.0, each_as P Q xs f p.1)
 
+pub some_as : {A : Type 0} (P Q : A → Type 0) (o : Option A) → ((x : A) → P x → Q x) → IfSome o P → IfSome o Q
+some_as P Q None f p = tt
+some_as P Q (Some x) f p = f x p
+
+pub any_carried : (same : SameTokens) (b : KeptBody) (r : Option KeptBody) → IfSome r (CarriesBody same b) → CarriesAnyBody same (Some b) r
+any_carried same b None h = λ old new s p. tt
+any_carried same b (Some k) h = h
+
+there_still : {s : Sort} (old new : List Token) (from at next : ℕ) (t : Tree ℕ s) → kinds new ≡ kinds old → IsThere old from at next t → IsThere new from at next t
+there_still old new from at next t same p =
+    let count : length new ≡ length old = sym (length-map new (λ (t : Token). valueless t.kind)) ∙ ap (λ ks. length ks) same ∙ length-map old (λ (t : Token). valueless t.kind) in
+    there_again old new from at next at next t p (ap (λ ks. slice_range ks at next) (sym same)) p.forward (omega (arith, count, p.within))
+
 -- what is kept stays where all tokens are of the kinds that they were
 pub kept_stay : (old new : List Token) (k : Kept) → kinds new ≡ kinds old → AreKept old k → AreKept new k
-kept_stay old new k same kept =
-    let count : length new ≡ length old = sym (length-map new (λ (t : Token). valueless t.kind)) ∙ ap (λ ks. length ks) same ∙ length-map old (λ (t : Token). valueless t.kind) in
-    let again : (at next : ℕ) (t : Tree ℕ (item procedure)) → IsThere old at next t → IsThere new at next t =
-    λ at next t p. there_again old new at next at next t p (ap (λ ks. slice_range ks at next) (sym same)) p.forward (omega (arith, count, p.within)) in
-    record {
-      made = each_as (IsMade old) (IsMade new) k.made.items (λ p m. again (first_of (procedure_of p)) (end_of (procedure_of p)) (procedure_of p) m) kept.made;
-      waiting = each_as (IsWaiting old) (IsWaiting new) k.waiting.items (λ w m. again w.at w.next (procedure_of w.procedure) m) kept.waiting;
-    }
+kept_stay old new k same kept = record {
+  made = each_as (IsMade old) (IsMade new) k.made.items (λ p m. there_still old new (first_of (procedure_of p)) (first_of (procedure_of p)) (end_of (procedure_of p)) (procedure_of p) same m) kept.made;
+  waiting = each_as (IsWaiting old) (IsWaiting new) k.waiting.items (λ w m. there_still old new (first_of (procedure_of w.procedure)) w.at w.next (procedure_of w.procedure) same m) kept.waiting;
+  body = some_as (IsBodyThere old) (IsBodyThere new) k.body (λ b m. there_still old new b.from b.at b.next (body_of (Some b.statements)) same m) kept.body;
+}

@@ -1,5 +1,5 @@
--- Procedures that are kept: where their tokens are.
-use Rattle.std.proofs.Common.{◌≡◌, ℕ, zero, suc, ◌+◌, ◌-◌, ◌<◌, ◌≤◌, List, [], ◌∷◌, ◌++◌, take, drop, length, refl, sym, ◌∙◌, ap, arith, append_assoc, length-drop, slice_range}
+-- What is kept: where its tokens are.
+use Rattle.std.proofs.Common.{◌≡◌, ℕ, zero, suc, ◌+◌, ◌-◌, ◌<◌, ◌≤◌, List, [], ◌∷◌, ◌++◌, take, drop, length, refl, sym, ◌∙◌, ap, subst, arith, append_assoc, length-drop, slice_range}
 use Rattle.std.proofs.lemmas.List.{append_cancel_right, length-map, length-take-le}
 use Rattle.ob0_scan.specs.declared.lexeme.TokenKind.{TokenKind}
 use Rattle.ob0_scan.specs.declared.lexeme.TokenKind.TheVariants as kind
@@ -7,11 +7,11 @@ use Rattle.ob0_scan.specs.declared.lexeme.Symbol.TheVariants as symbol
 use Rattle.ob0_scan.specs.declared.lexeme.Reserved.TheVariants as reserved
 use Rattle.ob0_scan.specs.declared.lexeme.Token.{Token}
 use Rattle.ob0_scan.specs.Reused.{valueless, kinds}
-use Rattle.ob0_tree.specs.Lexeme.{Terminal, Name, Mark}
+use Rattle.ob0_tree.specs.Lexeme.{Terminal, Name, Mark, EndOfText}
 use Rattle.ob0_tree.specs.Module.{max_nesting}
 use Rattle.ob0_tree.specs.Places.{lexeme_of, lexemes_from, lexemes}
-use Rattle.ob0_tree.specs.Tree.{procedure, item, Tree, declares_procedure, spell, nesting}
-use Rattle.ob0_parse.specs.KeptTokens.{lexemes_by, first_of, end_of, IsThere}
+use Rattle.ob0_tree.specs.Tree.{procedure, Sort, item, Tree, declares_procedure, spell, nesting}
+use Rattle.ob0_parse.specs.KeptTokens.{lexemes_by, first_of, end_of, IsInPlace}
 
 pub tail_of : {A : Type 0} {a b : A} {x y : List A} → a ∷ x ≡ b ∷ y → x ≡ y
 tail_of e = cc
@@ -75,6 +75,9 @@ named_here i n (kind.Symbol sign) e = cc
 no_more : {x : Terminal ℕ} {xs : List (Terminal ℕ)} → ◌≡◌ {A = List (Terminal ℕ)} [] (x ∷ xs) → ⊥
 no_more e = cc
 
+end_not_name : {n : ℕ} → ◌≡◌ {A = Terminal ℕ} EndOfText (Name n) → ⊥
+end_not_name e = cc
+
 named_second : (i n : ℕ) (ks : List TokenKind) (x : Terminal ℕ) (xs : List (Terminal ℕ)) → lexemes_by i ks ≡ x ∷ Name n ∷ xs → n ≡ i + 1
 named_second i n [] x xs e = absurd (no_more e)
 named_second i n (k ∷ []) x xs e = absurd (no_more (tail_of e))
@@ -103,16 +106,35 @@ in_place (declares_procedure x fs b y) at ks e =
     ∙ sym (append_assoc (spell fs) (Mark (kind.Symbol symbol.Semicolon) ∷ (spell b ++ (Mark (kind.Reserved reserved.End) ∷ []))) ended)) in
     (omega (arith, second), named_last at y ks begun (Mark (kind.Symbol symbol.Semicolon)) (sym e ∙ cut))
 
--- a procedure whose tokens are here is there
-pub kept_there : (ts : List Token) (at next : ℕ) (t : Tree ℕ (item procedure)) → drop at (lexemes ts) ≡ spell t ++ drop next (lexemes ts) → nesting t ≤ max_nesting → at < next → next ≤ length ts → IsThere ts (first_of t) (end_of t) t
+-- ---- what is here is there
+
+-- a tree whose tokens are here is there, with its leaves in place
+pub kept_there : {s : Sort} (ts : List Token) (at next : ℕ) (t : Tree ℕ s) → drop at (lexemes ts) ≡ spell t ++ drop next (lexemes ts) → nesting t ≤ max_nesting → at < next → next ≤ length ts → IsInPlace ts at next t
 kept_there ts at next t spelled shallow forward within =
     let ks : List TokenKind = slice_range (kinds ts) at next in
-    let is : spell t ≡ lexemes_by at ks = append_cancel_right (spell t) (lexemes_by at ks) (drop next (lexemes ts)) (sym spelled ∙ pieces_of_rest ts at next (omega (arith, forward)) within) in
-    let places = in_place t at ks is in
-    let last : end_of t ≡ next = places.1 ∙ omega (arith, forward, count_slice ts at next (omega (arith, forward)) within) in
     record {
-      spelled = is ∙ (λ i. lexemes_by (sym places.0 i) (slice_range (kinds ts) (sym places.0 i) (sym last i)));
+      spelled = append_cancel_right (spell t) (lexemes_by at ks) (drop next (lexemes ts)) (sym spelled ∙ pieces_of_rest ts at next (omega (arith, forward)) within);
       shallow = shallow;
-      forward = omega (arith, forward, places.0, last);
-      within = omega (arith, last, within);
+      forward = forward;
+      within = within;
     }
+
+-- the leaves of a procedure say where it is
+pub placed : (ts : List Token) (at next : ℕ) (t : Tree ℕ (item procedure)) → IsInPlace ts at next t → (first_of t ≡ at) × (end_of t ≡ next)
+placed ts at next t p =
+    let places = in_place t at (slice_range (kinds ts) at next) p.spelled in
+    (places.0, places.1 ∙ omega (arith, p.forward, count_slice ts at next (omega (arith, p.forward)) p.within))
+
+-- .. so it is made
+pub made_there : (ts : List Token) (at next : ℕ) (t : Tree ℕ (item procedure)) → IsInPlace ts at next t → IsInPlace ts (first_of t) (end_of t) t
+made_there ts at next t p =
+    let places = placed ts at next t p in
+    subst (λ n. IsInPlace ts (first_of t) n t) (sym places.1) (subst (λ i. IsInPlace ts i next t) (sym places.0) p)
+
+-- the leaf of a name is its index
+pub named_at : (i n : ℕ) (ts : List Token) (xs z : List (Terminal ℕ)) → lexemes_from i ts ≡ xs ++ (Name n ∷ z) → n ≡ i + length xs
+named_at i n [] [] z e = absurd (end_not_name (head_of e))
+named_at i n [] (x ∷ []) z e = absurd (no_more (tail_of e))
+named_at i n [] (x ∷ y ∷ xs) z e = absurd (no_more (tail_of e))
+named_at i n (t ∷ ts) [] z e = let h = named_here i n t.kind (head_of e) in omega (arith, h)
+named_at i n (t ∷ ts) (x ∷ xs) z e = let h = named_at (i + 1) n ts xs z (tail_of e) in omega (arith, h)

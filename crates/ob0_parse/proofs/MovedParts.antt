@@ -62,7 +62,7 @@ designator_moved by d e h = designator_made e ∙ h ∙ ap (moved by) (sym (desi
 pub record_type_moved : (by : Move) (r q : RecordType) → record_listed q.groups.items ≡ moved by (record_listed r.groups.items) → type_of (Record q) ≡ moved by (type_of (Record r))
 record_type_moved by r q h = record_made q ∙ h ∙ ap (moved by) (sym (record_made r))
 
-block_between : (x : Block) (r : _) → x ≡ roll-Block r → out-Block x ≡ r
+pub block_between : (x : Block) (r : _) → x ≡ roll-Block r → out-Block x ≡ r
 block_between x r is = ap out-Block is ∙ out-roll-Block r
 
 -- a block whose parts are moved one after another: the first one, and after each of the others

@@ -1,5 +1,5 @@
--- A procedure whose leaves are moved spells the tokens that are where it is now.
-use Rattle.std.proofs.Common.{◌≡◌, ℕ, ◌+◌, ◌-◌, ◌^◌, ◌≤◌, List, [], ◌∷◌, map, length, refl, sym, ◌∙◌, ap, arith, slice_range}
+-- A tree whose leaves are moved spells the tokens that are where it is now.
+use Rattle.std.proofs.Common.{◌≡◌, ℕ, ◌+◌, ◌-◌, ◌^◌, ◌≤◌, List, [], ◌∷◌, map, length, refl, ◌∙◌, ap, arith, slice_range}
 use Rattle.std.proofs.Math.Nat.{min-eq_left}
 use Rattle.ob0_scan.specs.declared.lexeme.TokenKind.{TokenKind}
 use Rattle.ob0_scan.specs.declared.lexeme.TokenKind.TheVariants as kind
@@ -7,14 +7,12 @@ use Rattle.ob0_scan.specs.declared.lexeme.Token.{Token}
 use Rattle.ob0_scan.specs.Reused.{kinds}
 use Rattle.ob0_tree.specs.Lexeme.{Name, Number, relabelled}
 use Rattle.ob0_tree.specs.Places.{lexeme_of}
-use Rattle.ob0_tree.specs.Tree.{procedure, item, Tree, spell, nesting}
-use Rattle.ob0_tree.specs.View.{procedure_of}
-use Rattle.ob0_tree.specs.declared.tree.Procedure.{Procedure}
+use Rattle.ob0_tree.specs.Tree.{Sort, Tree, spell, nesting}
 use Rattle.ob0_tree.proofs.Mapped.{spell_mapped, nesting_mapped}
-use Rattle.ob0_parse.specs.KeptTokens.{lexemes_by, first_of, IsThere, IsTakenAt}
+use Rattle.ob0_parse.specs.KeptTokens.{lexemes_by, IsThere, IsInPlace}
 use Rattle.ob0_parse.specs.Moving.{moved, moved_to}
 use Rattle.ob0_parse.specs.declared.moving.Move.{Move}
-use Rattle.ob0_parse.proofs.Keeping.{in_place, count_slice}
+use Rattle.ob0_parse.proofs.Keeping.{count_slice}
 
 -- no index is larger
 abbrev most : ℕ
@@ -35,26 +33,15 @@ lexemes_moved by i j (k ∷ ks) low same high =
     ap (λ l. l ∷ map (relabelled (moved_to by) (moved_to by)) (lexemes_by (i + 1) ks)) (lexeme_moved by i j k first)
     ∙ ap (λ ls. lexeme_of j k ∷ ls) (lexemes_moved by (i + 1) (j + 1) ks (omega (arith, low)) (omega (arith, same)) (omega (arith, high)))
 
--- it is where its first leaf is moved to
-pub moved_there : (ts : List Token) (at next : ℕ) (t u : Tree ℕ (item procedure)) (by : Move) → by.from ≡ first_of t → by.to ≡ at → next ≤ most → u ≡ moved by t → IsThere ts at next t → IsThere ts at next u × (first_of u ≡ at)
-moved_there ts at next t u by from to inside is p =
+-- a tree whose leaves are moved is there, with its leaves in place
+pub moved_there : {s : Sort} (ts : List Token) (from at next : ℕ) (t u : Tree ℕ s) (by : Move) → by.from ≡ from → by.to ≡ at → next ≤ most → u ≡ moved by t → IsThere ts from at next t → IsInPlace ts at next u
+moved_there ts from at next t u by first to inside is p =
     let ks : List TokenKind = slice_range (kinds ts) at next in
     let count : at + length ks ≡ next = omega (arith, p.forward, count_slice ts at next (omega (arith, p.forward)) p.within) in
-    let spelled : spell u ≡ lexemes_by at ks =
-    ap spell is ∙ spell_mapped (moved_to by) (moved_to by) t ∙ ap (map (relabelled (moved_to by) (moved_to by))) p.spelled
-    ∙ lexemes_moved by (first_of t) at ks (omega (arith, from)) (omega (arith, from, to)) (omega (arith, count, inside)) in
-    let first : first_of u ≡ at = (in_place u at ks spelled).0 in (
-      record {
-        spelled = spelled ∙ ap (λ i. lexemes_by i (slice_range (kinds ts) at next)) (sym first);
-        shallow = omega (arith, ap nesting is, nesting_mapped (moved_to by) (moved_to by) t, p.shallow);
-        forward = p.forward;
-        within = p.within;
-      },
-      first,
-    )
-
--- .. and may be taken over
-pub placed_moved : (ts : List Token) (at next : ℕ) (p q : Procedure) (by : Move) → by.from ≡ first_of (procedure_of p) → by.to ≡ at → next ≤ most → procedure_of q ≡ moved by (procedure_of p) → IsThere ts at next (procedure_of p) → IsTakenAt ts at (q, next)
-placed_moved ts at next p q by from to inside is h =
-    let m = moved_there ts at next (procedure_of p) (procedure_of q) by from to inside is h in
-    record { there = m.0; first = m.1 }
+    record {
+      spelled = ap spell is ∙ spell_mapped (moved_to by) (moved_to by) t ∙ ap (map (relabelled (moved_to by) (moved_to by))) p.spelled
+          ∙ lexemes_moved by from at ks (omega (arith, first)) (omega (arith, first, to)) (omega (arith, count, inside));
+      shallow = omega (arith, ap nesting is, nesting_mapped (moved_to by) (moved_to by) t, p.shallow);
+      forward = p.forward;
+      within = p.within;
+    }

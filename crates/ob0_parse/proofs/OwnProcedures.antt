@@ -4,12 +4,14 @@ use Rattle.ob0_scan.specs.declared.lexeme.Token.{Token}
 use Rattle.ob0_tree.specs.declared.tree.Procedure.{Procedure}
 use Rattle.ob0_tree.specs.Module.{max_nesting}
 use Rattle.ob0_tree.specs.View.{procedure_of}
-use Rattle.ob0_parse_descent.specs.Reading.{Taken}
+use Rattle.ob0_parse_descent.specs.Reading.{rest, Taken}
+use Rattle.ob0_parse_descent.proofs.Leads.{stops_zero}
 use Rattle.ob0_parse.specs.KeptTokens.{AreKept, Each, IsMade, IsTakenAt}
 use Rattle.ob0_parse.specs.StayKept.{StayKept, StayRefused}
 use Rattle.ob0_parse.specs.declared.kept.Kept.{Kept}
 use Rattle.ob0_parse_descent.specs.declared.refusal.ParseRefusal.{ParseRefusal}
 use Rattle.ob0_parse_descent.specs.declared.refusal.ParseRefusal.TheVariants.{Syntax, TooDeep, Memory}
+use Rattle.ob0_parse.proofs.Keeping.{made_there}
 use Rattle.ob0_parse.proofs.TakenOver.{taken_kept, taken_is_there}
 use Rattle.ob0_parse.proofs.Carried.{each_joined}
 
@@ -23,7 +25,7 @@ stays h (Ok x) = h
 stays h (Err e) = stays_refused h e
 
 pub taken_over : (ts : List Token) (at : ℕ) (x : Procedure × ℕ) → IsTakenAt ts at x → Taken (procedure_of x.0) max_nesting ts at x.1 × (at < x.1)
-taken_over ts at x t = (taken_kept ts at x.1 (procedure_of x.0) t.there t.first, t.there.forward)
+taken_over ts at x t = (taken_kept ts at x.1 (procedure_of x.0) (stops_zero (rest ts x.1)) t, t.forward)
 
 pub more_made : (ts : List Token) (m n : ℕ) (ps : List Procedure) (p : Procedure) → Each (IsMade ts) ps → Taken (procedure_of p) max_nesting ts m n → m < n → Each (IsMade ts) (ps ++ (p ∷ []))
-more_made ts m n ps p made t forward = each_joined (IsMade ts) ps (p ∷ []) made (taken_is_there ts m n (procedure_of p) t forward, tt)
+more_made ts m n ps p made t forward = each_joined (IsMade ts) ps (p ∷ []) made (made_there ts m n (procedure_of p) (taken_is_there ts m n (procedure_of p) t forward), tt)

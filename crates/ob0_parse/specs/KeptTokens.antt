@@ -1,18 +1,22 @@
--- Procedures that are kept of an earlier parse, and the tokens that they spell.
+-- Procedures and a body that are kept of an earlier parse, and the tokens that they spell.
 -- Rule: none; for contracts of `Kept` and of `tree_after`.
-use Rattle.std.specs.Prelude.{◌≡◌, ℕ, ◌+◌, ◌-◌, ◌<◌, ◌≤◌, List, [], ◌∷◌, length, slice_range}
+use Rattle.std.specs.declared.vec.Vec.{Vec}
+use Rattle.std.specs.declared.alloc.Global.{Global}
+use Rattle.std.specs.Prelude.{◌≡◌, ℕ, ◌+◌, ◌-◌, ◌<◌, ◌≤◌, List, [], ◌∷◌, Option, Some, IfSome, option_map, length, slice_get, slice_range}
 use Rattle.ob0_scan.specs.declared.lexeme.TokenKind.{TokenKind}
 use Rattle.ob0_scan.specs.declared.lexeme.Token.{Token}
 use Rattle.ob0_scan.specs.declared.tokens.SameTokens.{SameTokens}
 use Rattle.ob0_scan.specs.Reused.{kinds}
 use Rattle.ob0_scan.specs.SameKinds.{HasSameTokens}
 use Rattle.ob0_tree.specs.declared.tree.Procedure.{Procedure}
+use Rattle.ob0_tree.specs.declared.tree.Statement.{Statement}
 use Rattle.ob0_tree.specs.Lexeme.{Terminal}
 use Rattle.ob0_tree.specs.Module.{max_nesting}
 use Rattle.ob0_tree.specs.Places.{lexeme_of}
-use Rattle.ob0_tree.specs.Tree.{procedure, item, Tree, declares_procedure, spell, nesting}
-use Rattle.ob0_tree.specs.View.{procedure_of}
+use Rattle.ob0_tree.specs.Tree.{procedure, Sort, item, Tree, declares_procedure, spell, nesting}
+use Rattle.ob0_tree.specs.View.{procedure_of, body_of}
 use Rattle.ob0_parse.specs.declared.kept.Kept.{Kept}
+use Rattle.ob0_parse.specs.declared.kept.KeptBody.{KeptBody}
 use Rattle.ob0_parse.specs.declared.kept.KeptProcedure.{KeptProcedure}
 
 -- tokens of these kinds, as a tree over indexes spells them; the first has this index
@@ -28,32 +32,66 @@ first_of (declares_procedure name fs b closing) = name - 1
 abbrev pub end_of : Tree ℕ (item procedure) → ℕ
 end_of (declares_procedure name fs b closing) = closing + 2
 
--- The tokens from one index to another are of the kinds that the procedure spells, and it isn't nested too deep for them.
-pub record IsThere (ts : List Token) (at next : ℕ) (t : Tree ℕ (item procedure)) : Type 0 where
-  pub spelled : spell t ≡ lexemes_by (first_of t) (slice_range (kinds ts) at next)
+-- The tokens from one index to another are of the kinds that the tree spells, and it isn't nested too deep for them. Its
+-- leaves are in place where its first token has the index `from`.
+pub record IsThere {s : Sort} (ts : List Token) (from at next : ℕ) (t : Tree ℕ s) : Type 0 where
+  pub spelled : spell t ≡ lexemes_by from (slice_range (kinds ts) at next)
   pub shallow : nesting t ≤ max_nesting
   pub forward : at < next
   pub within : next ≤ length ts
 
+-- .. and its leaves are in place
+abbrev pub IsInPlace : {s : Sort} → List Token → ℕ → ℕ → Tree ℕ s → Type 0
+IsInPlace ts at next t = IsThere ts at at next t
+
 -- the procedure's leaves are in place
 abbrev pub IsMade : List Token → Procedure → Type 0
-IsMade ts p = IsThere ts (first_of (procedure_of p)) (end_of (procedure_of p)) (procedure_of p)
+IsMade ts p = IsInPlace ts (first_of (procedure_of p)) (end_of (procedure_of p)) (procedure_of p)
 
 -- its tokens are where it is said to be
 abbrev pub IsWaiting : List Token → KeptProcedure → Type 0
-IsWaiting ts k = IsThere ts k.at k.next (procedure_of k.procedure)
+IsWaiting ts k =
+    IsThere ts (first_of (procedure_of k.procedure)) k.at k.next (procedure_of k.procedure)
+
+-- BEGIN and the statements of a body are where they are said to be
+abbrev pub IsBodyThere : List Token → KeptBody → Type 0
+IsBodyThere ts k = IsThere ts k.from k.at k.next (body_of (Some k.statements))
+
+-- a body that is kept is there
+abbrev pub IsBodyKept : List Token → Option KeptBody → Type 0
+IsBodyKept ts body = IfSome body (IsBodyThere ts)
 
 -- each of them is so
 abbrev pub Each : {A : Type 0} → (A → Type 0) → List A → Type 0
 Each P [] = Unit {0}
 Each P (x ∷ xs) = P x × Each P xs
 
--- all procedures that are kept are there
+-- all that is kept is there
 pub record AreKept (ts : List Token) (k : Kept) : Type 0 where
   pub made : Each (IsMade ts) k.made.items
   pub waiting : Each (IsWaiting ts) k.waiting.items
+  pub body : IsBodyKept ts k.body
+
+-- The body of a module with these procedures and this index of its closing name: BEGIN is after the last procedure, END
+-- after the statements.
+pub record IsMadeBody
+    (ps : List Procedure) (statements : Option (Vec Statement Global)) (closing : ℕ) (k : KeptBody)
+    : Type 0 where
+  pub is : statements ≡ Some k.statements
+  pub first : option_map (λ (p : Procedure). end_of (procedure_of p))
+      (slice_get ps (length ps - 1)) ≡ Some k.from
+  pub at : k.at ≡ k.from
+  pub next : k.next + 1 ≡ closing
 
 -- ---- another text
+
+-- what is there in the old text, from one index to another, is there in the new one, from these
+abbrev pub CarriesTokens : SameTokens → ℕ → ℕ → ℕ × ℕ → Type 0
+CarriesTokens same at next place =
+    (s : Sort) (old new : List Token) (from : ℕ) (t : Tree ℕ s)
+    → HasSameTokens same old new
+    → IsThere old from at next t
+    → IsThere new from place.0 place.1 t
 
 -- a procedure of the old text is the other one in the new text
 abbrev pub CarriesTo : SameTokens → KeptProcedure → KeptProcedure → Type 0
@@ -107,6 +145,19 @@ CarriesAllMade same ps before after =
     → Each (IsWaiting new) before
     → Each (IsWaiting new) after
 
+-- a body of the old text is the other one in the new text
+abbrev pub CarriesBody : SameTokens → KeptBody → KeptBody → Type 0
+CarriesBody same a b =
+    (old new : List Token)
+    → HasSameTokens same old new
+    → IsBodyThere old a
+    → IsBodyThere new b
+
+-- .. where there is one
+abbrev pub CarriesAnyBody : SameTokens → Option KeptBody → Option KeptBody → Type 0
+CarriesAnyBody same a b =
+    (old new : List Token) → HasSameTokens same old new → IsBodyKept old a → IsBodyKept new b
+
 -- the procedure, at its own place
 abbrev pub IsMadeAt : Procedure → KeptProcedure → Type 0
 IsMadeAt p k =
@@ -117,9 +168,8 @@ IsMadeAt p k =
 -- ---- taking over
 
 -- a procedure whose leaves are in place, from this token on, and the index of the token after it
-pub record IsTakenAt (ts : List Token) (at : ℕ) (x : Procedure × ℕ) : Type 0 where
-  pub there : IsThere ts at x.1 (procedure_of x.0)
-  pub first : first_of (procedure_of x.0) ≡ at
+abbrev pub IsTakenAt : List Token → ℕ → Procedure × ℕ → Type 0
+IsTakenAt ts at x = IsInPlace ts at x.1 (procedure_of x.0)
 
 -- it is one of those that wait
 abbrev pub IsTakenFrom : List KeptProcedure → ℕ → Procedure × ℕ → Type 0
@@ -129,3 +179,7 @@ IsTakenFrom waiting at x = (ts : List Token) → Each (IsWaiting ts) waiting →
 abbrev pub StayWaiting : List KeptProcedure → List KeptProcedure → Type 0
 StayWaiting before after =
     (ts : List Token) → Each (IsWaiting ts) before → Each (IsWaiting ts) after
+
+-- the statements of a body whose leaves are in place, from this token on, and the index of the token after it
+abbrev pub IsTakenBody : List Token → ℕ → Vec Statement Global × ℕ → Type 0
+IsTakenBody ts at x = IsInPlace ts at x.1 (body_of (Some x.0))

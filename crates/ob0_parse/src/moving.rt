@@ -1,4 +1,4 @@
-//! A procedure's leaves, moved to where its tokens are in another text.
+//! The leaves of a procedure or of a body, moved to where its tokens are in another text.
 
 ghost use Rattle.std.specs.Prelude.{◌≡◌};
 ghost use Rattle.ob0_tree.specs.Tree.{then_name};
@@ -177,8 +177,9 @@ fn arguments(given: &mut Vec<Expression>, by: Move)
     }
 }
 
+/// Moves all leaves of a list of statements.
 #[cycle(statements)]
-fn sequence(statements: &mut Vec<Statement>, by: Move)
+pub(crate) fn sequence(statements: &mut Vec<Statement>, by: Move)
     ensures { sequence_in statements.new ≡ moved by (sequence_in statements.old) }
 {
     for i in 0..statements.len() {

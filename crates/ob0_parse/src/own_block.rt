@@ -1,21 +1,24 @@
-//! The module: its name, its own block, whose procedures may be kept ones, and its closing name.
+//! The module: its name, its own block, whose procedures and whose body may be kept ones, and its closing name.
 
-ghost use Rattle.std.specs.Prelude.{◌≡◌, ◌≤◌, length};
-ghost use Rattle.ob0_tree.specs.View.{block_of, procedure_of};
+ghost use Rattle.std.specs.Prelude.{◌≡◌, ◌≤◌, Some, IfSome, length};
+ghost use Rattle.ob0_scan.specs.declared.lexeme.TokenKind.TheVariants as kind;
+ghost use Rattle.ob0_scan.specs.declared.lexeme.Reserved.TheVariants as reserved;
+ghost use Rattle.ob0_tree.specs.View.{block_of, body_of, procedure_of};
 ghost use Rattle.ob0_tree.specs.Module.{max_nesting};
-ghost use Rattle.ob0_parse_descent.specs.Reading.{Reads, ReadsItem};
-ghost use Rattle.ob0_parse.specs.KeptTokens.{AreKept, Each, IsWaiting};
+ghost use Rattle.ob0_parse_descent.specs.Reading.{Reads, ReadsItem, Taken, TokenIs};
+ghost use Rattle.ob0_parse.specs.KeptTokens.{AreKept, Each, IsBodyKept, IsWaiting};
 ghost use Rattle.ob0_parse.specs.OwnBlock.{own_block_of, ReadsModule, ReadsOwn};
 ghost use Rattle.ob0_parse.specs.StayKept.{StayKept};
 
 use crate::kept::kept_at;
-use crate::{Kept, KeptProcedure};
+use crate::{Kept, KeptBody, KeptProcedure};
 use ob0_parse_descent::{Expected, ParseRefusal, Parsed, ParsedItem, Parser, add, missing};
 use ob0_scan::{Reserved, Symbol};
 use ob0_tree::{Block, Constant, MAX_NESTING, Procedure, Statement, TypeDeclaration, Variables};
 use std::mem;
 
-/// The declarations and the body of a module. Its procedures are left with those that are kept.
+/// The declarations and the body of a module. Its procedures are left with those that are kept; a body that is taken
+/// over is kept no longer.
 fn own_block(parser: &Parser<'_>, at: usize, kept: &mut Kept) -> Parsed<OwnParts>
     requires at { at ≤ length parser.now.tokens.now }
     requires kept { AreKept parser.now.tokens.now kept.old }
@@ -27,7 +30,7 @@ fn own_block(parser: &Parser<'_>, at: usize, kept: &mut Kept) -> Parsed<OwnParts
     let (types, next) = parser.types(next, MAX_NESTING)?;
     let (variables, next) = parser.variables(next, MAX_NESTING)?;
     let next = own_procedures(parser, next, kept)?;
-    let (body, next) = parser.body(next, MAX_NESTING)?;
+    let (body, next) = own_body(parser, next, &mut kept.body)?;
     Ok((
         OwnParts {
             constants,
@@ -70,6 +73,51 @@ fn own_procedure(
         Some(taken) => Ok(Some(taken)),
         None => parser.procedure(at, MAX_NESTING),
     }
+}
+
+/// The body of a module: the one that is kept, where it is here, or else the one that is read.
+fn own_body(
+    parser: &Parser<'_>,
+    at: usize,
+    kept: &mut Option<KeptBody>,
+) -> Parsed<Option<Vec<Statement>>>
+    requires at { at ≤ length parser.now.tokens.now }
+    requires kept { IsBodyKept parser.now.tokens.now kept.old }
+    ensures read { Reads body_of max_nesting parser.now.tokens.now at result }
+    ensures stay { IsBodyKept parser.now.tokens.now kept.new }
+{
+    match kept_body(parser, at, kept) {
+        Some((statements, next)) => Ok((Some(statements), next)),
+        None => parser.body(at, MAX_NESTING),
+    }
+}
+
+/// Takes the kept body where its BEGIN is this token and END is after its statements. Else it stays kept: what is
+/// before BEGIN or END may be a syntax fault, and once it is mended the body is taken over.
+fn kept_body(
+    parser: &Parser<'_>,
+    at: usize,
+    kept: &mut Option<KeptBody>,
+) -> Option<(Vec<Statement>, usize)>
+    requires kept { IsBodyKept parser.now.tokens.now kept.old }
+    ensures taken { IfSome result (λ x.
+        Taken (body_of (Some x.0)) max_nesting parser.now.tokens.now at x.1) }
+    ensures stay { IsBodyKept parser.now.tokens.now kept.new }
+{
+    let body = kept.take()?;
+    if body.at == at && is_end(parser, body.next) {
+        return Some(body.put_in_place());
+    }
+    *kept = Some(body);
+    None
+}
+
+/// Whether the reserved word END is here.
+fn is_end(parser: &Parser<'_>, at: usize) -> bool
+    requires { at ≤ length parser.now.tokens.now }
+    ensures { TokenIs (kind.Reserved reserved.End) parser.now.tokens.now at result }
+{
+    parser.expect_word(at, Reserved::End).is_ok()
 }
 
 /// The whole module: its name, its block and its closing name.

@@ -42,11 +42,18 @@ returns-in_err-next-clause-stay c =
 pub returns-in_err-body-clause-read : goal.returns-in_err-body-clause-read
 returns-in_err-body-clause-read c =
     let p = err_from_is_err_and c.from_residual-in_err-body.result c.from_residual-in_err-body.ensures.1 in
-    rw (p.1, p.2) (block_fails (fails_pass (constants_of c.in_ok-constants.constants) c.in_ok-constants.ensures (fails_pass (types_of c.in_ok-types.types) c.in_ok-types.ensures (fails_pass (variables_of c.in_ok-variables.variables) c.in_ok-variables.ensures (fails_pass (items_of procedure_of c.own_procedures.new.kept.made.items) c.in_ok-next.ensures.read c.in_err-body.ensures)))))
+    rw (p.1, p.2) (block_fails (fails_pass (constants_of c.in_ok-constants.constants) c.in_ok-constants.ensures (fails_pass (types_of c.in_ok-types.types) c.in_ok-types.ensures (fails_pass (variables_of c.in_ok-variables.variables) c.in_ok-variables.ensures (fails_pass (items_of procedure_of c.own_procedures.new.kept.made.items) c.in_ok-next.ensures.read c.in_err-body.ensures.read)))))
 
 pub returns-in_err-body-clause-stay : goal.returns-in_err-body-clause-stay
-returns-in_err-body-clause-stay c = stays c.in_ok-next.ensures.stay _
+returns-in_err-body-clause-stay c =
+    let kept = c.in_ok-next.ensures.stay in
+    stays (record { made = kept.made; waiting = kept.waiting; body = c.in_err-body.ensures.stay }) _
 
 pub returns-clause-read : goal.returns-clause-read
 returns-clause-read c =
-    taken_block (constants_of c.in_ok-constants.constants) (types_of c.in_ok-types.types) (variables_of c.in_ok-variables.variables) (items_of procedure_of c.own_procedures.new.kept.made.items) (body_of c.in_ok-body.body) c.in_ok-constants.ensures c.in_ok-types.ensures c.in_ok-variables.ensures c.in_ok-next.ensures.read c.in_ok-body.ensures
+    taken_block (constants_of c.in_ok-constants.constants) (types_of c.in_ok-types.types) (variables_of c.in_ok-variables.variables) (items_of procedure_of c.own_procedures.new.kept.made.items) (body_of c.in_ok-body.body) c.in_ok-constants.ensures c.in_ok-types.ensures c.in_ok-variables.ensures c.in_ok-next.ensures.read c.in_ok-body.ensures.read
+
+pub returns-clause-stay : goal.returns-clause-stay
+returns-clause-stay c =
+    let kept = c.in_ok-next.ensures.stay in
+    record { made = kept.made; waiting = kept.waiting; body = c.in_ok-body.ensures.stay }

@@ -8,7 +8,7 @@ use Rattle.ob0_parse.proofs.own_block.own_procedures.Goals as goal
 pub loop-procedure-init : goal.loop-procedure-init
 loop-procedure-init c = record {
   taking = rw c.clear.ensures.items (taking_none procedure _ _ _ c.requires.at);
-  kept = record { made = rw c.clear.ensures.items tt; waiting = c.requires.kept.waiting };
+  kept = record { made = rw c.clear.ensures.items tt; waiting = c.requires.kept.waiting; body = c.requires.kept.body };
 }
 
 pub returns-in_err-procedure-clause-read : goal.returns-in_err-procedure-clause-read
@@ -26,6 +26,7 @@ loop-procedure-preserved c =
       kept = record {
         made = rw c.in_ok-add.ensures.added (more_made ts c.loop-procedure.next c.in-Some.end ps c.in-Some.procedure c.loop-procedure.invariant.kept.made item.0 item.1);
         waiting = c.in_ok-procedure.ensures.waiting;
+        body = c.loop-procedure.invariant.kept.body;
       };
     }
 
