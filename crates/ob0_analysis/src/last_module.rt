@@ -7,7 +7,7 @@
 //! What differs is said of the whole body from the first of these texts on (`around`), since the tree goes with that
 //! text, and where the body was could not be found later. A further change must lie in the same body (`after`).
 
-ghost use Rattle.std.specs.Prelude.{IfOk, IfSome};
+ghost use Rattle.std.specs.Prelude.{◌≡◌, ◌≤◌, IfOk, IfSome, Some};
 ghost use Rattle.ob0_analysis.specs.LastModule.{HadModule, IsStillSame, StaysLast, WasLast};
 
 use ob0_scan::{SameTokens, Tokens};
@@ -41,16 +41,16 @@ impl LastModule {
         let Some(body) = place_of_body(tree, same.prefix, same.old_suffix)? else {
             return Ok(None);
         };
-        let Some(same) = around(same, body, tokens.tokens().len()) else {
+        let Some(wider) = around(same, body, tokens.tokens().len()) else {
             return Ok(None);
         };
-        let Some(place) = place_of_body(tree, same.prefix, same.old_suffix)? else {
+        let Some(place) = place_of_body(tree, wider.prefix, wider.old_suffix)? else {
             return Ok(None);
         };
         Ok(Some(LastModule {
             bindings,
             types,
-            same,
+            same: wider,
             place,
         }))
     }
@@ -59,12 +59,22 @@ impl LastModule {
     pub(crate) fn after(last: Option<LastModule>, change: SameTokens) -> Option<LastModule>
         ensures { StaysLast last change result }
     {
+        match last {
+            Some(last) => last.moved(change),
+            None => None,
+        }
+    }
+
+    /// This module, as the last one before a further change.
+    fn moved(self, change: SameTokens) -> Option<LastModule>
+        ensures { StaysLast (Some self) change result }
+    {
         let LastModule {
             bindings,
             types,
             same,
             place,
-        } = last?;
+        } = self;
         let wider = widened(change, same.prefix, same.new_suffix)?;
         Some(LastModule {
             bindings,
