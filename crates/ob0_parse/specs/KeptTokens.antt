@@ -32,8 +32,8 @@ first_of (declares_procedure name fs b closing) = name - 1
 abbrev pub end_of : Tree ℕ (item procedure) → ℕ
 end_of (declares_procedure name fs b closing) = closing + 2
 
--- The tokens from one index to another are of the kinds that the tree spells, and it isn't nested too deep for them. Its
--- leaves are in place where its first token has the index `from`.
+-- The tokens from one index to another are of the kinds that the tree spells, and it isn't nested too deep for them.
+-- Its leaves are in place where its first token has the index `from`.
 pub record IsThere {s : Sort} (ts : List Token) (from at next : ℕ) (t : Tree ℕ s) : Type 0 where
   pub spelled : spell t ≡ lexemes_by from (slice_range (kinds ts) at next)
   pub shallow : nesting t ≤ max_nesting
@@ -57,11 +57,11 @@ IsWaiting ts k =
 abbrev pub IsBodyThere : List Token → KeptBody → Type 0
 IsBodyThere ts k = IsThere ts k.from k.at k.next (body_of (Some k.statements))
 
--- a body that is kept is there
+-- .. where a body is kept
 abbrev pub IsBodyKept : List Token → Option KeptBody → Type 0
 IsBodyKept ts body = IfSome body (IsBodyThere ts)
 
--- each of them is so
+-- each of several is so
 abbrev pub Each : {A : Type 0} → (A → Type 0) → List A → Type 0
 Each P [] = Unit {0}
 Each P (x ∷ xs) = P x × Each P xs
@@ -85,7 +85,7 @@ pub record IsMadeBody
 
 -- ---- another text
 
--- what is there in the old text, from one index to another, is there in the new one, from these
+-- what is there in the old text from one index to another is there in the new one from the first of these to the second
 abbrev pub CarriesTokens : SameTokens → ℕ → ℕ → ℕ × ℕ → Type 0
 CarriesTokens same at next place =
     (s : Sort) (old new : List Token) (from : ℕ) (t : Tree ℕ s)

@@ -31,8 +31,8 @@ use ob0_scan::SameTokens;
 use ob0_tree::{ModuleTree, Procedure, Statement};
 use std::alloc::{AllocError, Global};
 
-/// A procedure that an earlier parse made. Its tokens are those from `at` up to `next`, in which its leaves are moved by
-/// as much as its first token is.
+/// A procedure that an earlier parse made. Its tokens are those from `at` up to `next`, in which its leaves are moved
+/// by as much as its first token is.
 #[derive(Drop)]
 pub struct KeptProcedure {
     pub procedure: Procedure,
@@ -111,8 +111,8 @@ impl Kept {
     }
 }
 
-/// The body of a module, where it has one and these procedures. Its BEGIN is after the last procedure, and END, which is
-/// before the closing name, is after its statements.
+/// The body of a module, where it has one and these procedures. Its BEGIN is after the last procedure; END is after its
+/// statements and before the closing name.
 fn made_body(
     made: &Vec<Procedure>,
     body: Option<Vec<Statement>>,
