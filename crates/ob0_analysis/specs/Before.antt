@@ -8,7 +8,6 @@ use Rattle.ob0_scan.specs.Scanned.{IsScan, IsScannable, Scanned}
 use Rattle.ob0_scan.specs.declared.rescanning.NotRescanned.{NotRescanned}
 use Rattle.ob0_scan.specs.declared.rescanning.NotRescanned.TheVariants as rescanned
 use Rattle.ob0_scan.specs.declared.tokens.RescanInPlace.{RescanInPlace}
-use Rattle.ob0_scan.specs.declared.tokens.SameTokens.{SameTokens}
 use Rattle.ob0_tree.specs.declared.tree.ModuleTree.{ModuleTree}
 use Rattle.ob0_tree.specs.Parsed.{IsParsed, parsed_by}
 use Rattle.ob0_scope_table.specs.Bindings.{resolution_by}

@@ -9,7 +9,6 @@ use Rattle.ob0_tree.specs.Parsed.{IsParsed, parsed_by}
 use Rattle.ob0_scope_table.specs.Bindings.{resolution_by}
 use Rattle.ob0_scope_table.specs.BodyPlaces.{body_place, tree_in}
 use Rattle.ob0_scope_table.specs.Resolution.{IsResolution}
-use Rattle.ob0_scope_table.specs.declared.one_body.BodyPlace.{BodyPlace}
 use Rattle.ob0_scope_table.specs.declared.resolved.Bindings.{Bindings}
 use Rattle.ob0_types.specs.CheckedModules.{AreTypesOf}
 use Rattle.ob0_types.specs.declared.checked.ModuleTypes.{ModuleTypes}

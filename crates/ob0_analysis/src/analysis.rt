@@ -13,7 +13,7 @@
 //! else all names are bound again and all types checked. Of a text that the parser refused the refusal stays in the
 //! same way (`refusal_stays`): a module that began with the new tokens up to that one would begin with the old ones
 //! too, once its names and numbers are theirs. So half of the keys of a statement that is being typed parse nothing.
-//! Where a kind changed, procedures of the module's own block are taken over (`tree_after` of `ob0_parse`). Where the
+//! Where a kind changed, procedures of the module's own block and its body are taken over (`tree_after`). Where the
 //! tokens that differ lie in one body of both modules, after its first identifier, what was found of all else is moved
 //! (`new_body.rt`): without that body both are spelled alike, since a body begins at the last BEGIN before its first
 //! identifier, and tokens are spelled by one tree (`body_replaced` in `proofs/NewBody.antt`). Texts that the parser refuses
