@@ -150,7 +150,7 @@ class Edited:
             start, end, new = word_at(self.text, self.chance)
         elif way < 0.78:
             start, end, new = statement_at(self.text, self.chance)
-            if way < 0.72 and is_border(self.text, start) and ways.is_module(self.text):
+            if way < 0.72 and new[0] == ";" and is_border(self.text, start) and ways.is_module(self.text):
                 return self.type(start, re.findall(r"\s*\S{1,3}|\s+", new))
         else:
             start, end = at_random(self.text, self.chance)
@@ -238,6 +238,7 @@ PLACES = ["before it", "in it", "after it"]
 WAYS = [*ways.SHORT, ways.DECLARATIONS, ways.TOKENS, ways.LEXEMES]
 FAULTS = [f"{of} {where}" for of in ("names", "types") for where in PLACES]
 KINDS = [*WAYS, *FAULTS]
+ENOUGH = 10_000  # (the rarest kinds are in few conversations, some ten of a thousand changes or none)
 
 
 def figures(conversations: list[Counter[str]]) -> str:
@@ -245,7 +246,7 @@ def figures(conversations: list[Counter[str]]) -> str:
     found: Counter[str] = sum(conversations, collections.Counter())
     count = len(conversations) * STEPS
     missing = [it for it in ["no fault", "statements without a fault", *KINDS] if not found[it]]
-    holds(count < 1000 or not missing, f"of {count:,} changes none was {missing}")
+    holds(count < ENOUGH or not missing, f"of {count:,} changes none was {missing}")
     short = sum(found[it] for it in ways.SHORT)
     holds(count < 1000 or short * 2 > count, f"of {count:,} changes only {short:,} leave what is known but for one body")
     kinds = ", ".join(f"{found[it]:,} {it}" for it in WAYS)

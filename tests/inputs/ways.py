@@ -52,6 +52,7 @@ def tree_of(text: Lexed) -> Optional[Node]:
 
 
 def is_module(text: str) -> bool:
+    """Whether a text has a tree."""
     found = lexed(text)
     return found is not None and tree_of(found) is not None
 
