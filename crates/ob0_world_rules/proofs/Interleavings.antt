@@ -19,6 +19,7 @@ use Rattle.ob0_world_rules.specs.ClientAndServer.{Open, SentAsk, Answer, Editor,
 use Rattle.ob0_world_rules.specs.Editing.{Act, stays, opens, rewrites, closes, asks, kept_answer, all_but, without_answer, done_by}
 use Rattle.ob0_world_rules.specs.Serving.{Publishes, RepliesToNotification, Replies}
 use Rattle.ob0_world_rules.specs.Happens.{Event, does, serve, take_message, after_act, after_taking, ServerTakes, Happens, Course}
+use Rattle.ob0_world_rules.specs.Editors.{opened_as}
 use Rattle.ob0_world_rules.specs.Mirror.{will_have, as_open, Mirrors}
 use Rattle.ob0_world_rules.specs.Headline.{KeepsTheRun, IsRight, last_publication, AreUpToDate, Holds}
 use Rattle.ob0_world_rules.specs.Laws.{EditsPreserveRun}
@@ -32,22 +33,25 @@ use Rattle.ob0_world_rules.proofs.Keeping.{Fits, AnswerFits, HeldFits, AsksSee, 
 -- ---- the editor's events
 
 module _ (unit : Unit) where
-  open_kept : (w : ClientAndServer) (uri text : List ℕ) → Kept unit w → Kept unit (after_act w (opens w.editor uri text))
-  open_kept w uri text kept =
-      let d : Open = record { version = 1; text = text; opening = w.editor.openings + 1 } in
-      acts_kept unit w (opens w.editor uri text) kept (later_open w.editor uri d refl)
+  pub opened_kept : (w : ClientAndServer) (uri text : List ℕ) (version : ℕ) → Kept unit w → Kept unit (after_act w (opened_as (record { version = version; text = text; opening = w.editor.openings + 1 }) w.editor uri))
+  opened_kept w uri text version kept =
+      let d : Open = record { version = version; text = text; opening = w.editor.openings + 1 } in
+      acts_kept unit w (opened_as d w.editor uri) kept (later_open w.editor uri d refl)
       (λ q x at. found w.editor.documents uri q d x (x.opening ≤ w.editor.openings + 1) at
       (λ same is. subst (λ y. y.opening ≤ w.editor.openings + 1) is (omega arith))
       (λ was. let known : x.opening ≤ w.editor.openings = kept.openings q x was in omega arith))
       refl refl (put_mirrors w uri d kept.mirror) tt (All-nil KeepsTheRun)
 
-  close_kept : (w : ClientAndServer) (uri : List ℕ) → Kept unit w → Kept unit (after_act w (closes w.editor uri))
+  open_kept : (w : ClientAndServer) (uri text : List ℕ) → Kept unit w → Kept unit (after_act w (opens w.editor uri text))
+  open_kept w uri text kept = opened_kept w uri text 1 kept
+
+  pub close_kept : (w : ClientAndServer) (uri : List ℕ) → Kept unit w → Kept unit (after_act w (closes w.editor uri))
   close_kept w uri kept =
       acts_kept unit w (closes w.editor uri) kept (later_close w.editor uri)
       (λ q x at. kept.openings q x (left w.editor.documents uri q x at))
       refl refl (remove_mirrors w uri kept.mirror) tt (All-nil KeepsTheRun)
 
-  ask_kept : (w : ClientAndServer) (uri : List ℕ) (ask : Ask) (d : Open) → open_at w.editor uri ≡ Some d → Kept unit w → Kept unit (after_act w (asks w.editor uri ask d))
+  pub ask_kept : (w : ClientAndServer) (uri : List ℕ) (ask : Ask) (d : Open) → open_at w.editor uri ≡ Some d → Kept unit w → Kept unit (after_act w (asks w.editor uri ask d))
   ask_kept w uri ask d is kept =
       let a : SentAsk = record { ask = ask; uri = uri; opening = d.opening; version = d.version } in
       let e : Editor = record w.editor { requested = w.editor.requested ++ a ∷ [] } in
@@ -65,7 +69,7 @@ module _ (unit : Unit) where
       kept.openings refl refl kept.mirror (known, tt) (All-nil KeepsTheRun)
 
   -- nothing is sent
-  still_kept : (w : ClientAndServer) → Kept unit w → Kept unit (after_act w (stays w.editor))
+  pub still_kept : (w : ClientAndServer) → Kept unit w → Kept unit (after_act w (stays w.editor))
   still_kept w kept =
       acts_kept unit w (stays w.editor) kept (later_answers w.editor w.editor.answers) kept.openings refl refl kept.mirror tt (All-nil KeepsTheRun)
 
@@ -82,7 +86,7 @@ module _ (unit : Unit) where
       go d (inl none) = absurd (cc)
       go d (inr keep) = keep
 
-  take_kept : (w : ClientAndServer) (queue : List ToEditor) → Kept unit w → All (AnswerFits unit w.editor) queue → Kept unit (after_taking w queue)
+  pub take_kept : (w : ClientAndServer) (queue : List ToEditor) → Kept unit w → All (AnswerFits unit w.editor) queue → Kept unit (after_taking w queue)
   take_kept w [] kept fit = kept
   take_kept w (publishes uri version empty ∷ rest) kept fit = rest_kept w rest kept (All-tail (AnswerFits unit w.editor) (publishes uri version empty) rest fit)
   take_kept w (answers k [] ∷ rest) kept fit = rest_kept w rest kept (All-tail (AnswerFits unit w.editor) (answers k []) rest fit)
@@ -103,7 +107,7 @@ module _ (unit : Unit) where
       go true later = All-tail P a rest all
       go false later = All-cons P a (all_but k rest) (All-head P a rest all) later
 
-  without_kept : (w : ClientAndServer) (k : ℕ) → Kept unit w → Kept unit (record w { editor = without_answer w.editor k })
+  pub without_kept : (w : ClientAndServer) (k : ℕ) → Kept unit w → Kept unit (record w { editor = without_answer w.editor k })
   without_kept w k kept =
       answers_kept unit w (all_but k w.editor.answers) w.to_editor kept (All-all_but (HeldFits unit w.editor) k w.editor.answers kept.answers_held) kept.answered
 
@@ -139,7 +143,7 @@ module _ (unit : Unit) where
   -- ---- the server's events
 
   -- the last publication for each held document was made for what is held
-  abbrev AreLatest : OpenDocuments → List Made → Type 0
+  abbrev pub AreLatest : OpenDocuments → List Made → Type 0
   AreLatest held made = (uri : List ℕ) (version : ℤ) (text : List ℕ) → document_at held uri ≡ Some (InStep version text) → IsMadeFor version text (last_publication uri made)
 
   abbrev Others : OpenDocuments → List ℕ → List Made → Type 0
@@ -282,7 +286,7 @@ module _ (unit : Unit) where
         now = quiet.now;
       }
 
-  abbrev Both : ClientAndServer → Type 0
+  abbrev pub Both : ClientAndServer → Type 0
   Both w = Kept unit w × AreLatest w.held w.made
 
   -- the first message, and those after it
@@ -290,7 +294,7 @@ module _ (unit : Unit) where
   sees_first e held (notifies note) rest h = (tt, h)
   sees_first e held (requests k uri ask) rest h = ((h.0, tt), h.1)
 
-  serve_kept : (w : ClientAndServer) (queue : List ToServer) (new : ClientAndServer) → w.to_server ≡ queue → Both w → ServerTakes w queue new → Both new
+  pub serve_kept : (w : ClientAndServer) (queue : List ToServer) (new : ClientAndServer) → w.to_server ≡ queue → Both w → ServerTakes w queue new → Both new
   serve_kept w [] new is both h = subst Both (sym h) both
   serve_kept w (m ∷ rest) new is (kept, now) (said, more, may, is_new) =
       let see : Meets w.editor w.held m × AsksSee w.editor (after_message w.held m) rest = sees_first w.editor w.held m rest (subst (AsksSee w.editor w.held) is kept.requested) in
@@ -313,7 +317,7 @@ module _ (unit : Unit) where
   -- ---- all events
 
   -- the server is as it was
-  take_unmoved : (w : ClientAndServer) (queue : List ToEditor) → ((after_taking w queue).held ≡ w.held) × ((after_taking w queue).made ≡ w.made)
+  pub take_unmoved : (w : ClientAndServer) (queue : List ToEditor) → ((after_taking w queue).held ≡ w.held) × ((after_taking w queue).made ≡ w.made)
   take_unmoved w [] = (refl, refl)
   take_unmoved w (m ∷ rest) = (refl, refl)
 
@@ -331,7 +335,7 @@ module _ (unit : Unit) where
   nothing_at : {X : Type 0} (q : List ℕ) (x : X) (P : Type 0) → map_of.get (map_of.empty {X = X} {R = slice_cmp nat_cmp}) q ≡ Some x → P
   nothing_at q x P h = absurd (none-some x (sym (map_of.get-empty (slice_cmp nat_cmp) q) ∙ h))
 
-  start_kept : Both (start unit)
+  pub start_kept : Both (start unit)
   start_kept = (
     record {
       counts = refl;
@@ -347,7 +351,7 @@ module _ (unit : Unit) where
     λ uri version text at. nothing_at uri (InStep version text) (IsMadeFor version text None) at,
   )
 
-  up_to_date : (w : ClientAndServer) → Both w → w.to_server ≡ [] → AreUpToDate w.editor w.made
+  pub up_to_date : (w : ClientAndServer) → Both w → w.to_server ≡ [] → AreUpToDate w.editor w.made
   up_to_date w (kept, now) nothing_waits uri d at =
       let held : document_at w.held uri ≡ Some (as_open d) = subst (λ q. document_at (fold after_message w.held q) uri ≡ Some (as_open d)) nothing_waits (kept.mirror uri ∙ ap (option_map as_open) at) in
       now uri (pos d.version) d.text held

@@ -1,5 +1,5 @@
 -- What client and server keep, whatever happens.
-use Rattle.std.proofs.Common.{◌≡◌, ◌∙◌, ℕ, ◌+◌, ◌≤◌, Bool, true, false, cond, List, [], ◌∷◌, ◌++◌, refl, sym, ap, subst}
+use Rattle.std.proofs.Common.{◌≡◌, ◌∙◌, ℕ, ◌+◌, ◌≤◌, ◌<◌, arith, Bool, true, false, cond, List, [], ◌∷◌, ◌++◌, refl, sym, ap, subst}
 use Rattle.std.specs.Prelude.{◌⊎◌, ⊤, pos, fold, All, Some, None, option_map, ◌==◌}
 use Rattle.std.specs.Str.{bytes_eq}
 use Rattle.std.specs.FinMap as map_of
@@ -18,7 +18,7 @@ use Rattle.ob0_world_rules.specs.Mirror.{will_have, as_open, Mirrors}
 use Rattle.ob0_world_rules.specs.Headline.{KeepsTheRun, IsRight}
 use Rattle.ob0_world_rules.specs.Laws.{EditsPreserveRun}
 use Rattle.ob0_world_rules.proofs.UriLaws.{get_put, get_removed, mapped_choice}
-use Rattle.ob0_world_rules.proofs.SameDocument.{Known, Later, still_known, later_answers, later_rewrite, found}
+use Rattle.ob0_world_rules.proofs.SameDocument.{Known, Later, still_known, later_answers, later_revise, found}
 
 -- no edits, or edits that keep the run of this document
 abbrev pub Fits : Unit → List Replacement → Open → Type 0
@@ -140,15 +140,21 @@ change_mirrors w uri d new how mirror same_unit was_open is q =
     ∙ ap (λ text. map_of.get (map_of.insert (will_have w).by_uri uri (document (pos new.version) text)) q) (ap (λ u. after_changes u (Some d.text) how) same_unit ∙ is)
     ∙ put_mirror w uri new mirror q
 
+-- an open document gets another text and a greater version, and the server is sent how
+pub revise_kept : (unit : Unit) (w : ClientAndServer) (uri : List ℕ) (d new : Open) (how : List TextChange) (applied : List Applied) → Kept unit w → new.opening ≡ d.opening → d.version < new.version → open_at w.editor uri ≡ Some d
+    → after_changes w.editor.unit (Some d.text) how ≡ Some new.text → All KeepsTheRun applied
+    → Kept unit (after_act w (record { editor = record w.editor { documents = map_of.insert w.editor.documents uri new }; sent = notifies (Changed uri (pos new.version) how) ∷ []; applied = applied }))
+revise_kept unit w uri d new how applied kept same_opening rises was_open is keeps =
+    acts_kept unit w (record { editor = record w.editor { documents = map_of.insert w.editor.documents uri new }; sent = notifies (Changed uri (pos new.version) how) ∷ []; applied = applied }) kept (later_revise w.editor uri d new same_opening rises was_open)
+    (λ q x at. found w.editor.documents uri q new x (x.opening ≤ w.editor.openings) at
+    (λ same is. subst (λ y. y.opening ≤ w.editor.openings) is (subst (λ n. n ≤ w.editor.openings) (sym same_opening) (kept.openings uri d was_open)))
+    (λ was. kept.openings q x was))
+    refl refl (change_mirrors w uri d new how kept.mirror (will_unit w.held w.to_server ∙ kept.holds ∙ sym kept.counts) was_open is) tt keeps
+
 pub rewrites_kept : (unit : Unit) (w : ClientAndServer) (uri : List ℕ) (d : Open) (how : List TextChange) (text : List ℕ) (applied : List Applied) → Kept unit w → open_at w.editor uri ≡ Some d
     → after_changes w.editor.unit (Some d.text) how ≡ Some text → All KeepsTheRun applied → Kept unit (after_act w (rewrites w.editor uri d text how applied))
 rewrites_kept unit w uri d how text applied kept was_open is keeps =
-    let new : Open = record d { version = d.version + 1; text = text } in
-    acts_kept unit w (rewrites w.editor uri d text how applied) kept (later_rewrite w.editor uri d text was_open)
-    (λ q x at. found w.editor.documents uri q new x (x.opening ≤ w.editor.openings) at
-    (λ same is. subst (λ y. y.opening ≤ w.editor.openings) is (kept.openings uri d was_open))
-    (λ was. kept.openings q x was))
-    refl refl (change_mirrors w uri d new how kept.mirror (will_unit w.held w.to_server ∙ kept.holds ∙ sym kept.counts) was_open is) tt keeps
+    revise_kept unit w uri d (record d { version = d.version + 1; text = text }) how applied kept refl (omega arith) was_open is keeps
 
 -- ---- answers in the editor
 

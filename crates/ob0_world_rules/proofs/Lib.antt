@@ -18,3 +18,5 @@ pub mod UriLaws
 pub mod SameDocument
 pub mod Acts
 pub mod EditedTexts
+mod EveryEditor
+mod ModelEditor

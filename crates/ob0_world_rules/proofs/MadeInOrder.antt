@@ -77,11 +77,11 @@ act_names e = of_each e (λ done. SentNames done.editor done.sent) (record {
 
 -- ---- what waits for the server
 
-abbrev AwaitedAt : OpenDocuments → List ℕ → List Announced → Type 0
+abbrev pub AwaitedAt : OpenDocuments → List ℕ → List Announced → Type 0
 AwaitedAt held uri now = (o : Option Open) × (document_at held uri ≡ option_map as_open o) × (now ≡ announced_at uri o)
 
 -- the documents that will be published for as this message is taken, where these were held before
-abbrev Awaits : OpenDocuments → ToServer → List Announced → Type 0
+abbrev pub Awaits : OpenDocuments → ToServer → List Announced → Type 0
 Awaits held (notifies (Opened uri version text)) now = AwaitedAt (after_event held (Opened uri version text)) uri now
 Awaits held (notifies (Changed uri version how)) now = AwaitedAt (after_event held (Changed uri version how)) uri now
 Awaits held (notifies (Lost uri)) now = now ≡ []
@@ -89,12 +89,12 @@ Awaits held (notifies (Closed uri)) now = now ≡ []
 Awaits held (requests number uri ask) now = now ≡ []
 
 -- and as each message that waits is taken
-abbrev Pending : OpenDocuments → List ToServer → List Announced → Type 0
+abbrev pub Pending : OpenDocuments → List ToServer → List Announced → Type 0
 Pending held [] waiting = waiting ≡ []
 Pending held (m ∷ queue) waiting =
     (now : List Announced) × (later : List Announced) × (waiting ≡ now ++ later) × (Awaits held m now × (map versioned_uri now ≡ versions_announced m)) × Pending (after_message held m) queue later
 
-pending_push : (held : OpenDocuments) (queue : List ToServer) (m : ToServer) (waiting now : List Announced) → Pending held queue waiting → Awaits (fold after_message held queue) m now × (map versioned_uri now ≡ versions_announced m) → Pending held (queue ++ m ∷ []) (waiting ++ now)
+pub pending_push : (held : OpenDocuments) (queue : List ToServer) (m : ToServer) (waiting now : List Announced) → Pending held queue waiting → Awaits (fold after_message held queue) m now × (map versioned_uri now ≡ versions_announced m) → Pending held (queue ++ m ∷ []) (waiting ++ now)
 pending_push held [] m waiting now is awaits = (now, [], ap (λ ts. ts ++ now) is ∙ sym (append-nil now), awaits, refl)
 pending_push held (x ∷ queue) m waiting now (first, later, is, so, rest) awaits =
     (first, later ++ now, ap (λ ts. ts ++ now) is ∙ append_assoc first later now, so, pending_push (after_message held x) queue m later now rest awaits)
@@ -123,14 +123,14 @@ pending_act held queue (m ∷ rest) e waiting pending (names, alone) mirror =
     subst (λ r. Pending held (queue ++ m ∷ r) (waiting ++ announced_in e (m ∷ r))) (sym alone)
     (subst (λ ts. Pending held (queue ++ m ∷ []) (waiting ++ ts)) (sym (append-nil (announced_by e m))) (pending_sent held queue e m waiting pending names sees))
 
-pending_named : (held : OpenDocuments) (queue : List ToServer) (waiting : List Announced) → Pending held queue waiting → map versioned_uri waiting ≡ named_in queue
+pub pending_named : (held : OpenDocuments) (queue : List ToServer) (waiting : List Announced) → Pending held queue waiting → map versioned_uri waiting ≡ named_in queue
 pending_named held [] waiting is = ap (map versioned_uri) is
 pending_named held (m ∷ queue) waiting (now, later, is, so, rest) =
     ap (map versioned_uri) is ∙ map-append versioned_uri now later ∙ ap (λ ns. ns ++ map versioned_uri later) so.1 ∙ ap (λ ns. versions_announced m ++ ns) (pending_named (after_message held m) queue later rest)
 
 -- ---- what is made as a message is taken
 
-made_append : (made more : List Made) (announced later : List Announced) → AreMadeOf made announced → AreMadeOf more later → AreMadeOf (made ++ more) (announced ++ later)
+pub made_append : (made more : List Made) (announced later : List Announced) → AreMadeOf made announced → AreMadeOf more later → AreMadeOf (made ++ more) (announced ++ later)
 made_append [] more [] later h k = k
 made_append (m ∷ made) more (t ∷ announced) later h k = (h.0, made_append made more announced later h.1 k)
 made_append [] more (t ∷ announced) later h k = absurd h
@@ -146,7 +146,7 @@ awaited held uri said made now may (o, at, is) = subst (AreMadeOf made) (sym is)
 none_made : (made : List Made) (now : List Announced) → made ≡ [] → now ≡ [] → AreMadeOf made now
 none_made made now no_made none_announced = subst (AreMadeOf made) (sym none_announced) (subst (λ ms. AreMadeOf ms []) (sym no_made) tt)
 
-message_made : (held : OpenDocuments) (m : ToServer) (said : List ToEditor) (made : List Made) (now : List Announced) → Replies held m said made → Awaits held m now → AreMadeOf made now
+pub message_made : (held : OpenDocuments) (m : ToServer) (said : List ToEditor) (made : List Made) (now : List Announced) → Replies held m said made → Awaits held m now → AreMadeOf made now
 message_made held (notifies (Opened uri version text)) said made now may awaits = awaited (after_event held (Opened uri version text)) uri said made now may awaits
 message_made held (notifies (Changed uri version how)) said made now may awaits = awaited (after_event held (Changed uri version how)) uri said made now may awaits
 message_made held (notifies (Lost uri)) said made now may awaits = none_made made now may.1 awaits
@@ -156,7 +156,7 @@ message_made held (requests number uri ask) said made now (edits, answer, is_sai
 -- ---- every event
 
 -- These are announced of now, after those that publications were made for and those that wait: so it is after the event.
-record Next (announced waiting now : List Announced) (new : ClientAndServer) : Type 0 where
+pub record Next (announced waiting now : List Announced) (new : ClientAndServer) : Type 0 where
   pub done : List Announced
   pub awaits : List Announced
   pub parts : (announced ++ waiting) ++ now ≡ done ++ awaits
@@ -183,7 +183,7 @@ module _ (announced waiting : List Announced) where
   takes_next w [] made_of pending = stays w made_of pending
   takes_next w (m ∷ rest) made_of pending = stays (after_taking w (m ∷ rest)) made_of pending
 
-  serve_next : (w : ClientAndServer) (queue : List ToServer) (new : ClientAndServer) → AreMadeOf w.made announced → Pending w.held queue waiting → w.to_server ≡ queue → ServerTakes w queue new → Next announced waiting [] new
+  pub serve_next : (w : ClientAndServer) (queue : List ToServer) (new : ClientAndServer) → AreMadeOf w.made announced → Pending w.held queue waiting → w.to_server ≡ queue → ServerTakes w queue new → Next announced waiting [] new
   serve_next w [] new made_of pending is h =
       subst (Next announced waiting []) (sym h) (stays w made_of (subst (λ q. Pending w.held q waiting) (sym is) pending))
   serve_next w (m ∷ rest) new made_of (now, later, parts, awaits, following) is (said, made, may, is_new) =

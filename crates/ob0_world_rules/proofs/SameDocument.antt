@@ -1,6 +1,6 @@
 -- The hard step: a document that is the same opening with the same version as at its request has the text
 -- that it had then. No event makes such a document of another one, since opening numbers are fresh and versions rise.
-use Rattle.std.proofs.Common.{◌≡◌, ◌∙◌, ℕ, zero, suc, ◌+◌, ◌≤◌, Bool, true, false, cond, List, [], ◌∷◌, ◌++◌, length, refl, sym, ap, arith, ◌&&◌}
+use Rattle.std.proofs.Common.{◌≡◌, ◌∙◌, ℕ, zero, suc, ◌+◌, ◌≤◌, ◌<◌, Bool, true, false, cond, List, [], ◌∷◌, ◌++◌, length, refl, sym, ap, arith, ◌&&◌}
 use Rattle.std.specs.Prelude.{Option, Some, None, option_and_then, slice_get, ◌==◌}
 use Rattle.std.specs.Str.{bytes_eq}
 use Rattle.std.specs.FinMap as map_of
@@ -124,30 +124,26 @@ later_open e uri new fresh =
         omega arith
 
 -- a version that rose is the same as that of no request
-pub later_rewrite : (e : Editor) (uri : List ℕ) (d : Open) (text : List ℕ) → open_at e uri ≡ Some d
-    → Later e (record e { documents = map_of.insert e.documents uri (record { version = d.version + 1; text = text; opening = d.opening }) })
-later_rewrite e uri d text was_open =
+pub later_revise : (e : Editor) (uri : List ℕ) (d new : Open) → new.opening ≡ d.opening → d.version < new.version → open_at e uri ≡ Some d → Later e (record e { documents = map_of.insert e.documents uri new })
+later_revise e uri d new same_opening rises was_open =
     record {
       requested = λ k a is. is;
       past = λ a past. record {
         known = past.known;
         risen = λ x at opening. found e.documents uri a.uri new x (a.version ≤ x.version) at
             (λ same is. let old : a.version ≤ d.version = risen_before a past x same is opening in
-            let version : d.version + 1 ≡ x.version = ap (λ y. y.version) is in omega arith)
+            let version : new.version ≡ x.version = ap (λ y. y.version) is in omega arith)
             (λ was. past.risen x was opening);
       };
       same = λ a x past same. found e.documents uri a.uri new x (Same e a x) same.at
           (λ at is. let old : a.version ≤ d.version = risen_before a past x at is same.opening in
-          let version : d.version + 1 ≡ x.version = ap (λ y. y.version) is in
+          let version : new.version ≡ x.version = ap (λ y. y.version) is in
           let equal : x.version ≡ a.version = same.version in absurd (omega arith))
           (λ was. record { at = was; opening = same.opening; version = same.version });
     }
   where
-    new : Open
-    new = record { version = d.version + 1; text = text; opening = d.opening }
-
     risen_before : (a : SentAsk) → Past e a → (x : Open) → a.uri ≡ uri → new ≡ x → x.opening ≡ a.opening → a.version ≤ d.version
-    risen_before a past x same is opening = past.risen d (ap (open_at e) same ∙ was_open) (ap (λ y. y.opening) is ∙ opening)
+    risen_before a past x same is opening = past.risen d (ap (open_at e) same ∙ was_open) (sym same_opening ∙ ap (λ y. y.opening) is ∙ opening)
 
 pub later_close : (e : Editor) (uri : List ℕ) → Later e (record e { documents = map_of.remove e.documents uri })
 later_close e uri =

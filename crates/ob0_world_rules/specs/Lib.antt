@@ -10,3 +10,5 @@ pub mod Asks
 pub mod ClientAndServer
 pub mod Editing
 pub mod Mirror
+pub mod Editors
+pub mod EveryEditor

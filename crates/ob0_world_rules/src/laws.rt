@@ -1,6 +1,7 @@
 //! What holds of the definitions that the contracts cite.
 ghost use Rattle.ob0_world_rules.specs.Laws.{ACourseFits, AnswersAreOne, EditsKeepTheRun, InEveryInterleaving, MadeForTheEditor, OneCourse, OneReading, OneStep, ServerMirrors};
 ghost use Rattle.ob0_world_rules.specs.MadeInOrder.{MadeInOrder};
+ghost use Rattle.ob0_world_rules.specs.EveryEditor.{TheModelIsOne, WithEveryEditor};
 
 /// Whatever the order of the events, every applied edit keeps the run, and diagnostics are right.
 pub fn in_every_interleaving()
@@ -51,4 +52,15 @@ pub fn made_for_the_editor()
 /// opened, changed or edited one, in that opening, with its version and text.
 pub fn made_in_order()
     ensures { MadeInOrder }
+{}
+
+/// With every editor that keeps the protocol, whatever the order of what happens: every applied edit keeps the run,
+/// diagnostics are right, made for what the editor announced and in this order, and in the end of the present text.
+pub fn with_every_editor()
+    ensures { WithEveryEditor }
+{}
+
+/// The model's editor is one that keeps the protocol.
+pub fn the_model_is_one()
+    ensures { TheModelIsOne }
 {}

@@ -1,0 +1,291 @@
+-- What holds with every editor that keeps the protocol. Other messages apart, its moves keep what the model's acts keep.
+use Rattle.std.proofs.Common.{◌≡◌, ◌∙◌, ℕ, suc, ◌+◌, ◌<◌, cond, List, [], ◌∷◌, ◌++◌, map, length, append-nil, append_assoc, refl, sym, ap, subst}
+use Rattle.std.specs.Prelude.{pos, fold, All, Option, Some, None, option_map}
+use Rattle.std.specs.FinMap as map_of
+use Rattle.std.proofs.lemmas.Option.{same_Some, none-some}
+use Rattle.std.proofs.lemmas.List.{map-append}
+use Rattle.std.proofs.lemmas.List.Elements.{All-nil, All-push}
+use Rattle.std.proofs.lemmas.List.Sums.{fold_push}
+use Rattle.ob0_text.specs.declared.position_types.Unit.{Unit}
+use Rattle.ob0_text.specs.OpenDocuments.{OpenDocuments, Opened, Changed, Closed, document_at}
+use Rattle.ob0_world_rules.specs.Language.{WellTypedText, SameRun}
+use Rattle.ob0_world_rules.specs.Edited.{Replacement, edited, after_changes}
+use Rattle.ob0_world_rules.specs.Asks.{Ask}
+use Rattle.ob0_world_rules.specs.ClientAndServer.{Open, SentAsk, Editor, request_numbered, open_at, ToServer, notifies, requests, ToEditor, Applied, Made, ClientAndServer, start, after_message}
+use Rattle.ob0_world_rules.specs.Editing.{Done, stays, closes, asks, kept_answer, without_answer}
+use Rattle.ob0_world_rules.specs.Serving.{Replies}
+use Rattle.ob0_world_rules.specs.Happens.{after_act, after_taking, ServerTakes}
+use Rattle.ob0_world_rules.specs.Mirror.{will_have, as_open, Mirrors}
+use Rattle.ob0_world_rules.specs.Headline.{KeepsTheRun, Holds}
+use Rattle.ob0_world_rules.specs.Laws.{EditsPreserveRun}
+use Rattle.ob0_world_rules.specs.MadeInOrder.{Announced, AreMadeOf, versions_announced, named_in, versioned_uri}
+use Rattle.ob0_world_rules.specs.Editors.{Revision, Move, to_open, to_revise, to_close, to_ask, to_apply, to_drop, revised, with_document, Revises, told, AppliesAnswer, opened_as, May}
+use Rattle.ob0_world_rules.specs.EveryEditor.{EditorAndServer, nothing_yet, without_others, as_model, Turn, editor_does, editor_says, server_takes, editor_takes, after_move, TakesOne, after_one, MayHappen, MayLead, HoldsWithEditor, WithEveryEditor}
+use Rattle.ob0_world_rules.proofs.UriLaws.{get_put, uri_itself}
+use Rattle.ob0_world_rules.proofs.SameDocument.{Known, Same, later_answers}
+use Rattle.ob0_world_rules.proofs.Keeping.{AnswerFits, Kept, acts_kept, revise_kept, held_known}
+use Rattle.ob0_world_rules.proofs.Interleavings.{opened_kept, close_kept, ask_kept, still_kept, take_kept, without_kept, serve_kept, take_unmoved, start_kept, up_to_date, AreLatest, Both}
+use Rattle.ob0_world_rules.proofs.MadeInOrder.{Awaits, Pending, pending_push, pending_named, Next, serve_next}
+
+-- ---- queues with other messages
+
+pub others_append : {A : Type 0} (xs ys : List (Option A)) → without_others (xs ++ ys) ≡ without_others xs ++ without_others ys
+others_append [] ys = refl
+others_append (None ∷ xs) ys = others_append xs ys
+others_append (Some x ∷ xs) ys = ap (λ zs. x ∷ zs) (others_append xs ys)
+
+pub others_none : {A : Type 0} (xs : List A) → without_others (map Some xs) ≡ xs
+others_none [] = refl
+others_none (x ∷ xs) = ap (λ zs. x ∷ zs) (others_none xs)
+
+pub others_push : {A : Type 0} (queue : List (Option A)) (more : List A) → without_others (queue ++ map Some more) ≡ without_others queue ++ more
+others_push queue more = others_append queue (map Some more) ∙ ap (λ ms. without_others queue ++ ms) (others_none more)
+
+module _ (unit : Unit) where
+  -- ---- what every turn keeps
+
+  -- what is kept of the model's state, and the publications are made for the announced documents, in order
+  record Good (w : EditorAndServer) : Type 0 where
+    kept : Kept unit (as_model w)
+    latest : AreLatest unit w.held w.made
+    published : List Announced
+    waiting : List Announced
+    all : w.announced ≡ published ++ waiting
+    made_of : AreMadeOf w.made published
+    pending : Pending w.held (without_others w.to_server) waiting
+
+  -- a move, as the model has it
+  moved_so : (w : EditorAndServer) (done : Done) (announced : List Announced) → after_act (as_model w) done ≡ as_model (after_move w done announced)
+  moved_so w done announced i =
+      record (as_model w) {
+        editor = done.editor;
+        to_server = sym (others_push w.to_server done.sent) i;
+        applied = w.applied ++ done.applied;
+      }
+
+  -- a move that sends nothing
+  none_sent : (w : EditorAndServer) (e : Editor) (applied : List Applied) → Good w → Kept unit (after_act (as_model w) (record { editor = e; sent = []; applied = applied })) → Good (after_move w (record { editor = e; sent = []; applied = applied }) [])
+  none_sent w e applied good kept =
+      let done : Done = record { editor = e; sent = []; applied = applied } in
+      record {
+        kept = subst (Kept unit) (moved_so w done []) kept;
+        latest = good.latest;
+        published = good.published;
+        waiting = good.waiting;
+        all = append-nil w.announced ∙ good.all;
+        made_of = good.made_of;
+        pending = subst (λ q. Pending w.held q good.waiting) (sym (others_push w.to_server [] ∙ append-nil (without_others w.to_server))) good.pending;
+      }
+
+  -- and one that sends a message
+  one_sent : (w : EditorAndServer) (e : Editor) (m : ToServer) (announced : List Announced) (applied : List Applied) → Good w → Kept unit (after_act (as_model w) (record { editor = e; sent = m ∷ []; applied = applied }))
+      → ((held : OpenDocuments) → ((uri : List ℕ) → document_at (after_message held m) uri ≡ option_map as_open (open_at e uri)) → Awaits held m announced)
+      → map versioned_uri announced ≡ versions_announced m
+      → Good (after_move w (record { editor = e; sent = m ∷ []; applied = applied }) announced)
+  one_sent w e m announced applied good kept awaits names =
+      let done : Done = record { editor = e; sent = m ∷ []; applied = applied } in
+      let before : OpenDocuments = will_have (as_model w) in
+      let mirror : (uri : List ℕ) → document_at (after_message before m) uri ≡ option_map as_open (open_at e uri) =
+      λ uri. sym (ap (λ held. document_at held uri) (fold_push after_message w.held (without_others w.to_server) m)) ∙ kept.mirror uri in
+      record {
+        kept = subst (Kept unit) (moved_so w done announced) kept;
+        latest = good.latest;
+        published = good.published;
+        waiting = good.waiting ++ announced;
+        all = ap (λ ts. ts ++ announced) good.all ∙ append_assoc good.published good.waiting announced;
+        made_of = good.made_of;
+        pending = subst (λ q. Pending w.held q (good.waiting ++ announced)) (sym (others_push w.to_server (m ∷ [])))
+            (pending_push w.held (without_others w.to_server) m good.waiting announced good.pending (awaits before mirror, names));
+      }
+
+  -- ---- the editor's moves
+
+  -- a document that is put in is there
+  put_there : (held : OpenDocuments) (e : Editor) (uri : List ℕ) (d : Open) (m : ToServer) → ((q : List ℕ) → document_at (after_message held m) q ≡ option_map as_open (open_at (with_document e uri d) q)) → document_at (after_message held m) uri ≡ Some (as_open d)
+  put_there held e uri d m mirror = mirror uri ∙ ap (option_map as_open) (get_put e.documents uri d uri ∙ ap (λ b. cond b (Some d) (map_of.get e.documents uri)) (uri_itself uri))
+
+  open_good : (w : EditorAndServer) (uri text : List ℕ) (version : ℕ) → Good w
+      → Good (after_move w (opened_as (record { version = version; text = text; opening = w.editor.openings + 1 }) w.editor uri) (record { uri = uri; document = record { version = version; text = text; opening = w.editor.openings + 1 } } ∷ []))
+  open_good w uri text version good =
+      let d : Open = record { version = version; text = text; opening = w.editor.openings + 1 } in
+      let m : ToServer = notifies (Opened uri (pos version) text) in
+      one_sent w (record (with_document w.editor uri d) { openings = d.opening }) m (record { uri = uri; document = d } ∷ []) [] good
+      (opened_kept unit (as_model w) uri text version good.kept)
+      (λ held mirror. (Some d, put_there held w.editor uri d m mirror, refl))
+      refl
+
+  revisions_good : (revisions : List Revision) (w : EditorAndServer) (uri : List ℕ) (new : Editor) (announced : List Announced) (applied : List Applied) → Good w → Revises w.editor uri revisions new announced → All KeepsTheRun applied
+      → Good (after_move w (record { editor = new; sent = told uri revisions; applied = applied }) announced)
+  revisions_good [] w uri new announced applied good (is, none) keeps =
+      subst (λ ts. Good (after_move w (record { editor = new; sent = []; applied = applied }) ts)) (sym none)
+      (none_sent w new applied good
+      (subst (λ e. Kept unit (after_act (as_model w) (record { editor = e; sent = []; applied = applied }))) (sym is)
+      (acts_kept unit (as_model w) (record { editor = w.editor; sent = []; applied = applied }) good.kept (later_answers w.editor w.editor.answers) good.kept.openings refl refl good.kept.mirror tt keeps)))
+  revisions_good (r ∷ more) w uri new announced applied good (d, later, at, rises, makes, rest, is) keeps =
+      let m : ToServer = notifies (Changed uri (pos r.version) r.how) in
+      let first : Done = record { editor = with_document w.editor uri (revised d r); sent = m ∷ []; applied = [] } in
+      let one : List Announced = record { uri = uri; document = revised d r } ∷ [] in
+      let between : EditorAndServer = after_move w first one in
+      let so : Good between =
+      one_sent w first.editor m one [] good
+      (revise_kept unit (as_model w) uri d (revised d r) r.how [] good.kept refl rises at makes (All-nil KeepsTheRun))
+      (λ held mirror. (Some (revised d r), put_there held w.editor uri (revised d r) m mirror, refl))
+      refl in
+      let last : Good (after_move between (record { editor = new; sent = told uri more; applied = applied }) later) = revisions_good more between uri new later applied so rest keeps in
+      subst Good
+      (λ i. record w {
+        editor = new;
+        to_server = append_assoc w.to_server (Some m ∷ []) (map Some (told uri more)) i;
+        announced = (append_assoc w.announced one later ∙ ap (λ ts. w.announced ++ ts) (sym is)) i;
+        applied = ap (λ es. es ++ applied) (append-nil w.applied) i;
+      })
+      last
+
+  apply_good : (w : EditorAndServer) (k : ℕ) (revisions : List Revision) (done : Done) (announced : List Announced) → Good w → AppliesAnswer w.editor k revisions done announced → Good (after_move w done announced)
+  apply_good w k revisions done announced good a =
+      let e : Editor = without_answer w.editor k in
+      let known : Known w.editor k (λ d. EditsPreserveRun unit d.text a.edits) = held_known unit w.editor k w.editor.answers a.edits a.answered good.kept.answers_held in
+      let asked : known.requested ≡ a.requested = same_Some known.requested a.requested (sym known.is ∙ a.numbered) in
+      let same : Same w.editor a.requested a.document = record { at = a.is_open; opening = a.same_opening; version = a.same_version } in
+      let keep : EditsPreserveRun unit a.document.text a.edits = subst (λ x. (d : Open) → Same w.editor x d → EditsPreserveRun unit d.text a.edits) asked known.still a.document same in
+      let is : keep.after ≡ a.text = same_Some keep.after a.text (sym keep.makes ∙ ap (λ u. edited u a.document.text a.edits) (sym good.kept.counts) ∙ a.makes) in
+      let applied : Applied = record { uri = a.requested.uri; before = a.document.text; after = a.text } in
+      let keeps : KeepsTheRun applied = record { before_fits = keep.before_fits; after_fits = subst WellTypedText is keep.after_fits; same = subst (SameRun a.document.text) is keep.same } in
+      let without : EditorAndServer = record w { editor = e } in
+      let so : Good without =
+      record {
+        kept = without_kept unit (as_model w) k good.kept;
+        latest = good.latest;
+        published = good.published;
+        waiting = good.waiting;
+        all = good.all;
+        made_of = good.made_of;
+        pending = good.pending;
+      } in
+      subst (λ x. Good (after_move w x announced)) (sym a.is)
+      (revisions_good revisions without a.requested.uri a.new announced (applied ∷ []) so a.revises (All-push KeepsTheRun [] applied (All-nil KeepsTheRun) keeps))
+
+  move_good : (w : EditorAndServer) (move : Move) (done : Done) (announced : List Announced) → Good w → May w.editor move done announced → Good (after_move w done announced)
+  move_good w (to_open uri version text) done announced good (none, is, are) =
+      subst (λ x. Good (after_move w x announced)) (sym is)
+      (subst (λ ts. Good (after_move w (opened_as (record { version = version; text = text; opening = w.editor.openings + 1 }) w.editor uri) ts)) (sym are) (open_good w uri text version good))
+  move_good w (to_revise uri revisions) done announced good (new, revises, is) =
+      subst (λ x. Good (after_move w x announced)) (sym is) (revisions_good revisions w uri new announced [] good revises (All-nil KeepsTheRun))
+  move_good w (to_close uri) done announced good (d, at, is, are) =
+      subst (λ x. Good (after_move w x announced)) (sym is)
+      (subst (λ ts. Good (after_move w (closes w.editor uri) ts)) (sym are)
+      (one_sent w (closes w.editor uri).editor (notifies (Closed uri)) [] [] good (close_kept unit (as_model w) uri good.kept) (λ held mirror. refl) refl))
+  move_good w (to_ask uri ask) done announced good (d, at, is, are) =
+      subst (λ x. Good (after_move w x announced)) (sym is)
+      (subst (λ ts. Good (after_move w (asks w.editor uri ask d) ts)) (sym are)
+      (one_sent w (asks w.editor uri ask d).editor (requests (suc (length w.editor.requested)) uri ask) [] [] good (ask_kept unit (as_model w) uri ask d at good.kept) (λ held mirror. refl) refl))
+  move_good w (to_apply k revisions) done announced good may = apply_good w k revisions done announced good may
+  move_good w (to_drop k) done announced good (is, are) =
+      subst (λ x. Good (after_move w x announced)) (sym is)
+      (subst (λ ts. Good (after_move w (stays (without_answer w.editor k)) ts)) (sym are)
+      (none_sent w (without_answer w.editor k) [] good (still_kept unit (record (as_model w) { editor = without_answer w.editor k }) (without_kept unit (as_model w) k good.kept))))
+
+  -- ---- the other turns
+
+  -- where the model's state is the same, and nothing is announced or made
+  unmoved : (w new : EditorAndServer) → Good w → as_model w ≡ as_model new → w.announced ≡ new.announced → Good new
+  unmoved w new good same announced =
+      record {
+        kept = subst (Kept unit) same good.kept;
+        latest = subst (λ (x : ClientAndServer). AreLatest unit x.held x.made) same good.latest;
+        published = good.published;
+        waiting = good.waiting;
+        all = sym announced ∙ good.all;
+        made_of = subst (λ (x : ClientAndServer). AreMadeOf x.made good.published) same good.made_of;
+        pending = subst (λ (x : ClientAndServer). Pending x.held x.to_server good.waiting) same good.pending;
+      }
+
+  says_good : (w : EditorAndServer) → Good w → Good (record w { to_server = w.to_server ++ None ∷ [] })
+  says_good w good =
+      unmoved w (record w { to_server = w.to_server ++ None ∷ [] }) good
+      (λ i. record (as_model w) { to_server = sym (others_append w.to_server (None ∷ []) ∙ append-nil (without_others w.to_server)) i })
+      refl
+
+  serve_good : (w : EditorAndServer) (queue : List (Option ToServer)) (new : EditorAndServer) → w.to_server ≡ queue → Good w → TakesOne w queue new → Good new
+  serve_good w [] new waits good is = subst Good (sym is) good
+  serve_good w (None ∷ rest) new waits good (said, none, is) =
+      subst Good (sym is)
+      (unmoved w (record w { to_server = rest; to_editor = w.to_editor ++ said }) good
+      (λ i. record (as_model w) {
+        to_server = ap without_others waits i;
+        to_editor = sym (others_append w.to_editor said ∙ ap (λ ms. without_others w.to_editor ++ ms) none ∙ append-nil (without_others w.to_editor)) i;
+      })
+      refl)
+  serve_good w (Some m ∷ rest) new waits good (said, made, replies, is) =
+      let after : EditorAndServer = record w { to_server = rest; held = after_message w.held m; to_editor = w.to_editor ++ map Some said; made = w.made ++ made } in
+      let queue : List ToServer = m ∷ without_others rest in
+      let same : (as_model w).to_server ≡ queue = ap without_others waits in
+      let takes : ServerTakes (as_model w) queue (as_model after) = (said, made, replies, λ i. record (as_model after) { to_editor = others_push w.to_editor said i }) in
+      let both : Both unit (as_model after) = serve_kept unit (as_model w) queue (as_model after) same (good.kept, good.latest) takes in
+      let next : Next good.published good.waiting [] (as_model after) =
+      serve_next good.published good.waiting (as_model w) queue (as_model after) good.made_of (subst (λ q. Pending w.held q good.waiting) same good.pending) same takes in
+      subst Good (sym is)
+      (record {
+        kept = both.0;
+        latest = both.1;
+        published = next.done;
+        waiting = next.awaits;
+        all = good.all ∙ sym (append-nil (good.published ++ good.waiting)) ∙ next.parts;
+        made_of = next.made_of;
+        pending = next.pending;
+      })
+
+  take_good : (w : EditorAndServer) (queue : List (Option ToEditor)) → w.to_editor ≡ queue → Good w → Good (after_one w queue)
+  take_good w [] waits good = good
+  take_good w (None ∷ rest) waits good =
+      unmoved w (record w { to_editor = rest }) good (λ i. record (as_model w) { to_editor = ap without_others waits i }) refl
+  take_good w (Some m ∷ rest) waits good =
+      let queue : List ToEditor = m ∷ without_others rest in
+      record {
+        kept = take_kept unit (as_model w) queue good.kept (subst (All (AnswerFits unit w.editor)) (ap without_others waits) good.kept.answered);
+        latest = good.latest;
+        published = good.published;
+        waiting = good.waiting;
+        all = good.all;
+        made_of = good.made_of;
+        pending = good.pending;
+      }
+
+  -- ---- all turns
+
+  turn_good : (w : EditorAndServer) (turn : Turn) (new : EditorAndServer) → Good w → MayHappen w turn new → Good new
+  turn_good w (editor_does move) new good (done, announced, may, is) = subst Good (sym is) (move_good w move done announced good may)
+  turn_good w editor_says new good is = subst Good (sym is) (says_good w good)
+  turn_good w server_takes new good takes = serve_good w w.to_server new refl good takes
+  turn_good w editor_takes new good is = subst Good (sym is) (take_good w w.to_editor refl good)
+
+  turns_good : (turns : List Turn) (w new : EditorAndServer) → Good w → MayLead w turns new → Good new
+  turns_good [] w new good is = subst Good (sym is) good
+  turns_good (turn ∷ turns) w new good (between, happens, lead) = turns_good turns between new (turn_good w turn between good happens) lead
+
+  first_good : Good (nothing_yet unit)
+  first_good =
+      record {
+        kept = (start_kept unit).0;
+        latest = (start_kept unit).1;
+        published = [];
+        waiting = [];
+        all = refl;
+        made_of = tt;
+        pending = refl;
+      }
+
+  holds_with : (w : EditorAndServer) → Good w → HoldsWithEditor w
+  holds_with w good =
+      record {
+        holds = record { applied = good.kept.applied; made = good.kept.made; latest_made = up_to_date unit (as_model w) (good.kept, good.latest) };
+        mirrors = good.kept.mirror;
+        published = good.published;
+        waiting = good.waiting;
+        all = good.all;
+        made_of = good.made_of;
+        still_wait = pending_named w.held (without_others w.to_server) good.waiting good.pending;
+      }
+
+pub with_every_editor : WithEveryEditor
+with_every_editor unit turns w lead = holds_with unit w (turns_good unit turns (nothing_yet unit) w (first_good unit) lead)

@@ -1,0 +1,157 @@
+-- The model's editor keeps the protocol: each of its acts is a move that it may make, or leaves everything as it is.
+use Rattle.std.proofs.Common.{◌≡◌, ◌∙◌, ℕ, ◌+◌, arith, cond, List, [], ◌∷◌, ◌++◌, map, append-nil, refl, sym, ap, subst}
+use Rattle.std.specs.Prelude.{Some, None}
+use Rattle.std.specs.FinMap as map_of
+use Rattle.std.proofs.lemmas.List.{map-append}
+use Rattle.ob0_text.specs.declared.position_types.Unit.{Unit}
+use Rattle.ob0_text.specs.OpenDocuments.{TextChange, changed_text}
+use Rattle.ob0_world_rules.specs.Edited.{Replacement, edited, whole_text, after_changes}
+use Rattle.ob0_world_rules.specs.Asks.{Ask}
+use Rattle.ob0_world_rules.specs.ClientAndServer.{Open, SentAsk, Editor, request_numbered, open_at, ToServer, ToEditor, ClientAndServer, start, after_message}
+use Rattle.ob0_world_rules.specs.Editing.{Act, Done, stays, opens, rewrites, closes, asks, kept_answer, without_answer, done_by}
+use Rattle.ob0_world_rules.specs.Happens.{Event, does, serve, take_message, after_act, after_taking, ServerTakes, Happens, Course}
+use Rattle.ob0_world_rules.specs.MadeInOrder.{Announced}
+use Rattle.ob0_world_rules.specs.Editors.{Revision, Move, to_open, to_revise, to_close, to_ask, to_apply, to_drop, revised, with_document, Revises, told, AppliesAnswer, opened_as, May}
+use Rattle.ob0_world_rules.specs.EveryEditor.{EditorAndServer, nothing_yet, as_model, Turn, editor_does, editor_says, server_takes, editor_takes, after_move, TakesOne, after_one, MayHappen, MayLead, TheModelIsOne}
+use Rattle.ob0_world_rules.proofs.UriLaws.{get_put, uri_itself}
+use Rattle.ob0_world_rules.proofs.SameDocument.{Same}
+use Rattle.ob0_world_rules.proofs.Acts.{edit_of, of_each}
+use Rattle.ob0_world_rules.proofs.EveryEditor.{others_none}
+
+-- the model's state, with what was announced, and no other message
+abbrev pub from_model : ClientAndServer → List Announced → EditorAndServer
+from_model w announced =
+    record {
+      editor = w.editor;
+      to_server = map Some w.to_server;
+      held = w.held;
+      to_editor = map Some w.to_editor;
+      announced = announced;
+      applied = w.applied;
+      made = w.made;
+    }
+
+-- it may come to this, from that model's state
+record ComesTo (w : EditorAndServer) (new : ClientAndServer) : Type 0 where
+  turns : List Turn
+  announced : List Announced
+  lead : MayLead w turns (from_model new announced)
+
+-- by one turn
+by_turn : (w : EditorAndServer) (new : ClientAndServer) (turn : Turn) (announced : List Announced) → MayHappen w turn (from_model new announced) → ComesTo w new
+by_turn w new turn announced happens = record { turns = turn ∷ []; announced = announced; lead = (from_model new announced, happens, refl) }
+
+-- by none
+as_it_was : (w new : ClientAndServer) (announced : List Announced) → new ≡ w → ComesTo (from_model w announced) new
+as_it_was w new announced is = record { turns = []; announced = announced; lead = ap (λ x. from_model x announced) is }
+
+by_move : (w : ClientAndServer) (announced : List Announced) (move : Move) (done : Done) (more : List Announced) → May w.editor move done more → ComesTo (from_model w announced) (after_act w done)
+by_move w announced move done more may =
+    by_turn (from_model w announced) (after_act w done) (editor_does move) (announced ++ more)
+    (done, more, may, λ i. record (from_model (after_act w done) (announced ++ more)) { to_server = map-append Some w.to_server done.sent i })
+
+-- one version later, by one notification
+abbrev rewrite_of : ℕ → List ℕ → List TextChange → Revision
+rewrite_of version text how = record { version = version + 1; text = text; how = how }
+
+rewritten_revises : (e : Editor) (uri : List ℕ) (d : Open) (how : List TextChange) (text : List ℕ) → open_at e uri ≡ Some d → after_changes e.unit (Some d.text) how ≡ Some text
+    → Revises e uri (rewrite_of d.version text how ∷ []) (with_document e uri (revised d (rewrite_of d.version text how))) (record { uri = uri; document = revised d (rewrite_of d.version text how) } ∷ [])
+rewritten_revises e uri d how text at makes = (d, [], at, omega arith, makes, (refl, refl), refl)
+
+whole : (u : Unit) (old text : List ℕ) → after_changes u (Some old) (whole_text text ∷ []) ≡ Some text
+unfolding changed_text
+whole u old text = refl
+
+applied_so : (e : Editor) (k : ℕ) (edits : List Replacement) (a : SentAsk) (d : Open) (text : List ℕ) → kept_answer k e.answers ≡ Some edits → request_numbered e.requested k ≡ Some a → Same e a d → edited e.unit d.text edits ≡ Some text
+    → AppliesAnswer e k (rewrite_of d.version text (whole_text text ∷ []) ∷ []) (rewrites (without_answer e k) a.uri d text (whole_text text ∷ []) (edit_of a.uri d text ∷ [])) (record { uri = a.uri; document = revised d (rewrite_of d.version text (whole_text text ∷ [])) } ∷ [])
+applied_so e k edits a d text answered numbered same makes =
+    let r : Revision = rewrite_of d.version text (whole_text text ∷ []) in
+    record {
+      edits = edits;
+      answered = answered;
+      requested = a;
+      numbered = numbered;
+      document = d;
+      is_open = same.at;
+      same_opening = same.opening;
+      same_version = same.version;
+      text = text;
+      makes = makes;
+      new = with_document (without_answer e k) a.uri (revised d r);
+      revises = rewritten_revises (without_answer e k) a.uri d (whole_text text ∷ []) text same.at (whole e.unit d.text text);
+      last = revised d r;
+      then_open = get_put e.documents a.uri (revised d r) a.uri ∙ ap (λ b. cond b (Some (revised d r)) (map_of.get e.documents a.uri)) (uri_itself a.uri);
+      last_text = refl;
+      is = refl;
+    }
+
+-- nothing is done
+nothing_done : (w : ClientAndServer) → after_act w (stays w.editor) ≡ w
+nothing_done w i = record w { to_server = append-nil w.to_server i; applied = append-nil w.applied i }
+
+act_comes : (w : ClientAndServer) (announced : List Announced) (act : Act) → ComesTo (from_model w announced) (after_act w (done_by w.editor act))
+act_comes w announced =
+    of_each w.editor (λ done. ComesTo (from_model w announced) (after_act w done))
+    (record {
+      still = as_it_was w (after_act w (stays w.editor)) announced (nothing_done w);
+      opened = λ uri text none.
+          let d : Open = record { version = 1; text = text; opening = w.editor.openings + 1 } in
+          by_move w announced (to_open uri 1 text) (opens w.editor uri text) (record { uri = uri; document = d } ∷ []) (none, refl, refl);
+      changed = λ uri d how text at makes.
+          let r : Revision = rewrite_of d.version text how in
+          by_move w announced (to_revise uri (r ∷ [])) (rewrites w.editor uri d text how []) (record { uri = uri; document = revised d r } ∷ []) (with_document w.editor uri (revised d r), rewritten_revises w.editor uri d how text at makes, refl);
+      closed = λ uri d at. by_move w announced (to_close uri) (closes w.editor uri) [] (d, at, refl, refl);
+      asked = λ uri ask d at. by_move w announced (to_ask uri ask) (asks w.editor uri ask d) [] (d, at, refl, refl);
+      made = λ k edits a d text answered numbered same makes.
+          let r : Revision = rewrite_of d.version text (whole_text text ∷ []) in
+          by_move w announced (to_apply k (r ∷ [])) (rewrites (without_answer w.editor k) a.uri d text (whole_text text ∷ []) (edit_of a.uri d text ∷ [])) (record { uri = a.uri; document = revised d r } ∷ []) (applied_so w.editor k edits a d text answered numbered same makes);
+      dropped = λ k. by_move w announced (to_drop k) (stays (without_answer w.editor k)) [] (refl, refl);
+    })
+
+serve_comes : (w : ClientAndServer) (announced : List Announced) (queue : List ToServer) (new : ClientAndServer) → w.to_server ≡ queue → ServerTakes w queue new → ComesTo (from_model w announced) new
+serve_comes w announced [] new waits is = as_it_was w new announced is
+serve_comes w announced (m ∷ rest) new waits (said, made, replies, is) =
+    let takes : TakesOne (from_model w announced) (Some m ∷ map Some rest) (from_model new announced) =
+    (said, made, replies, ap (λ x. from_model x announced) is ∙ (λ i. record (from_model w announced) {
+      to_server = map Some rest;
+      held = after_message w.held m;
+      to_editor = map-append Some w.to_editor said i;
+      made = w.made ++ made;
+    })) in
+    by_turn (from_model w announced) new server_takes announced
+    (subst (λ q. TakesOne (from_model w announced) q (from_model new announced)) (ap (map Some) (sym waits)) takes)
+
+take_comes : (w : ClientAndServer) (announced : List Announced) (queue : List ToEditor) → w.to_editor ≡ queue → ComesTo (from_model w announced) (after_taking w queue)
+take_comes w announced [] waits = as_it_was w w announced refl
+take_comes w announced (m ∷ rest) waits =
+    by_turn (from_model w announced) (after_taking w (m ∷ rest)) editor_takes announced
+    (subst (λ q. from_model (after_taking w (m ∷ rest)) announced ≡ after_one (from_model w announced) (map Some q)) (sym waits) refl)
+
+event_comes : (w : ClientAndServer) (announced : List Announced) (event : Event) (new : ClientAndServer) → Happens w event new → ComesTo (from_model w announced) new
+event_comes w announced (does act) new is = subst (ComesTo (from_model w announced)) (sym is) (act_comes w announced act)
+event_comes w announced serve new happens = serve_comes w announced w.to_server new refl happens
+event_comes w announced take_message new is = subst (ComesTo (from_model w announced)) (sym is) (take_comes w announced w.to_editor refl)
+
+lead_append : (turns more : List Turn) (w between new : EditorAndServer) → MayLead w turns between → MayLead between more new → MayLead w (turns ++ more) new
+lead_append [] more w between new is lead = subst (λ x. MayLead x more new) is lead
+lead_append (turn ∷ turns) more w between new (mid, happens, rest) lead = (mid, happens, lead_append turns more mid between new rest lead)
+
+course_comes : (events : List Event) (w : ClientAndServer) (announced : List Announced) (new : ClientAndServer) → Course w events new → ComesTo (from_model w announced) new
+course_comes [] w announced new is = as_it_was w new announced is
+course_comes (event ∷ events) w announced new (between, happens, run) =
+    let first : ComesTo (from_model w announced) between = event_comes w announced event between happens in
+    let rest : ComesTo (from_model between first.announced) new = course_comes events between first.announced new run in
+    record {
+      turns = first.turns ++ rest.turns;
+      announced = rest.announced;
+      lead = lead_append first.turns rest.turns (from_model w announced) (from_model between first.announced) (from_model new rest.announced) first.lead rest.lead;
+    }
+
+-- it is the model's state again
+as_it_is : (w : ClientAndServer) (announced : List Announced) → as_model (from_model w announced) ≡ w
+as_it_is w announced i = record w { to_server = others_none w.to_server i; to_editor = others_none w.to_editor i }
+
+pub the_model_is_one : TheModelIsOne
+the_model_is_one unit events end run =
+    let c : ComesTo (from_model (start unit) []) end = course_comes events (start unit) [] end run in
+    (c.turns, from_model end c.announced, c.lead, as_it_is end c.announced)

@@ -1,0 +1,112 @@
+-- Editors that keep the protocol: what such an editor may do, and what it sends.
+-- The model's editor (`done_by`) is one of them: it does each thing in one way.
+-- Rule: LSP 3.17, Text Document Synchronization, versioned documents.
+use Rattle.std.specs.Prelude.{◌≡◌, ◌<◌, ◌+◌, ℕ, pos, List, [], ◌∷◌, map, Some, None}
+use Rattle.std.specs.FinMap as map_of
+use Rattle.ob0_text.specs.OpenDocuments.{TextChange, Opened, Changed}
+use Rattle.ob0_world_rules.specs.Edited.{Replacement, edited, after_changes}
+use Rattle.ob0_world_rules.specs.Asks.{Ask}
+use Rattle.ob0_world_rules.specs.ClientAndServer.{Open, SentAsk, Editor, request_numbered, open_at, ToServer, notifies, Applied}
+use Rattle.ob0_world_rules.specs.Editing.{Done, stays, sends, closes, asks, kept_answer, without_answer}
+use Rattle.ob0_world_rules.specs.MadeInOrder.{Announced}
+
+-- a document's next version and text, and the changes by which the server is told of them
+pub record Revision : Type 0 where
+  pub version : ℕ
+  pub text : List ℕ
+  pub how : List TextChange
+
+-- what the editor may do
+pub data Move : Type 0 where
+  -- the uri, the version and the text
+  to_open : List ℕ → ℕ → List ℕ → Move
+  -- the user's changes of an open document, sent one by one
+  to_revise : List ℕ → List Revision → Move
+  to_close : List ℕ → Move
+  to_ask : List ℕ → Ask → Move
+  -- it makes the edits of the answer with this number, sent as any changes, or drops it
+  to_apply : ℕ → List Revision → Move
+  to_drop : ℕ → Move
+
+-- ---- revisions
+
+-- the document after a revision
+abbrev pub revised : Open → Revision → Open
+revised d r = record d { version = r.version; text = r.text }
+
+-- the editor with this document open
+abbrev pub with_document : Editor → List ℕ → Open → Editor
+with_document e uri d = record e { documents = map_of.insert e.documents uri d }
+
+-- The open document is revised, again and again: each time its version rises, by one or more, and
+-- the changes that are sent make the new text of the old one, whole or by ranges, in the unit that
+-- was agreed on. These documents are announced.
+abbrev pub Revises : Editor → List ℕ → List Revision → Editor → List Announced → Type 0
+Revises e uri [] new announced = (new ≡ e) × (announced ≡ [])
+Revises e uri (r ∷ more) new announced =
+    (d : Open)
+    × (later : List Announced)
+    × (open_at e uri ≡ Some d)
+    × (d.version < r.version)
+    × (after_changes e.unit (Some d.text) r.how ≡ Some r.text)
+    × Revises (with_document e uri (revised d r)) uri more new later
+    × (announced ≡ record { uri = uri; document = revised d r } ∷ later)
+
+-- what the server is sent of revisions
+abbrev pub told : List ℕ → List Revision → List ToServer
+told uri revisions = map (λ r. notifies (Changed uri (pos r.version) r.how)) revisions
+
+-- ---- answers
+
+-- The edits of answer k are made at once, of the document that was asked about, which is the same
+-- opening with the same version, by revisions whose last has the edited text.
+pub record AppliesAnswer (e : Editor) (k : ℕ) (revisions : List Revision) (done : Done)
+    (announced : List Announced) : Type 0 where
+  pub edits : List Replacement
+  pub answered : kept_answer k e.answers ≡ Some edits
+  pub requested : SentAsk
+  pub numbered : request_numbered e.requested k ≡ Some requested
+  pub document : Open
+  pub is_open : open_at e requested.uri ≡ Some document
+  pub same_opening : document.opening ≡ requested.opening
+  pub same_version : document.version ≡ requested.version
+  pub text : List ℕ
+  pub makes : edited e.unit document.text edits ≡ Some text
+  pub new : Editor
+  pub revises : Revises (without_answer e k) requested.uri revisions new announced
+  pub last : Open
+  pub then_open : open_at new requested.uri ≡ Some last
+  pub last_text : last.text ≡ text
+  pub is : done
+      ≡ record {
+        editor = new;
+        sent = told requested.uri revisions;
+        applied = record { uri = requested.uri; before = document.text; after = text } ∷ [];
+      }
+
+-- ---- every move
+
+-- a document is opened, with any version
+abbrev pub opened_as : Open → Editor → List ℕ → Done
+opened_as d e uri =
+    sends (record (with_document e uri d) { openings = d.opening })
+    (notifies (Opened uri (pos d.version) d.text)) []
+
+-- What a move may leave, and the documents that it announces to the server. A document that is open
+-- isn't opened, and one that isn't is neither changed, closed nor asked about.
+abbrev pub May : Editor → Move → Done → List Announced → Type 0
+May e (to_open uri version text) done announced =
+    let d : Open = record { version = version; text = text; opening = e.openings + 1 } in
+    (open_at e uri ≡ None)
+    × (done ≡ opened_as d e uri)
+    × (announced ≡ record { uri = uri; document = d } ∷ [])
+May e (to_revise uri revisions) done announced =
+    (new : Editor)
+    × Revises e uri revisions new announced
+    × (done ≡ record { editor = new; sent = told uri revisions; applied = [] })
+May e (to_close uri) done announced =
+    (d : Open) × (open_at e uri ≡ Some d) × (done ≡ closes e uri) × (announced ≡ [])
+May e (to_ask uri ask) done announced =
+    (d : Open) × (open_at e uri ≡ Some d) × (done ≡ asks e uri ask d) × (announced ≡ [])
+May e (to_apply k revisions) done announced = AppliesAnswer e k revisions done announced
+May e (to_drop k) done announced = (done ≡ stays (without_answer e k)) × (announced ≡ [])

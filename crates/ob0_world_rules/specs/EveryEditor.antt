@@ -1,0 +1,161 @@
+-- What holds with every editor that keeps the protocol, in every interleaving.
+-- Rule: docs/PROMISES.md, Client and server.
+use Rattle.std.specs.Prelude.{◌≡◌, List, [], ◌∷◌, ◌++◌, map, Option, Some, None}
+use Rattle.ob0_text.specs.declared.position_types.Unit.{Unit}
+use Rattle.ob0_text.specs.OpenDocuments.{OpenDocuments, none_open}
+use Rattle.ob0_world_rules.specs.ClientAndServer.{Editor, new_editor, ToServer, ToEditor, Applied, Made, ClientAndServer, start, after_message}
+use Rattle.ob0_world_rules.specs.Editing.{Done, reads}
+use Rattle.ob0_world_rules.specs.Serving.{Replies}
+use Rattle.ob0_world_rules.specs.Happens.{Event, Course}
+use Rattle.ob0_world_rules.specs.Headline.{Holds}
+use Rattle.ob0_world_rules.specs.Mirror.{Mirrors}
+use Rattle.ob0_world_rules.specs.MadeInOrder.{Announced, AreMadeOf, named_in, versioned_uri}
+use Rattle.ob0_world_rules.specs.Editors.{Move, May}
+
+-- ---- an editor and the server
+
+-- An editor and the server. In the queues there may be other messages (`None`): requests that change
+-- nothing, as for a hover, and what is answered; notifications that are ignored.
+pub record EditorAndServer : Type 0 where
+  pub editor : Editor
+  pub to_server : List (Option ToServer)
+  -- the documents that are open in the server
+  pub held : OpenDocuments
+  pub to_editor : List (Option ToEditor)
+  -- the documents that the editor announced to the server so far
+  pub announced : List Announced
+  pub applied : List Applied
+  pub made : List Made
+
+-- nothing was opened yet, and both count positions in this unit
+abbrev pub nothing_yet : Unit → EditorAndServer
+nothing_yet unit =
+    record {
+      editor = new_editor unit;
+      to_server = [];
+      held = none_open unit;
+      to_editor = [];
+      announced = [];
+      applied = [];
+      made = [];
+    }
+
+-- the messages of a queue, but the other ones
+abbrev pub without_others : {A : Type 0} → List (Option A) → List A
+without_others [] = []
+without_others (None ∷ queue) = without_others queue
+without_others (Some message ∷ queue) = message ∷ without_others queue
+
+-- what the model says of client and server: all but the other messages
+abbrev pub as_model : EditorAndServer → ClientAndServer
+as_model w =
+    record {
+      editor = w.editor;
+      to_server = without_others w.to_server;
+      held = w.held;
+      to_editor = without_others w.to_editor;
+      applied = w.applied;
+      made = w.made;
+    }
+
+-- ---- what may happen
+
+-- one thing that may happen
+pub data Turn : Type 0 where
+  -- the editor does something
+  editor_does : Move → Turn
+  -- the editor sends another message
+  editor_says : Turn
+  -- the server takes one message, and sends what it replies
+  server_takes : Turn
+  -- the editor takes one message
+  editor_takes : Turn
+
+-- the editor has moved
+abbrev pub after_move : EditorAndServer → Done → List Announced → EditorAndServer
+after_move w done announced =
+    record w {
+      editor = done.editor;
+      to_server = w.to_server ++ map Some done.sent;
+      announced = w.announced ++ announced;
+      applied = w.applied ++ done.applied;
+    }
+
+-- The server takes the first message that waits for it. Another one changes no document, and brings
+-- other messages alone, if any.
+abbrev pub TakesOne : EditorAndServer → List (Option ToServer) → EditorAndServer → Type 0
+TakesOne w [] new = new ≡ w
+TakesOne w (None ∷ rest) new =
+    (said : List (Option ToEditor))
+    × (without_others said ≡ [])
+    × (new ≡ record w { to_server = rest; to_editor = w.to_editor ++ said })
+TakesOne w (Some message ∷ rest) new =
+    (said : List ToEditor)
+    × (made : List Made)
+    × Replies w.held message said made
+    × (new
+    ≡ record w {
+      to_server = rest;
+      held = after_message w.held message;
+      to_editor = w.to_editor ++ map Some said;
+      made = w.made ++ made;
+    })
+
+-- the editor takes the first message that waits for it
+abbrev pub after_one : EditorAndServer → List (Option ToEditor) → EditorAndServer
+after_one w [] = w
+after_one w (None ∷ rest) = record w { to_editor = rest }
+after_one w (Some message ∷ rest) =
+    record w { editor = reads w.editor message; to_editor = rest }
+
+-- at w this may happen, and leave `new`
+abbrev pub MayHappen : EditorAndServer → Turn → EditorAndServer → Type 0
+MayHappen w (editor_does move) new =
+    (done : Done)
+    × (announced : List Announced)
+    × May w.editor move done announced
+    × (new ≡ after_move w done announced)
+MayHappen w editor_says new = new ≡ record w { to_server = w.to_server ++ None ∷ [] }
+MayHappen w server_takes new = TakesOne w w.to_server new
+MayHappen w editor_takes new = new ≡ after_one w w.to_editor
+
+-- these, one after another, may lead from one state to the other
+abbrev pub MayLead : EditorAndServer → List Turn → EditorAndServer → Type 0
+MayLead w [] new = new ≡ w
+MayLead w (turn ∷ turns) new =
+    (between : EditorAndServer) × MayHappen w turn between × MayLead between turns new
+
+-- ---- the laws
+
+-- what holds of each state that is reached so
+pub record HoldsWithEditor (w : EditorAndServer) : Type 0 where
+  -- each applied edit keeps the run; each list of diagnostics is empty exactly when the text that it
+  -- was made for is a well-typed module; the latest ones are of the present text, when no message
+  -- about a document waits for the server
+  pub holds : Holds (as_model w)
+  -- the server's documents, after the messages that wait for it, are the editor's documents
+  pub mirrors : Mirrors (as_model w)
+  -- publications were made for the documents that the editor announced, one for each and in this
+  -- order; after them are those of the messages that still wait for the server
+  pub published : List Announced
+  pub waiting : List Announced
+  pub all : w.announced ≡ published ++ waiting
+  pub made_of : AreMadeOf w.made published
+  pub still_wait : map versioned_uri waiting ≡ named_in (without_others w.to_server)
+
+-- so it is with every editor that keeps the protocol, in every interleaving
+abbrev pub WithEveryEditor : Type 0
+WithEveryEditor =
+    (unit : Unit) (turns : List Turn) (w : EditorAndServer)
+    → MayLead (nothing_yet unit) turns w
+    → HoldsWithEditor w
+
+-- The model's editor keeps the protocol: whatever its events lead to may be so.
+abbrev pub TheModelIsOne : Type 0
+TheModelIsOne =
+    (unit : Unit) (events : List Event) (end : ClientAndServer)
+    → Course (start unit) events end
+    → (turns : List Turn)
+    × (w : EditorAndServer)
+    × MayLead (nothing_yet unit) turns w
+    × (as_model w ≡ end)
