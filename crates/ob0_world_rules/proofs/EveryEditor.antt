@@ -1,5 +1,5 @@
 -- What holds with every editor that keeps the protocol. Other messages apart, its moves keep what the model's acts keep.
-use Rattle.std.proofs.Common.{◌≡◌, ◌∙◌, ℕ, suc, ◌+◌, ◌<◌, cond, List, [], ◌∷◌, ◌++◌, map, length, append-nil, append_assoc, refl, sym, ap, subst}
+use Rattle.std.proofs.Common.{◌≡◌, ◌∙◌, ℕ, suc, ◌+◌, ◌<◌, cond, List, [], ◌∷◌, ◌++◌, map, length, replicate, append-nil, append_assoc, refl, sym, ap, subst}
 use Rattle.std.specs.Prelude.{pos, fold, All, Option, Some, None, option_map}
 use Rattle.std.specs.FinMap as map_of
 use Rattle.std.proofs.lemmas.Option.{same_Some, none-some}
@@ -20,9 +20,9 @@ use Rattle.ob0_world_rules.specs.Headline.{KeepsTheRun, Holds}
 use Rattle.ob0_world_rules.specs.Laws.{EditsPreserveRun}
 use Rattle.ob0_world_rules.specs.MadeInOrder.{Announced, AreMadeOf, versions_announced, named_in, versioned_uri}
 use Rattle.ob0_world_rules.specs.Editors.{Revision, Move, to_open, to_revise, to_close, to_ask, to_apply, to_drop, revised, with_document, Revises, told, AppliesAnswer, opened_as, May}
-use Rattle.ob0_world_rules.specs.EveryEditor.{EditorAndServer, nothing_yet, without_others, as_model, Turn, editor_does, editor_says, server_takes, editor_takes, after_move, TakesOne, after_one, MayHappen, MayLead, HoldsWithEditor, WithEveryEditor}
+use Rattle.ob0_world_rules.specs.EveryEditor.{EditorAndServer, nothing_yet, without_others, as_model, no_ask, without_numbers, Turn, editor_does, editor_says, server_takes, editor_takes, after_move, TakesOne, after_one, MayHappen, MayLead, HoldsWithEditor, WithEveryEditor}
 use Rattle.ob0_world_rules.proofs.UriLaws.{get_put, uri_itself}
-use Rattle.ob0_world_rules.proofs.SameDocument.{Known, Same, later_answers}
+use Rattle.ob0_world_rules.proofs.SameDocument.{Known, Same, later_answers, later_ask}
 use Rattle.ob0_world_rules.proofs.Keeping.{AnswerFits, Kept, acts_kept, revise_kept, held_known}
 use Rattle.ob0_world_rules.proofs.Interleavings.{opened_kept, close_kept, ask_kept, still_kept, take_kept, without_kept, serve_kept, take_unmoved, start_kept, up_to_date, AreLatest, Both}
 use Rattle.ob0_world_rules.proofs.MadeInOrder.{Awaits, Pending, pending_push, pending_named, Next, serve_next}
@@ -200,11 +200,19 @@ module _ (unit : Unit) where
         pending = subst (λ (x : ClientAndServer). Pending x.held x.to_server good.waiting) same good.pending;
       }
 
-  says_good : (w : EditorAndServer) → Good w → Good (record w { to_server = w.to_server ++ None ∷ [] })
-  says_good w good =
-      unmoved w (record w { to_server = w.to_server ++ None ∷ [] }) good
-      (λ i. record (as_model w) { to_server = sym (others_append w.to_server (None ∷ []) ∙ append-nil (without_others w.to_server)) i })
-      refl
+  says_good : (w : EditorAndServer) (numbers : ℕ) → Good w → Good (record w { editor = without_numbers numbers w.editor; to_server = w.to_server ++ None ∷ [] })
+  says_good w numbers good =
+      let e : Editor = without_numbers numbers w.editor in
+      let done : Done = record { editor = e; sent = []; applied = [] } in
+      let quiet : Good (after_move w done []) =
+      none_sent w e [] good (acts_kept unit (as_model w) done good.kept (later_ask w.editor (replicate numbers no_ask)) good.kept.openings refl refl good.kept.mirror tt (All-nil KeepsTheRun)) in
+      let new : EditorAndServer = record w { editor = e; to_server = w.to_server ++ None ∷ [] } in
+      unmoved (after_move w done []) new quiet
+      (λ i. record (as_model new) {
+        to_server = (others_append w.to_server [] ∙ sym (others_append w.to_server (None ∷ []))) i;
+        applied = append-nil w.applied i;
+      })
+      (append-nil w.announced)
 
   serve_good : (w : EditorAndServer) (queue : List (Option ToServer)) (new : EditorAndServer) → w.to_server ≡ queue → Good w → TakesOne w queue new → Good new
   serve_good w [] new waits good is = subst Good (sym is) good
@@ -255,7 +263,7 @@ module _ (unit : Unit) where
 
   turn_good : (w : EditorAndServer) (turn : Turn) (new : EditorAndServer) → Good w → MayHappen w turn new → Good new
   turn_good w (editor_does move) new good (done, announced, may, is) = subst Good (sym is) (move_good w move done announced good may)
-  turn_good w editor_says new good is = subst Good (sym is) (says_good w good)
+  turn_good w (editor_says numbers) new good is = subst Good (sym is) (says_good w numbers good)
   turn_good w server_takes new good takes = serve_good w w.to_server new refl good takes
   turn_good w editor_takes new good is = subst Good (sym is) (take_good w w.to_editor refl good)
 
