@@ -430,7 +430,7 @@ request_served requested k uri (format indent) params before after sent running 
 -- ---- messages
 
 -- the answers of a session that runs
-going_on : (before after : ServerState) (content : List ℕ) (sent : List (List ℕ)) → IsRunning before → Answers before content sent after → AnswersGoingOn before content sent after
+pub going_on : (before after : ServerState) (content : List ℕ) (sent : List (List ℕ)) → IsRunning before → Answers before content sent after → AnswersGoingOn before content sent after
 going_on before after content sent running h = subst (λ phase. AnswersInState phase before content sent after) running.0 h
 
 -- what comes of a content with this meaning

@@ -6,6 +6,7 @@ use Rattle.std.proofs.Common.{◌≡◌, ◌∙◌, ℕ, ◌+◌, ◌<◌, List,
 use Rattle.std.specs.Prelude.{All}
 use Rattle.std.proofs.lemmas.List.{map-append, take_more, append-nil, append_assoc}
 use Rattle.ob0_text.specs.declared.position_types.Unit.{Unit}
+use Rattle.ob0_rpc.specs.declared.clients.Client.{Client}
 use Rattle.ob0_session_server.specs.Answers as server
 use Rattle.ob0_session_server.specs.Answers.{ServerState, begins, Conversation}
 use Rattle.ob0_world.proofs.Conversing.{conversation_then, answered_once}
@@ -42,17 +43,17 @@ model_course begin (e ∷ events) end (between, step, rest) = (between.model, st
 -- ---- the session's conversation
 
 -- what passed is a conversation of a session from its beginning on
-Conversed : Wire → Type 0
+pub Conversed : Wire → Type 0
 Conversed w = Conversation server.start w.taken (w.got ++ w.to_editor) w.session
 
-takes_conversed : (q : List (List ℕ)) (old new : Wire) → TakesFirst q old new → Conversed old → Conversed new
+pub takes_conversed : (q : List (List ℕ)) (old new : Wire) → TakesFirst q old new → Conversed old → Conversed new
 unfolding Conversed
 takes_conversed [] old new is h = subst Conversed (sym is) h
 takes_conversed (content ∷ rest) old new (after, sent, answers, is) h =
     let more = conversation_then server.start old.taken (old.got ++ old.to_editor) old.session (content ∷ []) sent after h (answered_once old.session content sent after answers) in
     subst Conversed (sym is) (subst (λ x. Conversation server.start (old.taken ++ content ∷ []) x after) (append_assoc old.got old.to_editor sent) more)
 
-gets_conversed : (q : List (List ℕ)) (old new : Wire) → old.to_editor ≡ q → GetsFirst q old new → Conversed old → Conversed new
+pub gets_conversed : (q : List (List ℕ)) (old new : Wire) → old.to_editor ≡ q → GetsFirst q old new → Conversed old → Conversed new
 unfolding Conversed
 gets_conversed [] old new waits is h = subst Conversed (sym is) h
 gets_conversed (content ∷ rest) old new waits is h =
@@ -61,6 +62,19 @@ gets_conversed (content ∷ rest) old new waits is h =
 writes_conversed : (old new : Wire) → WritesContent old new → Conversed old → Conversed new
 unfolding Conversed
 writes_conversed old new (content, is) h = subst Conversed (sym is) h
+
+-- whatever the editor writes
+pub written_conversed : (wire : Wire) (contents : List (List ℕ)) → Conversed wire → Conversed (record wire { to_server = wire.to_server ++ contents })
+unfolding Conversed
+written_conversed wire contents h = h
+
+pub initialized_conversed : (client : Client) (taken got : List (List ℕ)) → Conversation server.start taken got (begins client) → Conversed (record { session = begins client; taken = taken; to_server = []; got = got; to_editor = [] })
+unfolding Conversed
+initialized_conversed client taken got h = subst (λ sent. Conversation server.start taken sent (begins client)) (sym (append-nil got)) h
+
+pub as_conversation : (wire : Wire) → Conversed wire → Conversation server.start wire.taken (wire.got ++ wire.to_editor) wire.session
+unfolding Conversed
+as_conversation wire h = h
 
 moved_conversed : (e : Event) (old new : Wire) → MovesWire e old new → Conversed old → Conversed new
 moved_conversed (does act) old new moves h = writes_conversed old new moves h

@@ -8,3 +8,4 @@ mod Tied
 mod Stepping
 mod Conversing
 mod Versions
+mod Exchanges

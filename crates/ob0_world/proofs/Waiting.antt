@@ -20,7 +20,7 @@ use Rattle.ob0_world.specs.Queues.{Contents, bytes, all_heard, all_understood, I
 -- ---- more asks
 
 module _ (requested more : List SentAsk) where
-  says_still : (m : ToServer) (content : List ℕ) → SaysToServer requested m content → SaysToServer (requested ++ more) m content
+  pub says_still : (m : ToServer) (content : List ℕ) → SaysToServer requested m content → SaysToServer (requested ++ more) m content
   says_still (notifies note) content is = is
   says_still (requests k uri ask) content (is, of) = (is, record { sent = of.sent; is = numbered_push requested more k of.sent of.is; about = of.about; asks_this = of.asks_this })
 

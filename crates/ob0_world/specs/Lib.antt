@@ -3,3 +3,4 @@ pub mod Queues
 pub mod Seen
 pub mod Versions
 pub mod Worlds
+pub mod Exchanges

@@ -1,4 +1,5 @@
 //! What holds of client and server together.
+ghost use Rattle.ob0_world.specs.Exchanges.{EveryExchangeIsOfTheModel};
 ghost use Rattle.ob0_world.specs.Versions.{VersionsAreNamed, VersionsSuffice};
 
 /// An answer with edits names the document that was asked about, with the version that it had then, as
@@ -11,4 +12,10 @@ pub fn versions_are_named()
 /// opened again, makes of each answer what the editor of the model makes of it.
 pub fn versions_suffice()
     ensures { VersionsSuffice }
+{}
+
+/// What an editor that keeps the protocol and a session of the server exchange is of the model of every editor, turn by
+/// turn: so every edit that the editor applies keeps the run, and what the session publishes is right.
+pub fn every_exchange_is_of_the_model()
+    ensures { EveryExchangeIsOfTheModel }
 {}

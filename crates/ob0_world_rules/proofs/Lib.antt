@@ -18,5 +18,5 @@ pub mod UriLaws
 pub mod SameDocument
 pub mod Acts
 pub mod EditedTexts
-mod EveryEditor
-mod ModelEditor
+pub mod EveryEditor
+pub mod ModelEditor

@@ -1,0 +1,203 @@
+-- An editor that keeps the protocol, and a session: what passes between them. No server of the model
+-- is in it: what the session sends is by the protocol alone (`Answers`).
+-- Rule: LSP 3.17; for a law of every editor with a session.
+use Rattle.std.specs.Prelude.{◌≡◌, ◌⊎◌, ⊤, ℕ, List, [], ◌∷◌, ◌++◌, Bool, true, false, Option, Some, None, Result, Ok, Err, codes}
+use Rattle.std.specs.Str.{bytes_eq}
+use Rattle.serde_json.specs.Data.{Data}
+use Rattle.ob0_text.specs.declared.position_types.Unit.{Unit}
+use Rattle.ob0_rpc.specs.declared.clients.Client.{Client}
+use Rattle.ob0_rpc.specs.declared.incoming.RpcFault.{RpcFault}
+use Rattle.ob0_rpc.specs.Messages.{ReadsContent, MessageMeaning, not_json, not_a_message, response, request, notice, meaning_of}
+use Rattle.ob0_rpc.specs.Notifications.{other, note_of}
+use Rattle.ob0_rpc.specs.Requesting as asked
+use Rattle.ob0_rpc.specs.Requesting.{ClientRequest, request_by_method}
+use Rattle.ob0_session_server.specs.Answers as server
+use Rattle.ob0_session_server.specs.Answers.{begins, Conversation}
+use Rattle.ob0_session_server.specs.Units.{unit_for}
+use Rattle.ob0_world_editor.specs.Heard.{request_number, SaysToServer}
+use Rattle.ob0_world_editor.specs.Understood.{understood}
+use Rattle.ob0_world_rules.specs.ClientAndServer.{SentAsk, Editor, new_editor, request_numbered, ToServer, ToEditor, answers, Applied}
+use Rattle.ob0_world_rules.specs.Editing.{Done, reads}
+use Rattle.ob0_world_rules.specs.Editors.{Move, May}
+use Rattle.ob0_world_rules.specs.EveryEditor.{EditorAndServer, nothing_yet, no_ask, without_numbers, Turn, editor_does, editor_says, server_takes, editor_takes, MayLead, HoldsWithEditor}
+use Rattle.ob0_world_rules.specs.MadeInOrder.{Announced}
+use Rattle.ob0_world.specs.Worlds.{Wire, TakesFirst, AllSay}
+
+-- an editor and a session, with the contents that pass; the documents that the editor announced, and
+-- the edits that it applied
+pub record Exchange : Type 0 where
+  pub editor : Editor
+  pub wire : Wire
+  pub announced : List Announced
+  pub applied : List Applied
+
+-- The session was initialized by a client that takes edits of documents with versions, and code
+-- actions with edits, and that counts positions in this unit. Nothing else has passed, or errors did.
+pub record BeginsExchange (unit : Unit) (x : Exchange) : Type 0 where
+  pub client : Client
+  pub counts : unit_for client ≡ unit
+  pub takes_versions : client.takes_document_changes ≡ true
+  pub takes_actions : client.takes_literal_actions ≡ true
+  pub taken : List (List ℕ)
+  pub got : List (List ℕ)
+  pub initialized : Conversation server.start taken got (begins client)
+  pub is : x
+      ≡ record {
+        editor = new_editor unit;
+        wire = record {
+          session = begins client;
+          taken = taken;
+          to_server = [];
+          got = got;
+          to_editor = [];
+        };
+        announced = [];
+        applied = [];
+      }
+
+-- ---- other messages
+
+-- a request that changes nothing: a question, or one that the server doesn't know or can't read
+abbrev pub IsQuestion : Result ClientRequest RpcFault → Type 0
+IsQuestion (Ok (asked.initialize client)) = ⊥
+IsQuestion (Ok asked.shutdown) = ⊥
+IsQuestion (Ok (asked.hover at)) = ⊤
+IsQuestion (Ok (asked.definition at)) = ⊤
+IsQuestion (Ok (asked.references at include)) = ⊤
+IsQuestion (Ok (asked.prepare_rename at)) = ⊤
+IsQuestion (Ok (asked.rename at name)) = ⊥
+IsQuestion (Ok (asked.code_action uri range only)) = ⊥
+IsQuestion (Ok (asked.formatting uri indent)) = ⊥
+IsQuestion (Err fault) = ⊤
+
+-- where an id is a number, it is that of no ask
+abbrev pub IsOwnNumber : List SentAsk → Option ℕ → Type 0
+IsOwnNumber requested (Some k) = request_numbered requested k ≡ Some no_ask
+IsOwnNumber requested None = ⊤
+
+-- it says nothing of documents, and asks for no edit: a request that changes nothing, a notification
+-- that is ignored, or a response
+abbrev pub IsOtherMessage : List SentAsk → MessageMeaning → Type 0
+IsOtherMessage requested not_json = ⊥
+IsOtherMessage requested not_a_message = ⊥
+IsOtherMessage requested response = ⊤
+IsOtherMessage requested (request id method params) =
+    (bytes_eq method (codes "initialize") ≡ false)
+    × IsQuestion (request_by_method method params)
+    × IsOwnNumber requested (request_number id)
+IsOtherMessage requested (notice method params) = note_of method params ≡ other
+
+-- a content that says such a thing
+abbrev pub IsOther : List SentAsk → List ℕ → Type 0
+IsOther requested content =
+    (json : Data) × ReadsContent content (Some json) × IsOtherMessage requested (meaning_of json)
+
+-- ---- what may happen
+
+-- what the editor makes of a content: an answer with edits to an ask of its own is kept
+abbrev pub reads_meaning : Editor → Option ToEditor → Editor
+reads_meaning e None = e
+reads_meaning e (Some message) = reads e message
+
+-- the editor gets the first content that waits for it
+abbrev pub GetsOne : List (List ℕ) → Exchange → Exchange → Type 0
+GetsOne [] old new = new ≡ old
+GetsOne (content ∷ rest) old new =
+    new
+    ≡ record old {
+      editor = reads_meaning old.editor (understood old.editor.requested content);
+      wire = record old.wire { got = old.wire.got ++ content ∷ []; to_editor = rest };
+    }
+
+-- the editor writes these contents
+abbrev pub with_contents : Wire → List (List ℕ) → Wire
+with_contents wire contents = record wire { to_server = wire.to_server ++ contents }
+
+-- at `old` this may happen, and leave `new`
+abbrev pub Exchanges : Exchange → Turn → Exchange → Type 0
+Exchanges old (editor_does move) new =
+    (done : Done)
+    × (announced : List Announced)
+    × (contents : List (List ℕ))
+    × May old.editor move done announced
+    × AllSay done.editor.requested done.sent contents
+    × (new
+    ≡ record {
+      editor = done.editor;
+      wire = with_contents old.wire contents;
+      announced = old.announced ++ announced;
+      applied = old.applied ++ done.applied;
+    })
+Exchanges old (editor_says numbers) new =
+    (content : List ℕ)
+    × IsOther (without_numbers numbers old.editor).requested content
+    × (new
+    ≡ record old {
+      editor = without_numbers numbers old.editor;
+      wire = with_contents old.wire (content ∷ []);
+    })
+Exchanges old server_takes new =
+    (wire : Wire)
+    × TakesFirst old.wire.to_server old.wire wire
+    × (new ≡ record old { wire = wire })
+Exchanges old editor_takes new = GetsOne old.wire.to_editor old new
+
+-- these, one after another, may lead from one to the other
+abbrev pub ExchangeLeads : Exchange → List Turn → Exchange → Type 0
+ExchangeLeads old [] new = new ≡ old
+ExchangeLeads old (turn ∷ turns) new =
+    (between : Exchange) × Exchanges old turn between × ExchangeLeads between turns new
+
+-- ---- the law
+
+-- each content says its message to the server; to another message there is another content
+abbrev pub EachSays : List SentAsk → List (Option ToServer) → List (List ℕ) → Type 0
+EachSays requested [] [] = ⊤
+EachSays requested (Some m ∷ messages) (content ∷ contents) =
+    SaysToServer requested m content × EachSays requested messages contents
+EachSays requested (None ∷ messages) (content ∷ contents) =
+    IsOther requested content × EachSays requested messages contents
+EachSays requested [] (content ∷ contents) = ⊥
+EachSays requested (Some m ∷ messages) [] = ⊥
+EachSays requested (None ∷ messages) [] = ⊥
+
+-- it brings no edits and no diagnostics
+abbrev pub BringsNothing : Option ToEditor → Type 0
+BringsNothing meaning = (meaning ≡ None) ⊎ ((k : ℕ) × (meaning ≡ Some (answers k [])))
+
+-- each content says its message to the editor; another one brings nothing, whatever is asked later
+abbrev pub EachMeans : List SentAsk → List (Option ToEditor) → List (List ℕ) → Type 0
+EachMeans requested [] [] = ⊤
+EachMeans requested (Some m ∷ messages) (content ∷ contents) =
+    (understood requested content ≡ Some m) × EachMeans requested messages contents
+EachMeans requested (None ∷ messages) (content ∷ contents) =
+    ((more : List SentAsk) → BringsNothing (understood (requested ++ more) content))
+    × EachMeans requested messages contents
+EachMeans requested [] (content ∷ contents) = ⊥
+EachMeans requested (Some m ∷ messages) [] = ⊥
+EachMeans requested (None ∷ messages) [] = ⊥
+
+-- What has passed so is of the model, turn by turn: the editor's documents and answers are the
+-- model's editor's, the session's documents are the model's server's, and the contents that wait say
+-- the messages that wait. So what holds with every editor holds of it.
+pub record IsOfTheModel (unit : Unit) (turns : List Turn) (x : Exchange) : Type 0 where
+  pub model : EditorAndServer
+  pub leads : MayLead (nothing_yet unit) turns model
+  pub editor : model.editor ≡ x.editor
+  pub held : model.held ≡ x.wire.session.held
+  pub announced : model.announced ≡ x.announced
+  pub applied : model.applied ≡ x.applied
+  pub says : EachSays x.editor.requested model.to_server x.wire.to_server
+  pub means : EachMeans x.editor.requested model.to_editor x.wire.to_editor
+  pub holds : HoldsWithEditor model
+  -- and all of it is one conversation of a session
+  pub conversation : Conversation server.start x.wire.taken (x.wire.got ++ x.wire.to_editor)
+      x.wire.session
+
+-- so it is with every editor that keeps the protocol, and every session
+abbrev pub EveryExchangeIsOfTheModel : Type 0
+EveryExchangeIsOfTheModel =
+    (unit : Unit) (begin now : Exchange) (turns : List Turn)
+    → BeginsExchange unit begin
+    → ExchangeLeads begin turns now
+    → IsOfTheModel unit turns now
