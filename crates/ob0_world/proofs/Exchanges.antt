@@ -1,15 +1,16 @@
 -- What an editor that keeps the protocol and a session exchange is of the model, turn by turn.
 use Rattle.std.proofs.Common.{◌≡◌, ◌∙◌, ℕ, Bool, true, false, cond, List, [], ◌∷◌, ◌++◌, map, replicate, refl, sym, ap, subst, inl, inr}
-use Rattle.std.specs.Prelude.{All, Option, Some, None, Result, Ok, Err, is_some, filter_map, option_map, option_and_then, unwrap_or, codes}
+use Rattle.std.specs.Prelude.{⊤, pos, fold, All, Option, Some, None, MatchOption, Result, Ok, Err, is_some, filter_map, option_map, option_and_then, unwrap_or, codes}
 use Rattle.std.specs.List.{cons_option}
 use Rattle.std.specs.Option.{option_to_list}
-use Rattle.std.specs.Str.{bytes_eq}
-use Rattle.std.proofs.lemmas.List.{append-nil, append_assoc}
+use Rattle.std.specs.Str.{bytes_eq, is_utf8}
+use Rattle.std.proofs.lemmas.List.{append-nil, append_assoc, map-append}
 use Rattle.std.proofs.lemmas.List.Elements.{All-head, All-tail}
 use Rattle.serde_json.specs.Data.{Data}
 use Rattle.serde_json.specs.Find.{get}
+use Rattle.serde_json.specs.Read.{read}
 use Rattle.ob0_text.specs.declared.position_types.Unit.{Unit}
-use Rattle.ob0_text.specs.OpenDocuments.{Document, InStep, OutOfStep, none_open, document_at}
+use Rattle.ob0_text.specs.OpenDocuments.{OpenDocuments, Document, InStep, OutOfStep, Opened, Changed, Lost, Closed, after_event, none_open, document_at}
 use Rattle.ob0_rpc.specs.declared.incoming.RpcFault.{RpcFault}
 use Rattle.ob0_rpc.specs.Faults.{minus, error_code, error_text}
 use Rattle.ob0_rpc.specs.Messages.{ReadsContent, MessageMeaning, not_json, not_a_message, response, request, notice, meaning_of}
@@ -23,16 +24,21 @@ use Rattle.ob0_session_server.specs.Answers.{ServerState, begins, SaysReply, Sen
 use Rattle.ob0_world_editor.specs.Heard.{request_number, SaysToServer}
 use Rattle.ob0_world_editor.specs.Understood.{understood, value_understood, answer_understood, answer_to, publication_understood, workspace_items, edits_in, edits_for}
 use Rattle.ob0_world_editor.proofs.Hearing.{understood_as}
-use Rattle.ob0_world_rules.specs.ClientAndServer.{SentAsk, Editor, request_numbered, ToServer, ToEditor, publishes, answers, Made, after_message}
+use Rattle.ob0_world_rules.specs.ClientAndServer.{Open, SentAsk, Editor, request_numbered, open_at, ToServer, notifies, requests, ToEditor, publishes, answers, Made, after_message}
 use Rattle.ob0_world_rules.specs.Editing.{Done, reads, without_answer}
 use Rattle.ob0_world_rules.specs.Editors.{Revision, Move, to_open, to_revise, to_close, to_ask, to_apply, to_drop, revised, with_document, Revises, May}
-use Rattle.ob0_world_rules.specs.EveryEditor.{EditorAndServer, nothing_yet, without_others, no_ask, without_numbers, Turn, editor_does, editor_says, server_takes, editor_takes, MayHappen, MayLead}
-use Rattle.ob0_world_rules.specs.MadeInOrder.{Announced}
+use Rattle.ob0_world_rules.specs.EveryEditor.{EditorAndServer, nothing_yet, without_others, no_ask, without_numbers, Turn, editor_does, editor_says, server_takes, editor_takes, MayHappen, MayLead, HoldsWithEditor}
+use Rattle.ob0_world_rules.specs.Answers.{IsEmptyIfCorrect}
+use Rattle.ob0_world_rules.specs.Serving.{Publishes, Replies}
+use Rattle.ob0_world_rules.specs.Headline.{IsRight, last_publication}
+use Rattle.ob0_world_rules.specs.Mirror.{as_open}
+use Rattle.ob0_world_rules.specs.MadeInOrder.{Announced, AreMadeOf, named_in, versioned_uri}
+use Rattle.ob0_world_rules.proofs.UriLaws.{mapped_choice}
 use Rattle.ob0_world_rules.proofs.SameDocument.{numbered_push}
 use Rattle.ob0_world_rules.proofs.EveryEditor.{with_every_editor}
 use Rattle.ob0_world.specs.Worlds.{Wire, TakesFirst, AllSay}
 use Rattle.ob0_world.specs.Queues.{IsRunning, made_first}
-use Rattle.ob0_world.specs.Exchanges.{Exchange, BeginsExchange, IsQuestion, IsOwnNumber, IsOtherMessage, IsOther, reads_meaning, GetsOne, with_contents, Exchanges, ExchangeLeads, EachSays, BringsNothing, EachMeans, IsOfTheModel, EveryExchangeIsOfTheModel}
+use Rattle.ob0_world.specs.Exchanges.{Exchange, BeginsExchange, IsQuestion, IsOwnNumber, IsOtherMessage, IsOther, reads_meaning, GetsOne, with_contents, Exchanges, ExchangeLeads, EachSays, BringsNothing, EachMeans, IsOfTheModel, EveryExchangeIsOfTheModel, Published, with_version, published_in, AreRightOf, last_published, HoldsOfExchange, EveryExchangeHolds}
 use Rattle.ob0_world.proofs.Answering.{Served, served, going_on, reacts_so}
 use Rattle.ob0_world.proofs.Waiting.{says_still, understood_still}
 use Rattle.ob0_world.proofs.Courses.{Conversed, takes_conversed, gets_conversed, written_conversed, initialized_conversed, as_conversation}
@@ -224,6 +230,101 @@ other_served requested before after content sent running (json, reads_so, is) h 
     let answer = reacts_so before after content sent json (going_on before after content sent running h) reads_so in
     message_served requested before after sent running (meaning_of json) is answer.0 answer.1
 
+-- ---- diagnostics
+
+-- what is published is understood whatever was asked
+answer_published : (requested : List SentAsk) (d : Data) → with_version (answer_understood requested d) ≡ []
+answer_published requested d = go (option_and_then request_number (get (codes "id") d))
+  where
+    at : (k : ℕ) (o : Option SentAsk) → with_version (option_map (λ (a : SentAsk). answers k (edits_for a.ask d)) o) ≡ []
+    at k None = refl
+    at k (Some a) = refl
+
+    go : (o : Option ℕ) → with_version (option_and_then (answer_to requested d) o) ≡ []
+    go None = refl
+    go (Some k) = at k (request_numbered requested k)
+
+any_published : (requested : List SentAsk) (content : List ℕ) → with_version (understood requested content) ≡ with_version (understood [] content)
+unfolding understood
+any_published requested content = go (is_utf8 content) (read content)
+  where
+    value : (d : Data) (b : Bool) → with_version (cond b (option_and_then publication_understood (get (codes "params") d)) (answer_understood requested d)) ≡ with_version (cond b (option_and_then publication_understood (get (codes "params") d)) (answer_understood [] d))
+    value d true = refl
+    value d false = answer_published requested d ∙ sym (answer_published [] d)
+
+    go : (b : Bool) (o : Option Data) → with_version (cond b (option_and_then (value_understood requested) o) None) ≡ with_version (cond b (option_and_then (value_understood []) o) None)
+    go false o = refl
+    go true None = refl
+    go true (Some d) = value d (is_some (get (codes "method") d))
+
+nothing_published : (o : Option ToEditor) → BringsNothing o → with_version o ≡ []
+nothing_published o (inl none) = ap with_version none
+nothing_published o (inr (k, none)) = ap with_version none
+
+abbrev versions : List (Option ToEditor) → List Published
+versions [] = []
+versions (o ∷ r) = with_version o ++ versions r
+
+means_published : (requested : List SentAsk) (r : List (Option ToEditor)) (contents : List (List ℕ)) → EachMeans requested r contents → published_in contents ≡ versions r
+means_published requested [] [] h = refl
+means_published requested (Some m ∷ r) (c ∷ contents) h = λ i. (sym (any_published requested c) ∙ ap with_version h.0) i ++ means_published requested r contents h.1 i
+means_published requested (None ∷ r) (c ∷ contents) h =
+    λ i. (sym (any_published (requested ++ []) c) ∙ nothing_published (understood (requested ++ []) c) (h.0 [])) i ++ means_published requested r contents h.1 i
+means_published requested [] (c ∷ contents) h = absurd h
+means_published requested (Some m ∷ r) [] h = absurd h
+means_published requested (None ∷ r) [] h = absurd h
+
+published_append : (xs ys : List (List ℕ)) → published_in (xs ++ ys) ≡ published_in xs ++ published_in ys
+published_append [] ys = refl
+published_append (c ∷ xs) ys = ap (λ ps. with_version (understood [] c) ++ ps) (published_append xs ys) ∙ sym (append_assoc (with_version (understood [] c)) (published_in xs) (published_in ys))
+
+others_published : (said : List (Option ToEditor)) → without_others said ≡ [] → versions said ≡ []
+others_published [] none = refl
+others_published (None ∷ said) none = others_published said none
+others_published (Some m ∷ said) none = absurd (cc)
+
+-- a publication of the model, as it is sent
+abbrev named : Made → Published
+named m = record { uri = m.uri; version = m.version; empty = m.empty }
+
+publishes_named : (uri : List ℕ) (o : Option Document) (said : List ToEditor) (made : List Made) → Publishes uri o said made → versions (map Some said) ≡ map named made
+publishes_named uri (Some (InStep version text)) said made (empty, right, is_said, is_made) = ap (λ ms. versions (map Some ms)) is_said ∙ sym (ap (map named) is_made)
+publishes_named uri (Some OutOfStep) said made h = ap (λ ms. versions (map Some ms)) h.0 ∙ sym (ap (map named) h.1)
+publishes_named uri None said made h = ap (λ ms. versions (map Some ms)) h.0 ∙ sym (ap (map named) h.1)
+
+replies_named : (held : OpenDocuments) (m : ToServer) (said : List ToEditor) (made : List Made) → Replies held m said made → versions (map Some said) ≡ map named made
+replies_named held (notifies (Opened uri version text)) said made h = publishes_named uri (document_at (after_event held (Opened uri version text)) uri) said made h
+replies_named held (notifies (Changed uri version how)) said made h = publishes_named uri (document_at (after_event held (Changed uri version how)) uri) said made h
+replies_named held (notifies (Lost uri)) said made h = ap (λ ms. versions (map Some ms)) h.0 ∙ sym (ap (map named) h.1)
+replies_named held (notifies (Closed uri)) said made h = ap (λ ms. versions (map Some ms)) h.0 ∙ go (is_some (document_at held uri)) ∙ sym (ap (map named) h.1)
+  where
+    go : (b : Bool) → versions (map Some (cond b (publishes uri None true ∷ []) [])) ≡ []
+    go true = refl
+    go false = refl
+replies_named held (requests k uri ask) said made (edits, may, is_said, is_made) = ap (λ ms. versions (map Some ms)) is_said ∙ sym (ap (map named) is_made)
+
+-- what was sent since then publishes what was made
+record Shown (got : List (List ℕ)) (wire : Wire) (made : List Made) : Type 0 where
+  since : List (List ℕ)
+  sent : wire.got ++ wire.to_editor ≡ got ++ since
+  published : published_in since ≡ map named made
+
+shown_written : (got contents : List (List ℕ)) (wire : Wire) (made : List Made) → Shown got wire made → Shown got (with_contents wire contents) made
+shown_written got contents wire made h = record { since = h.since; sent = h.sent; published = h.published }
+
+shown_served : (got more taken rest : List (List ℕ)) (wire : Wire) (after : ServerState) (made these : List Made) → Shown got wire made → published_in more ≡ map named these
+    → Shown got (record wire { session = after; taken = taken; to_server = rest; to_editor = wire.to_editor ++ more }) (made ++ these)
+shown_served got more taken rest wire after made these h new =
+    record {
+      since = h.since ++ more;
+      sent = sym (append_assoc wire.got wire.to_editor more) ∙ ap (λ xs. xs ++ more) h.sent ∙ append_assoc got h.since more;
+      published = published_append h.since more ∙ (λ i. h.published i ++ new i) ∙ sym (map-append named made these);
+    }
+
+shown_got : (got rest : List (List ℕ)) (content : List ℕ) (wire : Wire) (made : List Made) → wire.to_editor ≡ content ∷ rest → Shown got wire made → Shown got (record wire { got = wire.got ++ content ∷ []; to_editor = rest }) made
+shown_got got rest content wire made waits h =
+    record { since = h.since; sent = append_assoc wire.got (content ∷ []) rest ∙ ap (λ xs. wire.got ++ xs) (sym waits) ∙ h.sent; published = h.published }
+
 -- ---- turn by turn
 
 -- the model of what has passed, with these messages
@@ -239,24 +340,25 @@ model_of x q r made =
       made = made;
     }
 
-record Tied (x : Exchange) (q : List (Option ToServer)) (r : List (Option ToEditor)) : Type 0 where
+record Tied (got : List (List ℕ)) (x : Exchange) (q : List (Option ToServer)) (r : List (Option ToEditor)) (made : List Made) : Type 0 where
   says : EachSays x.editor.requested q x.wire.to_server
   means : EachMeans x.editor.requested r x.wire.to_editor
   running : IsRunning x.wire.session
   conversed : Conversed x.wire
+  shown : Shown got x.wire made
 
-record Step (w : EditorAndServer) (turn : Turn) (y : Exchange) : Type 0 where
+record Step (got : List (List ℕ)) (w : EditorAndServer) (turn : Turn) (y : Exchange) : Type 0 where
   q : List (Option ToServer)
   r : List (Option ToEditor)
   made : List Made
   happens : MayHappen w turn (model_of y q r made)
-  tied : Tied y q r
+  tied : Tied got y q r made
 
-module _ (x : Exchange) (made : List Made) where
-  does_step : (q : List (Option ToServer)) (r : List (Option ToEditor)) (move : Move) (y : Exchange) → Tied x q r → Exchanges x (editor_does move) y → Step (model_of x q r made) (editor_does move) y
+module _ (got : List (List ℕ)) (x : Exchange) (made : List Made) where
+  does_step : (q : List (Option ToServer)) (r : List (Option ToEditor)) (move : Move) (y : Exchange) → Tied got x q r made → Exchanges x (editor_does move) y → Step got (model_of x q r made) (editor_does move) y
   does_step q r move y tied (done, announced, contents, may, say, is) =
       let more : AsksMore x.editor done = asks_more x.editor move done announced may in
-      subst (Step (model_of x q r made) (editor_does move)) (sym is)
+      subst (Step got (model_of x q r made) (editor_does move)) (sym is)
       (record {
         q = q ++ map Some done.sent;
         r = r;
@@ -269,13 +371,14 @@ module _ (x : Exchange) (made : List Made) where
           means = subst (λ asks. EachMeans asks r x.wire.to_editor) (sym more.1) (means_on x.editor.requested more.0 r x.wire.to_editor tied.means);
           running = tied.running;
           conversed = written_conversed x.wire contents tied.conversed;
+          shown = shown_written got contents x.wire made tied.shown;
         };
       })
 
-  says_step : (q : List (Option ToServer)) (r : List (Option ToEditor)) (numbers : ℕ) (y : Exchange) → Tied x q r → Exchanges x (editor_says numbers) y → Step (model_of x q r made) (editor_says numbers) y
+  says_step : (q : List (Option ToServer)) (r : List (Option ToEditor)) (numbers : ℕ) (y : Exchange) → Tied got x q r made → Exchanges x (editor_says numbers) y → Step got (model_of x q r made) (editor_says numbers) y
   says_step q r numbers y tied (content, is_other, is) =
       let more : List SentAsk = replicate numbers no_ask in
-      subst (Step (model_of x q r made) (editor_says numbers)) (sym is)
+      subst (Step got (model_of x q r made) (editor_says numbers)) (sym is)
       (record {
         q = q ++ None ∷ [];
         r = r;
@@ -286,25 +389,27 @@ module _ (x : Exchange) (made : List Made) where
           means = means_on x.editor.requested more r x.wire.to_editor tied.means;
           running = tied.running;
           conversed = written_conversed x.wire (content ∷ []) tied.conversed;
+          shown = shown_written got (content ∷ []) x.wire made tied.shown;
         };
       })
 
-  serve_step : (q : List (Option ToServer)) (r : List (Option ToEditor)) (contents : List (List ℕ)) (wire : Wire) → x.wire.to_server ≡ contents → Tied x q r → TakesFirst contents x.wire wire → Step (model_of x q r made) server_takes (record x { wire = wire })
+  serve_step : (q : List (Option ToServer)) (r : List (Option ToEditor)) (contents : List (List ℕ)) (wire : Wire) → x.wire.to_server ≡ contents → Tied got x q r made → TakesFirst contents x.wire wire → Step got (model_of x q r made) server_takes (record x { wire = wire })
   serve_step [] r [] wire waits tied is =
       record {
         q = [];
         r = r;
         made = made;
         happens = ap (λ v. model_of (record x { wire = v }) [] r made) is;
-        tied = subst (λ v. Tied (record x { wire = v }) [] r) (sym is) tied;
+        tied = subst (λ v. Tied got (record x { wire = v }) [] r made) (sym is) tied;
       }
   serve_step (Some m ∷ q) r (c ∷ rest) wire waits tied (after, sent, answered, is) =
       let says : EachSays x.editor.requested (Some m ∷ q) (c ∷ rest) = subst (EachSays x.editor.requested (Some m ∷ q)) waits tied.says in
       let s : Served x.editor.requested m x.wire.session after sent = served x.editor.requested m x.wire.session after c sent tied.running says.0 answered in
       let now : Wire = record x.wire { session = after; taken = x.wire.taken ++ c ∷ []; to_server = rest; to_editor = x.wire.to_editor ++ sent } in
       let more : List Made = option_to_list (made_first after.held s.said) in
+      let means : EachMeans x.editor.requested (map Some s.said) sent = subst (λ ms. EachMeans x.editor.requested (map Some ms) sent) s.heard.all (each_means x.editor.requested sent s.heard.each) in
       let y : Exchange = record x { wire = now } in
-      subst (λ v. Step (model_of x (Some m ∷ q) r made) server_takes (record x { wire = v })) (sym is)
+      subst (λ v. Step got (model_of x (Some m ∷ q) r made) server_takes (record x { wire = v })) (sym is)
       (record {
         q = q;
         r = r ++ map Some s.said;
@@ -312,10 +417,11 @@ module _ (x : Exchange) (made : List Made) where
         happens = (s.said, more, s.replies, λ i. record (model_of y q (r ++ map Some s.said) (made ++ more)) { held = s.held i });
         tied = record {
           says = says.1;
-          means = means_append x.editor.requested r (map Some s.said) x.wire.to_editor sent tied.means
-              (subst (λ ms. EachMeans x.editor.requested (map Some ms) sent) s.heard.all (each_means x.editor.requested sent s.heard.each));
+          means = means_append x.editor.requested r (map Some s.said) x.wire.to_editor sent tied.means means;
           running = s.running;
           conversed = takes_conversed (c ∷ rest) x.wire now (after, sent, answered, refl) tied.conversed;
+          shown = shown_served got sent (x.wire.taken ++ c ∷ []) rest x.wire after made more tied.shown
+              (means_published x.editor.requested (map Some s.said) sent means ∙ replies_named x.wire.session.held m s.said more s.replies);
         };
       })
   serve_step (None ∷ q) r (c ∷ rest) wire waits tied (after, sent, answered, is) =
@@ -323,7 +429,7 @@ module _ (x : Exchange) (made : List Made) where
       let s : OtherServed x.editor.requested x.wire.session after sent = other_served x.editor.requested x.wire.session after c sent tied.running says.0 answered in
       let now : Wire = record x.wire { session = after; taken = x.wire.taken ++ c ∷ []; to_server = rest; to_editor = x.wire.to_editor ++ sent } in
       let y : Exchange = record x { wire = now } in
-      subst (λ v. Step (model_of x (None ∷ q) r made) server_takes (record x { wire = v })) (sym is)
+      subst (λ v. Step got (model_of x (None ∷ q) r made) server_takes (record x { wire = v })) (sym is)
       (record {
         q = q;
         r = r ++ s.said;
@@ -334,6 +440,8 @@ module _ (x : Exchange) (made : List Made) where
           means = means_append x.editor.requested r s.said x.wire.to_editor sent tied.means s.means;
           running = subst IsRunning (sym s.same) tied.running;
           conversed = takes_conversed (c ∷ rest) x.wire now (after, sent, answered, refl) tied.conversed;
+          shown = subst (Shown got now) (append-nil made)
+              (shown_served got sent (x.wire.taken ++ c ∷ []) rest x.wire after made [] tied.shown (means_published x.editor.requested s.said sent s.means ∙ others_published s.said s.none));
         };
       })
   serve_step [] r (c ∷ rest) wire waits tied takes = absurd (subst (EachSays x.editor.requested []) waits tied.says)
@@ -350,72 +458,156 @@ module _ (x : Exchange) (made : List Made) where
   reads_nothing e o (inr (k, none)) = ap (reads_meaning e) none
 
   -- once the editor is this one
-  got_so : (q : List (Option ToServer)) (r rest_meant : List (Option ToEditor)) (content : List ℕ) (rest : List (List ℕ)) (e : Editor) → x.wire.to_editor ≡ content ∷ rest → Tied x q r → e.requested ≡ x.editor.requested → EachMeans x.editor.requested rest_meant rest
-      → Tied (record x { editor = e; wire = record x.wire { got = x.wire.got ++ content ∷ []; to_editor = rest } }) q rest_meant
+  got_so : (q : List (Option ToServer)) (r rest_meant : List (Option ToEditor)) (content : List ℕ) (rest : List (List ℕ)) (e : Editor) → x.wire.to_editor ≡ content ∷ rest → Tied got x q r made → e.requested ≡ x.editor.requested → EachMeans x.editor.requested rest_meant rest
+      → Tied got (record x { editor = e; wire = record x.wire { got = x.wire.got ++ content ∷ []; to_editor = rest } }) q rest_meant made
   got_so q r rest_meant content rest e waits tied same means =
       record {
         says = subst (λ asks. EachSays asks q x.wire.to_server) (sym same) tied.says;
         means = subst (λ asks. EachMeans asks rest_meant rest) (sym same) means;
         running = tied.running;
         conversed = gets_conversed (content ∷ rest) x.wire (record x.wire { got = x.wire.got ++ content ∷ []; to_editor = rest }) waits refl tied.conversed;
+        shown = shown_got got rest content x.wire made waits tied.shown;
       }
 
-  get_step : (q : List (Option ToServer)) (r : List (Option ToEditor)) (contents : List (List ℕ)) (y : Exchange) → x.wire.to_editor ≡ contents → Tied x q r → GetsOne contents x y → Step (model_of x q r made) editor_takes y
+  get_step : (q : List (Option ToServer)) (r : List (Option ToEditor)) (contents : List (List ℕ)) (y : Exchange) → x.wire.to_editor ≡ contents → Tied got x q r made → GetsOne contents x y → Step got (model_of x q r made) editor_takes y
   get_step q [] [] y waits tied is =
-      record { q = q; r = []; made = made; happens = ap (λ v. model_of v q [] made) is; tied = subst (λ v. Tied v q []) (sym is) tied }
+      record { q = q; r = []; made = made; happens = ap (λ v. model_of v q [] made) is; tied = subst (λ v. Tied got v q [] made) (sym is) tied }
   get_step q (Some m ∷ r) (c ∷ rest) y waits tied is =
       let means : EachMeans x.editor.requested (Some m ∷ r) (c ∷ rest) = subst (EachMeans x.editor.requested (Some m ∷ r)) waits tied.means in
       let now : Wire = record x.wire { got = x.wire.got ++ c ∷ []; to_editor = rest } in
-      subst (Step (model_of x q (Some m ∷ r) made) editor_takes) (sym (is ∙ (λ i. record x { editor = reads_meaning x.editor (means.0 i); wire = now })))
+      subst (Step got (model_of x q (Some m ∷ r) made) editor_takes) (sym (is ∙ (λ i. record x { editor = reads_meaning x.editor (means.0 i); wire = now })))
       (record { q = q; r = r; made = made; happens = refl; tied = got_so q (Some m ∷ r) r c rest (reads x.editor m) waits tied (reads_asks x.editor m) means.1 })
   get_step q (None ∷ r) (c ∷ rest) y waits tied is =
       let means : EachMeans x.editor.requested (None ∷ r) (c ∷ rest) = subst (EachMeans x.editor.requested (None ∷ r)) waits tied.means in
       let now : Wire = record x.wire { got = x.wire.got ++ c ∷ []; to_editor = rest } in
       let none : BringsNothing (understood x.editor.requested c) = subst (λ asks. BringsNothing (understood asks c)) (append-nil x.editor.requested) (means.0 []) in
-      subst (Step (model_of x q (None ∷ r) made) editor_takes) (sym (is ∙ (λ i. record x { editor = reads_nothing x.editor (understood x.editor.requested c) none i; wire = now })))
+      subst (Step got (model_of x q (None ∷ r) made) editor_takes) (sym (is ∙ (λ i. record x { editor = reads_nothing x.editor (understood x.editor.requested c) none i; wire = now })))
       (record { q = q; r = r; made = made; happens = refl; tied = got_so q (None ∷ r) r c rest x.editor waits tied refl means.1 })
   get_step q [] (c ∷ rest) y waits tied is = absurd (subst (EachMeans x.editor.requested []) waits tied.means)
   get_step q (Some m ∷ r) [] y waits tied is = absurd (subst (EachMeans x.editor.requested (Some m ∷ r)) waits tied.means)
   get_step q (None ∷ r) [] y waits tied is = absurd (subst (EachMeans x.editor.requested (None ∷ r)) waits tied.means)
 
-  turn_step : (q : List (Option ToServer)) (r : List (Option ToEditor)) (turn : Turn) (y : Exchange) → Tied x q r → Exchanges x turn y → Step (model_of x q r made) turn y
+  turn_step : (q : List (Option ToServer)) (r : List (Option ToEditor)) (turn : Turn) (y : Exchange) → Tied got x q r made → Exchanges x turn y → Step got (model_of x q r made) turn y
   turn_step q r (editor_does move) y tied h = does_step q r move y tied h
   turn_step q r (editor_says numbers) y tied h = says_step q r numbers y tied h
-  turn_step q r server_takes y tied (wire, takes, is) = subst (Step (model_of x q r made) server_takes) (sym is) (serve_step q r x.wire.to_server wire refl tied takes)
+  turn_step q r server_takes y tied (wire, takes, is) = subst (Step got (model_of x q r made) server_takes) (sym is) (serve_step q r x.wire.to_server wire refl tied takes)
   turn_step q r editor_takes y tied h = get_step q r x.wire.to_editor y refl tied h
 
 -- ---- all turns
 
-record Led (w : EditorAndServer) (turns : List Turn) (y : Exchange) : Type 0 where
+record Led (got : List (List ℕ)) (w : EditorAndServer) (turns : List Turn) (y : Exchange) : Type 0 where
   q : List (Option ToServer)
   r : List (Option ToEditor)
   made : List Made
   leads : MayLead w turns (model_of y q r made)
-  tied : Tied y q r
+  tied : Tied got y q r made
 
-turns_lead : (turns : List Turn) (x y : Exchange) (q : List (Option ToServer)) (r : List (Option ToEditor)) (made : List Made) → Tied x q r → ExchangeLeads x turns y → Led (model_of x q r made) turns y
-turns_lead [] x y q r made tied is = record { q = q; r = r; made = made; leads = ap (λ v. model_of v q r made) is; tied = subst (λ v. Tied v q r) (sym is) tied }
-turns_lead (turn ∷ turns) x y q r made tied (between, exchanges, rest) =
-    let step : Step (model_of x q r made) turn between = turn_step x made q r turn between tied exchanges in
-    let led : Led (model_of between step.q step.r step.made) turns y = turns_lead turns between y step.q step.r step.made step.tied rest in
+turns_lead : (got : List (List ℕ)) (turns : List Turn) (x y : Exchange) (q : List (Option ToServer)) (r : List (Option ToEditor)) (made : List Made) → Tied got x q r made → ExchangeLeads x turns y → Led got (model_of x q r made) turns y
+turns_lead got [] x y q r made tied is = record { q = q; r = r; made = made; leads = ap (λ v. model_of v q r made) is; tied = subst (λ v. Tied got v q r made) (sym is) tied }
+turns_lead got (turn ∷ turns) x y q r made tied (between, exchanges, rest) =
+    let step : Step got (model_of x q r made) turn between = turn_step got x made q r turn between tied exchanges in
+    let led : Led got (model_of between step.q step.r step.made) turns y = turns_lead got turns between y step.q step.r step.made step.tied rest in
     record { q = led.q; r = led.r; made = led.made; leads = (model_of between step.q step.r step.made, step.happens, led.leads); tied = led.tied }
+
+begun_led : (unit : Unit) (begin now : Exchange) (turns : List Turn) → BeginsExchange unit begin → ExchangeLeads begin turns now → Led begin.wire.got (nothing_yet unit) turns now
+begun_led unit begin now turns b leads =
+    let tied : Tied begin.wire.got begin [] [] [] =
+    subst (λ (x : Exchange). Tied x.wire.got x [] [] []) (sym b.is)
+    (record {
+      says = tt;
+      means = tt;
+      running = (refl, b.takes_versions, b.takes_actions);
+      conversed = initialized_conversed b.client b.taken b.got b.initialized;
+      shown = record { since = []; sent = refl; published = refl };
+    }) in
+    let first : model_of begin [] [] [] ≡ nothing_yet unit = ap (λ x. model_of x [] [] []) b.is ∙ (λ i. record (nothing_yet unit) { held = none_open (b.counts i) }) in
+    subst (λ w. Led begin.wire.got w turns now) first (turns_lead begin.wire.got turns begin now [] [] [] tied leads)
 
 pub every_exchange_is_of_the_model : EveryExchangeIsOfTheModel
 every_exchange_is_of_the_model unit begin now turns b leads =
-    let tied : Tied begin [] [] =
-    subst (λ x. Tied x [] []) (sym b.is) (record { says = tt; means = tt; running = (refl, b.takes_versions, b.takes_actions); conversed = initialized_conversed b.client b.taken b.got b.initialized }) in
-    let led : Led (model_of begin [] [] []) turns now = turns_lead turns begin now [] [] [] tied leads in
-    let first : model_of begin [] [] [] ≡ nothing_yet unit = ap (λ x. model_of x [] [] []) b.is ∙ (λ i. record (nothing_yet unit) { held = none_open (b.counts i) }) in
-    let lead : MayLead (nothing_yet unit) turns (model_of now led.q led.r led.made) = subst (λ w. MayLead w turns (model_of now led.q led.r led.made)) first led.leads in
+    let led : Led begin.wire.got (nothing_yet unit) turns now = begun_led unit begin now turns b leads in
     record {
       model = model_of now led.q led.r led.made;
-      leads = lead;
+      leads = led.leads;
       editor = refl;
       held = refl;
       announced = refl;
       applied = refl;
       says = led.tied.says;
       means = led.tied.means;
-      holds = with_every_editor unit turns (model_of now led.q led.r led.made) lead;
+      holds = with_every_editor unit turns (model_of now led.q led.r led.made) led.leads;
+      conversation = as_conversation now.wire led.tied.conversed;
+    }
+
+-- ---- the headline of an exchange
+
+-- publications that are right, and made for these documents
+right_of : (made : List Made) (announced : List Announced) → All IsRight made → AreMadeOf made announced → AreRightOf (map named made) announced
+right_of [] [] all h = tt
+right_of (m ∷ made) (t ∷ announced) all ((uri_is, version_is, text_is), rest) = (
+  uri_is,
+  version_is,
+  subst (λ text. IsEmptyIfCorrect text m.empty) text_is (All-head IsRight m made all),
+  right_of made announced (All-tail IsRight m made all) rest,
+)
+right_of [] (t ∷ announced) all h = absurd h
+right_of (m ∷ made) [] all h = absurd h
+
+-- the last publication for a uri, as it was sent
+last_named : (uri : List ℕ) (last : Option Made) (made : List Made)
+    → fold (λ last p. cond (bytes_eq p.uri uri) (Some p) last) (option_map named last) (map named made) ≡ option_map named (fold (λ last m. cond (bytes_eq m.uri uri) (Some m) last) last made)
+last_named uri last [] = refl
+last_named uri last (m ∷ made) =
+    ap (λ o. fold (λ last p. cond (bytes_eq p.uri uri) (Some p) last) o (map named made)) (sym (mapped_choice named (bytes_eq m.uri uri) (Some m) last)) ∙ last_named uri (cond (bytes_eq m.uri uri) (Some m) last) made
+
+-- what holds of all of them holds of the last
+last_right : (uri : List ℕ) (last : Option Made) (made : List Made) → MatchOption last ⊤ IsRight → All IsRight made → MatchOption (fold (λ last m. cond (bytes_eq m.uri uri) (Some m) last) last made) ⊤ IsRight
+last_right uri last [] h all = h
+last_right uri last (m ∷ made) h all = last_right uri (cond (bytes_eq m.uri uri) (Some m) last) made (go (bytes_eq m.uri uri)) (All-tail IsRight m made all)
+  where
+    go : (b : Bool) → MatchOption (cond b (Some m) last) ⊤ IsRight
+    go true = All-head IsRight m made all
+    go false = h
+
+latest_right : (d : Open) (o : Option Made) → MatchOption o ⊥ (λ m. (m.version ≡ pos d.version) × (m.text ≡ d.text)) → MatchOption o ⊤ IsRight
+    → MatchOption (option_map named o) ⊥ (λ p. (p.version ≡ pos d.version) × IsEmptyIfCorrect d.text p.empty)
+latest_right d None h right = h
+latest_right d (Some m) h right = (h.0, subst (λ text. IsEmptyIfCorrect text m.empty) h.1 right)
+
+-- nothing waits in the model where no content does
+none_waits : (requested : List SentAsk) (q : List (Option ToServer)) (contents : List (List ℕ)) → EachSays requested q contents → contents ≡ [] → q ≡ []
+none_waits requested [] [] h none = refl
+none_waits requested [] (c ∷ contents) h none = absurd h
+none_waits requested (Some m ∷ q) [] h none = absurd h
+none_waits requested (None ∷ q) [] h none = absurd h
+none_waits requested (Some m ∷ q) (c ∷ contents) h none = absurd (cc)
+none_waits requested (None ∷ q) (c ∷ contents) h none = absurd (cc)
+
+none_mapped : (ts : List Announced) → map versioned_uri ts ≡ [] → ts ≡ []
+none_mapped [] none = refl
+none_mapped (t ∷ ts) none = absurd (cc)
+
+pub every_exchange_holds : EveryExchangeHolds
+every_exchange_holds unit begin now turns b leads =
+    let led : Led begin.wire.got (nothing_yet unit) turns now = begun_led unit begin now turns b leads in
+    let w : EditorAndServer = model_of now led.q led.r led.made in
+    let holds : HoldsWithEditor w = with_every_editor unit turns w led.leads in
+    let shown : Shown begin.wire.got now.wire led.made = led.tied.shown in
+    record {
+      applied = holds.holds.applied;
+      since = shown.since;
+      sent = shown.sent;
+      published_of = holds.published;
+      not_yet = holds.waiting;
+      announced = holds.all;
+      right = subst (λ ps. AreRightOf ps holds.published) (sym shown.published) (right_of led.made holds.published holds.holds.made holds.made_of);
+      complete = λ nothing_waits. none_mapped holds.waiting (holds.still_wait ∙ ap (λ q. named_in (without_others q)) (none_waits now.editor.requested led.q now.wire.to_server led.tied.says nothing_waits));
+      latest = λ nothing_waits uri d at.
+          subst (λ o. MatchOption o ⊥ (λ p. (p.version ≡ pos d.version) × IsEmptyIfCorrect d.text p.empty)) (sym (ap (last_published uri) shown.published ∙ last_named uri None led.made))
+          (latest_right d (last_publication uri led.made)
+          (holds.holds.latest_made (ap without_others (none_waits now.editor.requested led.q now.wire.to_server led.tied.says nothing_waits)) uri d at)
+          (last_right uri None led.made tt holds.holds.made));
+      mirrors = λ nothing_waits uri.
+          subst (λ q. document_at (fold after_message now.wire.session.held (without_others q)) uri ≡ option_map as_open (open_at now.editor uri)) (none_waits now.editor.requested led.q now.wire.to_server led.tied.says nothing_waits) (holds.mirrors uri);
       conversation = as_conversation now.wire led.tied.conversed;
     }

@@ -1,10 +1,11 @@
 -- An editor that keeps the protocol, and a session: what passes between them. No server of the model
 -- is in it: what the session sends is by the protocol alone (`Answers`).
 -- Rule: LSP 3.17; for a law of every editor with a session.
-use Rattle.std.specs.Prelude.{◌≡◌, ◌⊎◌, ⊤, ℕ, List, [], ◌∷◌, ◌++◌, Bool, true, false, Option, Some, None, Result, Ok, Err, codes}
+use Rattle.std.specs.Prelude.{◌≡◌, ◌⊎◌, ⊤, ℕ, ℤ, pos, List, [], ◌∷◌, ◌++◌, All, fold, Bool, true, false, Option, Some, None, MatchOption, option_map, Result, Ok, Err, if◌then◌else◌, codes}
 use Rattle.std.specs.Str.{bytes_eq}
 use Rattle.serde_json.specs.Data.{Data}
 use Rattle.ob0_text.specs.declared.position_types.Unit.{Unit}
+use Rattle.ob0_text.specs.OpenDocuments.{document_at}
 use Rattle.ob0_rpc.specs.declared.clients.Client.{Client}
 use Rattle.ob0_rpc.specs.declared.incoming.RpcFault.{RpcFault}
 use Rattle.ob0_rpc.specs.Messages.{ReadsContent, MessageMeaning, not_json, not_a_message, response, request, notice, meaning_of}
@@ -16,10 +17,13 @@ use Rattle.ob0_session_server.specs.Answers.{begins, Conversation}
 use Rattle.ob0_session_server.specs.Units.{unit_for}
 use Rattle.ob0_world_editor.specs.Heard.{request_number, SaysToServer}
 use Rattle.ob0_world_editor.specs.Understood.{understood}
-use Rattle.ob0_world_rules.specs.ClientAndServer.{SentAsk, Editor, new_editor, request_numbered, ToServer, ToEditor, answers, Applied}
+use Rattle.ob0_world_rules.specs.ClientAndServer.{Open, SentAsk, Editor, new_editor, request_numbered, open_at, ToServer, ToEditor, publishes, answers, Applied}
 use Rattle.ob0_world_rules.specs.Editing.{Done, reads}
 use Rattle.ob0_world_rules.specs.Editors.{Move, May}
 use Rattle.ob0_world_rules.specs.EveryEditor.{EditorAndServer, nothing_yet, no_ask, without_numbers, Turn, editor_does, editor_says, server_takes, editor_takes, MayLead, HoldsWithEditor}
+use Rattle.ob0_world_rules.specs.Answers.{IsEmptyIfCorrect}
+use Rattle.ob0_world_rules.specs.Headline.{KeepsTheRun}
+use Rattle.ob0_world_rules.specs.Mirror.{as_open}
 use Rattle.ob0_world_rules.specs.MadeInOrder.{Announced}
 use Rattle.ob0_world.specs.Worlds.{Wire, TakesFirst, AllSay}
 
@@ -201,3 +205,74 @@ EveryExchangeIsOfTheModel =
     → BeginsExchange unit begin
     → ExchangeLeads begin turns now
     → IsOfTheModel unit turns now
+
+-- ---- the headline of every exchange, without a model
+
+-- a list of diagnostics with a version: its uri, its version, and whether none is in it
+pub record Published : Type 0 where
+  pub uri : List ℕ
+  pub version : ℤ
+  pub empty : Bool
+
+-- where this is one
+abbrev pub with_version : Option ToEditor → List Published
+with_version (Some (publishes uri (Some version) empty)) =
+    record { uri = uri; version = version; empty = empty } ∷ []
+with_version (Some (publishes uri None empty)) = []
+with_version (Some (answers k edits)) = []
+with_version None = []
+
+-- those that these contents are
+abbrev pub published_in : List (List ℕ) → List Published
+published_in [] = []
+published_in (content ∷ contents) = with_version (understood [] content) ++ published_in contents
+
+-- each is of a document, one for each and in this order: it has its uri and version, and is empty
+-- exactly when its text is a well-typed module
+abbrev pub AreRightOf : List Published → List Announced → Type 0
+AreRightOf [] [] = ⊤
+AreRightOf (p ∷ published) (t ∷ announced) =
+    (p.uri ≡ t.uri)
+    × (p.version ≡ pos t.document.version)
+    × IsEmptyIfCorrect t.document.text p.empty
+    × AreRightOf published announced
+AreRightOf [] (t ∷ announced) = ⊥
+AreRightOf (p ∷ published) [] = ⊥
+
+-- the last one for a uri
+abbrev pub last_published : List ℕ → List Published → Option Published
+last_published uri published =
+    fold (λ last p. if bytes_eq p.uri uri then Some p else last) None published
+
+-- What holds of an editor that keeps the protocol and a session, whatever has passed between them.
+pub record HoldsOfExchange (begin now : Exchange) : Type 0 where
+  -- each edit that the editor applied keeps the run
+  pub applied : All KeepsTheRun now.applied
+  -- of what the session has sent since the beginning, the lists of diagnostics with a version are of
+  -- the documents that the editor announced, and right
+  pub since : List (List ℕ)
+  pub sent : now.wire.got ++ now.wire.to_editor ≡ begin.wire.got ++ since
+  pub published_of : List Announced
+  pub not_yet : List Announced
+  pub announced : now.announced ≡ published_of ++ not_yet
+  pub right : AreRightOf (published_in since) published_of
+  -- when nothing waits for the session, they are of all of these; the latest of each open document is
+  -- of its present version and text; and the session's documents are the editor's
+  pub complete : now.wire.to_server ≡ [] → not_yet ≡ []
+  pub latest : now.wire.to_server ≡ [] → (uri : List ℕ) (d : Open)
+      → open_at now.editor uri ≡ Some d
+      → MatchOption (last_published uri (published_in since)) ⊥
+      (λ p. (p.version ≡ pos d.version) × IsEmptyIfCorrect d.text p.empty)
+  pub mirrors : now.wire.to_server ≡ [] → (uri : List ℕ)
+      → document_at now.wire.session.held uri ≡ option_map as_open (open_at now.editor uri)
+  -- all that passed is one conversation of a session, by the protocol
+  pub conversation : Conversation server.start now.wire.taken
+      (now.wire.got ++ now.wire.to_editor) now.wire.session
+
+-- so it is with every editor that keeps the protocol, and every session
+abbrev pub EveryExchangeHolds : Type 0
+EveryExchangeHolds =
+    (unit : Unit) (begin now : Exchange) (turns : List Turn)
+    → BeginsExchange unit begin
+    → ExchangeLeads begin turns now
+    → HoldsOfExchange begin now

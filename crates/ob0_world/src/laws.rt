@@ -1,5 +1,5 @@
 //! What holds of client and server together.
-ghost use Rattle.ob0_world.specs.Exchanges.{EveryExchangeIsOfTheModel};
+ghost use Rattle.ob0_world.specs.Exchanges.{EveryExchangeHolds, EveryExchangeIsOfTheModel};
 ghost use Rattle.ob0_world.specs.Versions.{VersionsAreNamed, VersionsSuffice};
 
 /// An answer with edits names the document that was asked about, with the version that it had then, as
@@ -18,4 +18,11 @@ pub fn versions_suffice()
 /// turn: so every edit that the editor applies keeps the run, and what the session publishes is right.
 pub fn every_exchange_is_of_the_model()
     ensures { EveryExchangeIsOfTheModel }
+{}
+
+/// Whatever an editor that keeps the protocol and a session have exchanged, each edit that the editor applied keeps the
+/// run, each list of diagnostics with a version is right and of a document that the editor announced, in order, and when
+/// nothing waits for the session, its documents are the editor's.
+pub fn every_exchange_holds()
+    ensures { EveryExchangeHolds }
 {}
