@@ -1,30 +1,27 @@
 -- What holds with every editor that keeps the protocol. Other messages apart, its moves keep what the model's acts keep.
-use Rattle.std.proofs.Common.{◌≡◌, ◌∙◌, ℕ, suc, ◌+◌, ◌<◌, cond, List, [], ◌∷◌, ◌++◌, map, length, replicate, append-nil, append_assoc, refl, sym, ap, subst}
-use Rattle.std.specs.Prelude.{pos, fold, All, Option, Some, None, option_map}
+use Rattle.std.proofs.Common.{◌≡◌, ◌∙◌, ℕ, suc, ◌+◌, cond, List, [], ◌∷◌, ◌++◌, map, length, replicate, append-nil, append_assoc, refl, sym, ap, subst}
+use Rattle.std.specs.Prelude.{pos, All, Option, Some, None, option_map}
 use Rattle.std.specs.FinMap as map_of
-use Rattle.std.proofs.lemmas.Option.{same_Some, none-some}
-use Rattle.std.proofs.lemmas.List.{map-append}
+use Rattle.std.proofs.lemmas.Option.{same_Some}
 use Rattle.std.proofs.lemmas.List.Elements.{All-nil, All-push}
 use Rattle.std.proofs.lemmas.List.Sums.{fold_push}
 use Rattle.ob0_text.specs.declared.position_types.Unit.{Unit}
 use Rattle.ob0_text.specs.OpenDocuments.{OpenDocuments, Opened, Changed, Closed, document_at}
 use Rattle.ob0_world_rules.specs.Language.{WellTypedText, SameRun}
-use Rattle.ob0_world_rules.specs.Edited.{Replacement, edited, after_changes}
-use Rattle.ob0_world_rules.specs.Asks.{Ask}
-use Rattle.ob0_world_rules.specs.ClientAndServer.{Open, SentAsk, Editor, request_numbered, open_at, ToServer, notifies, requests, ToEditor, Applied, Made, ClientAndServer, start, after_message}
-use Rattle.ob0_world_rules.specs.Editing.{Done, stays, closes, asks, kept_answer, without_answer}
-use Rattle.ob0_world_rules.specs.Serving.{Replies}
-use Rattle.ob0_world_rules.specs.Happens.{after_act, after_taking, ServerTakes}
-use Rattle.ob0_world_rules.specs.Mirror.{will_have, as_open, Mirrors}
-use Rattle.ob0_world_rules.specs.Headline.{KeepsTheRun, Holds}
+use Rattle.ob0_world_rules.specs.Edited.{edited}
+use Rattle.ob0_world_rules.specs.ClientAndServer.{Open, Editor, open_at, ToServer, notifies, requests, ToEditor, Applied, ClientAndServer, after_message}
+use Rattle.ob0_world_rules.specs.Editing.{Done, stays, closes, asks, without_answer}
+use Rattle.ob0_world_rules.specs.Happens.{after_act, ServerTakes}
+use Rattle.ob0_world_rules.specs.Mirror.{will_have, as_open}
+use Rattle.ob0_world_rules.specs.Headline.{KeepsTheRun}
 use Rattle.ob0_world_rules.specs.Laws.{EditsPreserveRun}
-use Rattle.ob0_world_rules.specs.MadeInOrder.{Announced, AreMadeOf, versions_announced, named_in, versioned_uri}
+use Rattle.ob0_world_rules.specs.MadeInOrder.{Announced, AreMadeOf, versions_announced, versioned_uri}
 use Rattle.ob0_world_rules.specs.Editors.{Revision, Move, to_open, to_revise, to_close, to_ask, to_apply, to_drop, revised, with_document, Revises, told, AppliesAnswer, opened_as, May}
 use Rattle.ob0_world_rules.specs.EveryEditor.{EditorAndServer, nothing_yet, without_others, as_model, no_ask, without_numbers, Turn, editor_does, editor_says, server_takes, editor_takes, after_move, TakesOne, after_one, MayHappen, MayLead, HoldsWithEditor, WithEveryEditor}
 use Rattle.ob0_world_rules.proofs.UriLaws.{get_put, uri_itself}
 use Rattle.ob0_world_rules.proofs.SameDocument.{Known, Same, later_answers, later_ask}
 use Rattle.ob0_world_rules.proofs.Keeping.{AnswerFits, Kept, acts_kept, revise_kept, held_known}
-use Rattle.ob0_world_rules.proofs.Interleavings.{opened_kept, close_kept, ask_kept, still_kept, take_kept, without_kept, serve_kept, take_unmoved, start_kept, up_to_date, AreLatest, Both}
+use Rattle.ob0_world_rules.proofs.Interleavings.{opened_kept, close_kept, ask_kept, still_kept, take_kept, without_kept, serve_kept, start_kept, up_to_date, AreLatest, Both}
 use Rattle.ob0_world_rules.proofs.MadeInOrder.{Awaits, Pending, pending_push, pending_named, Next, serve_next}
 
 -- ---- queues with other messages

@@ -1,18 +1,17 @@
 -- The model's editor keeps the protocol: each of its acts is a move that it may make, or leaves everything as it is.
 use Rattle.std.proofs.Common.{◌≡◌, ◌∙◌, ℕ, ◌+◌, arith, cond, List, [], ◌∷◌, ◌++◌, map, append-nil, refl, sym, ap, subst}
-use Rattle.std.specs.Prelude.{Some, None}
+use Rattle.std.specs.Prelude.{Some}
 use Rattle.std.specs.FinMap as map_of
 use Rattle.std.proofs.lemmas.List.{map-append}
 use Rattle.ob0_text.specs.declared.position_types.Unit.{Unit}
 use Rattle.ob0_text.specs.OpenDocuments.{TextChange, changed_text}
 use Rattle.ob0_world_rules.specs.Edited.{Replacement, edited, whole_text, after_changes}
-use Rattle.ob0_world_rules.specs.Asks.{Ask}
 use Rattle.ob0_world_rules.specs.ClientAndServer.{Open, SentAsk, Editor, request_numbered, open_at, ToServer, ToEditor, ClientAndServer, start, after_message}
 use Rattle.ob0_world_rules.specs.Editing.{Act, Done, stays, opens, rewrites, closes, asks, kept_answer, without_answer, done_by}
 use Rattle.ob0_world_rules.specs.Happens.{Event, does, serve, take_message, after_act, after_taking, ServerTakes, Happens, Course}
 use Rattle.ob0_world_rules.specs.MadeInOrder.{Announced}
-use Rattle.ob0_world_rules.specs.Editors.{Revision, Move, to_open, to_revise, to_close, to_ask, to_apply, to_drop, revised, with_document, Revises, told, AppliesAnswer, opened_as, May}
-use Rattle.ob0_world_rules.specs.EveryEditor.{EditorAndServer, nothing_yet, as_model, Turn, editor_does, editor_says, server_takes, editor_takes, after_move, TakesOne, after_one, MayHappen, MayLead, TheModelIsOne}
+use Rattle.ob0_world_rules.specs.Editors.{Revision, Move, to_open, to_revise, to_close, to_ask, to_apply, to_drop, revised, with_document, Revises, AppliesAnswer, May}
+use Rattle.ob0_world_rules.specs.EveryEditor.{EditorAndServer, as_model, Turn, editor_does, server_takes, editor_takes, TakesOne, after_one, MayHappen, MayLead, TheModelIsOne}
 use Rattle.ob0_world_rules.proofs.UriLaws.{get_put, uri_itself}
 use Rattle.ob0_world_rules.proofs.SameDocument.{Same}
 use Rattle.ob0_world_rules.proofs.Acts.{edit_of, of_each}
@@ -111,13 +110,17 @@ act_comes w announced =
 serve_comes : (w : ClientAndServer) (announced : List Announced) (queue : List ToServer) (new : ClientAndServer) → w.to_server ≡ queue → ServerTakes w queue new → ComesTo (from_model w announced) new
 serve_comes w announced [] new waits is = as_it_was w new announced is
 serve_comes w announced (m ∷ rest) new waits (said, made, replies, is) =
-    let takes : TakesOne (from_model w announced) (Some m ∷ map Some rest) (from_model new announced) =
-    (said, made, replies, ap (λ x. from_model x announced) is ∙ (λ i. record (from_model w announced) {
-      to_server = map Some rest;
-      held = after_message w.held m;
-      to_editor = map-append Some w.to_editor said i;
-      made = w.made ++ made;
-    })) in
+    let takes : TakesOne (from_model w announced) (Some m ∷ map Some rest) (from_model new announced) = (
+      said,
+      made,
+      replies,
+      ap (λ x. from_model x announced) is ∙ (λ i. record (from_model w announced) {
+        to_server = map Some rest;
+        held = after_message w.held m;
+        to_editor = map-append Some w.to_editor said i;
+        made = w.made ++ made;
+      }),
+    ) in
     by_turn (from_model w announced) new server_takes announced
     (subst (λ q. TakesOne (from_model w announced) q (from_model new announced)) (ap (map Some) (sym waits)) takes)
 

@@ -6,7 +6,7 @@ use Rattle.std.specs.FinMap as map_of
 use Rattle.ob0_text.specs.OpenDocuments.{TextChange, Opened, Changed}
 use Rattle.ob0_world_rules.specs.Edited.{Replacement, edited, after_changes}
 use Rattle.ob0_world_rules.specs.Asks.{Ask}
-use Rattle.ob0_world_rules.specs.ClientAndServer.{Open, SentAsk, Editor, request_numbered, open_at, ToServer, notifies, Applied}
+use Rattle.ob0_world_rules.specs.ClientAndServer.{Open, SentAsk, Editor, request_numbered, open_at, ToServer, notifies}
 use Rattle.ob0_world_rules.specs.Editing.{Done, stays, sends, closes, asks, kept_answer, without_answer}
 use Rattle.ob0_world_rules.specs.MadeInOrder.{Announced}
 
