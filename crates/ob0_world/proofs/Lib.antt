@@ -9,3 +9,4 @@ mod Stepping
 mod Conversing
 mod Versions
 mod Exchanges
+mod Exchanged

@@ -25,7 +25,8 @@ use Rattle.ob0_world_rules.specs.Answers.{IsEmptyIfCorrect}
 use Rattle.ob0_world_rules.specs.Headline.{KeepsTheRun}
 use Rattle.ob0_world_rules.specs.Mirror.{as_open}
 use Rattle.ob0_world_rules.specs.MadeInOrder.{Announced}
-use Rattle.ob0_world.specs.Worlds.{Wire, TakesFirst, AllSay}
+use Rattle.ob0_world_rules.specs.Happens.{Event}
+use Rattle.ob0_world.specs.Worlds.{Wire, Connection, Begins, ConnectionCourse, TakesFirst, AllSay}
 
 -- an editor and a session, with the contents that pass; the documents that the editor announced, and
 -- the edits that it applied
@@ -276,3 +277,21 @@ EveryExchangeHolds =
     → BeginsExchange unit begin
     → ExchangeLeads begin turns now
     → HoldsOfExchange begin now
+
+-- ---- what a world plays
+
+-- What passes in a course of the model's editor with a session is such an exchange: so what is said
+-- of every exchange is said of all that `play` plays.
+abbrev pub ACourseIsAnExchange : Type 0
+ACourseIsAnExchange =
+    (unit : Unit) (begin end : Connection) (events : List Event)
+    → Begins unit begin
+    → ConnectionCourse begin events end
+    → (first : Exchange)
+    × (turns : List Turn)
+    × (last : Exchange)
+    × BeginsExchange unit first
+    × ExchangeLeads first turns last
+    × (last.editor ≡ end.model.editor)
+    × (last.wire ≡ end.wire)
+    × (last.applied ≡ end.model.applied)

@@ -1,5 +1,5 @@
 //! What holds of client and server together.
-ghost use Rattle.ob0_world.specs.Exchanges.{EveryExchangeHolds, EveryExchangeIsOfTheModel};
+ghost use Rattle.ob0_world.specs.Exchanges.{ACourseIsAnExchange, EveryExchangeHolds, EveryExchangeIsOfTheModel};
 ghost use Rattle.ob0_world.specs.Versions.{VersionsAreNamed, VersionsSuffice};
 
 /// An answer with edits names the document that was asked about, with the version that it had then, as
@@ -25,4 +25,9 @@ pub fn every_exchange_is_of_the_model()
 /// nothing waits for the session, its documents are the editor's.
 pub fn every_exchange_holds()
     ensures { EveryExchangeHolds }
+{}
+
+/// What passes in a course of the model's editor with a session, as `play` plays it, is such an exchange.
+pub fn a_course_is_an_exchange()
+    ensures { ACourseIsAnExchange }
 {}

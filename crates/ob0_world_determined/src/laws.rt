@@ -1,9 +1,11 @@
 //! What holds of the definitions that the contracts cite.
 ghost use Rattle.ob0_world_determined.specs.Determined.{AListFits, ConversationIsServed, OneAnswer, OneConversation, OneDiagnosis, OneOutput, OneReply, OneResult, OneTable};
+ghost use Rattle.ob0_world_determined.specs.Exchanged.{EveryExchangeIsServed};
 
 use ob0_analysis::laws::one_refusal;
 use ob0_frame::laws::{feeding_is_determined, nothing_is_fed, written_is_read};
 use ob0_scan::laws::{one_report, one_scan};
+use ob0_world::laws::every_exchange_holds;
 
 /// A module has one table of ordinals.
 pub fn one_table()
@@ -75,4 +77,14 @@ pub fn a_conversation_is_served()
     feeding_is_determined();
     nothing_is_fed();
     written_is_read();
+}
+
+/// The headline, with every editor that keeps the protocol, of what `serve` writes: what the editor and a session have
+/// exchanged has what is said of it, and for the frames of what the session took `serve` writes the frames of what the
+/// session sent, unless it returns `Memory` or `Write`.
+pub fn every_exchange_is_served()
+    ensures { EveryExchangeIsServed }
+{
+    every_exchange_holds();
+    a_conversation_is_served();
 }

@@ -1,13 +1,13 @@
 -- The model's editor keeps the protocol: each of its acts is a move that it may make, or leaves everything as it is.
-use Rattle.std.proofs.Common.{◌≡◌, ◌∙◌, ℕ, ◌+◌, arith, cond, List, [], ◌∷◌, ◌++◌, map, append-nil, refl, sym, ap, subst}
-use Rattle.std.specs.Prelude.{Some}
+use Rattle.std.proofs.Common.{◌≡◌, ◌∙◌, ℕ, ◌+◌, arith, cond, inl, inr, List, [], ◌∷◌, ◌++◌, map, append-nil, refl, sym, ap, subst}
+use Rattle.std.specs.Prelude.{◌⊎◌, Some}
 use Rattle.std.specs.FinMap as map_of
 use Rattle.std.proofs.lemmas.List.{map-append}
 use Rattle.ob0_text.specs.declared.position_types.Unit.{Unit}
 use Rattle.ob0_text.specs.OpenDocuments.{TextChange, changed_text}
 use Rattle.ob0_world_rules.specs.Edited.{Replacement, edited, whole_text, after_changes}
 use Rattle.ob0_world_rules.specs.ClientAndServer.{Open, SentAsk, Editor, request_numbered, open_at, ToServer, ToEditor, ClientAndServer, start, after_message}
-use Rattle.ob0_world_rules.specs.Editing.{Act, Done, stays, opens, rewrites, closes, asks, kept_answer, without_answer, done_by}
+use Rattle.ob0_world_rules.specs.Editing.{Act, Done, stays, rewrites, kept_answer, without_answer, done_by}
 use Rattle.ob0_world_rules.specs.Happens.{Event, does, serve, take_message, after_act, after_taking, ServerTakes, Happens, Course}
 use Rattle.ob0_world_rules.specs.MadeInOrder.{Announced}
 use Rattle.ob0_world_rules.specs.Editors.{Revision, Move, to_open, to_revise, to_close, to_ask, to_apply, to_drop, revised, with_document, Revises, AppliesAnswer, May}
@@ -88,24 +88,30 @@ applied_so e k edits a d text answered numbered same makes =
 nothing_done : (w : ClientAndServer) → after_act w (stays w.editor) ≡ w
 nothing_done w i = record w { to_server = append-nil w.to_server i; applied = append-nil w.applied i }
 
-act_comes : (w : ClientAndServer) (announced : List Announced) (act : Act) → ComesTo (from_model w announced) (after_act w (done_by w.editor act))
-act_comes w announced =
-    of_each w.editor (λ done. ComesTo (from_model w announced) (after_act w done))
+-- an act leaves everything as it is, or is a move that the editor may make
+pub act_may : (e : Editor) (act : Act) → (done_by e act ≡ stays e) ⊎ ((move : Move) × (announced : List Announced) × May e move (done_by e act) announced)
+act_may e =
+    of_each e (λ done. (done ≡ stays e) ⊎ ((move : Move) × (announced : List Announced) × May e move done announced))
     (record {
-      still = as_it_was w (after_act w (stays w.editor)) announced (nothing_done w);
-      opened = λ uri text none.
-          let d : Open = record { version = 1; text = text; opening = w.editor.openings + 1 } in
-          by_move w announced (to_open uri 1 text) (opens w.editor uri text) (record { uri = uri; document = d } ∷ []) (none, refl, refl);
+      still = inl refl;
+      opened = λ uri text none. inr (to_open uri 1 text, record { uri = uri; document = record { version = 1; text = text; opening = e.openings + 1 } } ∷ [], (none, refl, refl));
       changed = λ uri d how text at makes.
           let r : Revision = rewrite_of d.version text how in
-          by_move w announced (to_revise uri (r ∷ [])) (rewrites w.editor uri d text how []) (record { uri = uri; document = revised d r } ∷ []) (with_document w.editor uri (revised d r), rewritten_revises w.editor uri d how text at makes, refl);
-      closed = λ uri d at. by_move w announced (to_close uri) (closes w.editor uri) [] (d, at, refl, refl);
-      asked = λ uri ask d at. by_move w announced (to_ask uri ask) (asks w.editor uri ask d) [] (d, at, refl, refl);
+          inr (to_revise uri (r ∷ []), record { uri = uri; document = revised d r } ∷ [], (with_document e uri (revised d r), rewritten_revises e uri d how text at makes, refl));
+      closed = λ uri d at. inr (to_close uri, [], (d, at, refl, refl));
+      asked = λ uri ask d at. inr (to_ask uri ask, [], (d, at, refl, refl));
       made = λ k edits a d text answered numbered same makes.
           let r : Revision = rewrite_of d.version text (whole_text text ∷ []) in
-          by_move w announced (to_apply k (r ∷ [])) (rewrites (without_answer w.editor k) a.uri d text (whole_text text ∷ []) (edit_of a.uri d text ∷ [])) (record { uri = a.uri; document = revised d r } ∷ []) (applied_so w.editor k edits a d text answered numbered same makes);
-      dropped = λ k. by_move w announced (to_drop k) (stays (without_answer w.editor k)) [] (refl, refl);
+          inr (to_apply k (r ∷ []), record { uri = a.uri; document = revised d r } ∷ [], applied_so e k edits a d text answered numbered same makes);
+      dropped = λ k. inr (to_drop k, [], (refl, refl));
     })
+
+act_comes : (w : ClientAndServer) (announced : List Announced) (act : Act) → ComesTo (from_model w announced) (after_act w (done_by w.editor act))
+act_comes w announced act = go (act_may w.editor act)
+  where
+    go : (done_by w.editor act ≡ stays w.editor) ⊎ ((move : Move) × (more : List Announced) × May w.editor move (done_by w.editor act) more) → ComesTo (from_model w announced) (after_act w (done_by w.editor act))
+    go (inl is) = subst (λ done. ComesTo (from_model w announced) (after_act w done)) (sym is) (as_it_was w (after_act w (stays w.editor)) announced (nothing_done w))
+    go (inr (move, more, may)) = by_move w announced move (done_by w.editor act) more may
 
 serve_comes : (w : ClientAndServer) (announced : List Announced) (queue : List ToServer) (new : ClientAndServer) → w.to_server ≡ queue → ServerTakes w queue new → ComesTo (from_model w announced) new
 serve_comes w announced [] new waits is = as_it_was w new announced is
