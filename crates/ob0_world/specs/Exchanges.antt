@@ -37,7 +37,8 @@ pub record Exchange : Type 0 where
   pub applied : List Applied
 
 -- The session was initialized by a client that takes edits of documents with versions, and code
--- actions with edits, and that counts positions in this unit. Nothing else has passed, or errors did.
+-- actions with edits, and that counts positions in this unit. No document was opened yet, and nothing
+-- waits.
 pub record BeginsExchange (unit : Unit) (x : Exchange) : Type 0 where
   pub client : Client
   pub counts : unit_for client ≡ unit

@@ -17,7 +17,7 @@ use Rattle.ob0_world_rules.specs.Headline.{KeepsTheRun}
 use Rattle.ob0_world_rules.specs.Laws.{EditsPreserveRun}
 use Rattle.ob0_world_rules.specs.MadeInOrder.{Announced, AreMadeOf, versions_announced, versioned_uri}
 use Rattle.ob0_world_rules.specs.Editors.{Revision, Move, to_open, to_revise, to_close, to_ask, to_apply, to_drop, revised, with_document, Revises, told, AppliesAnswer, opened_as, May}
-use Rattle.ob0_world_rules.specs.EveryEditor.{EditorAndServer, nothing_yet, without_others, as_model, no_ask, without_numbers, Turn, editor_does, editor_says, server_takes, editor_takes, after_move, TakesOne, after_one, MayHappen, MayLead, HoldsWithEditor, WithEveryEditor}
+use Rattle.ob0_world_rules.specs.EveryEditor.{EditorAndServer, nothing_yet, without_others, as_model, no_ask, without_numbers, Turn, editor_does, editor_says, server_takes, editor_takes, after_move, TakesNext, after_one, MayHappen, MayLead, HoldsWithEditor, WithEveryEditor}
 use Rattle.ob0_world_rules.proofs.UriLaws.{get_put, uri_itself}
 use Rattle.ob0_world_rules.proofs.SameDocument.{Known, Same, later_answers, later_ask}
 use Rattle.ob0_world_rules.proofs.Keeping.{AnswerFits, Kept, acts_kept, revise_kept, held_known}
@@ -211,7 +211,7 @@ module _ (unit : Unit) where
       })
       (append-nil w.announced)
 
-  serve_good : (w : EditorAndServer) (queue : List (Option ToServer)) (new : EditorAndServer) → w.to_server ≡ queue → Good w → TakesOne w queue new → Good new
+  serve_good : (w : EditorAndServer) (queue : List (Option ToServer)) (new : EditorAndServer) → w.to_server ≡ queue → Good w → TakesNext w queue new → Good new
   serve_good w [] new waits good is = subst Good (sym is) good
   serve_good w (None ∷ rest) new waits good (said, none, is) =
       subst Good (sym is)

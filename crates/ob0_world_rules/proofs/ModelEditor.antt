@@ -11,7 +11,7 @@ use Rattle.ob0_world_rules.specs.Editing.{Act, Done, stays, rewrites, kept_answe
 use Rattle.ob0_world_rules.specs.Happens.{Event, does, serve, take_message, after_act, after_taking, ServerTakes, Happens, Course}
 use Rattle.ob0_world_rules.specs.MadeInOrder.{Announced}
 use Rattle.ob0_world_rules.specs.Editors.{Revision, Move, to_open, to_revise, to_close, to_ask, to_apply, to_drop, revised, with_document, Revises, AppliesAnswer, May}
-use Rattle.ob0_world_rules.specs.EveryEditor.{EditorAndServer, as_model, Turn, editor_does, server_takes, editor_takes, TakesOne, after_one, MayHappen, MayLead, TheModelIsOne}
+use Rattle.ob0_world_rules.specs.EveryEditor.{EditorAndServer, as_model, Turn, editor_does, server_takes, editor_takes, TakesNext, after_one, MayHappen, MayLead, TheModelIsOne}
 use Rattle.ob0_world_rules.proofs.UriLaws.{get_put, uri_itself}
 use Rattle.ob0_world_rules.proofs.SameDocument.{Same}
 use Rattle.ob0_world_rules.proofs.Acts.{edit_of, of_each}
@@ -116,7 +116,7 @@ act_comes w announced act = go (act_may w.editor act)
 serve_comes : (w : ClientAndServer) (announced : List Announced) (queue : List ToServer) (new : ClientAndServer) → w.to_server ≡ queue → ServerTakes w queue new → ComesTo (from_model w announced) new
 serve_comes w announced [] new waits is = as_it_was w new announced is
 serve_comes w announced (m ∷ rest) new waits (said, made, replies, is) =
-    let takes : TakesOne (from_model w announced) (Some m ∷ map Some rest) (from_model new announced) = (
+    let takes : TakesNext (from_model w announced) (Some m ∷ map Some rest) (from_model new announced) = (
       said,
       made,
       replies,
@@ -128,7 +128,7 @@ serve_comes w announced (m ∷ rest) new waits (said, made, replies, is) =
       }),
     ) in
     by_turn (from_model w announced) new server_takes announced
-    (subst (λ q. TakesOne (from_model w announced) q (from_model new announced)) (ap (map Some) (sym waits)) takes)
+    (subst (λ q. TakesNext (from_model w announced) q (from_model new announced)) (ap (map Some) (sym waits)) takes)
 
 take_comes : (w : ClientAndServer) (announced : List Announced) (queue : List ToEditor) → w.to_editor ≡ queue → ComesTo (from_model w announced) (after_taking w queue)
 take_comes w announced [] waits = as_it_was w w announced refl

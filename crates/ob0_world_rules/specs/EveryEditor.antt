@@ -94,13 +94,13 @@ after_move w done announced =
 
 -- The server takes the first message that waits for it. Another one changes no document, and brings
 -- other messages alone, if any.
-abbrev pub TakesOne : EditorAndServer → List (Option ToServer) → EditorAndServer → Type 0
-TakesOne w [] new = new ≡ w
-TakesOne w (None ∷ rest) new =
+abbrev pub TakesNext : EditorAndServer → List (Option ToServer) → EditorAndServer → Type 0
+TakesNext w [] new = new ≡ w
+TakesNext w (None ∷ rest) new =
     (said : List (Option ToEditor))
     × (without_others said ≡ [])
     × (new ≡ record w { to_server = rest; to_editor = w.to_editor ++ said })
-TakesOne w (Some message ∷ rest) new =
+TakesNext w (Some message ∷ rest) new =
     (said : List ToEditor)
     × (made : List Made)
     × Replies w.held message said made
@@ -132,7 +132,7 @@ MayHappen w (editor_says numbers) new =
       editor = without_numbers numbers w.editor;
       to_server = w.to_server ++ None ∷ [];
     }
-MayHappen w server_takes new = TakesOne w w.to_server new
+MayHappen w server_takes new = TakesNext w w.to_server new
 MayHappen w editor_takes new = new ≡ after_one w w.to_editor
 
 -- these, one after another, may lead from one state to the other
