@@ -17,18 +17,19 @@ use Rattle.serde_json.specs.View.{items_of}
 use Rattle.ob0_text.specs.declared.edits.Edit.{Edit}
 use Rattle.ob0_text.specs.declared.edits.Indent.{Indent}
 use Rattle.ob0_text.specs.declared.position_types.Position.{Position}
+use Rattle.ob0_text.specs.declared.position_types.Range.{Range}
 use Rattle.ob0_text.specs.declared.position_types.Unit.{Unit}
 use Rattle.ob0_text.specs.OpenDocuments.{OpenDocuments, Document, InStep, OutOfStep, DocumentEvent, Opened, Changed, Lost, Closed, TextChange, changed_text, text_of, document, document_at, opened, changed, changed_document}
 use Rattle.ob0_text.specs.RefusalTexts.{refusal_text}
 use Rattle.ob0_text.specs.declared.refusals.EditRefusal.TheVariants.{TooLong}
 use Rattle.ob0_text.proofs.EntryLaws.{updated-some, updated-none}
-use Rattle.ob0_rpc.specs.Requesting.{request_by_method}
+use Rattle.ob0_rpc.specs.Requesting.{code_action, request_by_method}
 use Rattle.ob0_rpc.specs.Faults.{minus}
 use Rattle.ob0_rpc.specs.Messages.{ReadsContent, meaning, meaning_of}
 use Rattle.ob0_rpc.specs.Shapes.{result_message, error_message}
 use Rattle.ob0_rpc.specs.declared.clients.Client.{Client}
 use Rattle.ob0_edits.specs.Inlinings.{Offers}
-use Rattle.ob0_session_answers.specs.Actions.{RequestedActions, ListsActions, wants_inlining, actions_offset, actions_value}
+use Rattle.ob0_session_answers.specs.Actions.{RequestedActions, ListsActions, allows_inlining, wants_inlining, actions_offset, actions_value}
 use Rattle.ob0_session_server.specs.Answers as answers_of
 use Rattle.ob0_session_server.specs.Answers.{ServerState, Reply, SaysReply, Sends, Reaction, react, apply_notification, react_to_notification, answer_method, react_to_request as requested_in, answer_request, answers_about, lays_out, renames, offers_actions, published, Answers, AnswersInState, AnswersGoingOn, says}
 use Rattle.ob0_analysis.specs.Diagnosed.{Complaint, IsWellTypedModule, Reports, ReportsFaults, complaint_of}
@@ -331,23 +332,28 @@ least n = omega arith
 place_is : (unit : Unit) (text : List ℕ) (position : Position) → actions_offset unit text (empty_at position) ≡ place_at unit text position
 place_is unit text position = least (place_at unit text position)
 
-requested_offered : (how : Inlining) (unit : Unit) (text : List ℕ) (position : Position) (here everywhere : Option (Vec Edit Global)) → Offers Here unit text (actions_offset unit text (empty_at position)) here
-    → Offers Everywhere unit text (actions_offset unit text (empty_at position)) everywhere → AnswersFor unit text (inlining_at how position) (edits_offered (requested_for how here everywhere))
-requested_offered Here unit text position here everywhere one other = offered_here unit text position here (subst (λ place. Offers Here unit text place here) (place_is unit text position) one)
-requested_offered Everywhere unit text position here everywhere one other = offered_everywhere unit text position everywhere (subst (λ place. Offers Everywhere unit text place everywhere) (place_is unit text position) other)
+requested_offered : (how : Inlining) (unit : Unit) (text : List ℕ) (position : Position) (offset : ℕ) (here everywhere : Option (Vec Edit Global)) → offset ≡ place_at unit text position → Offers Here unit text offset here
+    → Offers Everywhere unit text offset everywhere → AnswersFor unit text (inlining_at how position) (edits_offered (requested_for how here everywhere))
+requested_offered Here unit text position offset here everywhere is one other = offered_here unit text position here (subst (λ place. Offers Here unit text place here) is one)
+requested_offered Everywhere unit text position offset here everywhere is one other = offered_everywhere unit text position everywhere (subst (λ place. Offers Everywhere unit text place everywhere) is other)
 
 -- the request as the session takes it
 abbrev pub actions_requested_at : Client → ℕ → List ℕ → Position → ℤ → RequestedActions
 actions_requested_at client k uri position version =
     record { id = number (unsigned k); client = client; uri = uri; version = version; range = empty_at position; only = None }
 
-inlined : (how : Inlining) (requested : List SentAsk) (k : ℕ) (uri : List ℕ) (position : Position) (client : Client) (unit : Unit) (version : ℤ) (text : List ℕ) (sent : List (List ℕ)) → client.takes_document_changes ≡ true → client.takes_literal_actions ≡ true
-    → IsAsk requested k uri (inlining_at how position)
-    → SaysReply (offers_actions unit (actions_requested_at client k uri position version) text) sent → Answered requested k (inlining_at how position) unit (Some (InStep version text)) sent
-inlined how requested k uri position client unit version text sent takes literal of (message, (value, how_listed, is), sends) = go how_listed
+-- the request for actions in a range, of some kinds
+abbrev pub actions_requested_in : Client → ℕ → List ℕ → Range → Option (List (List ℕ)) → ℤ → RequestedActions
+actions_requested_in client k uri range only version =
+    record { id = number (unsigned k); client = client; uri = uri; version = version; range = range; only = only }
+
+inlined_in : (how : Inlining) (requested : List SentAsk) (k : ℕ) (uri : List ℕ) (position : Position) (range : Range) (only : Option (List (List ℕ))) (client : Client) (unit : Unit) (version : ℤ) (text : List ℕ) (sent : List (List ℕ))
+    → client.takes_document_changes ≡ true → client.takes_literal_actions ≡ true → allows_inlining only ≡ true → actions_offset unit text range ≡ place_at unit text position → IsAsk requested k uri (inlining_at how position)
+    → SaysReply (offers_actions unit (actions_requested_in client k uri range only version) text) sent → Answered requested k (inlining_at how position) unit (Some (InStep version text)) sent
+inlined_in how requested k uri position range only client unit version text sent takes literal allowed place of (message, (value, how_listed, is), sends) = go how_listed
   where
     request : RequestedActions
-    request = actions_requested_at client k uri position version
+    request = actions_requested_in client k uri range only version
 
     with_edits : (edits : List Replacement) → edits_for (inlining_at how position) (result_message (number (unsigned k)) value) ≡ edits → AnswersFor unit text (inlining_at how position) edits
         → Answered requested k (inlining_at how position) unit (Some (InStep version text)) sent
@@ -360,21 +366,28 @@ inlined how requested k uri position client unit version text sent takes literal
         }
 
     -- this editor wants actions that aren't commands
-    wants : (b : Bool) → b ≡ true → (b && true) ≡ false → ⊥
-    wants true is not = let no : true ≡ false = not in cc
-    wants false is not = cc
+    wants : (b c : Bool) → b ≡ true → c ≡ true → (b && c) ≡ false → ⊥
+    wants true true is also not = let no : true ≡ false = not in cc
+    wants true false is also not = cc
+    wants false c is also not = cc
 
     unfit : (wants_inlining request ≡ false) ⊎ ¬ IsWellTypedModule (utf8 text) → ¬ IsWellTypedModule (utf8 text)
-    unfit (inl unwanted) = absurd (wants client.takes_literal_actions literal unwanted)
+    unfit (inl unwanted) = absurd (wants client.takes_literal_actions (allows_inlining only) literal allowed unwanted)
     unfit (inr ill_typed) = ill_typed
 
     go : ListsActions unit request text value → Answered requested k (inlining_at how position) unit (Some (InStep version text)) sent
     go (inl h) =
         with_edits (edits_offered (requested_for how h.here h.everywhere))
         (ap (λ v. edits_for (inlining_at how position) (result_message (number (unsigned k)) v)) h.listed ∙ actions_read_back how position request h.here h.everywhere takes)
-        (requested_offered how unit text position h.here h.everywhere h.offers_here h.offers_everywhere)
+        (requested_offered how unit text position (actions_offset unit text range) h.here h.everywhere place h.offers_here h.offers_everywhere)
     go (inr (why, listed)) =
         with_edits [] (ap (λ v. edits_for (inlining_at how position) (result_message (number (unsigned k)) v)) listed ∙ none_read_back how position (number (unsigned k))) (unfit_answer unit text (inlining_at how position) (unfit why))
+
+inlined : (how : Inlining) (requested : List SentAsk) (k : ℕ) (uri : List ℕ) (position : Position) (client : Client) (unit : Unit) (version : ℤ) (text : List ℕ) (sent : List (List ℕ)) → client.takes_document_changes ≡ true → client.takes_literal_actions ≡ true
+    → IsAsk requested k uri (inlining_at how position)
+    → SaysReply (offers_actions unit (actions_requested_at client k uri position version) text) sent → Answered requested k (inlining_at how position) unit (Some (InStep version text)) sent
+inlined how requested k uri position client unit version text sent takes literal of saying =
+    inlined_in how requested k uri position (empty_at position) None client unit version text sent takes literal refl (place_is unit text position) of saying
 
 -- ---- asks
 
@@ -425,6 +438,19 @@ request_served requested k uri (format indent) params before after sent running 
     let so : answer_method before id (method_of (format indent)) params ≡ answers_about before id (document_at before.held uri) say = ap (answer_request before id) call in
     about_document requested k uri (format indent) say before after sent running of
     (λ version text. formatted requested k uri indent before.held.unit version text sent of) (document_at before.held uri) refl
+    (is ∙ ap (λ (x : Reaction). x.after) so) (subst (λ (x : Reaction). SaysReply x.say sent) so saying)
+
+-- a request for the actions in a range, where its place is that of the position
+pub inline_served : (how : Inlining) (requested : List SentAsk) (k : ℕ) (uri : List ℕ) (position : Position) (range : Range) (only : Option (List (List ℕ))) (params : Data) (before after : ServerState) (sent : List (List ℕ)) → IsRunning before
+    → IsAsk requested k uri (inlining_at how position) → allows_inlining only ≡ true → ((unit : Unit) (text : List ℕ) → actions_offset unit text range ≡ place_at unit text position) → request_by_method (codes "textDocument/codeAction") params ≡ Ok (code_action uri range only)
+    → after ≡ (answer_method before (number (unsigned k)) (codes "textDocument/codeAction") params).after → SaysReply (answer_method before (number (unsigned k)) (codes "textDocument/codeAction") params).say sent
+    → Served requested (requests k uri (inlining_at how position)) before after sent
+inline_served how requested k uri position range only params before after sent running of allowed place call is saying =
+    let id : Data = number (unsigned k) in
+    let say : ℤ → List ℕ → Reply = λ version. offers_actions before.held.unit (actions_requested_in before.client k uri range only version) in
+    let so : answer_method before id (codes "textDocument/codeAction") params ≡ answers_about before id (document_at before.held uri) say = ap (answer_request before id) call in
+    about_document requested k uri (inlining_at how position) say before after sent running of
+    (λ version text. inlined_in how requested k uri position range only before.client before.held.unit version text sent running.1 running.2 allowed (place before.held.unit text) of) (document_at before.held uri) refl
     (is ∙ ap (λ (x : Reaction). x.after) so) (subst (λ (x : Reaction). SaysReply x.say sent) so saying)
 
 -- ---- messages

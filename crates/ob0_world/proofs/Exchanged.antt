@@ -1,15 +1,23 @@
 -- What passes in a course of the model's editor with a session is an exchange of an editor that keeps the protocol.
-use Rattle.std.proofs.Common.{◌≡◌, ◌∙◌, List, [], ◌∷◌, ◌++◌, map, append-nil, get_or, refl, sym, ap, subst, inl, inr}
-use Rattle.std.specs.Prelude.{◌⊎◌, Some, None}
+use Rattle.std.proofs.Common.{◌≡◌, ◌∙◌, ℕ, arith, List, [], ◌∷◌, ◌++◌, map, append-nil, get_or, refl, sym, ap, subst, inl, inr}
+use Rattle.std.specs.Prelude.{◌⊎◌, Some, None, Ok, codes}
 use Rattle.std.specs.Option.{option_to_list}
+use Rattle.serde_json.specs.Data.{number, unsigned}
+use Rattle.ob0_text.specs.declared.position_types.Position.{Position}
 use Rattle.ob0_text.specs.declared.position_types.Unit.{Unit}
 use Rattle.ob0_text.specs.declared.position_types.Unit.TheVariants.{Utf16, Utf8}
+use Rattle.ob0_rpc.specs.Messages.{request}
+use Rattle.ob0_rpc.specs.Requesting as asked
+use Rattle.ob0_rpc.specs.Requesting.{request_by_method}
 use Rattle.ob0_session_server.specs.Answers as server
 use Rattle.ob0_session_server.specs.Answers.{begins}
 use Rattle.ob0_session_server.specs.Units.{unit_for}
 use Rattle.ob0_world_editor.specs.Beginning.{client_for}
+use Rattle.ob0_world_editor.specs.Heard.{call_for, IsRequest, SaysToServer}
+use Rattle.ob0_world_editor.specs.Shapes.{method_of, empty_at}
 use Rattle.ob0_world_editor.specs.Understood.{understood}
-use Rattle.ob0_world_rules.specs.ClientAndServer.{SentAsk, Editor, ToServer, ToEditor, Applied, ClientAndServer, start}
+use Rattle.ob0_world_rules.specs.Asks.{Ask, rename, inline_here, inline_all, format}
+use Rattle.ob0_world_rules.specs.ClientAndServer.{SentAsk, Editor, ToServer, notifies, requests, ToEditor, Applied, ClientAndServer, start}
 use Rattle.ob0_world_rules.specs.Editing.{Act, Done, stays, done_by}
 use Rattle.ob0_world_rules.specs.Happens.{Event, does, serve, take_message, after_act, after_taking, ServerTakes, Happens}
 use Rattle.ob0_world_rules.specs.Editors.{Move, May}
@@ -17,7 +25,7 @@ use Rattle.ob0_world_rules.specs.EveryEditor.{Turn, editor_does, server_takes, e
 use Rattle.ob0_world_rules.specs.MadeInOrder.{Announced}
 use Rattle.ob0_world_rules.proofs.ModelEditor.{act_may}
 use Rattle.ob0_world.specs.Worlds.{Wire, Connection, Begins, TakesFirst, GetsFirst, MovesWire, AllSay, IsTied, ConnectionStep, ConnectionCourse}
-use Rattle.ob0_world.specs.Exchanges.{Exchange, BeginsExchange, reads_meaning, GetsOne, with_contents, Exchanges, ExchangeLeads, ACourseIsAnExchange}
+use Rattle.ob0_world.specs.Exchanges.{Exchange, BeginsExchange, IsActionsRequest, SaysToSession, EachSays, reads_meaning, GetsOne, with_contents, Exchanges, ExchangeLeads, ACourseIsAnExchange}
 use Rattle.ob0_world.proofs.Conversing.{answered_once}
 
 -- it may come to this editor, this wire and these applied edits
@@ -31,18 +39,47 @@ exchange_of c announced = record { editor = c.model.editor; wire = c.wire; annou
 
 -- ---- what the editor writes
 
-none_said : (requested : List SentAsk) (contents : List (List _)) → AllSay requested [] contents → contents ≡ []
+none_said : (requested : List SentAsk) (contents : List (List ℕ)) → AllSay requested [] contents → contents ≡ []
 none_said requested [] h = refl
 none_said requested (c ∷ contents) h = absurd h
 
 -- the contents that were written last say what was sent last
-last_say : (requested now : List SentAsk) (messages more : List ToServer) (contents others : List (List _)) → AllSay requested messages contents → AllSay now (messages ++ more) (contents ++ others) → AllSay now more others
+last_say : (requested now : List SentAsk) (messages more : List ToServer) (contents others : List (List ℕ)) → AllSay requested messages contents → AllSay now (messages ++ more) (contents ++ others) → AllSay now more others
 last_say requested now [] more [] others h k = k
 last_say requested now (m ∷ messages) more (c ∷ contents) others h k = last_say requested now messages more contents others h.1 k.1
 last_say requested now [] more (c ∷ contents) others h k = absurd h
 last_say requested now (m ∷ messages) more [] others h k = absurd h
 
-act_comes : (x : Exchange) (contents : List (List _)) (act : Act) → AllSay (done_by x.editor act).editor.requested (done_by x.editor act).sent contents
+-- an inlining is asked for at an empty range, of all kinds
+inline_said : (k : ℕ) (uri : List ℕ) (position : Position) (ask : Ask) (content : List ℕ) → method_of ask ≡ codes "textDocument/codeAction" → call_for uri ask ≡ asked.code_action uri (empty_at position) None → IsRequest k uri ask content → IsActionsRequest k uri position content
+inline_said k uri position ask content method call is =
+    record {
+      json = is.json;
+      reads = is.reads;
+      params = is.params;
+      means = is.means ∙ ap (λ m. request (number (unsigned k)) m is.params) method;
+      range = empty_at position;
+      only = None;
+      calls = sym (ap (λ m. request_by_method m is.params) method) ∙ is.calls ∙ ap Ok call;
+      from = refl;
+      ordered = inr (refl, omega arith);
+      allowed = refl;
+    }
+
+session_said : (requested : List SentAsk) (m : ToServer) (content : List ℕ) → SaysToServer requested m content → SaysToSession requested m content
+session_said requested (notifies note) content h = h
+session_said requested (requests k uri (rename position name)) content h = h
+session_said requested (requests k uri (inline_here position)) content h = (inline_said k uri position (inline_here position) content refl refl h.0, h.1)
+session_said requested (requests k uri (inline_all position)) content h = (inline_said k uri position (inline_all position) content refl refl h.0, h.1)
+session_said requested (requests k uri (format indent)) content h = h
+
+each_says : (requested : List SentAsk) (messages : List ToServer) (contents : List (List ℕ)) → AllSay requested messages contents → EachSays requested (map Some messages) contents
+each_says requested [] [] h = tt
+each_says requested (m ∷ messages) (c ∷ contents) h = (session_said requested m c h.0, each_says requested messages contents h.1)
+each_says requested [] (c ∷ contents) h = absurd h
+each_says requested (m ∷ messages) [] h = absurd h
+
+act_comes : (x : Exchange) (contents : List (List ℕ)) (act : Act) → AllSay (done_by x.editor act).editor.requested (done_by x.editor act).sent contents
     → ComesTo x (done_by x.editor act).editor (with_contents x.wire contents) (x.applied ++ (done_by x.editor act).applied)
 act_comes x contents act say = go (act_may x.editor act)
   where
@@ -65,7 +102,7 @@ act_comes x contents act say = go (act_may x.editor act)
     go (inr (move, more, may)) =
         let done : Done = done_by x.editor act in
         let y : Exchange = record { editor = done.editor; wire = with_contents x.wire contents; announced = x.announced ++ more; applied = x.applied ++ done.applied } in
-        record { turns = editor_does move ∷ []; announced = x.announced ++ more; leads = (y, (done, more, contents, may, say, refl), refl) }
+        record { turns = editor_does move ∷ []; announced = x.announced ++ more; leads = (y, (done, more, contents, may, each_says done.editor.requested done.sent contents say, refl), refl) }
 
 -- ---- each event
 
@@ -73,7 +110,7 @@ serve_same : (w : ClientAndServer) (queue : List ToServer) (new : ClientAndServe
 serve_same w [] new is = (ap (λ (v : ClientAndServer). v.editor) is, ap (λ (v : ClientAndServer). v.applied) is)
 serve_same w (m ∷ rest) new (said, made, replies, is) = (ap (λ (v : ClientAndServer). v.editor) is, ap (λ (v : ClientAndServer). v.applied) is)
 
-take_comes : (c : Connection) (announced : List Announced) (wire : Wire) (queue : List ToEditor) (contents : List (List _)) → c.wire.to_editor ≡ contents
+take_comes : (c : Connection) (announced : List Announced) (wire : Wire) (queue : List ToEditor) (contents : List (List ℕ)) → c.wire.to_editor ≡ contents
     → map (understood c.model.editor.requested) contents ≡ map Some queue → GetsFirst contents c.wire wire
     → ComesTo (exchange_of c announced) (after_taking c.model queue).editor wire (after_taking c.model queue).applied
 take_comes c announced wire [] [] waits means is = record { turns = []; announced = announced; leads = λ i. record (exchange_of c announced) { wire = is i } }
@@ -98,7 +135,7 @@ event_comes : (event : Event) (old new : Connection) (announced : List Announced
 event_comes (does act) old new announced says step =
     let (content, is) = step.moves in
     let done : Done = done_by old.model.editor act in
-    let contents : List (List _) = option_to_list content in
+    let contents : List (List ℕ) = option_to_list content in
     let all : AllSay done.editor.requested (old.model.to_server ++ done.sent) (old.wire.to_server ++ contents) =
     subst (λ (v : Wire). AllSay done.editor.requested (old.model.to_server ++ done.sent) v.to_server) is
     (subst (λ (w : ClientAndServer). AllSay w.editor.requested w.to_server new.wire.to_server) step.happens step.tied.says) in

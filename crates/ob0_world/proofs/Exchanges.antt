@@ -6,9 +6,10 @@ use Rattle.std.specs.Option.{option_to_list}
 use Rattle.std.specs.Str.{bytes_eq, is_utf8}
 use Rattle.std.proofs.lemmas.List.{append-nil, append_assoc, map-append}
 use Rattle.std.proofs.lemmas.List.Elements.{All-head, All-tail}
-use Rattle.serde_json.specs.Data.{Data}
+use Rattle.serde_json.specs.Data.{Data, number, unsigned}
 use Rattle.serde_json.specs.Find.{get}
 use Rattle.serde_json.specs.Read.{read}
+use Rattle.ob0_text.specs.declared.position_types.Position.{Position}
 use Rattle.ob0_text.specs.declared.position_types.Unit.{Unit}
 use Rattle.ob0_text.specs.OpenDocuments.{OpenDocuments, Document, InStep, OutOfStep, Opened, Changed, Lost, Closed, after_event, none_open, document_at}
 use Rattle.ob0_rpc.specs.declared.incoming.RpcFault.{RpcFault}
@@ -21,14 +22,15 @@ use Rattle.ob0_rpc.specs.Shapes.{result_message, error_message}
 use Rattle.ob0_session_answers.specs.Questions.{AnswersName, AnswersIn, NameQuestion, hover_asked, definition_asked, references_asked, renaming_asked, value_or_null, no_answer, hover_at, location_at, range_at}
 use Rattle.ob0_session_server.specs.Answers as server
 use Rattle.ob0_session_server.specs.Answers.{ServerState, begins, SaysReply, Sends, Reaction, react, react_to_request, react_to_notification, apply_notification, answer_request, answer_method, answers_about, answers_name, refuses, Answers, Conversation}
-use Rattle.ob0_world_editor.specs.Heard.{request_number, SaysToServer}
+use Rattle.ob0_world_editor.specs.Heard.{request_number, IsAsk}
 use Rattle.ob0_world_editor.specs.Understood.{understood, value_understood, answer_understood, answer_to, publication_understood, workspace_items, edits_in, edits_for}
 use Rattle.ob0_world_editor.proofs.Hearing.{understood_as}
+use Rattle.ob0_world_rules.specs.Asks.{Ask, rename, inline_here, inline_all, format}
 use Rattle.ob0_world_rules.specs.ClientAndServer.{Open, SentAsk, Editor, request_numbered, open_at, ToServer, notifies, requests, ToEditor, publishes, answers, Made, after_message}
 use Rattle.ob0_world_rules.specs.Editing.{Done, reads, without_answer}
 use Rattle.ob0_world_rules.specs.Editors.{Revision, Move, to_open, to_revise, to_close, to_ask, to_apply, to_drop, revised, with_document, Revises, May}
 use Rattle.ob0_world_rules.specs.EveryEditor.{EditorAndServer, nothing_yet, without_others, no_ask, without_numbers, Turn, editor_does, editor_says, server_takes, editor_takes, MayHappen, MayLead, HoldsWithEditor}
-use Rattle.ob0_world_rules.specs.Answers.{IsEmptyIfCorrect}
+use Rattle.ob0_world_rules.specs.Answers.{Inlining, Here, Everywhere, IsEmptyIfCorrect}
 use Rattle.ob0_world_rules.specs.Serving.{Publishes, Replies}
 use Rattle.ob0_world_rules.specs.Headline.{IsRight, last_publication}
 use Rattle.ob0_world_rules.specs.Mirror.{as_open}
@@ -36,10 +38,11 @@ use Rattle.ob0_world_rules.specs.MadeInOrder.{Announced, AreMadeOf, named_in, ve
 use Rattle.ob0_world_rules.proofs.UriLaws.{mapped_choice}
 use Rattle.ob0_world_rules.proofs.SameDocument.{numbered_push}
 use Rattle.ob0_world_rules.proofs.EveryEditor.{with_every_editor}
-use Rattle.ob0_world.specs.Worlds.{Wire, TakesFirst, AllSay}
+use Rattle.ob0_world.specs.Worlds.{Wire, TakesFirst}
 use Rattle.ob0_world.specs.Queues.{IsRunning, made_first}
-use Rattle.ob0_world.specs.Exchanges.{Exchange, BeginsExchange, IsQuestion, IsOwnNumber, IsOtherMessage, IsOther, reads_meaning, GetsOne, with_contents, Exchanges, ExchangeLeads, EachSays, BringsNothing, EachMeans, IsOfTheModel, EveryExchangeIsOfTheModel, Published, with_version, published_in, AreRightOf, last_published, HoldsOfExchange, EveryExchangeHolds}
-use Rattle.ob0_world.proofs.Answering.{Served, served, going_on, reacts_so}
+use Rattle.ob0_world.specs.Exchanges.{Exchange, BeginsExchange, IsActionsRequest, SaysToSession, IsQuestion, IsOwnNumber, IsOtherMessage, IsOther, reads_meaning, GetsOne, with_contents, Exchanges, ExchangeLeads, EachSays, BringsNothing, EachMeans, IsOfTheModel, EveryExchangeIsOfTheModel, Published, with_version, published_in, AreRightOf, last_published, HoldsOfExchange, EveryExchangeHolds}
+use Rattle.ob0_world.proofs.Answering.{Served, served, inline_served, inlining_at, going_on, reacts_so}
+use Rattle.ob0_world.proofs.Places.{place_of_range}
 use Rattle.ob0_world.proofs.Waiting.{says_still, understood_still}
 use Rattle.ob0_world.proofs.Courses.{Conversed, takes_conversed, gets_conversed, written_conversed, initialized_conversed, as_conversation}
 
@@ -60,9 +63,19 @@ module _ (requested more : List SentAsk) where
   other_still : (content : List ℕ) → IsOther requested content → IsOther (requested ++ more) content
   other_still content (json, reads_so, is) = (json, reads_so, message_still (meaning_of json) is)
 
+  ask_still : (k : ℕ) (uri : List ℕ) (ask : Ask) → IsAsk requested k uri ask → IsAsk (requested ++ more) k uri ask
+  ask_still k uri ask of = record { sent = of.sent; is = numbered_push requested more k of.sent of.is; about = of.about; asks_this = of.asks_this }
+
+  session_still : (m : ToServer) (content : List ℕ) → SaysToSession requested m content → SaysToSession (requested ++ more) m content
+  session_still (notifies note) content h = says_still requested more (notifies note) content h
+  session_still (requests k uri (rename position name)) content h = says_still requested more (requests k uri (rename position name)) content h
+  session_still (requests k uri (inline_here position)) content h = (h.0, ask_still k uri (inline_here position) h.1)
+  session_still (requests k uri (inline_all position)) content h = (h.0, ask_still k uri (inline_all position) h.1)
+  session_still (requests k uri (format indent)) content h = says_still requested more (requests k uri (format indent)) content h
+
   says_on : (q : List (Option ToServer)) (contents : List (List ℕ)) → EachSays requested q contents → EachSays (requested ++ more) q contents
   says_on [] [] h = tt
-  says_on (Some m ∷ q) (c ∷ contents) h = (says_still requested more m c h.0, says_on q contents h.1)
+  says_on (Some m ∷ q) (c ∷ contents) h = (session_still m c h.0, says_on q contents h.1)
   says_on (None ∷ q) (c ∷ contents) h = (other_still c h.0, says_on q contents h.1)
   says_on [] (c ∷ contents) h = absurd h
   says_on (Some m ∷ q) [] h = absurd h
@@ -91,12 +104,6 @@ means_append requested (None ∷ r) p (c ∷ contents) others h k = (h.0, means_
 means_append requested [] p (c ∷ contents) others h k = absurd h
 means_append requested (Some m ∷ r) p [] others h k = absurd h
 means_append requested (None ∷ r) p [] others h k = absurd h
-
-each_says : (requested : List SentAsk) (messages : List ToServer) (contents : List (List ℕ)) → AllSay requested messages contents → EachSays requested (map Some messages) contents
-each_says requested [] [] h = tt
-each_says requested (m ∷ messages) (c ∷ contents) h = (h.0, each_says requested messages contents h.1)
-each_says requested [] (c ∷ contents) h = absurd h
-each_says requested (m ∷ messages) [] h = absurd h
 
 each_means : (requested : List SentAsk) (sent : List (List ℕ)) → All (λ content. (m : ToEditor) × (understood requested content ≡ Some m)) sent → EachMeans requested (map Some (filter_map (understood requested) sent)) sent
 each_means requested [] all = tt
@@ -325,6 +332,25 @@ shown_got : (got rest : List (List ℕ)) (content : List ℕ) (wire : Wire) (mad
 shown_got got rest content wire made waits h =
     record { since = h.since; sent = append_assoc wire.got (content ∷ []) rest ∙ ap (λ xs. wire.got ++ xs) (sym waits) ∙ h.sent; published = h.published }
 
+-- ---- what is replied to asks and notifications
+
+inline_replied : (how : Inlining) (requested : List SentAsk) (k : ℕ) (uri : List ℕ) (position : Position) (before after : ServerState) (content : List ℕ) (sent : List (List ℕ)) → IsRunning before → IsActionsRequest k uri position content
+    → IsAsk requested k uri (inlining_at how position) → Answers before content sent after → Served requested (requests k uri (inlining_at how position)) before after sent
+inline_replied how requested k uri position before after content sent running is of h =
+    let answer = reacts_so before after content sent is.json (going_on before after content sent running h) is.reads in
+    let id : Data = number (unsigned k) in
+    let so : react before (meaning_of is.json) ≡ answer_method before id (codes "textDocument/codeAction") is.params =
+    ap (react before) is.means ∙ ap (λ phase. react_to_request phase before id (codes "textDocument/codeAction") is.params) running.0 in
+    inline_served how requested k uri position is.range is.only is.params before after sent running of is.allowed (place_of_range is.range position is.from is.ordered) is.calls
+    (answer.0 ∙ ap (λ (x : Reaction). x.after) so) (subst (λ (x : Reaction). SaysReply x.say sent) so answer.1)
+
+session_served : (requested : List SentAsk) (m : ToServer) (before after : ServerState) (content : List ℕ) (sent : List (List ℕ)) → IsRunning before → SaysToSession requested m content → Answers before content sent after → Served requested m before after sent
+session_served requested (notifies note) before after content sent running h answered = served requested (notifies note) before after content sent running h answered
+session_served requested (requests k uri (rename position name)) before after content sent running h answered = served requested (requests k uri (rename position name)) before after content sent running h answered
+session_served requested (requests k uri (inline_here position)) before after content sent running h answered = inline_replied Here requested k uri position before after content sent running h.0 h.1 answered
+session_served requested (requests k uri (inline_all position)) before after content sent running h answered = inline_replied Everywhere requested k uri position before after content sent running h.0 h.1 answered
+session_served requested (requests k uri (format indent)) before after content sent running h answered = served requested (requests k uri (format indent)) before after content sent running h answered
+
 -- ---- turn by turn
 
 -- the model of what has passed, with these messages
@@ -367,7 +393,7 @@ module _ (got : List (List ℕ)) (x : Exchange) (made : List Made) where
         tied = record {
           says = says_append done.editor.requested q (map Some done.sent) x.wire.to_server contents
               (subst (λ asks. EachSays asks q x.wire.to_server) (sym more.1) (says_on x.editor.requested more.0 q x.wire.to_server tied.says))
-              (each_says done.editor.requested done.sent contents say);
+              say;
           means = subst (λ asks. EachMeans asks r x.wire.to_editor) (sym more.1) (means_on x.editor.requested more.0 r x.wire.to_editor tied.means);
           running = tied.running;
           conversed = written_conversed x.wire contents tied.conversed;
@@ -404,7 +430,7 @@ module _ (got : List (List ℕ)) (x : Exchange) (made : List Made) where
       }
   serve_step (Some m ∷ q) r (c ∷ rest) wire waits tied (after, sent, answered, is) =
       let says : EachSays x.editor.requested (Some m ∷ q) (c ∷ rest) = subst (EachSays x.editor.requested (Some m ∷ q)) waits tied.says in
-      let s : Served x.editor.requested m x.wire.session after sent = served x.editor.requested m x.wire.session after c sent tied.running says.0 answered in
+      let s : Served x.editor.requested m x.wire.session after sent = session_served x.editor.requested m x.wire.session after c sent tied.running says.0 answered in
       let now : Wire = record x.wire { session = after; taken = x.wire.taken ++ c ∷ []; to_server = rest; to_editor = x.wire.to_editor ++ sent } in
       let more : List Made = option_to_list (made_first after.held s.said) in
       let means : EachMeans x.editor.requested (map Some s.said) sent = subst (λ ms. EachMeans x.editor.requested (map Some ms) sent) s.heard.all (each_means x.editor.requested sent s.heard.each) in

@@ -10,3 +10,4 @@ mod Conversing
 mod Versions
 mod Exchanges
 mod Exchanged
+mod Places

@@ -1,9 +1,11 @@
 -- An editor that keeps the protocol, and a session: what passes between them. No server of the model
 -- is in it: what the session sends is by the protocol alone (`Answers`).
 -- Rule: LSP 3.17; for a law of every editor with a session.
-use Rattle.std.specs.Prelude.{◌≡◌, ◌⊎◌, ⊤, ℕ, ℤ, pos, List, [], ◌∷◌, ◌++◌, All, fold, Bool, true, false, Option, Some, None, MatchOption, option_map, Result, Ok, Err, if◌then◌else◌, codes}
+use Rattle.std.specs.Prelude.{◌≡◌, ◌⊎◌, ◌<◌, ◌≤◌, map, ⊤, ℕ, ℤ, pos, List, [], ◌∷◌, ◌++◌, All, fold, Bool, true, false, Option, Some, None, MatchOption, option_map, Result, Ok, Err, if◌then◌else◌, codes}
 use Rattle.std.specs.Str.{bytes_eq}
-use Rattle.serde_json.specs.Data.{Data}
+use Rattle.serde_json.specs.Data.{Data, number, unsigned}
+use Rattle.ob0_text.specs.declared.position_types.Position.{Position}
+use Rattle.ob0_text.specs.declared.position_types.Range.{Range}
 use Rattle.ob0_text.specs.declared.position_types.Unit.{Unit}
 use Rattle.ob0_text.specs.OpenDocuments.{document_at}
 use Rattle.ob0_rpc.specs.declared.clients.Client.{Client}
@@ -12,12 +14,14 @@ use Rattle.ob0_rpc.specs.Messages.{ReadsContent, MessageMeaning, not_json, not_a
 use Rattle.ob0_rpc.specs.Notifications.{other, note_of}
 use Rattle.ob0_rpc.specs.Requesting as asked
 use Rattle.ob0_rpc.specs.Requesting.{ClientRequest, request_by_method}
+use Rattle.ob0_session_answers.specs.Actions.{allows_inlining}
 use Rattle.ob0_session_server.specs.Answers as server
 use Rattle.ob0_session_server.specs.Answers.{begins, Conversation}
 use Rattle.ob0_session_server.specs.Units.{unit_for}
-use Rattle.ob0_world_editor.specs.Heard.{request_number, SaysToServer}
+use Rattle.ob0_world_editor.specs.Heard.{request_number, IsAsk, SaysToServer}
 use Rattle.ob0_world_editor.specs.Understood.{understood}
-use Rattle.ob0_world_rules.specs.ClientAndServer.{Open, SentAsk, Editor, new_editor, request_numbered, open_at, ToServer, ToEditor, publishes, answers, Applied}
+use Rattle.ob0_world_rules.specs.Asks.{rename, inline_here, inline_all, format}
+use Rattle.ob0_world_rules.specs.ClientAndServer.{Open, SentAsk, Editor, new_editor, request_numbered, open_at, ToServer, notifies, requests, ToEditor, publishes, answers, Applied}
 use Rattle.ob0_world_rules.specs.Editing.{Done, reads}
 use Rattle.ob0_world_rules.specs.Editors.{Move, May}
 use Rattle.ob0_world_rules.specs.EveryEditor.{EditorAndServer, nothing_yet, no_ask, without_numbers, Turn, editor_does, editor_says, server_takes, editor_takes, MayLead, HoldsWithEditor}
@@ -26,7 +30,7 @@ use Rattle.ob0_world_rules.specs.Headline.{KeepsTheRun}
 use Rattle.ob0_world_rules.specs.Mirror.{as_open}
 use Rattle.ob0_world_rules.specs.MadeInOrder.{Announced}
 use Rattle.ob0_world_rules.specs.Happens.{Event}
-use Rattle.ob0_world.specs.Worlds.{Wire, Connection, Begins, ConnectionCourse, TakesFirst, AllSay}
+use Rattle.ob0_world.specs.Worlds.{Wire, Connection, Begins, ConnectionCourse, TakesFirst}
 
 -- an editor and a session, with the contents that pass; the documents that the editor announced, and
 -- the edits that it applied
@@ -98,6 +102,52 @@ abbrev pub IsOther : List SentAsk → List ℕ → Type 0
 IsOther requested content =
     (json : Data) × ReadsContent content (Some json) × IsOtherMessage requested (meaning_of json)
 
+-- ---- asks and notifications
+
+-- a position isn't after another
+abbrev pub IsNotAfter : Position → Position → Type 0
+IsNotAfter p q = (p.line < q.line) ⊎ ((p.line ≡ q.line) × (p.character ≤ q.character))
+
+-- the content is a request with this number for the code actions in a range that begins at this
+-- position, of all kinds or of some that inlining is of
+pub record IsActionsRequest (k : ℕ) (uri : List ℕ) (position : Position) (content : List ℕ)
+    : Type 0 where
+  pub json : Data
+  pub reads : ReadsContent content (Some json)
+  pub params : Data
+  pub means : meaning_of json
+      ≡ request (number (unsigned k)) (codes "textDocument/codeAction") params
+  pub range : Range
+  pub only : Option (List (List ℕ))
+  pub calls : request_by_method (codes "textDocument/codeAction") params
+      ≡ Ok (asked.code_action uri range only)
+  pub from : range.start ≡ position
+  pub ordered : IsNotAfter range.start range.end
+  pub allowed : allows_inlining only ≡ true
+
+-- the content says this to a session: of what is inlined it asks for the actions
+abbrev pub SaysToSession : List SentAsk → ToServer → List ℕ → Type 0
+SaysToSession requested (notifies note) content = SaysToServer requested (notifies note) content
+SaysToSession requested (requests k uri (rename position name)) content =
+    SaysToServer requested (requests k uri (rename position name)) content
+SaysToSession requested (requests k uri (inline_here position)) content =
+    IsActionsRequest k uri position content × IsAsk requested k uri (inline_here position)
+SaysToSession requested (requests k uri (inline_all position)) content =
+    IsActionsRequest k uri position content × IsAsk requested k uri (inline_all position)
+SaysToSession requested (requests k uri (format indent)) content =
+    SaysToServer requested (requests k uri (format indent)) content
+
+-- each content says its message to the server; to another message there is another content
+abbrev pub EachSays : List SentAsk → List (Option ToServer) → List (List ℕ) → Type 0
+EachSays requested [] [] = ⊤
+EachSays requested (Some m ∷ messages) (content ∷ contents) =
+    SaysToSession requested m content × EachSays requested messages contents
+EachSays requested (None ∷ messages) (content ∷ contents) =
+    IsOther requested content × EachSays requested messages contents
+EachSays requested [] (content ∷ contents) = ⊥
+EachSays requested (Some m ∷ messages) [] = ⊥
+EachSays requested (None ∷ messages) [] = ⊥
+
 -- ---- what may happen
 
 -- what the editor makes of a content: an answer with edits to an ask of its own is kept
@@ -126,7 +176,7 @@ Exchanges old (editor_does move) new =
     × (announced : List Announced)
     × (contents : List (List ℕ))
     × May old.editor move done announced
-    × AllSay done.editor.requested done.sent contents
+    × EachSays done.editor.requested (map Some done.sent) contents
     × (new
     ≡ record {
       editor = done.editor;
@@ -155,17 +205,6 @@ ExchangeLeads old (turn ∷ turns) new =
     (between : Exchange) × Exchanges old turn between × ExchangeLeads between turns new
 
 -- ---- the law
-
--- each content says its message to the server; to another message there is another content
-abbrev pub EachSays : List SentAsk → List (Option ToServer) → List (List ℕ) → Type 0
-EachSays requested [] [] = ⊤
-EachSays requested (Some m ∷ messages) (content ∷ contents) =
-    SaysToServer requested m content × EachSays requested messages contents
-EachSays requested (None ∷ messages) (content ∷ contents) =
-    IsOther requested content × EachSays requested messages contents
-EachSays requested [] (content ∷ contents) = ⊥
-EachSays requested (Some m ∷ messages) [] = ⊥
-EachSays requested (None ∷ messages) [] = ⊥
 
 -- it brings no edits and no diagnostics
 abbrev pub BringsNothing : Option ToEditor → Type 0

@@ -1,0 +1,108 @@
+-- The place of a position that isn't after another isn't after its place.
+use Rattle.std.proofs.Common.{◌≡◌, ◌∙◌, ℕ, zero, suc, ◌+◌, ◌-◌, ◌<◌, ◌≤◌, Bool, true, false, List, [], ◌∷◌, ◌++◌, length, take, refl, sym, ap, subst, arith, inl, inr, cond, append_assoc}
+use Rattle.std.specs.Prelude.{◌⊎◌, min, nat_le, encode_utf8_all}
+use Rattle.std.proofs.lemmas.Str.{encodes-append}
+use Rattle.std.proofs.lemmas.Bool.{leb-true, leb-false}
+use Rattle.std.proofs.lemmas.List.{length-append}
+use Rattle.ob0_text.specs.declared.position_types.Position.{Position}
+use Rattle.ob0_text.specs.declared.position_types.Range.{Range}
+use Rattle.ob0_text.specs.declared.position_types.Unit.{Unit}
+use Rattle.ob0_text.specs.Texts.{Line, lines, joined, body_at, fitting, before, byte_len, offset_of}
+use Rattle.ob0_text.specs.Units.{width_of}
+use Rattle.ob0_session_answers.specs.Actions.{actions_offset}
+use Rattle.ob0_world_rules.specs.Answers.{place_at}
+use Rattle.ob0_world.specs.Exchanges.{IsNotAfter}
+
+len-append : (xs ys : List ℕ) → byte_len (xs ++ ys) ≡ byte_len xs + byte_len ys
+len-append xs ys = ap length (encodes-append xs ys) ∙ length-append (encode_utf8_all xs) (encode_utf8_all ys)
+
+len-cons : (c : ℕ) (xs ys : List ℕ) → byte_len xs ≤ byte_len ys → byte_len (c ∷ xs) ≤ byte_len (c ∷ ys)
+len-cons c xs ys h =
+    let one : byte_len (c ∷ xs) ≡ byte_len (c ∷ []) + byte_len xs = len-append (c ∷ []) xs in
+    let other : byte_len (c ∷ ys) ≡ byte_len (c ∷ []) + byte_len ys = len-append (c ∷ []) ys in
+    omega (arith, one, other, h)
+
+module _ (width : ℕ → ℕ) where
+  -- more fits where there is more room
+  more_fits : (cs : List ℕ) (n m : ℕ) → n ≤ m → byte_len (fitting width n cs) ≤ byte_len (fitting width m cs)
+  unfolding fitting
+  more_fits [] n m h = omega arith
+  more_fits (c ∷ cs) n m h = go (nat_le (width c) n) (nat_le (width c) m) refl refl (more_fits cs (n - width c) (m - width c) (omega arith))
+    where
+      go : (a b : Bool) → nat_le (width c) n ≡ a → nat_le (width c) m ≡ b → byte_len (fitting width (n - width c) cs) ≤ byte_len (fitting width (m - width c) cs)
+          → byte_len (cond a (c ∷ fitting width (n - width c) cs) []) ≤ byte_len (cond b (c ∷ fitting width (m - width c) cs) [])
+      go true true one other more = len-cons c (fitting width (n - width c) cs) (fitting width (m - width c) cs) more
+      go true false one other more =
+          let low : width c ≤ n = leb-true (width c) n one in
+          let high : m < width c = leb-false (width c) m other in absurd (omega arith)
+      go false b one other more = omega arith
+
+  all_fits : (cs : List ℕ) (n : ℕ) → byte_len (fitting width n cs) ≤ byte_len cs
+  unfolding fitting
+  all_fits [] n = omega arith
+  all_fits (c ∷ cs) n = go (nat_le (width c) n) (all_fits cs (n - width c))
+    where
+      go : (b : Bool) → byte_len (fitting width (n - width c) cs) ≤ byte_len cs → byte_len (cond b (c ∷ fitting width (n - width c) cs) []) ≤ byte_len (c ∷ cs)
+      go true more = len-cons c (fitting width (n - width c) cs) cs more
+      go false more = omega arith
+
+  up_to : List Line → ℕ → ℕ → List ℕ
+  up_to ls line n = joined (take line ls) ++ fitting width n (body_at ls line)
+
+  take_none : (k : ℕ) → take {A = Line} k [] ≡ []
+  take_none zero = refl
+  take_none (suc k) = refl
+
+  none_before : (line n : ℕ) → up_to [] line n ≡ []
+  unfolding up_to joined body_at fitting
+  none_before line n = ap (λ ls. joined ls ++ []) (take_none line)
+
+  further : (ls : List Line) (a b n m : ℕ) → (a < b) ⊎ ((a ≡ b) × (n ≤ m)) → byte_len (up_to ls a n) ≤ byte_len (up_to ls b m)
+  unfolding up_to joined body_at fitting
+  further [] a b n m h =
+      let one : byte_len (up_to [] a n) ≡ 0 = ap byte_len (none_before a n) in omega (arith, one)
+  further (l ∷ ls) zero zero n m (inl less) = absurd (omega arith)
+  further (l ∷ ls) zero zero n m (inr (same, more)) = more_fits l.body n m more
+  further (l ∷ ls) zero (suc b) n m h =
+      let fits : byte_len (fitting width n l.body) ≤ byte_len l.body = all_fits l.body n in
+      let rest : List ℕ = l.ending ++ joined (take b ls) in
+      let parts : byte_len ((l.body ++ rest) ++ fitting width m (body_at ls b)) ≡ byte_len (l.body ++ rest) + byte_len (fitting width m (body_at ls b)) = len-append (l.body ++ rest) (fitting width m (body_at ls b)) in
+      let first : byte_len (l.body ++ rest) ≡ byte_len l.body + byte_len rest = len-append l.body rest in
+      omega (arith, fits, parts, first)
+  further (l ∷ ls) (suc a) zero n m (inl less) = absurd (omega arith)
+  further (l ∷ ls) (suc a) zero n m (inr (same, more)) = absurd (omega arith)
+  further (l ∷ ls) (suc a) (suc b) n m h =
+      let more : byte_len (up_to ls a n) ≤ byte_len (up_to ls b m) = further ls a b n m (lower h) in
+      let one : byte_len ((l.body ++ (l.ending ++ joined (take a ls))) ++ fitting width n (body_at ls a)) ≡ byte_len (l.body ++ l.ending) + byte_len (up_to ls a n) =
+      split l.body l.ending (joined (take a ls)) (fitting width n (body_at ls a)) in
+      let other : byte_len ((l.body ++ (l.ending ++ joined (take b ls))) ++ fitting width m (body_at ls b)) ≡ byte_len (l.body ++ l.ending) + byte_len (up_to ls b m) =
+      split l.body l.ending (joined (take b ls)) (fitting width m (body_at ls b)) in
+      omega (arith, more, one, other)
+    where
+      lower : (suc a < suc b) ⊎ ((suc a ≡ suc b) × (n ≤ m)) → (a < b) ⊎ ((a ≡ b) × (n ≤ m))
+      lower (inl less) = inl (omega arith)
+      lower (inr (same, more)) = inr (omega (arith, same), more)
+
+      split : (x y z w : List ℕ) → byte_len ((x ++ (y ++ z)) ++ w) ≡ byte_len (x ++ y) + byte_len (z ++ w)
+      split x y z w =
+          ap (λ v. byte_len (v ++ w)) (sym (append_assoc x y z)) ∙ ap byte_len (append_assoc (x ++ y) z w) ∙ len-append (x ++ y) (z ++ w)
+
+  before_up_to : (text : List ℕ) (p : Position) → before width text p ≡ up_to (lines text) p.line p.character
+  unfolding before up_to
+  before_up_to text p = refl
+
+  pub place_further : (text : List ℕ) (p q : Position) → IsNotAfter p q → offset_of width text p ≤ offset_of width text q
+  place_further text p q h =
+      let one : offset_of width text p ≡ byte_len (up_to (lines text) p.line p.character) = ap byte_len (before_up_to text p) in
+      let other : offset_of width text q ≡ byte_len (up_to (lines text) q.line q.character) = ap byte_len (before_up_to text q) in
+      let more : byte_len (up_to (lines text) p.line p.character) ≤ byte_len (up_to (lines text) q.line q.character) = further (lines text) p.line q.line p.character q.character h in
+      omega (arith, one, other, more)
+
+-- so the place of the actions in a range is that of its start
+pub place_of_range : (range : Range) (position : Position) → range.start ≡ position → IsNotAfter range.start range.end → (unit : Unit) (text : List ℕ) → actions_offset unit text range ≡ place_at unit text position
+place_of_range range position from ordered unit text =
+    let more : place_at unit text range.start ≤ place_at unit text range.end = place_further (width_of unit) text range.start range.end ordered in
+    least (place_at unit text range.start) (place_at unit text range.end) more ∙ ap (place_at unit text) from
+  where
+    least : (a b : ℕ) → a ≤ b → min a b ≡ a
+    least a b h = omega arith
