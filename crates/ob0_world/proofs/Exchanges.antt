@@ -9,7 +9,11 @@ use Rattle.std.proofs.lemmas.List.Elements.{All-head, All-tail}
 use Rattle.serde_json.specs.Data.{Data, number, unsigned}
 use Rattle.serde_json.specs.Find.{get}
 use Rattle.serde_json.specs.Read.{read}
+use Rattle.ob0_text.specs.RefusalTexts.{refusal_text}
+use Rattle.ob0_text.specs.declared.edits.Indent.{Indent}
+use Rattle.ob0_text.specs.declared.refusals.EditRefusal.TheVariants.{TooLong}
 use Rattle.ob0_text.specs.declared.position_types.Position.{Position}
+use Rattle.ob0_text.specs.declared.position_types.Range.{Range}
 use Rattle.ob0_text.specs.declared.position_types.Unit.{Unit}
 use Rattle.ob0_text.specs.OpenDocuments.{OpenDocuments, Document, InStep, OutOfStep, Opened, Changed, Lost, Closed, after_event, none_open, document_at}
 use Rattle.ob0_rpc.specs.declared.incoming.RpcFault.{RpcFault}
@@ -20,8 +24,11 @@ use Rattle.ob0_rpc.specs.Requesting as asked
 use Rattle.ob0_rpc.specs.Requesting.{At, ClientRequest, request_by_method}
 use Rattle.ob0_rpc.specs.Shapes.{result_message, error_message}
 use Rattle.ob0_session_answers.specs.Questions.{AnswersName, AnswersIn, NameQuestion, hover_asked, definition_asked, references_asked, renaming_asked, value_or_null, no_answer, hover_at, location_at, range_at}
+use Rattle.ob0_session_answers.specs.Actions.{RequestedActions, ListsActions}
+use Rattle.ob0_session_answers.specs.Formatted.{AnswersFormatting}
+use Rattle.ob0_session_json.specs.Shapes.{edits_value}
 use Rattle.ob0_session_server.specs.Answers as server
-use Rattle.ob0_session_server.specs.Answers.{ServerState, begins, SaysReply, Sends, Reaction, react, react_to_request, react_to_notification, apply_notification, answer_request, answer_method, answers_about, answers_name, refuses, Answers, Conversation}
+use Rattle.ob0_session_server.specs.Answers.{ServerState, begins, SaysReply, Sends, Reaction, react, react_to_request, react_to_notification, apply_notification, answer_request, answer_method, answers_about, answers_name, offers_actions, lays_out, refuses, Answers, Conversation}
 use Rattle.ob0_world_editor.specs.Heard.{request_number, IsAsk}
 use Rattle.ob0_world_editor.specs.Understood.{understood, value_understood, answer_understood, answer_to, publication_understood, workspace_items, edits_in, edits_for}
 use Rattle.ob0_world_editor.proofs.Hearing.{understood_as}
@@ -204,6 +211,34 @@ name_served requested before after id at question sent own (Some (InStep version
     one_reply requested before after sent (result_message id value) same sends
     (no_answer_to requested id (result_message id value) refl refl (ap (λ o. unwrap_or (option_and_then edits_in o) []) (name_brings before.held.unit text at question value answers_it)) own)
 
+actions_served : (requested : List SentAsk) (before after : ServerState) (id : Data) (uri : List ℕ) (range : Range) (only : Option (List (List ℕ))) (sent : List (List ℕ)) → IsOwnNumber requested (request_number id) → (o : Option Document)
+    → after ≡ (answers_about before id o (λ version. offers_actions before.held.unit (record { id = id; client = before.client; uri = uri; version = version; range = range; only = only }))).after
+    → SaysReply (answers_about before id o (λ version. offers_actions before.held.unit (record { id = id; client = before.client; uri = uri; version = version; range = range; only = only }))).say sent → OtherServed requested before after sent
+actions_served requested before after id uri range only sent own None same saying = refused_other requested before after id (minus 32803) (codes "unopened") sent same saying own
+actions_served requested before after id uri range only sent own (Some OutOfStep) same saying = refused_other requested before after id (minus 32803) (codes "out of step") sent same saying own
+actions_served requested before after id uri range only sent own (Some (InStep version text)) same (message, (value, how, is), sends) =
+    one_reply requested before after sent (result_message id value) same (subst (λ m. Sends m sent) is sends)
+    (no_answer_to requested id (result_message id value) refl refl (ap (λ o. unwrap_or (option_and_then edits_in o) []) (go how)) own)
+  where
+    asked_so : RequestedActions
+    asked_so = record { id = id; client = before.client; uri = uri; version = version; range = range; only = only }
+
+    go : ListsActions before.held.unit asked_so text value → workspace_items value ≡ None
+    go (inl h) = ap workspace_items h.listed
+    go (inr (why, listed)) = ap workspace_items listed
+
+layout_served : (requested : List SentAsk) (before after : ServerState) (id : Data) (indent : Indent) (sent : List (List ℕ)) → IsOwnNumber requested (request_number id) → (o : Option Document)
+    → after ≡ (answers_about before id o (λ version. lays_out before.held.unit id indent)).after → SaysReply (answers_about before id o (λ version. lays_out before.held.unit id indent)).say sent → OtherServed requested before after sent
+layout_served requested before after id indent sent own None same saying = refused_other requested before after id (minus 32803) (codes "unopened") sent same saying own
+layout_served requested before after id indent sent own (Some OutOfStep) same saying = refused_other requested before after id (minus 32803) (codes "out of step") sent same saying own
+layout_served requested before after id indent sent own (Some (InStep version text)) same (message, how, sends) = go how
+  where
+    go : AnswersFormatting before.held.unit id indent text message → OtherServed requested before after sent
+    go (inl (edits, laid, is)) =
+        one_reply requested before after sent (result_message id (edits_value edits)) same (subst (λ m. Sends m sent) is sends) (no_answer_to requested id (result_message id (edits_value edits)) refl refl refl own)
+    go (inr (inl (long, is))) = refused_other requested before after id (minus 32803) (refusal_text TooLong) sent same (subst (λ m. Sends m sent) is sends) own
+    go (inr (inr (unfit, is))) = refused_other requested before after id (minus 32803) (codes "ill-typed") sent same (subst (λ m. Sends m sent) is sends) own
+
 question_served : (requested : List SentAsk) (before after : ServerState) (id : Data) (sent : List (List ℕ)) → IsOwnNumber requested (request_number id) → (q : Result ClientRequest RpcFault) → IsQuestion q
     → after ≡ (answer_request before id q).after → SaysReply (answer_request before id q).say sent → OtherServed requested before after sent
 question_served requested before after id sent own (Ok (asked.initialize client)) h same saying = absurd h
@@ -213,8 +248,8 @@ question_served requested before after id sent own (Ok (asked.definition at)) h 
 question_served requested before after id sent own (Ok (asked.references at include)) h same saying = name_served requested before after id at (references_asked include) sent own (document_at before.held at.uri) same saying
 question_served requested before after id sent own (Ok (asked.prepare_rename at)) h same saying = name_served requested before after id at renaming_asked sent own (document_at before.held at.uri) same saying
 question_served requested before after id sent own (Ok (asked.rename at name)) h same saying = absurd h
-question_served requested before after id sent own (Ok (asked.code_action uri range only)) h same saying = absurd h
-question_served requested before after id sent own (Ok (asked.formatting uri indent)) h same saying = absurd h
+question_served requested before after id sent own (Ok (asked.code_action uri range only)) h same saying = actions_served requested before after id uri range only sent own (document_at before.held uri) same saying
+question_served requested before after id sent own (Ok (asked.formatting uri indent)) h same saying = layout_served requested before after id indent sent own (document_at before.held uri) same saying
 question_served requested before after id sent own (Err fault) h same saying = refused_other requested before after id (error_code fault) (error_text fault) sent same saying own
 
 message_served : (requested : List SentAsk) (before after : ServerState) (sent : List (List ℕ)) → IsRunning before → (m : MessageMeaning) → IsOtherMessage requested m → after ≡ (react before m).after → SaysReply (react before m).say sent → OtherServed requested before after sent

@@ -67,7 +67,8 @@ pub record BeginsExchange (unit : Unit) (x : Exchange) : Type 0 where
 
 -- ---- other messages
 
--- a request that changes nothing: a question, or one that the server doesn't know or can't read
+-- a request that changes nothing: a question; one for actions or a layout whose answer the editor
+-- drops; or one that the server doesn't know or can't read
 abbrev pub IsQuestion : Result ClientRequest RpcFault → Type 0
 IsQuestion (Ok (asked.initialize client)) = ⊥
 IsQuestion (Ok asked.shutdown) = ⊥
@@ -76,8 +77,8 @@ IsQuestion (Ok (asked.definition at)) = ⊤
 IsQuestion (Ok (asked.references at include)) = ⊤
 IsQuestion (Ok (asked.prepare_rename at)) = ⊤
 IsQuestion (Ok (asked.rename at name)) = ⊥
-IsQuestion (Ok (asked.code_action uri range only)) = ⊥
-IsQuestion (Ok (asked.formatting uri indent)) = ⊥
+IsQuestion (Ok (asked.code_action uri range only)) = ⊤
+IsQuestion (Ok (asked.formatting uri indent)) = ⊤
 IsQuestion (Err fault) = ⊤
 
 -- where an id is a number, it is that of no ask
@@ -85,8 +86,8 @@ abbrev pub IsOwnNumber : List SentAsk → Option ℕ → Type 0
 IsOwnNumber requested (Some k) = request_numbered requested k ≡ Some no_ask
 IsOwnNumber requested None = ⊤
 
--- it says nothing of documents, and asks for no edit: a request that changes nothing, a notification
--- that is ignored, or a response
+-- it says nothing of documents, and asks for no edit that is applied: a request that changes nothing,
+-- a notification that is ignored, or a response
 abbrev pub IsOtherMessage : List SentAsk → MessageMeaning → Type 0
 IsOtherMessage requested not_json = ⊥
 IsOtherMessage requested not_a_message = ⊥
