@@ -9,13 +9,16 @@ use Rattle.ob0_world_rules.specs.Edited.{Replacement, edited, whole_text, after_
 use Rattle.ob0_world_rules.specs.ClientAndServer.{Open, SentAsk, Editor, request_numbered, open_at, ToServer, ToEditor, ClientAndServer, start, after_message}
 use Rattle.ob0_world_rules.specs.Editing.{Act, Done, stays, rewrites, kept_answer, without_answer, done_by}
 use Rattle.ob0_world_rules.specs.Happens.{Event, does, serve, take_message, after_act, after_taking, ServerTakes, Happens, Course}
+use Rattle.ob0_world_rules.specs.Headline.{Holds}
+use Rattle.ob0_world_rules.specs.Mirror.{Mirrors}
+use Rattle.ob0_world_rules.specs.Laws.{InEveryInterleaving, ServerMirrors}
 use Rattle.ob0_world_rules.specs.MadeInOrder.{Announced}
 use Rattle.ob0_world_rules.specs.Editors.{Revision, Move, to_open, to_revise, to_close, to_ask, to_apply, to_drop, revised, with_document, Revises, AppliesAnswer, May}
 use Rattle.ob0_world_rules.specs.EveryEditor.{EditorAndServer, as_model, Turn, editor_does, server_takes, editor_takes, TakesNext, after_one, MayHappen, MayLead, TheModelIsOne}
 use Rattle.ob0_world_rules.proofs.UriLaws.{get_put, uri_itself}
 use Rattle.ob0_world_rules.proofs.SameDocument.{Same}
 use Rattle.ob0_world_rules.proofs.Acts.{edit_of, of_each}
-use Rattle.ob0_world_rules.proofs.EveryEditor.{others_none}
+use Rattle.ob0_world_rules.proofs.EveryEditor.{others_none, with_every_editor}
 
 -- the model's state, with what was announced, and no other message
 abbrev pub from_model : ClientAndServer → List Announced → EditorAndServer
@@ -164,3 +167,14 @@ pub the_model_is_one : TheModelIsOne
 the_model_is_one unit events end run =
     let c : ComesTo (from_model (start unit) []) end = course_comes events (start unit) [] end run in
     (c.turns, from_model end c.announced, c.lead, as_it_is end c.announced)
+
+-- so the laws of the model's editor are cases of those of every editor
+pub model_holds : InEveryInterleaving
+model_holds unit events end run =
+    let (turns, w, lead, is) = the_model_is_one unit events end run in
+    subst Holds is (with_every_editor unit turns w lead).holds
+
+pub model_mirrors : ServerMirrors
+model_mirrors unit events end run =
+    let (turns, w, lead, is) = the_model_is_one unit events end run in
+    subst Mirrors is (with_every_editor unit turns w lead).mirrors
