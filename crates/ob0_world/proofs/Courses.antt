@@ -17,7 +17,7 @@ use Rattle.ob0_world.specs.declared.played.Played as played
 use Rattle.ob0_world_rules.specs.ClientAndServer.{ClientAndServer, start}
 use Rattle.ob0_world_rules.specs.Happens.{Event, does, serve, take_message, Course}
 use Rattle.ob0_world_rules.specs.Headline.{Headline, WasMadeFor}
-use Rattle.ob0_world_rules.proofs.Interleavings.{in_every_interleaving}
+use Rattle.ob0_world_rules.proofs.ModelEditor.{in_every_interleaving}
 use Rattle.ob0_world_rules.proofs.MadeFor.{made_for}
 use Rattle.ob0_world_rules.proofs.OneCourse.{one_course}
 use Rattle.ob0_world.specs.Code.{event_of, all_applied, all_made}

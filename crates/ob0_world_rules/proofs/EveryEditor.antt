@@ -22,7 +22,7 @@ use Rattle.ob0_world_rules.proofs.UriLaws.{get_put, uri_itself}
 use Rattle.ob0_world_rules.proofs.SameDocument.{Known, Same, later_answers, later_ask}
 use Rattle.ob0_world_rules.proofs.Keeping.{AnswerFits, Kept, acts_kept, revise_kept, held_known}
 use Rattle.ob0_world_rules.proofs.Interleavings.{opened_kept, close_kept, ask_kept, still_kept, take_kept, without_kept, serve_kept, start_kept, up_to_date, AreLatest, Both}
-use Rattle.ob0_world_rules.proofs.MadeInOrder.{Awaits, Pending, pending_push, pending_named, Next, serve_next}
+use Rattle.ob0_world_rules.proofs.Pending.{Awaits, Pending, pending_push, pending_named, Next, serve_next}
 
 -- ---- queues with other messages
 

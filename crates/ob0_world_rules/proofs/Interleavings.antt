@@ -1,4 +1,4 @@
--- Each event keeps what client and server keep, and so does every list of events.
+-- Each move of an editor and each turn of the server keeps what client and server keep.
 use Rattle.std.proofs.Common.{◌≡◌, ◌∙◌, ℕ, suc, ◌+◌, ◌≤◌, Bool, true, false, cond, List, [], ◌∷◌, ◌++◌, length, refl, sym, ap, subst, arith, inl, inr}
 use Rattle.std.specs.Prelude.{ℤ, pos, fold, All, Option, Some, None, is_some, option_map, ◌==◌}
 use Rattle.std.specs.Str.{bytes_eq}
@@ -9,26 +9,24 @@ use Rattle.std.proofs.lemmas.Option.{same_Some, none-some}
 use Rattle.std.proofs.lemmas.List.{append-nil}
 use Rattle.std.proofs.lemmas.List.Elements.{All-nil, All-head, All-tail, All-push, All-append, All-cons}
 use Rattle.ob0_text.specs.declared.position_types.Unit.{Unit}
-use Rattle.ob0_text.specs.OpenDocuments.{OpenDocuments, Document, InStep, OutOfStep, DocumentEvent, Opened, Changed, Lost, Closed, TextChange, changed_text, updated, after_event, changed_document, document_at}
+use Rattle.ob0_text.specs.OpenDocuments.{OpenDocuments, Document, InStep, OutOfStep, DocumentEvent, Opened, Changed, Lost, Closed, updated, after_event, changed_document, document_at}
 use Rattle.ob0_text.proofs.EntryLaws.{updated-some, updated-none}
-use Rattle.ob0_world_rules.specs.Language.{WellTypedText, SameRun}
-use Rattle.ob0_world_rules.specs.Edited.{Replacement, edited, whole_text, after_changes}
+use Rattle.ob0_world_rules.specs.Edited.{Replacement}
 use Rattle.ob0_world_rules.specs.Asks.{Ask}
 use Rattle.ob0_world_rules.specs.Answers.{IsAnswer}
-use Rattle.ob0_world_rules.specs.ClientAndServer.{Open, SentAsk, Answer, Editor, request_numbered, open_at, ToServer, notifies, requests, ToEditor, publishes, answers, Applied, Made, ClientAndServer, start, after_message}
-use Rattle.ob0_world_rules.specs.Editing.{Act, stays, opens, rewrites, closes, asks, kept_answer, all_but, without_answer, done_by}
+use Rattle.ob0_world_rules.specs.ClientAndServer.{Open, SentAsk, Answer, Editor, open_at, ToServer, notifies, requests, ToEditor, publishes, answers, Made, ClientAndServer, start, after_message}
+use Rattle.ob0_world_rules.specs.Editing.{stays, closes, asks, all_but, without_answer}
 use Rattle.ob0_world_rules.specs.Serving.{Publishes, RepliesToNotification, Replies}
-use Rattle.ob0_world_rules.specs.Happens.{Event, does, serve, take_message, after_act, after_taking, ServerTakes, Happens, Course}
+use Rattle.ob0_world_rules.specs.Happens.{after_act, after_taking, ServerTakes}
 use Rattle.ob0_world_rules.specs.Editors.{opened_as}
-use Rattle.ob0_world_rules.specs.Mirror.{will_have, as_open, Mirrors}
-use Rattle.ob0_world_rules.specs.Headline.{KeepsTheRun, IsRight, last_publication, AreUpToDate, Holds}
+use Rattle.ob0_world_rules.specs.Mirror.{will_have, as_open}
+use Rattle.ob0_world_rules.specs.Headline.{KeepsTheRun, IsRight, last_publication, AreUpToDate}
 use Rattle.ob0_world_rules.specs.Laws.{EditsPreserveRun}
 use Rattle.ob0_world_rules.proofs.UriLaws.{get_put, get_removed, same_uri, uri_itself}
 use Rattle.ob0_world_rules.proofs.Latest.{IsMadeFor, latest_push}
-use Rattle.ob0_world_rules.proofs.SameDocument.{Known, Same, later_answers, later_open, later_close, later_ask, slice_get_last, found, left}
-use Rattle.ob0_world_rules.proofs.Acts.{edit_of, of_each}
+use Rattle.ob0_world_rules.proofs.SameDocument.{Known, later_answers, later_open, later_close, later_ask, slice_get_last, found, left}
 use Rattle.ob0_world_rules.proofs.KeptRuns.{answer_keeps}
-use Rattle.ob0_world_rules.proofs.Keeping.{Fits, AnswerFits, HeldFits, AsksSee, Kept, message_unit, acts_kept, put_mirrors, remove_mirrors, rewrites_kept, answers_kept, held_known}
+use Rattle.ob0_world_rules.proofs.Keeping.{Fits, AnswerFits, HeldFits, AsksSee, Kept, message_unit, acts_kept, put_mirrors, remove_mirrors, answers_kept}
 
 -- ---- the editor's events
 
@@ -41,9 +39,6 @@ module _ (unit : Unit) where
       (λ same is. subst (λ y. y.opening ≤ w.editor.openings + 1) is (omega arith))
       (λ was. let known : x.opening ≤ w.editor.openings = kept.openings q x was in omega arith))
       refl refl (put_mirrors w uri d kept.mirror) tt (All-nil KeepsTheRun)
-
-  open_kept : (w : ClientAndServer) (uri text : List ℕ) → Kept unit w → Kept unit (after_act w (opens w.editor uri text))
-  open_kept w uri text kept = opened_kept w uri text 1 kept
 
   pub close_kept : (w : ClientAndServer) (uri : List ℕ) → Kept unit w → Kept unit (after_act w (closes w.editor uri))
   close_kept w uri kept =
@@ -110,35 +105,6 @@ module _ (unit : Unit) where
   pub without_kept : (w : ClientAndServer) (k : ℕ) → Kept unit w → Kept unit (record w { editor = without_answer w.editor k })
   without_kept w k kept =
       answers_kept unit w (all_but k w.editor.answers) w.to_editor kept (All-all_but (HeldFits unit w.editor) k w.editor.answers kept.answers_held) kept.answered
-
-  whole : (u : Unit) (old text : List ℕ) → after_changes u (Some old) (whole_text text ∷ []) ≡ Some text
-  unfolding changed_text
-  whole u old text = refl
-
-  -- the edits of an answer are made of the document of its request
-  made_kept : (w : ClientAndServer) (k : ℕ) (edits : List Replacement) (a : SentAsk) (d : Open) (text : List ℕ) → Kept unit w → kept_answer k w.editor.answers ≡ Some edits → request_numbered w.editor.requested k ≡ Some a → Same w.editor a d
-      → edited w.editor.unit d.text edits ≡ Some text → Kept unit (after_act w (rewrites (without_answer w.editor k) a.uri d text (whole_text text ∷ []) (edit_of a.uri d text ∷ [])))
-  made_kept w k edits a d text kept held numbered same makes =
-      let known : Known w.editor k (λ d. EditsPreserveRun unit d.text edits) = held_known unit w.editor k w.editor.answers edits held kept.answers_held in
-      let asked : known.requested ≡ a = same_Some known.requested a (sym known.is ∙ numbered) in
-      let keep : EditsPreserveRun unit d.text edits = subst (λ x. (d : Open) → Same w.editor x d → EditsPreserveRun unit d.text edits) asked known.still d same in
-      let is : keep.after ≡ text = same_Some keep.after text (sym keep.makes ∙ ap (λ u. edited u d.text edits) (sym kept.counts) ∙ makes) in
-      let keeps : KeepsTheRun (edit_of a.uri d text) = record { before_fits = keep.before_fits; after_fits = subst WellTypedText is keep.after_fits; same = subst (SameRun d.text) is keep.same } in
-      rewrites_kept unit (record w { editor = without_answer w.editor k }) a.uri d (whole_text text ∷ []) text (edit_of a.uri d text ∷ []) (without_kept w k kept) same.at (whole w.editor.unit d.text text)
-      (All-push KeepsTheRun [] (edit_of a.uri d text) (All-nil KeepsTheRun) keeps)
-
-  act_kept : (w : ClientAndServer) → Kept unit w → (act : Act) → Kept unit (after_act w (done_by w.editor act))
-  act_kept w kept =
-      of_each w.editor (λ done. Kept unit (after_act w done))
-      (record {
-        still = still_kept w kept;
-        opened = λ uri text none. open_kept w uri text kept;
-        changed = λ uri d how text at made. rewrites_kept unit w uri d how text [] kept at made (All-nil KeepsTheRun);
-        closed = λ uri d at. close_kept w uri kept;
-        asked = λ uri ask d at. ask_kept w uri ask d at kept;
-        made = λ k edits a d text. made_kept w k edits a d text kept;
-        dropped = λ k. still_kept (record w { editor = without_answer w.editor k }) (without_kept w k kept);
-      })
 
   -- ---- the server's events
 
@@ -321,17 +287,6 @@ module _ (unit : Unit) where
   take_unmoved w [] = (refl, refl)
   take_unmoved w (m ∷ rest) = (refl, refl)
 
-  event_kept : (w : ClientAndServer) (event : Event) (new : ClientAndServer) → Both w → Happens w event new → Both new
-  event_kept w (does act) new (kept, now) h = subst Both (sym h) (act_kept w kept act, now)
-  event_kept w serve new both h = serve_kept w w.to_server new refl both h
-  event_kept w take_message new (kept, now) h =
-      let still = take_unmoved w w.to_editor in
-      subst Both (sym h) (take_kept w w.to_editor kept kept.answered, subst (λ made. AreLatest (after_taking w w.to_editor).held made) (sym still.1) (subst (λ held. AreLatest held w.made) (sym still.0) now))
-
-  run_kept : (events : List Event) (w new : ClientAndServer) → Both w → Course w events new → Both new
-  run_kept [] w new both h = subst Both (sym h) both
-  run_kept (event ∷ events) w new both (between, happens, run) = run_kept events between new (event_kept w event between both happens) run
-
   nothing_at : {X : Type 0} (q : List ℕ) (x : X) (P : Type 0) → map_of.get (map_of.empty {X = X} {R = slice_cmp nat_cmp}) q ≡ Some x → P
   nothing_at q x P h = absurd (none-some x (sym (map_of.get-empty (slice_cmp nat_cmp) q) ∙ h))
 
@@ -355,11 +310,3 @@ module _ (unit : Unit) where
   up_to_date w (kept, now) nothing_waits uri d at =
       let held : document_at w.held uri ≡ Some (as_open d) = subst (λ q. document_at (fold after_message w.held q) uri ≡ Some (as_open d)) nothing_waits (kept.mirror uri ∙ ap (option_map as_open) at) in
       now uri (pos d.version) d.text held
-
-pub in_every_interleaving : (unit : Unit) (events : List Event) (w : ClientAndServer) → Course (start unit) events w → Holds w
-in_every_interleaving unit events w run =
-    let both : Both unit w = run_kept unit events (start unit) w (start_kept unit) run in
-    record { applied = both.0.applied; made = both.0.made; latest_made = up_to_date unit w both }
-
-pub server_mirrors : (unit : Unit) (events : List Event) (w : ClientAndServer) → Course (start unit) events w → Mirrors w
-server_mirrors unit events w run = (run_kept unit events (start unit) w (start_kept unit) run).0.mirror

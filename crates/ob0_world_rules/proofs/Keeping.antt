@@ -1,5 +1,5 @@
 -- What client and server keep, whatever happens.
-use Rattle.std.proofs.Common.{◌≡◌, ◌∙◌, ℕ, ◌+◌, ◌≤◌, ◌<◌, arith, Bool, true, false, cond, List, [], ◌∷◌, ◌++◌, refl, sym, ap, subst}
+use Rattle.std.proofs.Common.{◌≡◌, ◌∙◌, ℕ, ◌≤◌, ◌<◌, Bool, true, false, cond, List, [], ◌∷◌, ◌++◌, refl, sym, ap, subst}
 use Rattle.std.specs.Prelude.{◌⊎◌, ⊤, pos, fold, All, Some, None, option_map, ◌==◌}
 use Rattle.std.specs.Str.{bytes_eq}
 use Rattle.std.specs.FinMap as map_of
@@ -12,7 +12,7 @@ use Rattle.ob0_text.specs.OpenDocuments.{OpenDocuments, document, DocumentEvent,
 use Rattle.ob0_text.proofs.EntryLaws.{updated-some}
 use Rattle.ob0_world_rules.specs.Edited.{Replacement, after_changes}
 use Rattle.ob0_world_rules.specs.ClientAndServer.{Open, Answer, Editor, open_at, ToServer, notifies, requests, ToEditor, publishes, answers, Applied, ClientAndServer, after_message}
-use Rattle.ob0_world_rules.specs.Editing.{Done, kept_answer, rewrites}
+use Rattle.ob0_world_rules.specs.Editing.{Done, kept_answer}
 use Rattle.ob0_world_rules.specs.Happens.{after_act}
 use Rattle.ob0_world_rules.specs.Mirror.{will_have, as_open, Mirrors}
 use Rattle.ob0_world_rules.specs.Headline.{KeepsTheRun, IsRight}
@@ -150,11 +150,6 @@ revise_kept unit w uri d new how applied kept same_opening rises was_open is kee
     (λ same is. subst (λ y. y.opening ≤ w.editor.openings) is (subst (λ n. n ≤ w.editor.openings) (sym same_opening) (kept.openings uri d was_open)))
     (λ was. kept.openings q x was))
     refl refl (change_mirrors w uri d new how kept.mirror (will_unit w.held w.to_server ∙ kept.holds ∙ sym kept.counts) was_open is) tt keeps
-
-pub rewrites_kept : (unit : Unit) (w : ClientAndServer) (uri : List ℕ) (d : Open) (how : List TextChange) (text : List ℕ) (applied : List Applied) → Kept unit w → open_at w.editor uri ≡ Some d
-    → after_changes w.editor.unit (Some d.text) how ≡ Some text → All KeepsTheRun applied → Kept unit (after_act w (rewrites w.editor uri d text how applied))
-rewrites_kept unit w uri d how text applied kept was_open is keeps =
-    revise_kept unit w uri d (record d { version = d.version + 1; text = text }) how applied kept refl (omega arith) was_open is keeps
 
 -- ---- answers in the editor
 

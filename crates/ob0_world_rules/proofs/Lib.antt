@@ -20,3 +20,4 @@ pub mod Acts
 pub mod EditedTexts
 pub mod EveryEditor
 pub mod ModelEditor
+mod Pending

@@ -9,14 +9,14 @@ use Rattle.std.proofs.lemmas.List.Elements.{All-nil, All-push, All-append, All-w
 use Rattle.std.proofs.lemmas.List.Sums.{fold-append}
 use Rattle.ob0_text.specs.declared.position_types.Unit.{Unit}
 use Rattle.ob0_text.specs.OpenDocuments.{OpenDocuments, Document, InStep, OutOfStep, DocumentEvent, Opened, Changed, Lost, Closed, after_event, document_at}
-use Rattle.ob0_world_rules.specs.ClientAndServer.{Open, Editor, open_at, ToServer, notifies, requests, ToEditor, publishes, answers, Made, ClientAndServer, start, after_message}
-use Rattle.ob0_world_rules.specs.Editing.{Act, Done, done_by}
+use Rattle.ob0_world_rules.specs.ClientAndServer.{Open, Editor, open_at, ToServer, notifies, requests, ToEditor, Made, ClientAndServer, start, after_message}
+use Rattle.ob0_world_rules.specs.Editing.{Act, done_by}
 use Rattle.ob0_world_rules.specs.Serving.{Publishes, RepliesToNotification, Replies}
 use Rattle.ob0_world_rules.specs.Happens.{Event, does, serve, take_message, after_act, after_taking, ServerTakes, Happens, Course}
 use Rattle.ob0_world_rules.specs.Mirror.{will_have, as_open}
 use Rattle.ob0_world_rules.specs.Headline.{WasMadeFor}
 use Rattle.ob0_world_rules.proofs.Acts.{of_each}
-use Rattle.ob0_world_rules.proofs.Interleavings.{server_mirrors}
+use Rattle.ob0_world_rules.proofs.ModelEditor.{server_mirrors}
 
 -- one event more at the end
 pub course_push : (w : ClientAndServer) (events : List Event) (between : ClientAndServer) (e : Event) (new : ClientAndServer) → Course w events between → Happens between e new → Course w (events ++ e ∷ []) new

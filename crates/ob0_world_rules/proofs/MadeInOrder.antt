@@ -4,23 +4,20 @@
 -- (`Pending`) are distinguished from those that were taken. What is said so pins the list: which documents are sent is
 -- one by `one_course`, how many wait is known, so the publications are those for the rest, one for each.
 use Rattle.std.proofs.Common.{◌≡◌, ◌∙◌, ℕ, ◌+◌, cond, List, [], ◌∷◌, ◌++◌, map, append-nil, append_assoc, refl, sym, ap, subst}
-use Rattle.std.specs.Prelude.{⊤, pos, fold, Option, Some, None, option_map}
+use Rattle.std.specs.Prelude.{⊤, pos, fold, Some, option_map}
 use Rattle.std.specs.FinMap as map_of
-use Rattle.std.proofs.lemmas.List.{map-append}
 use Rattle.std.proofs.lemmas.List.Sums.{fold_push}
 use Rattle.ob0_text.specs.declared.position_types.Unit.{Unit}
-use Rattle.ob0_text.specs.OpenDocuments.{OpenDocuments, TextChange, Opened, Changed, Lost, Closed, after_event, document_at}
-use Rattle.ob0_world_rules.specs.ClientAndServer.{Open, EditorDocuments, SentAsk, Editor, request_numbered, open_at, ToServer, notifies, requests, ToEditor, publishes, answers, Made, ClientAndServer, start, after_message}
-use Rattle.ob0_world_rules.specs.Edited.{Replacement, edited, after_changes}
-use Rattle.ob0_world_rules.specs.Asks.{Ask}
+use Rattle.ob0_text.specs.OpenDocuments.{OpenDocuments, Opened, Changed, Lost, Closed, document_at}
+use Rattle.ob0_world_rules.specs.ClientAndServer.{Open, EditorDocuments, Editor, open_at, ToServer, notifies, requests, ToEditor, ClientAndServer, start, after_message}
 use Rattle.ob0_world_rules.specs.Editing.{Act, Done, done_by}
-use Rattle.ob0_world_rules.specs.Serving.{Publishes, Replies}
-use Rattle.ob0_world_rules.specs.Happens.{Event, does, serve, take_message, after_act, after_taking, ServerTakes, Happens, Course}
+use Rattle.ob0_world_rules.specs.Happens.{Event, does, serve, take_message, after_act, after_taking, Happens, Course}
 use Rattle.ob0_world_rules.specs.Mirror.{as_open, Mirrors}
 use Rattle.ob0_world_rules.specs.MadeInOrder.{Announced, announced_at, announced_by, announced_in, announced_at_event, AreAnnounced, versions_announced, named_in, versioned_uri, AreMadeOf, AreMadeInOrder}
 use Rattle.ob0_world_rules.proofs.UriLaws.{get_put, uri_itself}
 use Rattle.ob0_world_rules.proofs.Acts.{of_each}
-use Rattle.ob0_world_rules.proofs.Interleavings.{server_mirrors}
+use Rattle.ob0_world_rules.proofs.Pending.{Awaits, Pending, pending_push, pending_named, Next, stays, serve_next}
+use Rattle.ob0_world_rules.proofs.ModelEditor.{server_mirrors}
 use Rattle.ob0_world_rules.proofs.MadeFor.{course_push}
 use Rattle.ob0_world_rules.proofs.OneCourse.{one_course}
 
@@ -77,28 +74,6 @@ act_names e = of_each e (λ done. SentNames done.editor done.sent) (record {
 
 -- ---- what waits for the server
 
-abbrev pub AwaitedAt : OpenDocuments → List ℕ → List Announced → Type 0
-AwaitedAt held uri now = (o : Option Open) × (document_at held uri ≡ option_map as_open o) × (now ≡ announced_at uri o)
-
--- the documents that will be published for as this message is taken, where these were held before
-abbrev pub Awaits : OpenDocuments → ToServer → List Announced → Type 0
-Awaits held (notifies (Opened uri version text)) now = AwaitedAt (after_event held (Opened uri version text)) uri now
-Awaits held (notifies (Changed uri version how)) now = AwaitedAt (after_event held (Changed uri version how)) uri now
-Awaits held (notifies (Lost uri)) now = now ≡ []
-Awaits held (notifies (Closed uri)) now = now ≡ []
-Awaits held (requests number uri ask) now = now ≡ []
-
--- and as each message that waits is taken
-abbrev pub Pending : OpenDocuments → List ToServer → List Announced → Type 0
-Pending held [] waiting = waiting ≡ []
-Pending held (m ∷ queue) waiting =
-    (now : List Announced) × (later : List Announced) × (waiting ≡ now ++ later) × (Awaits held m now × (map versioned_uri now ≡ versions_announced m)) × Pending (after_message held m) queue later
-
-pub pending_push : (held : OpenDocuments) (queue : List ToServer) (m : ToServer) (waiting now : List Announced) → Pending held queue waiting → Awaits (fold after_message held queue) m now × (map versioned_uri now ≡ versions_announced m) → Pending held (queue ++ m ∷ []) (waiting ++ now)
-pending_push held [] m waiting now is awaits = (now, [], ap (λ ts. ts ++ now) is ∙ sym (append-nil now), awaits, refl)
-pending_push held (x ∷ queue) m waiting now (first, later, is, so, rest) awaits =
-    (first, later ++ now, ap (λ ts. ts ++ now) is ∙ append_assoc first later now, so, pending_push (after_message held x) queue m later now rest awaits)
-
 -- what the editor has as it sends the message
 sent_awaits : (held : OpenDocuments) (e : Editor) (m : ToServer) → ((uri : List ℕ) → document_at (after_message held m) uri ≡ option_map as_open (open_at e uri)) → Awaits held m (announced_by e m)
 sent_awaits held e (notifies (Opened uri version text)) mirror = (open_at e uri, mirror uri, refl)
@@ -123,51 +98,9 @@ pending_act held queue (m ∷ rest) e waiting pending (names, alone) mirror =
     subst (λ r. Pending held (queue ++ m ∷ r) (waiting ++ announced_in e (m ∷ r))) (sym alone)
     (subst (λ ts. Pending held (queue ++ m ∷ []) (waiting ++ ts)) (sym (append-nil (announced_by e m))) (pending_sent held queue e m waiting pending names sees))
 
-pub pending_named : (held : OpenDocuments) (queue : List ToServer) (waiting : List Announced) → Pending held queue waiting → map versioned_uri waiting ≡ named_in queue
-pending_named held [] waiting is = ap (map versioned_uri) is
-pending_named held (m ∷ queue) waiting (now, later, is, so, rest) =
-    ap (map versioned_uri) is ∙ map-append versioned_uri now later ∙ ap (λ ns. ns ++ map versioned_uri later) so.1 ∙ ap (λ ns. versions_announced m ++ ns) (pending_named (after_message held m) queue later rest)
-
--- ---- what is made as a message is taken
-
-pub made_append : (made more : List Made) (announced later : List Announced) → AreMadeOf made announced → AreMadeOf more later → AreMadeOf (made ++ more) (announced ++ later)
-made_append [] more [] later h k = k
-made_append (m ∷ made) more (t ∷ announced) later h k = (h.0, made_append made more announced later h.1 k)
-made_append [] more (t ∷ announced) later h k = absurd h
-made_append (m ∷ made) more [] later h k = absurd h
-
-published : (uri : List ℕ) (o : Option Open) (said : List ToEditor) (made : List Made) → Publishes uri (option_map as_open o) said made → AreMadeOf made (announced_at uri o)
-published uri (Some d) said made (empty, right, is_said, is_made) = subst (λ ms. AreMadeOf ms (announced_at uri (Some d))) (sym is_made) ((refl, refl, refl), tt)
-published uri None said made h = subst (λ ms. AreMadeOf ms []) (sym h.1) tt
-
-awaited : (held : OpenDocuments) (uri : List ℕ) (said : List ToEditor) (made : List Made) (now : List Announced) → Publishes uri (document_at held uri) said made → AwaitedAt held uri now → AreMadeOf made now
-awaited held uri said made now may (o, at, is) = subst (AreMadeOf made) (sym is) (published uri o said made (subst (λ d. Publishes uri d said made) at may))
-
-none_made : (made : List Made) (now : List Announced) → made ≡ [] → now ≡ [] → AreMadeOf made now
-none_made made now no_made none_announced = subst (AreMadeOf made) (sym none_announced) (subst (λ ms. AreMadeOf ms []) (sym no_made) tt)
-
-pub message_made : (held : OpenDocuments) (m : ToServer) (said : List ToEditor) (made : List Made) (now : List Announced) → Replies held m said made → Awaits held m now → AreMadeOf made now
-message_made held (notifies (Opened uri version text)) said made now may awaits = awaited (after_event held (Opened uri version text)) uri said made now may awaits
-message_made held (notifies (Changed uri version how)) said made now may awaits = awaited (after_event held (Changed uri version how)) uri said made now may awaits
-message_made held (notifies (Lost uri)) said made now may awaits = none_made made now may.1 awaits
-message_made held (notifies (Closed uri)) said made now may awaits = none_made made now may.1 awaits
-message_made held (requests number uri ask) said made now (edits, answer, is_said, none) awaits = none_made made now none awaits
-
 -- ---- every event
 
--- These are announced of now, after those that publications were made for and those that wait: so it is after the event.
-pub record Next (announced waiting now : List Announced) (new : ClientAndServer) : Type 0 where
-  pub done : List Announced
-  pub awaits : List Announced
-  pub parts : (announced ++ waiting) ++ now ≡ done ++ awaits
-  pub made_of : AreMadeOf new.made done
-  pub pending : Pending new.held new.to_server awaits
-
 module _ (announced waiting : List Announced) where
-  -- nothing is announced, and the queue and the publications stay
-  stays : (w : ClientAndServer) → AreMadeOf w.made announced → Pending w.held w.to_server waiting → Next announced waiting [] w
-  stays w made_of pending = record { done = announced; awaits = waiting; parts = append-nil (announced ++ waiting); made_of = made_of; pending = pending }
-
   act_next : (w : ClientAndServer) (act : Act) → AreMadeOf w.made announced → Pending w.held w.to_server waiting → Mirrors (after_act w (done_by w.editor act)) → Next announced waiting (announced_at_event w (does act)) (after_act w (done_by w.editor act))
   act_next w act made_of pending mirror =
       let done : Done = done_by w.editor act in
@@ -180,26 +113,13 @@ module _ (announced waiting : List Announced) where
       }
 
   takes_next : (w : ClientAndServer) (queue : List ToEditor) → AreMadeOf w.made announced → Pending w.held w.to_server waiting → Next announced waiting [] (after_taking w queue)
-  takes_next w [] made_of pending = stays w made_of pending
-  takes_next w (m ∷ rest) made_of pending = stays (after_taking w (m ∷ rest)) made_of pending
-
-  pub serve_next : (w : ClientAndServer) (queue : List ToServer) (new : ClientAndServer) → AreMadeOf w.made announced → Pending w.held queue waiting → w.to_server ≡ queue → ServerTakes w queue new → Next announced waiting [] new
-  serve_next w [] new made_of pending is h =
-      subst (Next announced waiting []) (sym h) (stays w made_of (subst (λ q. Pending w.held q waiting) (sym is) pending))
-  serve_next w (m ∷ rest) new made_of (now, later, parts, awaits, following) is (said, made, may, is_new) =
-      subst (Next announced waiting []) (sym is_new)
-      (record {
-        done = announced ++ now;
-        awaits = later;
-        parts = append-nil (announced ++ waiting) ∙ ap (λ ts. announced ++ ts) parts ∙ sym (append_assoc announced now later);
-        made_of = made_append w.made made announced now made_of (message_made w.held m said made now may awaits.0);
-        pending = following;
-      })
+  takes_next w [] made_of pending = stays announced waiting w made_of pending
+  takes_next w (m ∷ rest) made_of pending = stays announced waiting (after_taking w (m ∷ rest)) made_of pending
 
   event_next : (w : ClientAndServer) (e : Event) (new : ClientAndServer) → AreMadeOf w.made announced → Pending w.held w.to_server waiting → Mirrors new → Happens w e new → Next announced waiting (announced_at_event w e) new
   event_next w (does act) new made_of pending mirror h =
       subst (Next announced waiting (announced_at_event w (does act))) (sym h) (act_next w act made_of pending (subst Mirrors h mirror))
-  event_next w serve new made_of pending mirror h = serve_next w w.to_server new made_of pending refl h
+  event_next w serve new made_of pending mirror h = serve_next announced waiting w w.to_server new made_of pending refl h
   event_next w take_message new made_of pending mirror h = subst (Next announced waiting []) (sym h) (takes_next w w.to_editor made_of pending)
 
 -- ---- every run

@@ -169,12 +169,12 @@ the_model_is_one unit events end run =
     (c.turns, from_model end c.announced, c.lead, as_it_is end c.announced)
 
 -- so the laws of the model's editor are cases of those of every editor
-pub model_holds : InEveryInterleaving
-model_holds unit events end run =
+pub in_every_interleaving : InEveryInterleaving
+in_every_interleaving unit events end run =
     let (turns, w, lead, is) = the_model_is_one unit events end run in
     subst Holds is (with_every_editor unit turns w lead).holds
 
-pub model_mirrors : ServerMirrors
-model_mirrors unit events end run =
+pub server_mirrors : ServerMirrors
+server_mirrors unit events end run =
     let (turns, w, lead, is) = the_model_is_one unit events end run in
     subst Mirrors is (with_every_editor unit turns w lead).mirrors

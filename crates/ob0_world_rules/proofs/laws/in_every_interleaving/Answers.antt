@@ -2,4 +2,4 @@ use Rattle.ob0_world_rules.proofs.laws.in_every_interleaving.Goals as goal
 use Rattle.ob0_world_rules.proofs.ModelEditor as proof
 
 pub returns : goal.returns
-returns c = proof.model_holds
+returns c = proof.in_every_interleaving

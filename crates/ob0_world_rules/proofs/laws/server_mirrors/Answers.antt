@@ -2,4 +2,4 @@ use Rattle.ob0_world_rules.proofs.laws.server_mirrors.Goals as goal
 use Rattle.ob0_world_rules.proofs.ModelEditor as proof
 
 pub returns : goal.returns
-returns c = proof.model_mirrors
+returns c = proof.server_mirrors
