@@ -5,21 +5,31 @@ use Rattle.std.specs.List.{flat_map}
 use Rattle.ob0_text.specs.declared.position_types.Unit.{Unit}
 use Rattle.ob0_frame.specs.Frames.{frame}
 use Rattle.ob0_frame.specs.Head.{max_content}
+use Rattle.ob0_session.specs.Serving.{PrefixServed}
 use Rattle.ob0_session.specs.declared.serving.ServeFault.{ServeFault}
 use Rattle.ob0_world_rules.specs.EveryEditor.{Turn}
 use Rattle.ob0_world.specs.Exchanges.{Exchange, BeginsExchange, ExchangeLeads, HoldsOfExchange}
 use Rattle.ob0_world_determined.specs.Determined.{MayServe, IsWritten}
 
--- What an editor that keeps the protocol and a session have exchanged has what is said of it; and for
--- the frames of the contents that the session took `serve` writes the frames of those that the editor
--- got and of those that wait for it, unless `serve` returns `Memory` or `Write`.
+-- What an editor that keeps the protocol and a session have exchanged, and what `serve` writes of it.
+pub record ServedExchange (begin now : Exchange) : Type 0 where
+  pub holds : HoldsOfExchange begin now
+  -- for the frames of the contents that the session took it writes the frames of those that the
+  -- editor got and of those that wait for it, unless it returns `Memory` or `Write`
+  pub written : All (λ content. length content ≤ max_content) now.wire.taken
+      → (put : List ℕ) (result : Result ℕ ServeFault) → IsWritten result
+      → MayServe result (flat_map frame now.wire.taken) put
+      → put ≡ flat_map frame (now.wire.got ++ now.wire.to_editor)
+  -- where it returns `Memory` it has answered the first contents that it read: where these are what
+  -- the session took, it has written the same
+  pub in_part : (taken put : List ℕ) (part : PrefixServed taken put)
+      → part.answered ≡ now.wire.taken
+      → put ≡ flat_map frame (now.wire.got ++ now.wire.to_editor)
+
+-- so it is with every editor that keeps the protocol, and every session
 abbrev pub EveryExchangeIsServed : Type 0
 EveryExchangeIsServed =
     (unit : Unit) (begin now : Exchange) (turns : List Turn)
     → BeginsExchange unit begin
     → ExchangeLeads begin turns now
-    → HoldsOfExchange begin now
-    × (All (λ content. length content ≤ max_content) now.wire.taken
-    → (put : List ℕ) (result : Result ℕ ServeFault) → IsWritten result
-    → MayServe result (flat_map frame now.wire.taken) put
-    → put ≡ flat_map frame (now.wire.got ++ now.wire.to_editor))
+    → ServedExchange begin now

@@ -81,10 +81,11 @@ pub fn a_conversation_is_served()
 
 /// The headline, with every editor that keeps the protocol, of what `serve` writes: what the editor and a session have
 /// exchanged has what is said of it, and for the frames of what the session took `serve` writes the frames of what the
-/// session sent, unless it returns `Memory` or `Write`.
+/// session sent, unless it returns `Memory` or `Write`; at `Memory` it has written so for the contents that it answered.
 pub fn every_exchange_is_served()
     ensures { EveryExchangeIsServed }
 {
     every_exchange_holds();
     a_conversation_is_served();
+    one_conversation();
 }

@@ -1,9 +1,19 @@
 use Rattle.std.specs.Prelude.{◌++◌}
+use Rattle.std.proofs.Common.{◌∙◌, ap, subst}
+use Rattle.std.specs.List.{flat_map}
+use Rattle.ob0_frame.specs.Frames.{frame}
+use Rattle.ob0_session_server.specs.Answers.{start, Conversation}
 use Rattle.ob0_world_determined.proofs.laws.every_exchange_is_served.Goals as goal
 
 pub returns : goal.returns
 returns c unit begin now turns begins leads =
-    let holds = c.every_exchange_holds.ensures unit begin now turns begins leads in (
-      holds,
-      λ short put result written served. c.a_conversation_is_served.ensures now.wire.taken (now.wire.got ++ now.wire.to_editor) now.wire.session short holds.conversation put result written served,
-    )
+    let holds = c.every_exchange_holds.ensures unit begin now turns begins leads in
+    record {
+      holds = holds;
+      written = λ short put result written served. c.a_conversation_is_served.ensures now.wire.taken (now.wire.got ++ now.wire.to_editor) now.wire.session short holds.conversation put result written served;
+      in_part = λ taken put part are.
+          part.frames
+          ∙ ap (flat_map frame)
+          (c.one_conversation.ensures start now.wire.taken part.sent (now.wire.got ++ now.wire.to_editor) part.after now.wire.session
+          (subst (λ contents. Conversation start contents part.sent part.after) are part.conversation) holds.conversation).0;
+    }
