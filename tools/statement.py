@@ -407,11 +407,11 @@ PROVED = (
     "none has undefined behaviour: by the checker. (`serve` hasn't returned while its reader waits.)",
 )
 UNPROVED = (
-    "*The headline with another editor* (inferred). It holds with any editor that sends every change, makes the edits "
-    "of an answer at once and as the protocol says, and drops an answer whose document was changed, or closed and "
-    "opened again, since it asked. Changes are sent in order, columns are counted as LSP does, and to take no keys "
-    "until the answer comes is as good as to drop it. The model's editor does so. Real ones are tested "
-    "(editors/README.md).",
+    "*The headline with another editor* (inferred). The guarantee carries over to any editor that reports every change, "
+    "in order; counts columns as LSP specifies; applies all edits of an answer as one change, as LSP specifies; and "
+    "discards an answer if the document has been changed, or closed and reopened, since the request. An editor that "
+    "accepts no keystrokes until the answer arrives meets the last condition too. The model's editor does all of this. "
+    "Real ones are tested (editors/README.md).",
     "*Other messages* (inferred; tested in tests/test_lifecycle.py). The model begins after an `initialize` that takes "
     "edits with versions and code actions with edits, and has openings, changes, closes and requests for edits alone. A "
     "real session has `initialized` too, `shutdown` and `exit` at its normal end, and perhaps hovers. By `react` these "
