@@ -102,9 +102,9 @@ UNKNOWN = "save before each edit, and compare afterwards"
 WRONG_EDIT = "If an edit goes wrong: undo it, save, close the file and open it again."
 LONE_CR = "Remove each CR that no LF follows: edits after it may be wrong."
 ASKED = (
-    "The guarantee carries over to any editor that reports every change, in order; counts columns as LSP specifies; applies all edits of an "
-    "answer as one change, as LSP specifies; and discards an answer if the document has been changed, or closed and reopened, since the "
-    "request. An editor that accepts no keystrokes until the answer arrives meets the last condition too."
+    "The guarantee is proved for every editor that keeps ob0's rules. In short: it tells the server every change, in order, with positions in "
+    "the agreed unit and texts of Unicode scalar values; makes all edits of an answer as one change; and discards an answer if the document "
+    "has been changed, or closed and reopened, since the request."
 )
 
 
