@@ -399,11 +399,10 @@ PROVED = (
     "`play_in` returns an `Ok`: by its contract (`Plays`).",
     "*`Holds`* of each state of the model that events lead to, without a premise: by the law `in_every_interleaving`.",
     "*The headline with other editors*, up to `shutdown`: by the laws `every_exchange_holds` and "
-    "`every_exchange_is_served`. The guarantee is proved for every editor that keeps ob0's rules. In short: it "
-    "tells the server every change, in order, with positions in the agreed unit and texts of Unicode scalar "
-    "values; makes all edits of an answer as one change; and discards an answer if the document has been changed, or "
-    "closed and reopened, since the request. ([All rules](PROMISES.md#the-rules-for-an-editor); their definitions "
-    "aren't on this page.)",
+    "`every_exchange_is_served`. The guarantee is proved for every editor that keeps ob0's rules. In short: it tells the "
+    "server every change, in order, with positions in the agreed unit and texts of Unicode scalar values. It makes all "
+    "edits of an answer as one change. It discards an answer if the document has been changed, or closed and reopened, "
+    "since the request. ([All rules](PROMISES.md#the-rules-for-an-editor); their definitions aren't on this page.)",
     "*`serve` has written the frames of what that session sent*: by its contract, and the law "
     "[`a_conversation_is_served`](#part-3-the-tie-to-the-program). The premises: the types of its *devices*, a reader "
     "and a writer, say which bytes are left or written (`R.remaining`, `W.contents`), which those of standard input "
