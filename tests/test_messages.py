@@ -118,6 +118,15 @@ def beginners() -> None:
     same(first("x := y\u00a0+ 1", STATEMENTS), ("BadChar", "bad character", "\u00a0+ 1"), "a no-break space")
 
 
+@test("messages: the index has each message of `check` that the page explains, and no other")
+def indexed() -> None:
+    listed = {it for row in rows("Index by message") for it in CODE.findall(row[0])}
+    shown = {CODE.findall(row[1])[0] for title in ("Statements", "Declarations", "Whole texts") for row in rows(title)}
+    explained = {code_in(row[1]) for row in rows("Diagnostics")} | shown - {"check"}
+    same(sorted(explained - listed), [], "messages that aren't in it")
+    same(sorted(listed - explained), sorted(["fault: NAME", "refused: NAME", "error: ..", "ill-typed", "out of step"]), "others in it")
+
+
 @test("messages: each diagnostic is on the page, with its message and an example")
 def diagnostics() -> None:
     listed = rows("Diagnostics")

@@ -1,0 +1,244 @@
+#!/usr/bin/env python3
+"""Counts how pages and comments are worded: forty phrases that a reader stumbles over, long sentences, comments without a verb.
+
+  tools/prose.py              prints the totals, by phrase, of pages and of comments
+  tools/prose.py FILE..       prints each phrase and each long sentence of these files, with the words around it
+  tools/prose.py --write      writes tests/prose.txt again, in which counts may fall and no sentence may be added
+  tools/prose.py --write-all  writes it again, whatever rose
+
+tests/prose.txt has a line for each file with such phrases, and one for each long sentence of a page, with its first words."""
+from __future__ import annotations
+
+import glob
+import os
+import re
+import sys
+from collections import Counter
+from collections.abc import Iterator
+from typing import NamedTuple
+
+import common
+
+LIST = os.path.join(common.TOP, "tests", "prose.txt")
+PAGES = ["*.md", "docs/**/*.md", "editors/**/*.md", "examples/**/*.md", "share/*.1"]
+GENERATED = ["docs/STATEMENT.md", "docs/SURFACE.md"]
+COMMENTED = ["crates/*/src/**/*.rt", "crates/*/specs/**/*.antt", "crates/*/proofs/**/*.antt"]
+MOST_WORDS = 35
+SHOWN_WORDS = 8  # how many first words of a long sentence stand in the list
+
+# each phrase, and what finds it; what to write instead is the ordinary word (if, when, only, except, fix, format, about, ..)
+PHRASES = {
+    "where (if)": r"\bwhere (it|its|there|the|a|an|no|none|nothing|one|they|this|that|these|each|all|both|neither)\b",
+    "exactly where": r"\bexactly where\b",
+    "also where": r"\balso where\b",
+    "what is left": r"\bwhat (is|are|was|were) (bound|found|given|kept|known|left|made|put|read|reported|said|seen|there|written|wrong)\b",
+    "what comes": r"\bwhat (comes|came|follows|ends|stays|begins|waits|precedes)\b",
+    "that of": r"\b(that|those) of\b",
+    "all that": r"\ball that\b",
+    "alone": r"\balone\b",
+    "but for": r"\bbut for\b",
+    "Of a ..": r"(?:^|[.:;] \(?)(?-i:Of) (?!course)",
+    "said of": r"\b(said|known|spoken) of\b",
+    "is said": r"\b(is|are) said\b",
+    "comes of": r"\b(come|comes|came) of\b",
+    "from nothing": r"\bfrom nothing\b",
+    "from X on": r"\bfrom (\S+ ){1,4}on\b",
+    "past": r"\bpast\b",
+    "lay out": r"\b(laid|lays?|laying) (\w+ )?out\b",
+    "mend": r"\bmend(s|ed|ing)?\b",
+    "without faults": r"\bwithout (a )?faults?\b|\bat fault\b",
+    "is taken": r"\b(is|are) taken\b",
+    "taken over": r"\b(take|takes|taken|took) over\b",
+    "gives back": r"\b(give|gives|given|gave) (back|way)\b",
+    "goes on": r"\b(go|goes|gone|going|went) (along|on|through)\b",
+    "is there": r"\b(is|isn't|are|aren't) there\b",
+    "of its own": r"\bof (its|their|his|one's) own\b",
+    "as they were": r"\bas (it|they) (was|were)\b|\bstays\b",
+    "by what": r"\bby what\b",
+    "by halving": r"\bby halving\b",
+    "so is it": r"\bso (is|are|does|do) (it|they|the|a|its)\b|\bso it (is|does)\b",
+    "none of": r"\bnone (of|is|are)\b",
+    ".., too": r"\btoo(?=[.,;:)]|$)",
+    "names it": r"\bnames (it|the|a|an|one|no)\b",
+    "looked at": r"\b(look|looks|looked|looking) at\b",
+    "wants": r"\bwants?\b",
+    "some 40": r"\bsome \d",
+    "mostly": r"\bmostly\b",
+    "as far as it was tried": r"\bas far as (it|they) (was|were) tried\b",
+    "in turn": r"\bin turn\b",
+    "beside": r"\bbeside\b",
+    "a mutant turns": r"\bturns (a|an|the|its|that|one)\b|\b(mutant|edit|it) turns\b",
+}
+FOUND_BY = {name: re.compile(pattern, re.I | re.M) for name, pattern in PHRASES.items()}
+# a comment that begins so has a verb if it asks, or if two of these verbs are in it: one for the clause and one for the sentence
+HEADLESS = re.compile(r"(what|whether|how)\b", re.I)
+VERBS = re.compile(r"\b(is|isn't|are|aren't|was|were|has|have|had|does|do|can|may|must|will)\b", re.I)
+
+
+class Counts(NamedTuple):
+    """How many phrases a file has, and how many comments that begin with What, Whether or How and have no verb."""
+
+    phrases: int
+    headless: int
+
+
+def files_of(patterns: list[str]) -> list[str]:
+    """The files that these patterns find, by their paths from the top, in order."""
+    found = {os.path.relpath(it, common.TOP) for each in patterns for it in glob.glob(os.path.join(common.TOP, each), recursive=True)}
+    return sorted(found - {*GENERATED})
+
+
+def read(path: str) -> str:
+    with open(os.path.join(common.TOP, path), encoding="utf-8") as file:
+        return file.read()
+
+
+def from_troff(text: str) -> str:
+    """A manual page as plain paragraphs."""
+    text = re.sub(r"^\.nf\n.*?^\.fi$", "", text, flags=re.M | re.S)
+    text = re.sub(r"\\f.|\\[&/]", "", text).replace(r"\-", "-").replace(r"\(aq", "'")
+    text = re.sub(r"\\\([lr]q", "", text)
+    text = re.sub(r"^\.(TH|SH) .*$", "\n", text, flags=re.M)
+    text = re.sub(r"^\.(TP|PP|IP|br).*$", "", text, flags=re.M)
+    return re.sub(r"^\.[A-Z]+ (.*)$", lambda it: it[1].replace('"', ""), text, flags=re.M)
+
+
+def from_markdown(text: str) -> str:
+    """A page as plain paragraphs: without code, headings, lists of contents and the targets of links, and with each cell by itself."""
+    text = re.sub(r"^ *```.*?^ *```$", "", text, flags=re.M | re.S)
+    text = re.sub(r"\n\n(?:    .*\n)+", "\n\n", text)
+    text = re.sub(r"^(#.*|\|[-|: ]*\|)$|^Contents:(.+\n)*", "", text, flags=re.M)
+    text = re.sub(r"^> ?", "", text, flags=re.M)
+    text = re.sub(r"`[^`]*`", "`code`", text)
+    text = re.sub(r"\]\([^)\s]*\)", "]", text)
+    text = re.sub(r"^\|(.*)\|$", lambda it: "\n\n" + it[1].replace("|", "\n\n") + "\n\n", text, flags=re.M)
+    return re.sub(r"^ *(?:[-*]|\d+\.) ", "\n\n", text, flags=re.M)
+
+
+def paragraphs_of(page: str) -> list[str]:
+    """The paragraphs, items of lists and cells of tables of a page, each on one line."""
+    text = from_troff(read(page)) if page.endswith(".1") else from_markdown(read(page))
+    return [" ".join(it.split()) for it in re.split(r"\n\s*\n", text) if it.strip()]
+
+
+def comments_of(path: str) -> list[str]:
+    """The comments of a file of code or definitions, each on one line: those on lines of their own, one after the other, are one."""
+    mark = "//[/!]?" if path.endswith(".rt") else "--"
+    found: list[list[str]] = [[]]
+    for line in read(path).split("\n"):
+        comment = re.match(rf"\s*{mark}(?: (.*))?$", line)
+        if comment:
+            found[-1].append(comment[1] or "")
+        elif found[-1]:
+            found.append([])
+    texts = (re.sub(r"`[^`]*`", "`code`", " ".join(it)) for it in found)
+    return [" ".join(it.split()) for it in texts if it.strip()]
+
+
+def sentences_of(paragraph: str) -> list[str]:
+    """The sentences of a paragraph: each ends with a full stop, a question mark or an exclamation mark before a space."""
+    return [it for it in re.split(r"(?<=[^.][.!?])[)*]* +(?=\S)", paragraph) if it]
+
+
+def is_headless(comment: str) -> bool:
+    """Whether a comment begins with What, Whether or How, and its first sentence asks nothing and has no verb."""
+    first = sentences_of(comment)[0]
+    return bool(HEADLESS.match(first)) and not first.endswith("?") and len(VERBS.findall(first)) < 2
+
+
+def phrases_in(texts: list[str]) -> Counter[str]:
+    """How often each phrase is in these texts."""
+    joined = "\n".join(texts)
+    return Counter({name: sum(1 for _ in found.finditer(joined)) for name, found in FOUND_BY.items()})
+
+
+def counts() -> dict[str, Counts]:
+    """The counts of each file that has any."""
+    pages = {it: Counts(sum(phrases_in(paragraphs_of(it)).values()), 0) for it in files_of(PAGES)}
+    comments = {it: comments_of(it) for it in files_of(COMMENTED)}
+    others = {it: Counts(sum(phrases_in(texts).values()), sum(map(is_headless, texts))) for it, texts in comments.items()}
+    return {path: it for path, it in {**pages, **others}.items() if any(it)}
+
+
+def long_sentences(page: str) -> list[str]:
+    """The sentences of a page that have more words than a reader keeps in mind."""
+    return [it for text in paragraphs_of(page) for it in sentences_of(text) if len(it.split()) > MOST_WORDS]
+
+
+def beginnings() -> list[str]:
+    """The page and the first words of each long sentence."""
+    return sorted(f"{page}: {' '.join(it.split()[:SHOWN_WORDS])} .." for page in files_of(PAGES) for it in long_sentences(page))
+
+
+def lines() -> Iterator[str]:
+    """The lines of the list as it should be."""
+    for path, it in sorted(counts().items()):
+        yield f"{path}: {it.phrases} phrases" + (f", {it.headless} comments without a verb" if it.headless else "")
+    yield ""
+    yield from beginnings()
+
+
+def listed() -> tuple[dict[str, Counts], list[str]]:
+    """The counts and the beginnings of long sentences that the list has."""
+    head, _, rest = read(LIST).partition("\n\n")
+    found = (re.fullmatch(r"(\S+): (\d+) phrases(?:, (\d+) comments without a verb)?", it) for it in head.split("\n"))
+    return {it[1]: Counts(int(it[2]), int(it[3] or 0)) for it in found if it}, [it for it in rest.split("\n") if it]
+
+
+def risen() -> list[str]:
+    """The files with a higher count than the list has, and the long sentences that it lacks."""
+    known, sentences = listed()
+    none = Counts(0, 0)
+    pairs = ((path, known.get(path, none), it) for path, it in counts().items())
+    higher = [f"{path}: {tuple(new)} after {tuple(old)}" for path, old, new in pairs if any(b > a for a, b in zip(old, new))]
+    return higher + [*(Counter(beginnings()) - Counter(sentences)).elements()]
+
+
+def show(paths: list[str]) -> None:
+    """Prints each phrase of these files with what is around it, each comment without a verb, and each long sentence."""
+    for path in paths:
+        is_page = path.endswith((".md", ".1"))
+        texts = paragraphs_of(path) if is_page else comments_of(path)
+        for text in texts:
+            for name, found in FOUND_BY.items():
+                for it in found.finditer(text):
+                    print(f"{path}: {name}: .. {text[max(0, it.start() - 40) : it.end() + 40]} ..")
+        for text in [] if is_page else filter(is_headless, texts):
+            print(f"{path}: no verb: {text[:100]}")
+        for text in long_sentences(path) if is_page else []:
+            print(f"{path}: {len(text.split())} words: {text}")
+
+
+def show_totals() -> None:
+    """Prints how often each phrase is in pages and in comments, and the other totals."""
+    pages = phrases_in([it for path in files_of(PAGES) for it in paragraphs_of(path)])
+    comments: Counter[str] = Counter()
+    headless = 0
+    for path in files_of(COMMENTED):
+        texts = comments_of(path)
+        comments += phrases_in(texts)
+        headless += sum(map(is_headless, texts))
+    for name in PHRASES:
+        print(f"{name:24}{pages[name]:6}{comments[name]:6}")
+    print(f"{'phrases, of pages and of comments':34}{sum(pages.values())} {sum(comments.values())}")
+    print(f"{'comments without a verb':34}{headless}")
+    print(f"{'long sentences of pages':34}{len(beginnings())}")
+
+
+def main(words: list[str]) -> int:
+    if words and words[0] in ("--write", "--write-all"):
+        rose = risen() if words[0] == "--write" else []
+        if rose:
+            print("\n".join(["These rose, so nothing is written:", *rose]))
+            return 1
+        with open(LIST, "w", encoding="utf-8") as file:
+            file.write("\n".join(lines()) + "\n")
+    elif words:
+        show(words)
+    else:
+        show_totals()
+    return 0
+
+
+if __name__ == "__main__":
+    sys.exit(main(sys.argv[1:]))
