@@ -41,6 +41,8 @@ EMACS = "share/emacs/site-lisp/elpa/ob0-mode"
 EXERCISES = "share/ob0/exercises"
 # folders that a system has without ob0: they stay, also where nothing else is in them
 SHARED = {"bin", "share", "share/man"}
+# the one file that others hold the copyright of
+PARSER, PARSER_HOLDER = "editors/tree-sitter/src/tree_sitter/parser.h", "2018-2024 Max Brunsfeld"
 DEFAULT_NAME, DEFAULT_ADDRESS = "The authors of ob0", "ob0@example.org"
 
 # where a file or a folder of the repository goes
@@ -67,7 +69,7 @@ COPIED = {
     # (small images leave out share/doc, and the script that marks answers works without it)
     "examples/exercises": EXERCISES,
 }
-# a second name for a file or a folder of the tree (the files of EXERCISES have one below DOC, beside their page)
+# a second name for a file or a folder of the tree (each file of EXERCISES has one below DOC)
 LINKED = {
     f"{NVIM}/ob0-vim": VIM,
     "share/zsh/site-functions/_ob0": "share/zsh/vendor-completions/_ob0",
@@ -169,7 +171,7 @@ def names_below(source: str) -> list[str]:
 def files_of(source: str) -> list[tuple[str, str]]:
     """The files of a folder of the repository, or a file: pairs of what is below it and its path. The pages of editors stay out of
     the folders that editors read."""
-    keeps_pages = COPIED[source].startswith(DOC)
+    keeps_pages = COPIED[source].startswith((DOC, EXERCISES))
     return [(os.path.relpath(it, source), it) for it in names_below(source) if keeps_pages or not it.endswith(".md")]
 
 
@@ -254,7 +256,7 @@ def copyright_page() -> bytes:
         "License": " and ".join(["Expat", *(name for name, _, _ in named)]),
         "Comment": "\n ".join(comment),
     }
-    parser = {"Files": f"usr/{DOC}/editors/tree-sitter/src/tree_sitter/parser.h", "Copyright": "2018-2024 Max Brunsfeld", "License": "Expat"}
+    parser = {"Files": f"usr/{DOC}/{PARSER}", "Copyright": PARSER_HOLDER, "License": "Expat"}
     paragraphs = [
         {"Format": "https://www.debian.org/doc/packaging-manuals/copyright-format/1.0/", "Upstream-Name": "ob0"},
         {"Files": "*", "Copyright": licence_holder(), "License": "Expat"},
