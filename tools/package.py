@@ -405,6 +405,10 @@ def need_program() -> None:
         common.stop("bin/ob0 is not the proved program of these sources: `make build` makes it")
 
 
+# what an earlier build left beside its packages, a signature of its sums among it
+EARLIER = ["ob0_*_amd64.deb", "ob0-*-x86_64-linux.tar.gz", "ob0-*.vsix", "SHA256SUMS.asc"]
+
+
 def write_packages(found: Tree, folder: str) -> None:
     """Writes both packages of a tree to a folder, with their sums, and takes away those of earlier builds. Beside another run on the
     same sources each file is there and whole at any time."""
@@ -420,7 +424,7 @@ def write_packages(found: Tree, folder: str) -> None:
         with open(new, "wb") as file:
             file.write(content)
         os.replace(new, path)
-    for path in (it for pattern in ("ob0_*_amd64.deb", "ob0-*-x86_64-linux.tar.gz") for it in glob.glob(os.path.join(folder, pattern))):
+    for path in (it for pattern in EARLIER for it in glob.glob(os.path.join(folder, pattern))):
         if os.path.basename(path) not in made:
             remove(path)
     print(sums, end="")
