@@ -1,7 +1,9 @@
 #!/usr/bin/env python3
 """Packs and installs bin/ob0, the proved program, with its manual page, completions, editor files, pages and examples.
 
-  tools/package.py package                   a Debian package and a .tar.gz with the same tree, and their SHA256SUMS, in bin/
+  tools/package.py package                   a Debian package and a .tar.gz with the same tree, a .vsix with the extension for
+                                             VS Code if the modules that it needs are here, and their SHA256SUMS, in bin/
+  tools/package.py vsix                      that .vsix alone
   tools/package.py install PREFIX DESTDIR    copies that tree to PREFIX
   tools/package.py uninstall PREFIX DESTDIR  removes what was installed there, or unpacked there from the .tar.gz
   tools/package.py notes                     prints what CHANGELOG.md says of this version
@@ -31,6 +33,7 @@ from typing import Any, Dict, NamedTuple, Tuple, Union
 import common
 import glibc
 import notices
+import vsix
 from common import TOP, match_of
 
 DOC = "share/doc/ob0"
@@ -405,25 +408,42 @@ def need_program() -> None:
         common.stop("bin/ob0 is not the proved program of these sources: `make build` makes it")
 
 
+def extension() -> dict[str, bytes]:
+    """The package of the extension for VS Code by its name, or none if the modules of Node that it needs aren't here."""
+    found = vsix.modules()
+    if not found:
+        print("no .vsix is made: `make editors RELEASE=trixie` (as root) or `npm install` in editors/vscode gets the modules that it needs")
+        return {}
+    files = {os.path.relpath(it, "editors/vscode"): read(it) for it in names_below("editors/vscode")}
+    files.update({"LICENSE.txt": read("LICENSE"), "CHANGELOG.md": read("CHANGELOG.md")})
+    return {f"ob0-{build_version()}.vsix": vsix.archive(vsix.with_modules(found, files), moment())}
+
+
 # what an earlier build left beside its packages, a signature of its sums among it
 EARLIER = ["ob0_*_amd64.deb", "ob0-*-x86_64-linux.tar.gz", "ob0-*.vsix", "SHA256SUMS.asc"]
 
 
-def write_packages(found: Tree, folder: str) -> None:
-    """Writes both packages of a tree to a folder, with their sums, and takes away those of earlier builds. Beside another run on the
-    same sources each file is there and whole at any time."""
-    number = build_version()
-    made = {
-        f"ob0_{number}_amd64.deb": debian_package(found),
-        f"ob0-{number}-x86_64-linux.tar.gz": squeezed(archive(with_list(found), f"ob0-{number}", False)),
-    }
-    sums = "".join(f"{hashlib.sha256(content).hexdigest()}  {name}\n" for name, content in made.items())
-    for name, content in {**made, "SHA256SUMS": sums.encode()}.items():
+def write_files(files: dict[str, bytes], folder: str) -> None:
+    """Writes files to a folder. Beside another run on the same sources each is there and whole at any time."""
+    os.makedirs(folder, exist_ok=True)
+    for name, content in files.items():
         path = os.path.join(folder, name)
         new = f"{path}.{os.getpid()}"
         with open(new, "wb") as file:
             file.write(content)
         os.replace(new, path)
+
+
+def write_packages(found: Tree, folder: str) -> None:
+    """Writes the packages of a tree to a folder, with their sums, and takes away those of earlier builds."""
+    number = build_version()
+    made = {
+        f"ob0_{number}_amd64.deb": debian_package(found),
+        f"ob0-{number}-x86_64-linux.tar.gz": squeezed(archive(with_list(found), f"ob0-{number}", False)),
+        **extension(),
+    }
+    sums = "".join(f"{hashlib.sha256(content).hexdigest()}  {name}\n" for name, content in made.items())
+    write_files({**made, "SHA256SUMS": sums.encode()}, folder)
     for path in (it for pattern in EARLIER for it in glob.glob(os.path.join(folder, pattern))):
         if os.path.basename(path) not in made:
             remove(path)
@@ -520,6 +540,8 @@ def main(words: list[str]) -> None:
     try:
         if command == "notes":
             return notes()
+        if command == "vsix":
+            return write_files(extension(), os.path.dirname(common.BINARY))
         if command == "package":
             need_program()
             return package()
