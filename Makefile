@@ -2,7 +2,9 @@
 #   make demo              plays a conversation with the server: with bin/ob0 where that is proved and up to date, else with
 #                          the program compiled without its proofs, in one to three minutes
 #   make build             proves and builds the program, bin/ob0
-#   make package           packs the proved program: a Debian package, a .tar.gz with the same tree and their SHA256SUMS, in bin/
+#   make package           packs the proved program: a Debian package, a .tar.gz with the same tree, the .vsix if it can be made, and
+#                          their SHA256SUMS, in bin/
+#   make vsix              packs the extension for VS Code, in bin/; needs the modules that `make editors RELEASE=trixie` gets
 #   make install PREFIX=.. copies that tree to PREFIX: the program, manual page, completions, editor files, pages and examples
 #   make uninstall PREFIX=.. removes what was installed there
 #   make test              the gate (every proof; the kit keeps what passed before on this machine), its mutants and the end-to-end tests
@@ -23,8 +25,10 @@
 #   make bench             times the program; nothing fails by time
 PREFIX ?= /usr/local
 PYTHON ?= python3
+# (a recipe reads these from the environment, so that a shell takes nothing out of them)
+export PREFIX DESTDIR
 
-.PHONY: help demo test build check editors try end-to-end faults wrong-bodies surface statement bench package install uninstall python
+.PHONY: help demo test build check editors try end-to-end faults wrong-bodies surface statement bench package vsix install uninstall python
 
 help:
 	@sed -n '/^#/!q; s/^# \{0,1\}//p' Makefile
@@ -68,11 +72,14 @@ bench: build
 package: build
 	@$(PYTHON) tools/package.py package
 
+vsix: python
+	@$(PYTHON) tools/package.py vsix
+
 install: build
-	@$(PYTHON) tools/package.py install "$(PREFIX)" "$(DESTDIR)"
+	@$(PYTHON) tools/package.py install "$$PREFIX" "$$DESTDIR"
 
 uninstall: python
-	@$(PYTHON) tools/package.py uninstall "$(PREFIX)" "$(DESTDIR)"
+	@$(PYTHON) tools/package.py uninstall "$$PREFIX" "$$DESTDIR"
 
 python:
 	@command -v $(PYTHON) >/dev/null || { echo "$(PYTHON) is missing: install Python 3.8 or later (on Debian: apt-get install python3)" >&2; exit 2; }

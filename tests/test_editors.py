@@ -8,18 +8,22 @@ from __future__ import annotations
 
 import functools
 import glob
+import io
 import json
 import os
 import random
 import re
 import shutil
 import sys
+import zipfile
 from collections.abc import Iterator
 from typing import Any, Callable, Dict, List, Tuple, Type, TypeVar
 
 import harness
 import holding
 import keyed
+import package
+import vsix
 from harness import Failed, Message, TOP, edited, ends, extent, holds, on_file, same, test, text_of, want
 from holding import edits_of, patched
 from homes import at_home, put_between, run_in_terminal, run_plainly, temporary, write
@@ -500,46 +504,42 @@ MADE_LATE = {
     **{f"{asked}, later version": " " + WITH_A_LINE for asked in MADE_AT_ONCE},
     "list of actions": WITH_A_LINE,
 }
-CLIENT = "vscode-languageclient"
-
-
-def real_client() -> str | None:
-    """The folder of the packages of Node that has the real client, or None."""
-    folders = [os.path.join(TOP, "editors", "vscode", "node_modules"), "/usr/share/nodejs", "/usr/local/lib/node_modules"]
-    return next((it for it in folders if os.path.isdir(os.path.join(it, CLIENT))), None)
-
-
-def in_vscode(*kind: str) -> tuple[str, Any, list[Message], list[Message]]:
-    """What VS Code's extension did under Node, and the record of what its client and the server said."""
+def in_vscode(folder: str, *kind: str) -> tuple[str, Any, list[Message], list[Message]]:
+    """What VS Code's extension in a folder did under Node, and the record of what its client and the server said."""
     with temporary() as room:
         own = at_home(room, "vscode")
         put_between(room)
-        own["NODE_PATH"] = os.pathsep.join(it for it in (real_client(), own.get("NODE_PATH"), "/usr/share/nodejs") if it)
+        # (one that is packed has its modules with it)
+        nodes = vsix.modules() if folder == vsix.FOLDER else None
+        own["NODE_PATH"] = os.pathsep.join(nodes.folders) if nodes else ""
         file = os.path.join(room, "work", "it's a.mod")
         write(file, "MODULE M;\nBEGIN x := 1 END M.\n")
-        words = ["node", os.path.join(EDITORS, "vscode.js"), os.path.join(TOP, "editors", "vscode"), file, room, *kind]
+        words = ["node", os.path.join(EDITORS, "vscode.js"), folder, file, room, *kind]
         status, said = run_plainly(words, own, room)
         same(status, 0, said[-2000:])
         wire = holding.Wire(room)
         return file, json.loads(said.splitlines()[-1]), wire.sent("initialize"), wire.answers("textDocument/rename")
 
 
-def in_vscode_by(*kind: str) -> None:
-    file, found, started, renamed = in_vscode(*kind)
+def in_vscode_by(*kind: str, folder: str = vsix.FOLDER) -> None:
+    file, found, started, renamed = in_vscode(folder, *kind)
     nothing = {"ended": "activated", "stopped": "deactivated", "said": ["There is no program no-such-program; the setting ob0.path names another."]}
     same(found["without"], nothing, "what is said where there is no program")
     same(found["published"], ["Undeclared"], "the diagnostics")
     matched = [[file, "2", "7", "Undeclared", "not declared"]]
-    same(found["tasks"], {"executed": ["check", "run"], "matched": matched, "provided": ["check", "run"]}, "the tasks")
+    tasks: dict[str, Any] = {"executed": ["check", "run"], "matchers": ["$ob0"], "matched": matched, "status": 1, "words": ["ob0", "run", file], "provided": ["check", "run"]}
+    same(found["tasks"], {**tasks, "resolved": ["mine", file]}, "the tasks")
+    unsaved = "The file wasn't saved, so there is nothing to run."
+    same(found["unsaved"], {"ran": [os.path.join(os.path.dirname(file), "named.mod")], "said": [unsaved, unsaved]}, "files that aren't saved")
     told = ["Request textDocument/formatting failed."] if "real" in kind else []
     same((found["faulty"], found["told"]), ("ill-typed", told), "a layout of a module with a fault, and what is shown of it")
     same(found["edits"]["made"], MADE_AT_ONCE, "what answers leave that come at once")
     same(found["edits"]["late"], MADE_LATE, "what answers leave that come after a change")
     same(found["edits"]["said"], ["The text was changed since the action was offered: ask for it again."], "what is said of an old action")
-    same(found["stopped"], "deactivated", "how it ends")
+    same((found["stopped"], found["restarted"]), ("deactivated", {"said": [], "shutdowns": 3}), "how it ends, and restarts one after another")
     same(found["settings"], ["ob0.path", "ob0.trace.server"], "the settings that are declared")
     announced = [it["params"]["capabilities"]["workspace"]["workspaceEdit"]["documentChanges"] for it in started]
-    same(announced, [True], "whether the client announces that it takes versions")
+    same(announced, [True] * 4, "whether the client announces that it takes versions, at its start and each restart")
     same({version for it in renamed for change in it["result"]["documentChanges"] for version in [change["textDocument"]["version"]]}, {1, 2}, "the versions")
 
 
@@ -554,9 +554,22 @@ def vscode() -> None:
 def vscode_client() -> None:
     want("Node")
     harness.need_program()
-    if not real_client():
-        harness.leave_out(f"{CLIENT} missing: `npm install` in editors/vscode gets it, and `make editors RELEASE=trixie` makes it in its root")
+    if not vsix.modules():
+        harness.leave_out(f"{vsix.CLIENT} missing: `npm install` in editors/vscode gets it, and `make editors RELEASE=trixie` makes it in its root")
     in_vscode_by("real")
+
+
+@test("VS Code: the extension as it is packed, with the real vscode-languageclient and a stand-in for the editor, does the same")
+def vscode_packed() -> None:
+    want("Node")
+    harness.need_program()
+    if not vsix.modules():
+        harness.leave_out(f"{vsix.CLIENT} missing: `make editors RELEASE=trixie` makes it in its root")
+    with temporary() as room:
+        for content in package.extension().values():
+            with zipfile.ZipFile(io.BytesIO(content)) as archive:
+                archive.extractall(room)
+        in_vscode_by("real", folder=os.path.join(room, "extension"))
 
 
 def in_vim_by_ycm(steps: str, text: str, **given: Any) -> Steps:

@@ -58,7 +58,7 @@ def packages() -> list[str]:
     return [os.path.join(TOP, "bin", it) for it in names]
 
 
-@test("package: two runs give the same bytes, both packages have the same files, and lintian finds no error")
+@test("package: two runs give the same bytes, both packages have the same files, and lintian warns of nothing")
 def packed() -> None:
     want_proved()
     made("package")
@@ -81,7 +81,7 @@ def packed() -> None:
             for at in (it for it in paths_in(usr) if os.path.isfile(os.path.join(usr, it))):
                 same(common.file_sum(os.path.join(room, "deb", "usr", at)), common.file_sum(os.path.join(usr, at)), at)
         want("lintian")
-        status, said = run_plainly(["lintian", "--fail-on", "error", deb], dict(os.environ), room)
+        status, said = run_plainly(["lintian", "--fail-on", "warning", deb], dict(os.environ), room)
         same(status, 0, said)
 
 
@@ -176,9 +176,10 @@ def in_copy(*commits: tuple[int, str, str]) -> list[str]:
     with temporary() as room:
         shutil.copytree(os.path.join(TOP, "tools"), os.path.join(room, "tools"))
         git = ["git", "-c", "user.name=x", "-c", "user.email=x@example.org"]
-        own = {key: value for key, value in os.environ.items() if key != "SOURCE_DATE_EPOCH"}
+        own = {key: value for key, value in os.environ.items() if key != "BUILD_VERSION"}
         subprocess.run([*git, "init", "--quiet"], cwd=room, check=True)
-        script = "import package; package.version = lambda: '0.1.0'; print(package.build_version())"
+        write(os.path.join(room, "crates", "ob0_cli", "src", "line.rt"), 'const VERSION: &str = "0.1.0";\n')
+        script = "import package; print(package.build_version())"
         for time_of, tag, change in commits:
             subprocess.run([*git, "add", "."], cwd=room, check=True)
             subprocess.run([*git, "commit", "--quiet", "--allow-empty", "-m", "x"], cwd=room, check=True, env={**own, "GIT_COMMITTER_DATE": f"@{time_of} +0000"})
@@ -201,8 +202,9 @@ def versions() -> None:
     same([found[0].split("git")[1][:15], found[1].split("git")[1][:15], found[2].split("git")[1][:15]], ["20261127.234448", "20261127.234449", "20261128.234448"], "their times")
     same([it.endswith(".changed") for it in found], [False, False, True, False, False, False], f"with changes: {found}")
     same(found[3], "0.1.0", "the version of the tagged commit")
+    holds(all(it.startswith("0.1.0+git") for it in found[4:]), f"after the release: {found}")
     if shutil.which("dpkg"):
-        for earlier, later in zip(found[:3], found[1:4]):
+        for earlier, later in zip(found, found[1:]):
             subprocess.run(["dpkg", "--compare-versions", earlier, "lt", later], check=True)
 
 
@@ -240,7 +242,8 @@ def provenance() -> None:
         for it in ("rattle-kit", "logic", common.file_sum(common.BINARY), "commit:", "gate:"):
             holds(it in said, f"no {it} in\n{said}")
         same(common.file_sum(os.path.join(usr, "bin", "ob0")), common.file_sum(common.BINARY), "the program")
-        for at in (it for it in paths_in(usr) if it.endswith(".md")):
+        # (the page of the exercises has a second name below the pages, and its links are right there)
+        for at in (it for it in paths_in(usr) if it.endswith(".md") and not it.startswith(package.EXERCISES)):
             for target in re.findall(r"\]\(([^)#:]+)(?:#[^)]*)?\)", text_of(usr, at)):
                 holds(os.path.exists(os.path.join(usr, os.path.dirname(at), target)), f"{at} has a link to {target}")
 
@@ -443,4 +446,5 @@ def others() -> None:
         for it in ("ob0.1", "ob0-format.1"):
             same(unpacked(f"share/man/man1/{it}.gz"), text_of("share", it), "a manual page")
         words: Callable[[str], list[str]] = lambda text: [it for it in text.split() if it not in "-*"]
-        same(words(unpacked("share/doc/ob0/changelog.gz").partition("medium\n")[2].partition("\n -- ")[0]), words(text_of("CHANGELOG.md").partition("yet\n")[2]), "the changes")
+        listed = re.sub(r"^ -- .*\n(\nob0 .*)?", "", unpacked("share/doc/ob0/changelog.gz").partition("medium\n")[2], flags=re.M)
+        same(words(listed), words(re.sub(r"^# .*|^## .*", "", text_of("CHANGELOG.md"), flags=re.M)), "the changes")

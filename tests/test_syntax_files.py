@@ -216,6 +216,7 @@ def textmate() -> None:
             '" still "',
             '1:11-18 support.type.oberon0 "INTEGER"',
             '1:35-37 constant.numeric.integer.oberon0 "12"',
+            '1:32-34 keyword.operator.oberon0 ":="',
             '1:38-41 keyword.operator.word.oberon0 "DIV"',
             '1:45-50 support.function.oberon0 "Write"',
             '1:51-53 invalid.illegal.number.oberon0 "4x"',
