@@ -3,7 +3,7 @@
 Neovim is driven by its own client, Emacs by eglot and by lsp-mode, Vim by ALE and by YouCompleteMe, Kate by its plugin (on a screen
 that nobody sees). Kakoune, which has no client, is in test_syntax_files.py.
 
-A test of an editor that isn't here is left out, by name; `make editors` installs them all."""
+A test of an editor that is missing is left out, by name; `make editors` installs what Debian has."""
 from __future__ import annotations
 
 import functools
@@ -13,10 +13,10 @@ import os
 import random
 import re
 import shutil
-import sys
 from collections.abc import Iterator
 from typing import Any, Callable, Dict, List, Tuple, Type, TypeVar
 
+import editors
 import harness
 import holding
 import keyed
@@ -493,18 +493,12 @@ MADE_LATE = {
 CLIENT = "vscode-languageclient"
 
 
-def real_client() -> str | None:
-    """The folder of the packages of Node that has the real client, or None."""
-    folders = [os.path.join(TOP, "editors", "vscode", "node_modules"), "/usr/share/nodejs", "/usr/local/lib/node_modules"]
-    return next((it for it in folders if os.path.isdir(os.path.join(it, CLIENT))), None)
-
-
 def in_vscode(*kind: str) -> tuple[str, Any, list[Message], list[Message]]:
     """What VS Code's extension did under Node, and the record of what its client and the server said."""
     with temporary() as room:
         own = at_home(room, "vscode")
         put_between(room)
-        own["NODE_PATH"] = os.pathsep.join(it for it in (real_client(), own.get("NODE_PATH"), "/usr/share/nodejs") if it)
+        own["NODE_PATH"] = os.pathsep.join(it for it in (editors.node_package(CLIENT), own.get("NODE_PATH"), "/usr/share/nodejs") if it)
         file = os.path.join(room, "work", "it's a.mod")
         write(file, "MODULE M;\nBEGIN x := 1 END M.\n")
         words = ["node", os.path.join(EDITORS, "vscode.js"), os.path.join(TOP, "editors", "vscode"), file, room, *kind]
@@ -542,10 +536,9 @@ def vscode() -> None:
 
 @test("VS Code: the extension, with the real vscode-languageclient and a stand-in for the editor, does the same")
 def vscode_client() -> None:
-    want("Node")
+    # (`npm install` in editors/vscode gets the client, and `make editors RELEASE=trixie` makes it in its root)
+    want("Node", CLIENT)
     harness.need_program()
-    if not real_client():
-        harness.leave_out(f"{CLIENT} missing: `npm install` in editors/vscode gets it, and `make editors RELEASE=trixie` makes it in its root")
     in_vscode_by("real")
 
 
@@ -600,13 +593,6 @@ def in_kate(steps: str, text: str, **given: Any) -> Steps:
 
     own: dict[str, str] = {}
     words = ["xvfb-run", "-a", "dbus-run-session", "--", "python3", os.path.join(EDITORS, "kate.py")]
-    # (keys can come before a window takes them, where the machine has much else to do, and what Kate has started can still write
-    # into the room when it is taken away: then all is done once more)
-    for _ in range(2):
-        try:
-            return play("kate", words, steps, text, given, set_up, more=own)
-        except (Failed, OSError) as why:
-            print(f"Kate is tried again: {why}".splitlines()[0], flush=True)
     return play("kate", words, steps, text, given, set_up, more=own)
 
 
@@ -685,15 +671,9 @@ def is_late(editor: keyed.Keyed, asked: str, when: str) -> None:
 
 
 def by_keys(does: Callable[[Any], T], which: Which, text: str, *names: str) -> T:
-    """Does something with an editor, in a folder of its own, on a file with this text. Where the editor was lost (it took no key, or
-    its server said nothing in time), once more."""
+    """Does something with an editor, in a separate folder, on a file with this text."""
     want(*names)
     harness.need_program()
-    try:
-        with temporary() as folder, which(folder, text) as editor:
-            return does(editor)
-    except (keyed.Lost, OSError) as why:
-        print(f"{names[-1]} is tried again: {why}".splitlines()[0], flush=True)
     with temporary() as folder, which(folder, text) as editor:
         return does(editor)
 

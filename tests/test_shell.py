@@ -80,7 +80,7 @@ def in_fish() -> None:
     want("fish")
 
     def offered(room: str, typed: str) -> list[str]:
-        script = f"source {os.path.join(SHARE, 'ob0.fish')}; complete -C {shlex.quote('ob0 ' + typed)}"
+        script = f"source {shlex.quote(os.path.join(SHARE, 'ob0.fish'))}; complete -C {shlex.quote('ob0 ' + typed)}"
         status, said = run_plainly(["fish", "--no-config", "-c", script], environment(room), room)
         same(status, 0, said)
         return sorted(line.split("\t")[0] for line in said.splitlines() if line.strip())
