@@ -9,7 +9,7 @@ from collections.abc import Callable
 from typing import TypeVar
 
 from common import match_of
-from harness import TOP, holds, run, same, test, text_of, want, want_proved
+from harness import TOP, holds, need_program, run, same, test, text_of, want, want_proved
 from homes import at_home, run_plainly, temporary, write
 from screen import Screen
 from snippets import fenced
@@ -136,6 +136,7 @@ PAGES = ["README.md", "examples/README.md"]
 
 @test("shell: the transcripts of README are what the program prints")
 def transcripts() -> None:
+    need_program()
     blocks = [text for it in PAGES for name, text in fenced(it) if name == "console"]
     holds(blocks, "there is none")
     with temporary() as room:
@@ -149,6 +150,7 @@ def transcripts() -> None:
 
 @test("shell: the lines of README's first module make it, find nothing wrong and run it")
 def first_module() -> None:
+    need_program()
     page = text_of("README.md").partition("\n## A first module\n\n")[2]
     lines = [it[4:] for it in page.partition("\n\n")[0].splitlines()]
     same(len(lines), 3, "the lines")
