@@ -23,6 +23,8 @@
 #   make bench             times the program; nothing fails by time
 PREFIX ?= /usr/local
 PYTHON ?= python3
+# (a recipe reads these from the environment, so that a shell takes nothing out of them)
+export PREFIX DESTDIR
 
 .PHONY: help demo test build check editors try end-to-end faults wrong-bodies surface statement bench package install uninstall python
 
@@ -69,10 +71,10 @@ package: build
 	@$(PYTHON) tools/package.py package
 
 install: build
-	@$(PYTHON) tools/package.py install "$(PREFIX)" "$(DESTDIR)"
+	@$(PYTHON) tools/package.py install "$$PREFIX" "$$DESTDIR"
 
 uninstall: python
-	@$(PYTHON) tools/package.py uninstall "$(PREFIX)" "$(DESTDIR)"
+	@$(PYTHON) tools/package.py uninstall "$$PREFIX" "$$DESTDIR"
 
 python:
 	@command -v $(PYTHON) >/dev/null || { echo "$(PYTHON) is missing: install Python 3.8 or later (on Debian: apt-get install python3)" >&2; exit 2; }

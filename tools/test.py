@@ -19,6 +19,7 @@ import build
 import common
 import editors
 import mutants
+import notices
 from common import TOP
 
 LINE = re.compile(r"^(\d+) passed, (\d+) failed$")
@@ -76,6 +77,7 @@ def gate(timer: common.Timer, flags: list[str], libraries: mutants.Libraries) ->
     counts = stream(["rt", "ci", *flags], timer, libraries.take, **jobs())
     if os.path.isfile(linked):
         common.keep(linked, f"{counts[0]} passed, {counts[1]} failed")
+        notices.keep()
     return counts
 
 

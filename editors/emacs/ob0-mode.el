@@ -1,6 +1,6 @@
 ;;; ob0-mode.el --- Major mode for Oberon-0  -*- lexical-binding: t -*-
 
-;; Version: 0.1
+;; Version: 0.1.0
 ;; Package-Requires: ((emacs "26.1"))
 ;; Keywords: languages
 
