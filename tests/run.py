@@ -204,6 +204,8 @@ def keep(name: str, found: Outcome, how: str) -> None:
 
 def kept() -> set[str]:
     """The names of the tests on which bin/results has a line."""
+    if not os.path.exists(RESULTS):
+        return set()
     with open(RESULTS, encoding="utf-8") as file:
         rows = [line.rstrip("\n").split("\t") for line in file]
     return {row[2] for row in rows if len(row) > 2}
