@@ -132,7 +132,7 @@ def install(packages: list[str], end: float) -> str | None:
         ran = subprocess.run(words, timeout=max(1, end - time.monotonic()), check=False, **how)
     except (OSError, subprocess.TimeoutExpired) as why:
         return str(why)
-    return ran.stdout.decode(errors="replace")[-400:].strip() if ran.returncode else None
+    return f"status {ran.returncode}, {ran.stdout.decode(errors='replace')[-400:].strip()}" if ran.returncode else None
 
 
 def install_all(packages: list[str]) -> None:
