@@ -20,6 +20,7 @@ import multiprocessing
 import multiprocessing.connection
 import os
 import shutil
+import signal
 import sys
 import tempfile
 import time
@@ -102,6 +103,7 @@ class Running:
         self.told, telling = FORK.Pipe(duplex=False)
 
         def tell() -> None:
+            signal.signal(signal.SIGTERM, signal.SIG_DFL)
             processes.adopt_orphans()
             tempfile.tempdir = os.environ["TMPDIR"] = self.room
             os.environ.update(LC_ALL="C.UTF-8", LANG="C.UTF-8")
@@ -246,7 +248,13 @@ def chosen_by(words: list[str]) -> list[int]:
     return [at for at, (name, _) in enumerate(harness.TESTS) if name not in done and (not given or any(it in name for it in given))]
 
 
+def end_by_signal() -> None:
+    """Has SIGTERM end the tests that run, as Ctrl-C does."""
+    signal.signal(signal.SIGTERM, lambda number, _: sys.exit(128 + number))
+
+
 def main(words: list[str]) -> int:
+    end_by_signal()
     if isinstance(sys.stdout, io.TextIOWrapper):
         sys.stdout.reconfigure(errors="backslashreplace")
     is_first = "--first" in words

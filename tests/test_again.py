@@ -9,7 +9,7 @@ import subprocess
 import sys
 import tempfile
 import time
-from typing import Dict, Iterator, List, Tuple
+from typing import Callable, Dict, Iterator, List, Tuple
 from unittest import mock
 
 import editors
@@ -172,11 +172,16 @@ def leaves_a_child(path: str) -> None:
 def ended_in_time() -> None:
     with tempfile.TemporaryDirectory() as room:
         path = os.path.join(room, "child")
-        with mock.patch.object(run, "LONGEST", 3):
+        # (where much else runs its child may begin late)
+        is_late: Callable[[run.Running], bool] = lambda it: time.monotonic() > it.end and os.path.exists(path) and os.path.getsize(path) > 0
+        with mock.patch.object(run, "LONGEST", 1), mock.patch.object(run.Running, "has_ended", is_late):
             counts, said, _ = counted({"long": lambda: leaves_a_child(path)})
-        same((counts, "it had not ended after 3 seconds" in said), ("0 passed, 1 failed", True), said)
+        same((counts, "it had not ended after" in said), ("0 passed, 1 failed", True), said)
         child = int(harness.text_of(path))
         holds(child not in processes.parents(), f"process {child} goes on")
+    with mock.patch.object(run, "LONGEST", 1):
+        counts, said, _ = counted({"long": lambda: time.sleep(600)})
+    same((counts, "it had not ended after" in said), ("0 passed, 1 failed", True), said)
     with mock.patch.object(run, "IN_ALL", 0):
         counts, said, _ = counted({"late": lambda: None})
     same((counts, "it wasn't run: 0 minutes for all tests were over" in said), ("0 passed, 1 failed", True), said)
@@ -215,25 +220,26 @@ def differing() -> None:
             raise Failed(f"{got!r:.60} and {wanted!r:.60} are the same")
 
 
-@test("again: a run that is interrupted ends its tests")
+@test("again: a run that is interrupted, or ended by a signal, ends its tests")
 def interrupted() -> None:
-    with tempfile.TemporaryDirectory() as room:
-        path = os.path.join(room, "child")
-        parent = os.getpid()
+    parent = os.getpid()
 
-        def interrupts() -> None:
-            leaves = os.fork()
-            if leaves == 0:
-                leaves_a_child(path)
-            while not os.path.exists(path) or not os.path.getsize(path):
-                time.sleep(0.01)
-            os.kill(parent, signal.SIGINT)
-            time.sleep(600)
+    def interrupts(path: str, number: int) -> None:
+        if os.fork() == 0:
+            leaves_a_child(path)
+        while not os.path.exists(path) or not os.path.getsize(path):
+            time.sleep(0.01)
+        os.kill(parent, number)
+        time.sleep(600)
 
-        try:
-            counted({"interrupts": interrupts})
-        except KeyboardInterrupt:
-            pass
-        else:
-            raise Failed("the run went on")
-        holds(int(harness.text_of(path)) not in processes.parents(), "a process goes on")
+    run.end_by_signal()
+    for number in (signal.SIGINT, signal.SIGTERM):
+        with tempfile.TemporaryDirectory() as room:
+            path = os.path.join(room, "child")
+            try:
+                counted({"interrupts": lambda: interrupts(path, number)})  # pylint: disable=cell-var-from-loop
+            except (KeyboardInterrupt, SystemExit):
+                pass
+            else:
+                raise Failed("the run went on")
+            holds(int(harness.text_of(path)) not in processes.parents(), "a process goes on")
