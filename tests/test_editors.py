@@ -3,7 +3,7 @@
 Neovim is driven by its own client, Emacs by eglot and by lsp-mode, Vim by ALE and by YouCompleteMe, Kate by its plugin (on a screen
 that nobody sees). Kakoune, which has no client, is in test_syntax_files.py.
 
-A test of an editor that isn't here is left out, by name; `make editors` installs them all."""
+A test of an editor that is missing is left out, by name; `make editors` installs what Debian has."""
 from __future__ import annotations
 
 import functools
@@ -14,11 +14,11 @@ import os
 import random
 import re
 import shutil
-import sys
 import zipfile
 from collections.abc import Iterator
 from typing import Any, Callable, Dict, List, Tuple, Type, TypeVar
 
+import editors
 import harness
 import holding
 import keyed
@@ -552,19 +552,16 @@ def vscode() -> None:
 
 @test("VS Code: the extension, with the real vscode-languageclient and a stand-in for the editor, does the same")
 def vscode_client() -> None:
-    want("Node")
+    # (`npm install` in editors/vscode gets the client, and `make editors RELEASE=trixie` makes it in its root)
+    want("Node", vsix.CLIENT)
     harness.need_program()
-    if not vsix.modules():
-        harness.leave_out(f"{vsix.CLIENT} missing: `npm install` in editors/vscode gets it, and `make editors RELEASE=trixie` makes it in its root")
     in_vscode_by("real")
 
 
 @test("VS Code: the extension as it is packed, with the real vscode-languageclient and a stand-in for the editor, does the same")
 def vscode_packed() -> None:
-    want("Node")
+    want("Node", vsix.CLIENT)
     harness.need_program()
-    if not vsix.modules():
-        harness.leave_out(f"{vsix.CLIENT} missing: `make editors RELEASE=trixie` makes it in its root")
     with temporary() as room:
         for content in package.extension().values():
             with zipfile.ZipFile(io.BytesIO(content)) as archive:
@@ -623,13 +620,6 @@ def in_kate(steps: str, text: str, **given: Any) -> Steps:
 
     own: dict[str, str] = {}
     words = ["xvfb-run", "-a", "dbus-run-session", "--", "python3", os.path.join(EDITORS, "kate.py")]
-    # (keys can come before a window takes them, where the machine has much else to do, and what Kate has started can still write
-    # into the room when it is taken away: then all is done once more)
-    for _ in range(2):
-        try:
-            return play("kate", words, steps, text, given, set_up, more=own)
-        except (Failed, OSError) as why:
-            print(f"Kate is tried again: {why}".splitlines()[0], flush=True)
     return play("kate", words, steps, text, given, set_up, more=own)
 
 
@@ -708,15 +698,9 @@ def is_late(editor: keyed.Keyed, asked: str, when: str) -> None:
 
 
 def by_keys(does: Callable[[Any], T], which: Which, text: str, *names: str) -> T:
-    """Does something with an editor, in a folder of its own, on a file with this text. Where the editor was lost (it took no key, or
-    its server said nothing in time), once more."""
+    """Does something with an editor, in a separate folder, on a file with this text."""
     want(*names)
     harness.need_program()
-    try:
-        with temporary() as folder, which(folder, text) as editor:
-            return does(editor)
-    except (keyed.Lost, OSError) as why:
-        print(f"{names[-1]} is tried again: {why}".splitlines()[0], flush=True)
     with temporary() as folder, which(folder, text) as editor:
         return does(editor)
 
