@@ -54,7 +54,7 @@ faults: build
 	@$(PYTHON) tools/faults.py $(WORDS)
 
 wrong-bodies: python
-	@$(PYTHON) tools/wrong_bodies.py $(CRATE)
+	@$(PYTHON) tools/mutants.py $(if $(ALL),--all) $(CRATE)
 
 surface: python
 	@$(PYTHON) tools/public_functions.py

@@ -25,6 +25,8 @@ class Function:
         self.impl_words, self.is_test = scope.impl_words, scope.is_test
         self.name, self.is_pub, self.words = name, is_pub, [it.text for it in words]
         self.file, self.first, self.last = scope.file, words[0].line, words[-1].line
+        # (a method of a trait has its contract at the head of its impl)
+        self.contract_from = min(scope.block_from or self.first, self.first) if scope.trait else self.first
         self.head, self.has_body = heading(self.words), self.words[-1] == "}"
         # (the line on which its body begins)
         self.opens = words[min(len(self.head), len(words) - 1)].line
@@ -93,8 +95,10 @@ class Scope:
         impl_words: tuple[str, ...] = (),
         is_test: bool = False,
         is_of_reference: bool = False,
+        block_from: int = 0,
     ) -> None:
         self.crate, self.file, self.module, self.owner, self.trait = crate, file, module, owner, trait
+        self.block_from = block_from  # the first line of the impl or trait
         # (whether a trait is that of references to the owner)
         self.impl_words, self.is_test, self.is_of_reference = impl_words, is_test, is_of_reference
 
@@ -117,23 +121,35 @@ def rattle() -> str:
     return os.path.join(os.path.dirname(os.path.realpath(common.need("rt"))), "rattle")
 
 
-def words_of(files: list[str]) -> dict[str, list[Word]]:
-    """The words of code of each file, by its path."""
+class Text:
+    """The words of a file: those of its code, and all, with those of contracts, each after its line."""
+
+    def __init__(self) -> None:
+        self.code: list[Word] = []
+        self.all: list[Tuple[int, str]] = []
+
+
+def words_of(files: list[str]) -> dict[str, Text]:
+    """The words of each file, by its path; comments left out."""
     if not files:
         return {}
     ran = subprocess.run([rattle(), "fmt", "--tokens", *files], stdin=subprocess.DEVNULL, stdout=subprocess.PIPE)
     if ran.returncode:
         common.stop(f"{files[0]} or a file beside it can't be read")
-    found: dict[str, list[Word]] = {}
-    words: list[Word] = []
+    found: dict[str, Text] = {}
+    words = Text()
     for line in ran.stdout.decode("utf-8").split("\n"):
         if line.startswith("file "):
-            words = found[files[int(line[5:])]] = []
+            words = found[files[int(line[5:])]] = Text()
         elif line:
-            at, _, _, kind, text = line.split(" ", 4)
+            at, _, _, kind, told = line.split(" ", 4)
+            text = json.loads(told)
             # (a comment above a type of errors is a literal to the toolchain)
-            if kind in ("Code", "Literal") and not json.loads(text).startswith("//"):
-                words.append(Word(int(at), json.loads(text)))
+            if text.startswith("//"):
+                continue
+            words.all.append((int(at), text))
+            if kind in ("Code", "Literal"):
+                words.code.append(Word(int(at), text))
     return found
 
 
@@ -195,7 +211,8 @@ class Source:
         self.public_modules: set[Module] = {()}
         self.brought_out: list[tuple[Module, list[str]]] = []
         self.imports: list[tuple[list[str], bool]] = []
-        self.words = words_of(sources(crate))
+        self.texts = words_of(sources(crate))
+        self.words = {path: text.code for path, text in self.texts.items()}
         self.folder = os.path.join(common.TOP, "crates", crate)
         for top in ("lib.rt", "main.rt"):
             self.read(os.path.join(self.folder, "src", top), Scope(crate, f"src/{top}", ()))
@@ -258,7 +275,7 @@ class Source:
         head = [it.text for it in words[at + 1 : opens]]
         head = head[: head.index("where")] if "where" in head else head
         if words[at].text == "trait":
-            inner = scope.inside(owner=head[0], trait=head[0], impl_words=(head[0],))
+            inner = scope.inside(owner=head[0], trait=head[0], impl_words=(head[0],), block_from=words[0].line)
         else:
             generics = head[: close_angle(head)] if head[:1] == ["<"] else []
             head = head[len(generics) :]
@@ -268,9 +285,19 @@ class Source:
             said = tuple(it for it in dict.fromkeys(head) if it.isidentifier() and it not in hidden)
             of = [] if cut is None else head[cut + 1 :]
             words_said = () if cut is None else said
-            inner = scope.inside(owner=owner, trait="" if cut is None else head[0], impl_words=words_said)
+            trait = "" if cut is None else head[0]
+            inner = scope.inside(owner=owner, trait=trait, impl_words=words_said, block_from=words[0].line)
             inner.is_of_reference = of[:1] == ["&"] and "[" not in of
         self.items(words[opens + 1 : -1], inner)
+
+    def all_words(self, path: str, first: int = 0, last: int = 1 << 30) -> list[str]:
+        """The words between two lines of a file, contracts included."""
+        text = self.texts.get(os.path.join(self.folder, path))
+        return [word for line, word in text.all if first <= line <= last] if text else []
+
+    def words_with_contract(self, function: Function) -> list[str]:
+        """The words of a function and of its contract."""
+        return self.all_words(function.file, function.contract_from, function.last)
 
     def is_public(self, module: Module, name: str) -> bool:
         """Whether other crates can name an item of a module."""
