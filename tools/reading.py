@@ -77,6 +77,71 @@ class Function:
         return is_met and (not self.is_of_reference or plain.startswith("ref"))
 
 
+class TypeItem:
+    """A type of a crate: its kind, and its variants or public fields in the order of the source."""
+
+    def __init__(self, scope: Scope, words: list[Word], at: int, is_pub: bool) -> None:
+        texts = [it.text for it in words]
+        self.crate, self.module, self.kind, self.name = scope.crate, scope.module, texts[at], texts[at + 1]
+        self.is_pub, self.is_test = is_pub, scope.is_test
+        self.parts = parts_of(self.kind, texts[at + 2 :])
+
+    @property
+    def path(self) -> str:
+        """As a reader names it: module::Name."""
+        return "::".join([*self.module, self.name])
+
+
+def parts_of(kind: str, texts: list[str]) -> list[str]:
+    """The variants of an enum or the public fields of a struct, spelled; of another type what it stands for."""
+    if kind == "type":
+        return [spelled(texts[texts.index("=") + 1 : -1])] if "=" in texts else []
+    opens = next((at for at, it in enumerate(texts) if it in "{("), None)
+    found: list[str] = []
+    while opens is not None and opens + 1 < len(texts) and texts[opens + 1] not in "})":
+        end = end_of_part(texts, opens + 1)
+        part = without_attributes(texts[opens + 1 : end])
+        is_shown = kind == "enum" or part[:1] == ["pub"] and part[1:2] != ["("]
+        found += [spelled(part[part[:1] == ["pub"] :])] if part and is_shown else []
+        opens = end if texts[end : end + 1] == [","] else None
+    return found
+
+
+def end_of_part(texts: list[str], at: int) -> int:
+    """The place of the comma or bracket that ends a variant or field."""
+    depth = 0
+    while at < len(texts) and (depth or texts[at] not in ",})"):
+        depth += (texts[at] in "([{<") - (texts[at] in ")]}" or texts[at] == ">" and texts[at - 1] != "-")
+        at += 1
+    return at
+
+
+def without_attributes(texts: list[str]) -> list[str]:
+    """The words of a variant or field after its attributes."""
+    while texts[:1] == ["#"]:
+        texts = texts[end_of_brackets(texts, 1) :]
+    return texts
+
+
+def end_of_brackets(texts: list[str], at: int) -> int:
+    """The place after the brackets that open at a place."""
+    depth = 0
+    for place in range(at, len(texts)):
+        depth += (texts[place] in "([{") - (texts[place] in ")]}")
+        if not depth:
+            return place + 1
+    return len(texts)
+
+
+def spelled(texts: list[str]) -> str:
+    """Words of a type as they are written on one line."""
+    found = " ".join(texts)
+    for old, new in ((" : :", "::"), (":: ", "::"), (" :", ":"), (" ,", ","), (" (", "("), ("( ", "("), (" )", ")"), (" <", "<"), ("< ", "<"),
+                     (" >", ">"), ("& ", "&"), ("[ ", "["), (" ]", "]"), (" ;", ";"), (", }", " }"), (",)", ")")):
+        found = found.replace(old, new)
+    return found
+
+
 class Word:
     def __init__(self, line: int, text: str) -> None:
         self.line, self.text, self.is_test = line, text, False
@@ -207,6 +272,8 @@ class Source:
         self.functions: list[Function] = []
         self.constants: dict[str, tuple[str, int, int]] = {}  # the file, the first line and the last
         self.types: dict[str, tuple[Module, bool]] = {}  # the module, and whether it is public
+        self.traits: dict[str, bool] = {}  # whether it is public
+        self.type_items: list[TypeItem] = []
         self.declared: set[tuple[Module, str]] = set()
         self.public_modules: set[Module] = {()}
         self.brought_out: list[tuple[Module, list[str]]] = []
@@ -259,9 +326,11 @@ class Source:
             self.block(words, at, scope)
             if word == "trait":
                 self.types[name] = (scope.module, is_pub)
+                self.traits[name] = is_pub
         elif word in ("struct", "enum", "type"):
             self.types[name] = (scope.module, is_pub)
             self.declared.add((scope.module, name))
+            self.type_items.append(TypeItem(scope, words, at, is_pub))
         elif word in ("const", "static"):
             self.constants[name] = (scope.file, words[0].line, words[-1].line)
         elif word == "use":
@@ -305,21 +374,26 @@ class Source:
             return True
         return any(brings(words, at, module, name) for at, words in self.brought_out if at in self.public_modules)
 
-    def public_functions(self) -> list[Function]:
-        """Each function that other crates can call, tests left out."""
-        found = []
+    def public_functions(self, traits: Iterable[str] = ()) -> list[Function]:
+        """Each function that other crates can call, tests left out; with the methods of some traits of other crates."""
+        found, counted = [], {*traits, *self.traits}
         for function in self.functions:
             if function.is_test or not function.is_pub or not function.has_body:
                 continue
             if not function.owner:
                 is_seen = self.is_public(function.module, function.name)
             else:
-                # (a method of a trait of another library is called by that library's name for it)
-                is_own = not function.trait or function.trait in self.types
+                # (a type of another crate is seen, since only a trait of this repository can have a method on it)
+                is_own = function.owner in self.types
                 at, is_pub = self.types.get(function.owner, (function.module, False))
-                is_seen = is_own and is_pub and self.is_public(at, function.owner)
+                is_counted = not function.trait or function.trait in counted
+                is_seen = is_counted and (is_pub and self.is_public(at, function.owner) if is_own else self.traits.get(function.trait, False))
             found += [function] * is_seen
         return found
+
+    def public_types(self) -> list[TypeItem]:
+        """Each type that other crates can name, tests left out."""
+        return [it for it in self.type_items if it.is_pub and not it.is_test and self.is_public(it.module, it.name)]
 
     def below(self) -> dict[str, set[str]]:
         """Of each proof those that it may stand on: of what its functions name, and of what these name in turn."""
