@@ -7,7 +7,7 @@
 #   make vsix              packs the extension for VS Code, in bin/; needs the modules that `make editors RELEASE=trixie` gets
 #   make install PREFIX=.. copies that tree to PREFIX: the program, manual page, completions, editor files, pages and examples
 #   make uninstall PREFIX=.. removes what was installed there
-#   make test              the gate (every proof; the kit keeps what passed before on this machine), its mutants and the end-to-end tests
+#   make test              the gate (every proof; the kit keeps what passed before on this machine), some mutants and the end-to-end tests
 #   make test ANEW=1       the same, and every proof from nothing
 #   make help              prints these lines, as `make` alone does
 # (where bin/ob0 is there and up to date, build, package, install and demo need no toolchain)
@@ -19,7 +19,7 @@
 #   make try               the tables of check, run and rename, with the program compiled without its proofs, in two to four minutes
 #   make end-to-end        the end-to-end tests alone, on bin/ob0
 #   make faults            what takes longer: each allocation fails in turn, two long conversations, many random changes, texts and runs; WORDS=".." names some
-#   make wrong-bodies      tries each crate's mutants over what `make check` keeps, many in one check; CRATE="NAME.." names some
+#   make wrong-bodies      tries the mutants that weren't refused yet in their present form, over what `make check` keeps; ALL=1: all; CRATE="NAME.." names some
 #   make surface           the public functions and their mutants: docs/SURFACE.md, and how many mutants: README.md
 #   make statement         all definitions that the headline is made of, in reading order: docs/STATEMENT.md
 #   make bench             times the program; nothing fails by time
@@ -58,7 +58,7 @@ faults: build
 	@$(PYTHON) tools/faults.py $(WORDS)
 
 wrong-bodies: python
-	@$(PYTHON) tools/wrong_bodies.py $(CRATE)
+	@$(PYTHON) tools/mutants.py $(if $(ALL),--all) $(CRATE)
 
 surface: python
 	@$(PYTHON) tools/public_functions.py

@@ -10,8 +10,10 @@ import shlex
 
 import common
 import edits
+import public_functions
 import reading
 import rooms
+import verdicts
 from common import match_of
 from harness import TOP, holds, same, test, text_of, want
 from homes import run_plainly
@@ -24,20 +26,25 @@ def mutants_fit() -> None:
     same([f"{it.crate}/{it.name}: {it.why}" for it in found if it.why], [], "mutants that don't fit their sources")
 
 
-@test("sources: each mutant of the gate says what it does and which clause of which function refuses it; README says how many there are")
+# How many mutants have a first line that names no clause: their number may only fall.
+WITHOUT_CLAIM = 227
+
+
+@test("sources: the first line of each edit of `rt ci` names the clause that refuses it; README says how many mutants there are, and were refused")
 def mutants_explained() -> None:
     found = [it for crate in common.listed() for it in edits.edits_of(crate)]
-    of_gate = [it for it in found if it.is_of_gate]
-    same([it.path for it in of_gate if not it.claim], [], "those without such a line")
-    counts = match_of(r"every proof, (\d+) wrong versions.*?tries all (\d+) mutants", text_of("README.md"), re.S)
-    same([int(it) for it in counts.groups()], [len(of_gate), len(found)], "the mutants of the gate, and all of them")
+    same([it.path for it in found if it.is_of_kit and not it.claim], [], "edits of `rt ci` without such a line")
+    same(sum(not it.claim for it in found), WITHOUT_CLAIM, "mutants without such a line (lower the number in this test when it falls)")
+    page = text_of("README.md")
+    left = " ".join(verdicts.Mutants().stale)
+    same(page, public_functions.with_counts(page), f"README's counts of mutants (make surface writes them); not tried since: {left}")
 
 
 def has_clauses(claim: edits.Claim, function: reading.Function) -> bool:
-    """Whether a function has the clauses that a mutant's first line names. Those of a trait's method are at the trait."""
+    """Whether a function has the clauses that a mutant's first line names. A trait's method has its clauses at the trait."""
     rows = text_of(os.path.join("crates", function.crate, function.file)).split("\n")[function.first - 1 : function.last]
     names = set(re.findall(r"\bensures\s+(\w*)\s*\{", "\n".join(rows)))
-    wanted = {"" if it == "the clause" else it for it in claim.clauses if it not in ("the loop", "the invariant")}
+    wanted = {"" if it == "the clause" else it for it in claim.clauses if it not in ("the loop", "the invariant", "the one goal")}
     return bool(function.trait) or wanted <= names
 
 
@@ -67,12 +74,11 @@ def rooms_drawn() -> None:
     same(upwards, [], "arrows that go up")
 
 
-@test("sources: no mutant adds a loop, and none is in a folder that `rt ci` reads")
+@test("sources: no mutant adds a loop")
 def mutants_without_loops() -> None:
     found = [it for crate in common.listed() for it in edits.edits_of(crate)]
     # (the prover asks for the invariant of a new loop, or takes that of another one for it: such a mutant is refused whatever it does)
     same([it.path for it in found if it.adds_loop], [], "mutants that add a loop")
-    same(glob.glob(os.path.join(TOP, "crates", "*", "must-fail")), [], "folders by whose mutants `rt ci` checks whole crates")
 
 
 @test("sources: no file of tests imports another")
