@@ -14,7 +14,7 @@ from collections.abc import Callable, Iterable
 from typing import Any, TypeVar
 
 import harness
-from harness import Content, Message, TOP, examples, frames, holds, need_program, published, same, test, text_of
+from harness import Content, Message, TOP, examples, frames, holds, is_running, need_program, published, same, test, text_of
 from homes import write
 from snippets import fenced
 
@@ -276,15 +276,6 @@ sys.argv = sys.argv[2:]
 runpy.run_path(sys.argv[0], run_name="__main__")
 """
 SIGNALS = (signal.SIGINT, signal.SIGTERM, signal.SIGHUP)
-
-
-def is_running(number: int) -> bool:
-    """Whether there is such a process; it is ended."""
-    try:
-        os.kill(number, signal.SIGKILL)
-    except ProcessLookupError:
-        return False
-    return True
 
 
 @test("scripts: a signal ends ob0-format and its server between two files, and leaves no file half done and none beside it")
