@@ -8,6 +8,7 @@ import glob
 import json
 import os
 import select
+import signal
 import subprocess
 import sys
 import tempfile
@@ -277,6 +278,15 @@ def serve_in_pieces(pieces: Iterable[bytes]) -> Ended:
         for reader in readers:
             reader.join()
     return Ended(written["out"], written["err"], process.returncode)
+
+
+def is_running(number: int) -> bool:
+    """Whether a process that ought to have ended still runs; it is killed."""
+    try:
+        os.kill(number, signal.SIGKILL)
+    except ProcessLookupError:
+        return False
+    return True
 
 
 S = TypeVar("S", bound="Server")
