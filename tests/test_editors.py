@@ -617,6 +617,7 @@ def in_kate(steps: str, text: str, **given: Any) -> Steps:
         program = put_between(room)
         write(os.path.join(room, ".config", "katerc"), f"[Kate Plugins]\nlspclientplugin=true\n\n[lspclient]\nAllowedServerCommandLines={program} serve\n")
         own["OB0_WIRE"] = room
+        write(os.path.join(room, "breaks"), "late-edit" if steps == "late" else "")  # (as its page says)
 
     own: dict[str, str] = {}
     words = ["xvfb-run", "-a", "dbus-run-session", "--", "python3", os.path.join(EDITORS, "kate.py")]
