@@ -466,7 +466,7 @@ def job() -> None:
 @test("scripts: the lines of the manual page list faults as compilers do, and keep the status")
 def manual_lines() -> None:
     harness.want("bash")
-    page = text_of("share", "ob0.1").partition("List faults as compilers do")[2].partition(".nf\n")[2].partition(".fi\n")[0]
+    page = text_of("share", "ob0.1").partition("List errors as compilers do")[2].partition(".nf\n")[2].partition(".fi\n")[0]
     lines = page.replace("\\(aq", "'").replace("\\e", "\\").replace("\\-", "-")
     for text, status, said in ((FAULTY, 1, "\n".join(LISTED) + "\n"), (LAID_OUT, 0, "")):
         for shell in (["sh", "-c"], ["sh", "-e", "-c"], ["bash", "-e", "-o", "pipefail", "-c"]):
