@@ -52,7 +52,7 @@ CLOSED = {
     "a content, and what is to be said",
     ("ob0_session_server", "Answers", "SaysReply"): "nothing is sent, or one content, the JSON text of what is to be "
     "said: a publication, a result or an error, as docs/PROTOCOL.md has it",
-    ("ob0_rpc", "Messages", "ReadsContent"): "the bytes are the JSON text of this value; none, where they aren't JSON",
+    ("ob0_rpc", "Messages", "ReadsContent"): "the bytes are the JSON text of this value; None if they aren't JSON",
     ("ob0_rpc", "Messages", "meaning"): "a request with its id, method and params, a notification, a response, or no "
         "message",
     ("ob0_session_server", "Answers", "ServerState"): "a session's lifecycle (`phase`), what its client can do, and "
@@ -127,15 +127,15 @@ BELIEVED = {
     "Range": "from one position to another",
     "width_of": "how many units a character has",
     "cut_at": "the cut of a range: between the characters at its two positions, the lesser first",
-    "Cut": "where characters are taken out, and those that are put there",
+    "Cut": "the place where characters are removed, and those put there",
     "all_apart": "no two of the cuts share a character (an insertion strictly inside another cut does)",
     "in_text_order": "the cuts by their starts, then by their ends, then as in the list",
     "pieced": "what cuts in this order make of the text from a place on",
     "device_of, has_failed, is_flushed, reads_of": "of a `Noted` its device; whether a call of it has returned an "
     "error; whether a flush has succeeded since the last write, or nothing was written; how it was read",
     "IsTaken": "by at most 2^40 reads, each of at most 8,192 bytes",
-    "Serves": "`put` is the frames of the replies to contents of `taken` (at `Err(Write)` perhaps their first bytes "
-    "alone). To which, a table in part 6 says by the result: at `Err(Memory)` to the first n, for some n",
+    "Serves": "`put` is the frames of the replies to contents of `taken` (at `Err(Write)` perhaps only their first "
+    "bytes). To which, a table in part 6 says by the result: at `Err(Memory)` to the first n, for some n",
     "AreAllRead": "2^40 reads were made",
     "IsFlushedAfter": "if the writer was flushed before, or anything was put, it is flushed now",
     "code.Event": "an event of the code",
@@ -182,7 +182,7 @@ WORDS = (
     ("Noted", "a reader or a writer, with notes of its calls", "`ob0_session`"),
     (
         "R.remaining d, W.contents d",
-        "the bytes that a device has left to give, and those that were written to it, where its type knows them",
+        "the bytes that a device has left to give, and those that were written to it, if its type knows them",
         "`std::io`",
     ),
     ("Data", "a JSON value", "`serde_json`"),
@@ -211,16 +211,16 @@ WORKED = """
 ROWS = """
 | `serve` returns | The program's status | It has written the frames of |
 |---|---|---|
-| `Ok(status)` | `status` | all replies up to an `exit`, which gives the status; or, with status 1, all replies, where no `exit` came and the input ends between messages |
+| `Ok(status)` | `status` | all replies up to an `exit`, which gives the status; or, with status 1, all replies, if no `exit` came and the input ends between messages |
 | `Err(BadHead)` | 3 | all replies to the contents before the place where no message can begin, as one with too long a content |
 | `Err(Truncated)` | 3 | all replies; the input ends inside a message |
 | `Err(Read)` | 4 | all replies to the contents read; a call of the reader has returned an error |
 | `Err(TooManyReads)` | 4 | all replies to the contents read, by 2^40 reads and from at least as many bytes |
-| `Err(Write)` | 4 | all replies to the first n contents, for some n, or these frames' first bytes alone; a call of the writer has returned an error |
+| `Err(Write)` | 4 | all replies to the first n contents, for some n, or only these frames' first bytes; a call of the writer has returned an error |
 | `Err(Memory)` | 5 | all replies to the first n contents, for some n, each whole |
 """
 AFTER_ROWS = (
-    "No call of the reader or the writer has returned an error but where it is said. At the first four errors no `exit` came. Except at `Err(Write)` it is "
+    "No call of the reader or the writer has returned an error unless the row says so. At the first four errors no `exit` came. Except at `Err(Write)` it is "
     "*flushed*: if the writer was flushed before the call, or `serve` wrote anything, the writer is flushed at the "
     "return."
 )
@@ -239,7 +239,7 @@ PARTS: list[tuple[str, list[str], str, str]] = [
             "(and that is a `Made`, with its text), which is right by `IsEmptyIfCorrect`;\n"
             "- for the close of an open document: an empty list without a version;\n"
             "- for each request: one answer with its number. If the document is `InStep`, it has the edits that were "
-            "requested, by docs/PROTOCOL.md, or none, where docs/PROTOCOL.md refuses them or the text isn't a "
+            "requested, by docs/PROTOCOL.md, or none, if docs/PROTOCOL.md refuses them or the text isn't a "
             "well-typed module (`GivesEdits` and `Refuses`, in part 8). Else it has none.",
             "*The editor* (`done_by`) sends each opening, change, close and request. It applies answers as part 0 "
             "says, at any time.",
@@ -273,7 +273,7 @@ PARTS: list[tuple[str, list[str], str, str]] = [
             "`MayServe` and more ([by definition](#determined-of-ob0_world_determined-part-6)). By the law "
             "`a_conversation_is_served`, under the premises of part 0, the bytes written are the frames of `got ++ "
             "unread`.",
-            "After an `Err` of `play_in` the law [`in_every_interleaving`](#part-0-the-headline) alone speaks of the "
+            "After an `Err` of `play_in` only the law [`in_every_interleaving`](#part-0-the-headline) speaks of the "
             "events that follow.",
         ],
         "that `serve` writes what `play_in` returns as sent, for what that returns as taken",
@@ -288,7 +288,7 @@ PARTS: list[tuple[str, list[str], str, str]] = [
             "An editor that counts no openings, compares the version in an answer with its document's, and drops what "
             "it asked about a document before this was opened again, does the same with an answer as the model does "
             "(the law `versions_suffice`). By the law [`versions_are_named`](PROMISES.md#client-and-server) edits "
-            "that answer a request name that version, but for those of a formatting, which name none.",
+            "that answer a request name that version, except those of a formatting, which name none.",
         ],
         "what parts 0 and 1 say of these names",
         "the laws `one_step`, `server_mirrors` and `versions_suffice` (part 9), and the test `worlds_play_as_written` "
@@ -308,7 +308,7 @@ PARTS: list[tuple[str, list[str], str, str]] = [
         [
             "That before each call of `Noted::read` all replies to the contents read are written and flushed is inferred "
             "from the contract of `serve`: it holds for all readers and writers, also for such as fail from any call on, and "
-            "`Serves` allows no result where a read returned an error and after it a write. So nothing can be left to write "
+            "`Serves` allows no result if a read returned an error and after it a write. So nothing can be left to write "
             "after a read, which may fail. This is no theorem, and it says nothing of the device: a `Noted::read` that "
             "reads it twice meets its contract (docs/PROVING.md). Tests show that each reply comes.",
             "`Serves`, case by case:",
@@ -386,7 +386,7 @@ TIE = (
     "(`ob0_session`), which gives a `Session` what it reads, and writes what that sends. Both are proved against one "
     "specification (`react`, docs/PROTOCOL.md as a function): so for the same contents `serve` writes what `play_in` "
     "returns as sent, under the premises below.",
-    "*What each contract says.* The law `in_every_interleaving` is of the model alone (part 1). There a publication is "
+    "*What each contract says.* The law `in_every_interleaving` is only about the model (part 1). There a publication is "
     "right by definition, and an answer has the edits that part 8 determines (`Replies`); that these keep the run is "
     "the law `edits_keep_the_run`. That the code publishes and answers so is what the contract of `play_in` adds, list "
     "by list: if a call of it returns an `Ok`, the headline holds of the session that it played. That it does if memory "
@@ -447,7 +447,7 @@ BESIDE = (
 # (what a reader has to know of the notation of parts 0 to 3, an item each)
 READING = (
     "*This page*: '`X` of `ob0_y`' is the file X of the crate crates/ob0_y. What the indented comments say is *believed*.",
-    "*Names*: where two files define a name, the one that is later on this page is shown with its file's: `start` is "
+    "*Names*: if two files define a name, the later one on this page is shown with its file's: `start` is "
     "the model's, `Answers.start` a session's. Parts of records and cases of types may have any name: `answers` is a "
     "case and a part, `serve` an event and a function.",
     "*Contracts*: `few`, `ok` and such are names of clauses. `result` is what is returned, `x.now` what an argument "
@@ -463,12 +463,12 @@ KNOWN_SIGNS = (
     "*Definitions*: `name : type`, and then equations, by cases; `_` is any other case. `data` lists the cases of a "
     "type; a `record` is a value with named parts, or a list of facts that all hold. `record { a = x }` is one with "
     "this part, `record e { a = x }` is `e` with that part replaced. `abbrev`, `unfoldable`, `pub` and the 0 of `Type "
-    "0` matter to the checker alone.",
+    "0` matter only to the checker.",
     "*Facts*: `(x : A) → B` is 'for all x', `A → B` 'if A then B', `A × B` 'A and B', `(x : A) × B` 'some x with B', "
     "`A ⊎ B` 'A or B', `A ↔ B` 'A exactly if B', `≡` equality; `⊥` never holds. `IsTrue b` is `b ≡ true`; `All P xs` "
-    "says P of each element, `MatchOption o P f` says P where `o` has no value, and else f of it.",
+    "says P of each element, `MatchOption o P f` says P if `o` has no value, and otherwise f of it.",
     "*Values*: `λ x. y` gives y for x; `let` names a value (in a `do` for the lines below). In a `do`, `x ← o` takes "
-    "the value out of `o`; where `o` has none, the whole has none (so has `o >>= f`). `is_some o` says whether `o` "
+    "the value out of `o`; if `o` has none, the whole has none (so has `o >>= f`). `is_some o` says whether `o` "
     "has a value, `unwrap_or o x` is that or x. `==` and `&&` give truth values. `x ∷ xs` has x first, `xs ++ ys` "
     "joins two. `pos n` is the number n of ℤ.",
 )
@@ -477,10 +477,10 @@ OTHERS = "The notation of the other parts"
 MORE = (
     "*This page*: what a definition uses comes after it; *Elsewhere* leads to what it uses of other files. *Rule* is "
     "the text that the definitions of a file state.",
-    "*Facts*: `¬ A` is 'not A', `≢` is not equal; `⊤` and the library's `Unit {0}` always hold (`Unit` alone is what "
-    "positions are counted in). `OnOk result P` says P where the result is an `Ok`.",
+    "*Facts*: `¬ A` is 'not A', `≢` is not equal; `⊤` and the library's `Unit {0}` always hold (plain `Unit` is what "
+    "positions are counted in). `OnOk result P` says P if the result is an `Ok`.",
     "*Values*: `elim x [ p ↦ y | q ↦ z ]` is y or z, by what x is. `negsuc n` is -(n + 1); in ℕ are `zero` and `suc "
-    "n`, and `n - m` is 0 where m is larger. `not`, `nat_lt` (<) and `nat_le` (≤) give truth values. `p.0` and `p.1` "
+    "n`, and `n - m` is 0 if m is larger. `not`, `nat_lt` (<) and `nat_le` (≤) give truth values. `p.0` and `p.1` "
     "are the parts of a pair. `option_to_list` is a list of a value or none.",
     "*Lists and texts*: `fold f a xs` goes over a list from its beginning, `list_all p xs` is p of all; `slice_get xs "
     "n` is the element with index n, if there is one; `bytes_eq` says whether two are equal. A text is the list of its "
@@ -490,7 +490,7 @@ MORE = (
     "and `remove`; `slice_cmp nat_cmp` is the order of lists of numbers.",
     "*Names*: in `TokenKind.Comma` the word before the dot is the type whose case it is; in `Lexed.joined` the group "
     "that defines this `joined` (an operator has a stroke then). Where two groups have that name, *Elsewhere* leads to "
-    "the right one. An argument in braces is left out where it is clear. `unfolding` matters to the checker alone; "
+    "the right one. An argument in braces is left out if it is clear. `unfolding` matters only to the checker; "
     "`mutual` comes before definitions that name one another.",
 )
 NAMED = "Named and not unfolded"
@@ -518,13 +518,13 @@ HOW = (
     "and which laws and tests speak for that."
 )
 WHOLE = (
-    "No definition that the headline needs is left out, but for those that the table of part 6 gives with a file: this "
+    "No definition that the headline needs is left out, except those that the table of part 6 gives with a file: this "
     "is the work of the page's script, and a test counts them in another way."
 )
 PACES = (
     f"Times are of {WORDS_A_MINUTE} words and {LINES_A_MINUTE} lines a minute, for who knows types, each rounded up; "
     f"in the last column of {LINES_ONCE_USED} lines, for who is used to the notation. Lines are those of definitions "
-    "in the sources (of contracts in the times alone); words are all others, without lists of links."
+    "in the sources (of contracts only in the times); words are all others, without lists of links."
 )
 
 
