@@ -3,7 +3,7 @@
 Neovim is driven by its own client, Emacs by eglot and by lsp-mode, Vim by ALE and by YouCompleteMe, Kate by its plugin (on a screen
 that nobody sees). Kakoune, which has no client, is in test_syntax_files.py.
 
-A test of an editor that isn't here is left out, by name; `make editors` installs them all."""
+A test of an editor that is missing is left out, by name; `make editors` installs what Debian has."""
 from __future__ import annotations
 
 import functools
@@ -14,7 +14,6 @@ import os
 import random
 import re
 import shutil
-import sys
 import zipfile
 from collections.abc import Iterator
 from typing import Any, Callable, Dict, List, Tuple, Type, TypeVar
@@ -101,22 +100,27 @@ def in_vim(steps: str, text: str, **given: Any) -> Steps:
 
 
 # what pages of editors say in the same words
-ONLY_SHOWN = "**not applicable**: ob0 edits nothing in this editor"
-UNKNOWN = "save first, compare after"
-WRONG_EDIT = "After a wrong edit: undo it, save, close the file and open it again."
-LONE_CR = "Take out each CR that no LF follows: edits behind it may be wrong."
+ONLY_SHOWN = "**not applicable**: ob0 makes no edits in this editor"
+UNKNOWN = "save before each edit, and compare afterwards"
+WRONG_EDIT = "If an edit goes wrong: undo it, save, close the file and open it again."
+LONE_CR = "Remove each CR that no LF follows: edits after it may be wrong."
 ASKED = (
-    "It holds with any editor that sends every change, makes the edits of an answer at once and as the protocol says, and drops an answer "
-    "whose document was changed, or closed and opened again, since it asked. Changes are sent in order, columns are counted as LSP does, "
-    "and to take no keys until the answer comes is as good as to drop it."
+    "The guarantee is proved for every editor that keeps ob0's rules. In short: it tells the server every change, in order, with positions in "
+    "the agreed unit and texts of Unicode scalar values; makes all edits of an answer as one change; and discards an answer if the document "
+    "has been changed, or closed and reopened, since the request."
 )
 
 
 def verdicts(page: str) -> list[tuple[str, str]]:
-    """Of each row of the first table of a page the editor with its versions, and whether the property holds."""
+    """Of each row of the first table of a page the editor with its versions, and whether the guarantee holds."""
     rows = re.findall(r"^\| ([^|]+) \| ([^|]+) \|", text_of(page).partition("\n|---|")[2].partition("\n\n")[0], re.M)
-    holds(len(rows) > 9, f"the table of {page} has {rows}")
+    holds(len(rows) > 7, f"the table of {page} has {rows}")
     return rows
+
+
+def in_bold(cells: list[str]) -> set[str]:
+    """What is in bold in some cells."""
+    return {it for cell in cells for it in re.findall(r"\*\*([^*]+)\*\*", cell)}
 
 
 def items_of(folder: str, rows: list[tuple[str, str]]) -> list[str]:
@@ -130,10 +134,15 @@ def items_of(folder: str, rows: list[tuple[str, str]]) -> list[str]:
     return found
 
 
-@test("editors: README and each editor's page say whether the proved property holds there, in the words of the table")
+@test("editors: README and each editor's page say whether the guarantee holds there, in the words of the table")
 def held_here() -> None:
     rows = verdicts("editors/README.md")
-    same(verdicts("README.md"), [(which.replace("](", "](editors/"), verdict) for which, verdict in rows], "the table of README")
+    for which, verdict in verdicts("README.md"):
+        named = re.findall(r"\]\(editors/(\w+)/README\.md\)", which)
+        wanted_here = in_bold([said for row, said in rows if any(f"]({it}/README.md)" in row for it in named)])
+        same(in_bold([verdict]), wanted_here, f"the verdicts of README on {named}")
+    linked = set(re.findall(r"\]\((?:editors/)?(\w+)/README\.md\)", "".join(it for it, _ in verdicts("README.md"))))
+    same(linked, set(re.findall(r"\]\((\w+)/README\.md\)", "".join(it for it, _ in rows))), "the editors of README")
     folders = {os.path.basename(os.path.dirname(it)) for it in glob.glob(os.path.join(TOP, "editors", "*", "README.md"))}
     for folder in folders - {"tree-sitter"}:
         wanted = items_of(folder, rows)
@@ -146,9 +155,9 @@ def held_here() -> None:
         same([it for it in wanted if it not in page], [], f"what editors/{folder}/README.md doesn't say")
 
 
-@test("editors: README, the editors' page, the promises and the statement say in the same words what an editor has to do")
+@test("editors: the editors' page, the promises and the statement say in the same words what an editor has to do")
 def asked_of_editors() -> None:
-    for page in ("README.md", "editors/README.md", "docs/PROMISES.md", "docs/STATEMENT.md"):
+    for page in ("editors/README.md", "docs/PROMISES.md", "docs/STATEMENT.md"):
         holds(ASKED in " ".join(text_of(page).split()), f"{page} doesn't say {ASKED!r}")
 
 
@@ -542,19 +551,16 @@ def vscode() -> None:
 
 @test("VS Code: the extension, with the real vscode-languageclient and a stand-in for the editor, does the same")
 def vscode_client() -> None:
-    want("Node")
+    # (`npm install` in editors/vscode gets the client, and `make editors RELEASE=trixie` makes it in its root)
+    want("Node", CLIENT)
     harness.need_program()
-    if not vsix.modules():
-        harness.leave_out(f"{vsix.CLIENT} missing: `npm install` in editors/vscode gets it, and `make editors RELEASE=trixie` makes it in its root")
     in_vscode_by("real")
 
 
 @test("VS Code: the extension as it is packed, with the real vscode-languageclient and a stand-in for the editor, does the same")
 def vscode_packed() -> None:
-    want("Node")
+    want("Node", vsix.CLIENT)
     harness.need_program()
-    if not vsix.modules():
-        harness.leave_out(f"{vsix.CLIENT} missing: `make editors RELEASE=trixie` makes it in its root")
     with temporary() as room:
         for content in package.extension().values():
             with zipfile.ZipFile(io.BytesIO(content)) as archive:
@@ -613,13 +619,6 @@ def in_kate(steps: str, text: str, **given: Any) -> Steps:
 
     own: dict[str, str] = {}
     words = ["xvfb-run", "-a", "dbus-run-session", "--", "python3", os.path.join(EDITORS, "kate.py")]
-    # (keys can come before a window takes them, where the machine has much else to do, and what Kate has started can still write
-    # into the room when it is taken away: then all is done once more)
-    for _ in range(2):
-        try:
-            return play("kate", words, steps, text, given, set_up, more=own)
-        except (Failed, OSError) as why:
-            print(f"Kate is tried again: {why}".splitlines()[0], flush=True)
     return play("kate", words, steps, text, given, set_up, more=own)
 
 
@@ -698,15 +697,9 @@ def is_late(editor: keyed.Keyed, asked: str, when: str) -> None:
 
 
 def by_keys(does: Callable[[Any], T], which: Which, text: str, *names: str) -> T:
-    """Does something with an editor, in a folder of its own, on a file with this text. Where the editor was lost (it took no key, or
-    its server said nothing in time), once more."""
+    """Does something with an editor, in a separate folder, on a file with this text."""
     want(*names)
     harness.need_program()
-    try:
-        with temporary() as folder, which(folder, text) as editor:
-            return does(editor)
-    except (keyed.Lost, OSError) as why:
-        print(f"{names[-1]} is tried again: {why}".splitlines()[0], flush=True)
     with temporary() as folder, which(folder, text) as editor:
         return does(editor)
 

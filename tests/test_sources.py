@@ -7,14 +7,13 @@ import glob
 import os
 import re
 import shlex
-import shutil
 
 import common
 import edits
 import reading
 import rooms
 from common import match_of
-from harness import TOP, Skipped, holds, same, test, text_of, want
+from harness import TOP, holds, same, test, text_of, want
 from homes import run_plainly
 
 
@@ -128,14 +127,16 @@ def cited_names() -> None:
 
 @test("sources: each search that a recipe begins with finds something beside the recipe")
 def searches_find() -> None:
-    if not os.path.exists(os.path.join(TOP, ".git")) or not shutil.which("git"):
-        raise Skipped("no git, or no repository of it")
+    want("git")
+    # (the sources may lie outside a repository)
+    without = [] if os.path.exists(os.path.join(TOP, ".git")) else ["--no-index", "--exclude-standard"]
     searches = [it.replace("\n", " ") for it in re.findall(r"`(git grep [^`]*)`", text_of("CONTRIBUTING.md"))]
     searches = [it for it in searches if any(not word.startswith("-") for word in shlex.split(it)[2:])]
     holds(len(searches) > 20, "too few searches were found")
     nothing = []
     for search in searches:
         words = shlex.split(search)
+        words[2:2] = without
         words += [":!CONTRIBUTING.md"] if "--" in words else ["--", ":!CONTRIBUTING.md"]
         if run_plainly(words, dict(os.environ), TOP)[0] != 0:
             nothing.append(search)

@@ -7,13 +7,13 @@ import subprocess
 import sys
 from typing import Any
 
-from harness import TOP, Failed, Skipped, test
+from harness import TOP, Failed, leave_out, test
 
 
 @test("surface: each public function has a mutant, or a reason why not")
 def surface() -> None:
     if not shutil.which("rt"):
-        raise Skipped("rt, which reads the sources, isn't here")
+        leave_out("rt, which reads the sources, is missing")
     script = os.path.join(TOP, "tools", "public_functions.py")
     how: dict[str, Any] = {"stdin": subprocess.DEVNULL, "stdout": subprocess.PIPE, "stderr": subprocess.STDOUT, "text": True}
     ran = subprocess.run([sys.executable, script, "--check"], **how)

@@ -389,7 +389,7 @@ def kakoune_indents() -> None:
             same(text_of(file), text, f"{name} as it was typed")
 
 
-@test("syntax files: settings of Kate, Helix, kak-lsp and VS Code name the server and what is there")
+@test("syntax files: settings of Kate and VS Code name the server and files that exist")
 def settings() -> None:
     server = json.loads(text_of("editors", "kate", "settings.json"))["servers"]["oberon0"]
     same(server["command"], ["ob0", "serve"], "Kate's command")
@@ -404,10 +404,13 @@ def settings() -> None:
     for it in package["main"], package["contributes"]["languages"][0]["configuration"], package["contributes"]["grammars"][0]["path"]:
         holds(os.path.isfile(os.path.join(TOP, "editors", "vscode", it)), f"package.json names {it}")
     json.loads(text_of("editors", "vscode", "language-configuration.json"))
-    try:
-        import tomllib
-    except ImportError:
-        return
+
+
+@test("syntax files: settings of Helix and kak-lsp name the server")
+def settings_in_toml() -> None:
+    want("Python 3.11")
+    import tomllib  # pylint: disable=import-outside-toplevel
+
     with temporary() as room:
         at_home(room, "helix")
         helix = tomllib.loads(text_of(room, ".config", "helix", "languages.toml"))

@@ -6,12 +6,11 @@ import json
 import os
 import re
 import shutil
-import subprocess
 from typing import Any
 
 import random_texts
 from common import match_of
-from harness import TOP, Server, did_open, examples, holds, leave_out, need_program, same, test, text_of, want
+from harness import TOP, Server, did_open, examples, holds, need_program, same, test, text_of, want
 from homes import at_home, run_plainly, temporary, write
 from snippets import fenced
 
@@ -185,11 +184,7 @@ def installed() -> None:
 
 @test("tree-sitter: parser.c, grammar.json and node-types.json are what the command `tree-sitter` makes of grammar.js")
 def generated() -> None:
-    if not shutil.which("tree-sitter"):
-        leave_out("tree-sitter (tree-sitter-cli of Debian 13) missing")
-    version = subprocess.run(["tree-sitter", "--version"], stdout=subprocess.PIPE, check=True).stdout.decode().split()[1]
-    if not version.startswith("0.22."):
-        leave_out(f"parser.c was made by tree-sitter 0.22, and here is {version}")
+    want("tree-sitter 0.22")  # (tree-sitter-cli of Debian 13)
     with temporary() as room:
         shutil.copy(os.path.join(FOLDER, "grammar.js"), room)
         status, said = run_plainly(["tree-sitter", "generate", "--no-bindings"], {**os.environ, "HOME": room}, room)

