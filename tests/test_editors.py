@@ -18,7 +18,6 @@ import zipfile
 from collections.abc import Iterator
 from typing import Any, Callable, Dict, List, Tuple, Type, TypeVar
 
-import editors
 import harness
 import holding
 import keyed

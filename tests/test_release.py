@@ -20,7 +20,7 @@ import glibc
 import notices
 import package
 from common import match_of
-from harness import TOP, holds, leave_out, same, test, text_of
+from harness import TOP, holds, leave_out, same, test, text_of, want
 from homes import run_plainly, temporary, write
 from snippets import FENCED
 
@@ -37,7 +37,8 @@ SOURCE = "crates/ob0_cli/src/line.rt"
 NEEDED = [*package.COPIED, "tools", "share", "LICENSE", "Makefile", "crates.txt", "HANDLES", SOURCE]
 # notices of crates that aren't there, beside a program that isn't ob0
 STAND_IN = """import common, json, notices, sys
-common.keep(sys.argv[1], "1 passed, 0 failed")
+common.keep(sys.argv[1])
+common.keep_verdict("1 passed, 0 failed")
 json.dump({**notices.head(), "crates": {"low": {}, "mid": {"LICENSE": "Copyright (c) 2001 A B\\n\\nDo as you like.\\n"}}}, open(notices.KEPT, "w"))
 """
 
@@ -95,8 +96,7 @@ class Repository:
 
 @contextlib.contextmanager
 def repository() -> Iterator[Repository]:
-    if not shutil.which("git"):
-        leave_out("it wants git")
+    want("git")
     with temporary() as room:
         yield Repository(room)
 
@@ -273,8 +273,7 @@ def release(made: Repository, number: str, day: str) -> list[str]:
 
 @test("release: two releases in a row by CONTRIBUTING's recipe, the second installed over the first, and nothing left after its removal")
 def twice() -> None:
-    if os.geteuid() or not all(shutil.which(it) for it in ("dpkg", "gpg", "git")):
-        leave_out("it wants dpkg, gpg and git, and to be root")
+    want("dpkg", "gpg", "root")
     with repository() as made, temporary() as room:
         made.own["GNUPGHOME"] = os.path.join(made.own["HOME"], "keys")
         os.mkdir(made.own["GNUPGHOME"], 0o700)

@@ -99,6 +99,8 @@ DESKTOP = {
     "fish": (here("fish"), "fish"),
     "mandoc": (here("mandoc"), "mandoc"),
     "mypy": (here("mypy"), "mypy"),
+    "gpg": (here("gpg"), "gnupg"),
+    "package-lint": (in_emacs("package-lint"), "elpa-package-lint"),
     "tree-sitter 0.22": (tree_sitter, ""),
 }
 # What `make test` doesn't pass without.
