@@ -2,10 +2,12 @@
 #   make demo              plays a conversation with the server: with bin/ob0 where that is proved and up to date, else with
 #                          the program compiled without its proofs, in one to three minutes
 #   make build             proves and builds the program, bin/ob0
-#   make package           packs the proved program: a Debian package, a .tar.gz with the same tree and their SHA256SUMS, in bin/
+#   make package           packs the proved program: a Debian package, a .tar.gz with the same tree, the .vsix if it can be made, and
+#                          their SHA256SUMS, in bin/
+#   make vsix              packs the extension for VS Code, in bin/; needs the modules that `make editors RELEASE=trixie` gets
 #   make install PREFIX=.. copies that tree to PREFIX: the program, manual page, completions, editor files, pages and examples
 #   make uninstall PREFIX=.. removes what was installed there
-#   make test              the gate (every proof; the kit keeps what passed before on this machine), its mutants and the end-to-end tests
+#   make test              the gate (every proof; the kit keeps what passed before on this machine), some mutants and the end-to-end tests
 #   make test ANEW=1       the same, and every proof from nothing
 #   make help              prints these lines, as `make` alone does
 # (where bin/ob0 is there and up to date, build, package, install and demo need no toolchain)
@@ -17,14 +19,16 @@
 #   make try               the tables of check, run and rename, with the program compiled without its proofs, in two to four minutes
 #   make end-to-end        the end-to-end tests alone, on bin/ob0
 #   make faults            what takes longer: each allocation fails in turn, two long conversations, many random changes, texts and runs; WORDS=".." names some
-#   make wrong-bodies      tries each crate's mutants over what `make check` keeps, many in one check; CRATE="NAME.." names some
+#   make wrong-bodies      tries the mutants that weren't refused yet in their present form, over what `make check` keeps; ALL=1: all; CRATE="NAME.." names some
 #   make surface           the public functions and their mutants: docs/SURFACE.md, and how many mutants: README.md
 #   make statement         all definitions that the headline is made of, in reading order: docs/STATEMENT.md
 #   make bench             times the program; nothing fails by time
 PREFIX ?= /usr/local
 PYTHON ?= python3
+# (a recipe reads these from the environment, so that a shell takes nothing out of them)
+export PREFIX DESTDIR
 
-.PHONY: help demo test build check editors try end-to-end faults wrong-bodies surface statement bench package install uninstall python
+.PHONY: help demo test build check editors try end-to-end faults wrong-bodies surface statement bench package vsix install uninstall python
 
 help:
 	@sed -n '/^#/!q; s/^# \{0,1\}//p' Makefile
@@ -54,7 +58,7 @@ faults: build
 	@$(PYTHON) tools/faults.py $(WORDS)
 
 wrong-bodies: python
-	@$(PYTHON) tools/wrong_bodies.py $(CRATE)
+	@$(PYTHON) tools/mutants.py $(if $(ALL),--all) $(CRATE)
 
 surface: python
 	@$(PYTHON) tools/public_functions.py
@@ -68,11 +72,14 @@ bench: build
 package: build
 	@$(PYTHON) tools/package.py package
 
+vsix: python
+	@$(PYTHON) tools/package.py vsix
+
 install: build
-	@$(PYTHON) tools/package.py install "$(PREFIX)" "$(DESTDIR)"
+	@$(PYTHON) tools/package.py install "$$PREFIX" "$$DESTDIR"
 
 uninstall: python
-	@$(PYTHON) tools/package.py uninstall "$(PREFIX)" "$(DESTDIR)"
+	@$(PYTHON) tools/package.py uninstall "$$PREFIX" "$$DESTDIR"
 
 python:
 	@command -v $(PYTHON) >/dev/null || { echo "$(PYTHON) is missing: install Python 3.8 or later (on Debian: apt-get install python3)" >&2; exit 2; }

@@ -2,20 +2,25 @@
 """Runs the end-to-end tests on bin/ob0 (or on the program that the variable OB0 names).
 
   tests/run.py [WORD..]   the tests whose names hold one of the words; with no word all of them
+  tests/run.py --first    those that need no program, as if there were none
+  tests/run.py --rest     all but those that bin/results says have been run
   tests/run.py --list     their names
 
-A test that wants an editor or another program that isn't here is left out, by name; where words are given and there is no
-program yet, so is each test that runs it. A test that drives an editor or another program and fails is run once more, when all
-others have ended, and counts as failed where it fails again; what it says is printed both times. The last line is 'N passed, M
-failed'."""
+A test of an editor or a tool that is missing is left out, by name. In `make test` (the variable OB0_WHOLE) every other reason fails;
+otherwise so is a test that runs the program if there is none. A test that drives an editor and fails is run three more times, one
+after another, when all others have ended: at two failures of four it has failed. The run may take OB0_MINUTES (45) in all. With
+OB0_WHOLE bin/results gets a line for each test. The last line is 'N passed, M failed', and ', K skipped' if tests were left out; a
+run of no test fails."""
 from __future__ import annotations
 
 import glob
 import importlib
+import io
 import multiprocessing
 import multiprocessing.connection
 import os
 import shutil
+import signal
 import sys
 import tempfile
 import time
@@ -29,9 +34,14 @@ sys.path.insert(0, os.path.join(HERE, "lib"))
 
 import harness  # noqa: E402 (it says where the scripts are)
 import editors  # noqa: E402
+import processes  # noqa: E402
 
 FORK = multiprocessing.get_context("fork")
-LONGEST = 3600  # seconds that a test may take
+LONGEST = 1200  # seconds that a test may take
+IN_ALL = 60 * int(os.environ.get("OB0_MINUTES", "45"))  # seconds that a run of tests may take
+MORE = 3  # how many more times a test that drives an editor is run after a failure
+FAILURES = 2  # and how many failures of all those times count as one
+RESULTS = os.path.join(harness.TOP, "bin", "results")
 
 
 def load() -> None:
@@ -42,14 +52,19 @@ def load() -> None:
 
 
 class Outcome(NamedTuple):
-    """What came of a test: whether it passed (None where it is left out), what it says and how many seconds it took; whether it
-    drives another program; and the tools that it wanted and that aren't here."""
+    """The outcome of a test: whether it passed (None if it is left out), its message and how many seconds it took; whether it drives
+    an editor, and whether it waits for a program to run; and the tools that it wants and that are missing."""
 
     passed: Optional[bool]
     said: str
     seconds: float = 0
     drives: bool = False
-    missing: Dict[str, List[str]] = {}
+    needs_program: bool = False
+    missing: Tuple[str, ...] = ()
+
+    @property
+    def word(self) -> str:
+        return {True: "ok", False: "FAILED", None: "left out"}[self.passed]
 
     def line(self, name: str) -> str:
         if self.passed:
@@ -61,68 +76,86 @@ def tried(function: harness.Test) -> Outcome:
     """Runs a test, in this process."""
     start = time.monotonic()
     harness.DRIVEN.clear()
+    harness.WANTED.clear()
     try:
         function()
+        return Outcome(True, "", time.monotonic() - start)
+    except harness.NoProgram as why:
+        return Outcome(None, str(why), needs_program=True)
     except harness.Skipped as why:
-        return Outcome(None, str(why), missing=harness.MISSING)
+        return Outcome(None, str(why), missing=tuple(it for it in harness.WANTED if not editors.is_here(it)))
     except Exception as why:  # pylint: disable=broad-except
         if isinstance(why, FileNotFoundError) and why.filename == harness.BINARY:
-            return Outcome(None, "it runs the program")
+            return Outcome(None, "it runs the program", needs_program=True)
         said = str(why) if isinstance(why, harness.Failed) else traceback.format_exc()
         return Outcome(False, said, time.monotonic() - start, bool(harness.DRIVEN))
-    return Outcome(True, "", time.monotonic() - start, bool(harness.DRIVEN))
 
 
 class Running:
-    """A test that runs in a process of its own, which tells what came of it, and with a folder of its own for what is temporary."""
+    """A test that runs in a process of its own, which sends its outcome, and with its own folder for temporary files. (The test sees
+    the locale C.UTF-8, whatever the user's is.)"""
 
-    def __init__(self, at: int) -> None:
-        self.at, self.end = at, time.monotonic() + LONGEST
+    def __init__(self, at: int, end: float) -> None:
+        self.at, self.start = at, time.monotonic()
+        self.end = min(end, self.start + LONGEST)
         self.room = tempfile.mkdtemp(prefix="ob0-")
         os.chmod(self.room, 0o711)  # (a program that a test runs as another user has to get through)
         self.told, telling = FORK.Pipe(duplex=False)
 
         def tell() -> None:
+            signal.signal(signal.SIGTERM, signal.SIG_DFL)
+            processes.adopt_orphans()
             tempfile.tempdir = os.environ["TMPDIR"] = self.room
+            os.environ.update(LC_ALL="C.UTF-8", LANG="C.UTF-8")
+            os.environ.pop("LANGUAGE", None)
             telling.send(tried(harness.TESTS[at][1]))
+            processes.end_descendants(os.getpid())
 
         self.process = FORK.Process(target=tell)
         self.process.start()
         telling.close()
 
     def has_ended(self) -> bool:
-        """Whether it has told what came of it, or its process is gone or has taken too long."""
+        """Whether it has sent its outcome, or its process is gone or has taken too long."""
         return self.told.poll() or time.monotonic() > self.end
 
     def outcome(self) -> Outcome:
-        """What came of it, once it has ended."""
-        found = Outcome(False, f"it had not ended after {LONGEST} seconds")
+        """Its outcome, once it has ended."""
+        seconds = time.monotonic() - self.start
+        found = Outcome(False, f"it had not ended after {seconds:.0f} seconds", seconds)
         try:
             if self.told.poll():
                 found = self.told.recv()
                 self.process.join(60)
         except (EOFError, OSError):
             self.process.join(60)
-            found = Outcome(False, f"its process ended with {self.process.exitcode}")
+            found = Outcome(False, f"its process ended with {self.process.exitcode}", seconds)
         self.end_now()
         return found
 
     def end_now(self) -> None:
-        self.process.kill()
+        """Ends its process with everything that it has started."""
+        if self.process.pid and self.process.is_alive():
+            processes.end_tree(self.process.pid)
         self.process.join()
         self.told.close()
         shutil.rmtree(self.room, ignore_errors=True)
 
 
-def all_tried(places: list[int], processors: int) -> Iterator[tuple[int, Outcome]]:
-    """What comes of the tests at these places of the table, as they end: as many side by side as there are processors."""
+def all_tried(places: list[int], processors: int, end: float) -> Iterator[tuple[int, Outcome]]:
+    """The outcomes of the tests at these places of the table, as they end: as many side by side as there are processors, and no more
+    once this time has come."""
     left = places[::-1]
     running: List[Running] = []
     try:
         while left or running:
-            while left and len(running) < processors:
-                running.append(Running(left.pop()))
-            multiprocessing.connection.wait([it.told for it in running], timeout=60)
+            while left and len(running) < processors and time.monotonic() < end:
+                running.append(Running(left.pop(), end))
+            if not running:
+                yield from ((at, Outcome(False, f"it wasn't run: {IN_ALL // 60} minutes for all tests were over")) for at in left[::-1])
+                return
+            soonest = max(0.0, min(60.0, min(it.end for it in running) - time.monotonic()))
+            multiprocessing.connection.wait([it.told for it in running], timeout=soonest + 0.1)
             for it in [it for it in running if it.has_ended()]:
                 running.remove(it)
                 yield it.at, it.outcome()
@@ -131,58 +164,123 @@ def all_tried(places: list[int], processors: int) -> Iterator[tuple[int, Outcome
             it.end_now()
 
 
-def played(places: list[int]) -> Iterator[tuple[int, Outcome, bool]]:
-    """The same, and whether a test was run once more: one that drives another program and failed is, when all others have ended, with
-    nothing beside it."""
-    again = []
-    for at, found in all_tried(places, len(os.sched_getaffinity(0))):
+def played(places: list[int], end: float) -> Iterator[tuple[int, Outcome, str]]:
+    """The same, and how often a test failed that was run again: one that drives an editor and failed is, when all others have ended,
+    with nothing beside it."""
+    again: List[Tuple[int, Outcome]] = []
+    for at, found in all_tried(places, len(os.sched_getaffinity(0)), end):
         if found.passed is False and found.drives:
-            again.append(at)
+            again.append((at, found))
             print(f"again    {harness.TESTS[at][0]}: it failed while others ran beside it:\n    {found.said}", flush=True)
         else:
-            yield at, found, False
-    for at, found in all_tried(again, 1):
-        yield at, found, True
+            yield at, found, ""
+    for at, first in again:
+        tries = [first, *(found for _, found in all_tried([at] * MORE, 1, end))]
+        failed = [it for it in tries if not it.passed]
+        how = f"failed {len(failed)} of {len(tries)} times"
+        print("\n    ".join([f"again    {harness.TESTS[at][0]}: {how}", *(it.said for it in failed[1:])]), flush=True)
+        seconds = sum(it.seconds for it in tries)
+        yield at, Outcome(len(failed) < FAILURES, f"it {how}; the last: {failed[-1].said}", seconds, True), how
 
 
-def counted(places: list[int]) -> Tuple[int, int]:
-    """Runs the tests at these places, and says what comes of them: how many passed, and how many failed."""
-    counts: Dict[Optional[bool], int] = {True: 0, False: 0, None: 0}
-    wanted: Dict[str, List[str]] = {}
-    again: List[Optional[bool]] = []
-    for at, found, is_again in played(places):
-        print(found.line(harness.TESTS[at][0]), flush=True)
-        wanted.update(found.missing)
-        counts[found.passed] += 1
-        again += [found.passed] if is_again else []
-    if counts[None]:
-        missing = "; ".join(f"{name} ({', '.join(packages)})" for name, packages in sorted(wanted.items()))
-        print(f"{counts[None]} left out, each named above" + (f". Missing: {missing}. `make editors` installs them" if missing else ""))
+class Counts:
+    """How many tests passed, failed and were left out."""
+
+    def __init__(self) -> None:
+        self.passed = self.failed = self.skipped = 0
+
+    def take(self, passed: Optional[bool]) -> None:
+        self.passed += passed is True
+        self.failed += passed is False
+        self.skipped += passed is None
+
+    def __str__(self) -> str:
+        return f"{self.passed} passed, {self.failed} failed" + (f", {self.skipped} skipped" if self.skipped else "")
+
+
+def keep(name: str, found: Outcome, how: str) -> None:
+    """Keeps a line on a test in bin/results."""
+    with open(RESULTS, "a", encoding="utf-8") as file:
+        file.write("\t".join([found.word, f"{found.seconds:.1f} s", name, *([how] if how else [])]) + "\n")
+
+
+def kept() -> set[str]:
+    """The names of the tests on which bin/results has a line."""
+    if not os.path.exists(RESULTS):
+        return set()
+    with open(RESULTS, encoding="utf-8") as file:
+        rows = [line.rstrip("\n").split("\t") for line in file]
+    return {row[2] for row in rows if len(row) > 2}
+
+
+def counted(places: list[int], is_first: bool = False) -> Counts:
+    """Runs the tests at these places, and counts their outcomes. With `is_first` those that need a program are left for later."""
+    is_whole, counts, later = bool(os.environ.get("OB0_WHOLE")), Counts(), 0
+    missing: set[str] = set()
+    again: List[str] = []
+    for at, found, how in played(places, time.monotonic() + IN_ALL):
+        if found.needs_program and is_first:
+            later += 1
+            continue
+        if found.needs_program and is_whole:
+            found = Outcome(False, "there is no program to run")
+        name = harness.TESTS[at][0]
+        print(found.line(name), flush=True)
+        missing.update(found.missing)
+        counts.take(found.passed)
+        again += [f"{name} {how}"] if how else []
+        if is_whole:
+            keep(name, found, how)
+    if counts.skipped:
+        tools = ", ".join(f"{it} ({editors.TOOLS[it][1] or 'no package'})" for it in sorted(missing))
+        print(f"{counts.skipped} left out, each named above" + (f". Missing: {tools}. `make editors` installs what Debian has" if missing else ""))
     if again:
-        print(f"{len(again)} run once more, alone, each named above: {again.count(True)} passed then")
-    return counts[True], counts[False]
+        print("\n    ".join([f"{len(again)} run {MORE} more times, one after another:", *again]))
+    if later:
+        print(f"{later} wait for a program to run")
+    return counts
+
+
+def chosen_by(words: list[str]) -> list[int]:
+    """The places of the tests that these words name."""
+    given = [it for it in words if not it.startswith("--")]
+    done = kept() if "--rest" in words else set()
+    return [at for at, (name, _) in enumerate(harness.TESTS) if name not in done and (not given or any(it in name for it in given))]
+
+
+def end_by_signal() -> None:
+    """Has SIGTERM end the tests that run, as Ctrl-C does."""
+    signal.signal(signal.SIGTERM, lambda number, _: sys.exit(128 + number))
 
 
 def main(words: list[str]) -> int:
+    end_by_signal()
+    if isinstance(sys.stdout, io.TextIOWrapper):
+        sys.stdout.reconfigure(errors="backslashreplace")
+    is_first = "--first" in words
+    if is_first:
+        harness.BINARY = os.path.join(harness.TOP, "bin", "no program yet")
     load()
-    given = [it for it in words if it != "--list"]
-    chosen = [at for at, (name, _) in enumerate(harness.TESTS) if not given or any(it in name for it in given)]
+    chosen = chosen_by(words)
     if "--list" in words:
         for at in chosen:
             print(harness.TESTS[at][0])
         return 0
-    if not os.access(harness.BINARY, os.X_OK):
+    if not is_first and not os.access(harness.BINARY, os.X_OK):
         print(f"there is no program {os.path.relpath(harness.BINARY)}: make it with `make build`", file=sys.stderr)
         if not words:
             print("0 passed, 1 failed")
             return 1
-    if not words:
+    if len(chosen) > 50:
         # (looked for once, and not by each test that wants it)
         for tool in editors.TOOLS:
             editors.is_here(tool)
-    passed, failed = counted(chosen)
-    print(f"{passed} passed, {failed} failed")
-    return 1 if failed else 0
+    counts = counted(chosen, is_first)
+    if not counts.passed + counts.failed:
+        print("no test ran" if chosen else "no test has such a name")
+        counts.take(False)
+    print(counts)
+    return 1 if counts.failed else 0
 
 
 if __name__ == "__main__":

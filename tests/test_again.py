@@ -1,22 +1,26 @@
-"""How tests/run.py repeats a test that drives another program and failed: on a table of its own."""
+"""How tests/run.py counts: on tables of tests made for it."""
 from __future__ import annotations
 
 import contextlib
 import io
 import os
+import signal
+import subprocess
+import sys
 import tempfile
 import time
-from typing import Dict, List, Tuple
+from typing import Callable, Dict, Iterator, List, Tuple
 from unittest import mock
 
 import editors
 import harness
+import processes
 import run
 from harness import Failed, holds, same, test
 
 
 def note(path: str, line: str) -> List[str]:
-    """Adds a line to a file, and gives those that were there before."""
+    """Adds a line to a file, and returns the lines before it."""
     with open(path, "a+", encoding="utf-8") as file:
         file.seek(0)
         before = file.read().splitlines()
@@ -24,16 +28,17 @@ def note(path: str, line: str) -> List[str]:
     return before
 
 
-def drives(path: str, name: str, failures: int) -> None:
-    """A test that drives an editor and fails so many times."""
-    harness.want("an editor")
-    times = note(path, name).count(name)
-    if times < failures:
-        raise Failed(f"{name} fails, time {times + 1}")
+def drives(path: str, name: str, *failing: int) -> None:
+    """A test that drives an editor and fails these times."""
+    harness.want("Kate")
+    time_ = note(path, name).count(name) + 1
+    if time_ in failing:
+        raise Failed(f"{name} fails, time {time_}")
 
 
-def alone(path: str, name: str) -> None:
-    """A test of the program alone, which fails the first time."""
+def alone(path: str, name: str, *tools: str) -> None:
+    """A test that drives no editor, and fails the first time."""
+    harness.want(*tools)
     holds(note(path, name).count(name), f"{name} fails")
 
 
@@ -50,36 +55,191 @@ def gone(path: str, name: str) -> None:
     os._exit(3)
 
 
-def counted(tests: Dict[str, harness.Test]) -> Tuple[Tuple[int, int], str]:
-    """What is counted of these tests, and what is said of them."""
-    with mock.patch.object(harness, "TESTS", [*tests.items()]), mock.patch.object(editors, "is_here", lambda name: True):
-        with contextlib.redirect_stdout(io.StringIO()) as said:
-            return run.counted([*range(len(tests))]), said.getvalue()
+@contextlib.contextmanager
+def whole(is_whole: bool) -> Iterator[None]:
+    """Has tests run as `make test` runs them, or not."""
+    with mock.patch.dict(os.environ):
+        os.environ.pop("OB0_WHOLE", None)
+        if is_whole:
+            os.environ["OB0_WHOLE"] = "1"
+        yield
 
 
-@test("again: a test that drives another program and failed is run once more when all others have ended, and counts by that")
-def once_more() -> None:
+def counted(tests: Dict[str, harness.Test], lacks: Tuple[str, ...] = (), is_whole: bool = False, is_first: bool = False) -> Tuple[str, str, str]:
+    """The counts of these tests, what is printed, and what is kept, on a machine that lacks some tools."""
+    with tempfile.TemporaryDirectory() as room, whole(is_whole):
+        results = os.path.join(room, "results")
+        note(results, "")
+        with mock.patch.object(harness, "TESTS", [*tests.items()]), mock.patch.object(editors, "is_here", lambda name: name not in lacks):
+            with mock.patch.object(run, "RESULTS", results), contextlib.redirect_stdout(io.StringIO()) as said:
+                counts = run.counted([*range(len(tests))], is_first)
+        with open(results, encoding="utf-8") as file:
+            return str(counts), said.getvalue(), file.read().strip()
+
+
+@test("again: a test that drives an editor and failed is run three more times at the end, and fails at two failures of four")
+def three_more_times() -> None:
     with tempfile.TemporaryDirectory() as room:
         path = os.path.join(room, "order")
-        counts, said = counted({
+        counts, said, kept = counted({
             "once": lambda: drives(path, "once", 1),
-            "twice": lambda: drives(path, "twice", 2),
-            "never": lambda: drives(path, "never", 0),
+            "twice": lambda: drives(path, "twice", 1, 4),
+            "never": lambda: drives(path, "never"),
             "last": lambda: waits(path, "last", ["once", "twice", "never"]),
-        })  # fmt: skip
+        }, is_whole=True)  # fmt: skip
         order = [it for it in note(path, "") if it != "waiting"]
-    same(counts, (3, 1), said)
-    same((sorted(order[:3]), order[3], sorted(order[4:])), (["never", "once", "twice"], "last", ["once", "twice"]), "the order")
-    for it in ("once", "twice"):
+    same(counts, "3 passed, 1 failed", said)
+    same((sorted(order[:3]), order[3], sorted(order[4:])), (["never", "once", "twice"], "last", ["once"] * 3 + ["twice"] * 3), "the order")
+    for it, count in (("once", 1), ("twice", 2)):
         holds(f"again    {it}: it failed while others ran beside it:\n    {it} fails, time 1\n" in said, said)
-    for line in ("ok       once\n", "FAILED   twice\n    twice fails, time 2\n", "2 run once more, alone, each named above: 1 passed then\n"):
+        holds(f"again    {it}: failed {count} of 4 times\n" in said, said)
+    for line in ("ok       once\n", "FAILED   twice\n    it failed 2 of 4 times; the last: twice fails, time 4\n", "2 run 3 more times"):
         holds(line in said, f"no {line!r} in {said}")
+    rows = {row[2]: (row[0], *row[3:]) for row in (line.split("\t") for line in kept.splitlines())}
+    wanted = {"once": ("ok", "failed 1 of 4 times"), "twice": ("FAILED", "failed 2 of 4 times"), "never": ("ok",), "last": ("ok",)}
+    same(rows, wanted, "what is kept")
 
 
-@test("again: a test of the program alone is not repeated, and one whose process is gone has failed")
+@test("again: a test that drives no editor is not repeated, even if it needs a compiler, and one whose process is gone has failed")
 def not_once_more() -> None:
     with tempfile.TemporaryDirectory() as room:
         path = os.path.join(room, "order")
-        counts, said = counted({"alone": lambda: alone(path, "alone"), "gone": lambda: gone(path, "gone")})
-        same((counts, sorted(note(path, ""))), ((0, 2), ["alone", "gone"]), said)
-    same(sorted(said.splitlines()), sorted(["FAILED   alone", "    alone fails", "FAILED   gone", "    its process ended with 3"]), "what is said")
+        tests = {"alone": lambda: alone(path, "alone"), "gone": lambda: gone(path, "gone")}
+        tools = {it: lambda it=it: alone(path, it, it) for it in ("cc", "mypy", "lintian", "mandoc")}
+        counts, said, _ = counted({**tests, **tools})
+        same((counts, sorted(note(path, ""))), ("0 passed, 6 failed", ["alone", "cc", "gone", "lintian", "mandoc", "mypy"]), said)
+    lines = ["FAILED   gone", "    its process ended with 3", *(line for it in ("alone", *tools) for line in (f"FAILED   {it}", f"    {it} fails"))]
+    same(sorted(said.splitlines()), sorted(lines), "what is said")
+
+
+@test("again: in the whole test a test is left out for a missing editor or desktop tool only, by name, and is counted")
+def left_out() -> None:
+    def no_program() -> None:
+        raise FileNotFoundError(2, "No such file", harness.BINARY)
+
+    def not_proved() -> None:
+        with mock.patch.object(harness, "BINARY", "/no/such/program"):
+            harness.want_proved()
+
+    tests: Dict[str, harness.Test] = {
+        "editor": lambda: harness.want("Kate"),
+        "tool": lambda: harness.want("mandoc"),
+        "compiler": lambda: harness.want("cc"),
+        "git": lambda: harness.want("git"),
+        "both": lambda: harness.want("Kate", "cc"),
+        "program": no_program,
+        "proof": not_proved,
+        "reason": lambda: harness.leave_out("it is late"),
+    }
+    lacks = ("Kate", "mandoc", "cc", "git")
+    same(counted(tests, lacks)[0], "0 passed, 0 failed, 8 skipped", "a run of some tests")
+    counts, said, kept = counted(tests, lacks, is_whole=True)
+    same(counts, "0 passed, 6 failed, 2 skipped", said)
+    same(sorted(it.split("\t")[2] for it in kept.splitlines() if it.startswith("left out")), ["editor", "tool"], "those that are left out")
+    holds("2 left out, each named above. Missing: Kate (kate), mandoc (mandoc)." in said, said)
+
+
+@test("again: before there is a program the tests that run it wait, and are run later")
+def first_and_rest() -> None:
+    def runs() -> None:
+        with mock.patch.object(harness, "BINARY", "/no/such/program"):
+            harness.need_program()
+
+    counts, said, kept = counted({"page": lambda: None, "runs": runs}, is_whole=True, is_first=True)
+    same((counts, [it.split("\t")[2] for it in kept.splitlines()]), ("1 passed, 0 failed", ["page"]), said)
+    with tempfile.TemporaryDirectory() as room, mock.patch.object(run, "RESULTS", os.path.join(room, "results")):
+        note(run.RESULTS, "ok\t0.1 s\tpage")
+        note(run.RESULTS, "FAILED\t0.1 s\tpages\tfailed 2 of 4 times")
+        with mock.patch.object(harness, "TESTS", [(it, runs) for it in ("page", "page two", "pages", "runs")]):
+            same(run.chosen_by(["--rest"]), [1, 3], "those that are left")
+
+
+@test("again: a run of no test fails")
+def none_at_all() -> None:
+    words = [sys.executable, os.path.join(harness.TOP, "tests", "run.py"), "no test has these words"]
+    found = subprocess.run(words, stdout=subprocess.PIPE, stderr=subprocess.DEVNULL, check=False)
+    same((found.stdout.decode(), found.returncode), ("no test has such a name\n0 passed, 1 failed\n", 1))
+
+
+def leaves_a_child(path: str) -> None:
+    """A test that starts a process in another session, whose parent ends, and waits."""
+    start = "import os, sys, time\nif os.fork() == 0:\n  os.setsid()\n  open(sys.argv[1], 'w').write(str(os.getpid()))\n  time.sleep(600)"
+    subprocess.run([sys.executable, "-c", start, path], check=True)
+    time.sleep(600)
+
+
+@test("again: a test that takes too long is ended with all that it has started, and none is started when the time for all is over")
+def ended_in_time() -> None:
+    with tempfile.TemporaryDirectory() as room:
+        path = os.path.join(room, "child")
+        # (where much else runs its child may begin late)
+        is_late: Callable[[run.Running], bool] = lambda it: time.monotonic() > it.end and os.path.exists(path) and os.path.getsize(path) > 0
+        with mock.patch.object(run, "LONGEST", 1), mock.patch.object(run.Running, "has_ended", is_late):
+            counts, said, _ = counted({"long": lambda: leaves_a_child(path)})
+        same((counts, "it had not ended after" in said), ("0 passed, 1 failed", True), said)
+        child = int(harness.text_of(path))
+        holds(child not in processes.parents(), f"process {child} goes on")
+    with mock.patch.object(run, "LONGEST", 1):
+        counts, said, _ = counted({"long": lambda: time.sleep(600)})
+    same((counts, "it had not ended after" in said), ("0 passed, 1 failed", True), said)
+    with mock.patch.object(run, "IN_ALL", 0):
+        counts, said, _ = counted({"late": lambda: None})
+    same((counts, "it wasn't run: 0 minutes for all tests were over" in said), ("0 passed, 1 failed", True), said)
+
+
+@test("again: what a test has started ends with it, also when the test has ended well")
+def ends_with_it() -> None:
+    with tempfile.TemporaryDirectory() as room:
+        path = os.path.join(room, "child")
+
+        def starts() -> None:
+            words = [sys.executable, "-c", "import os, sys, time; open(sys.argv[1], 'w').write(str(os.getpid())); time.sleep(600)", path]
+            subprocess.Popen(words, start_new_session=True)  # pylint: disable=consider-using-with
+            while not os.path.exists(path) or not os.path.getsize(path):
+                time.sleep(0.01)
+
+        same(counted({"starts": starts})[0], "1 passed, 0 failed", "the count")
+        holds(int(harness.text_of(path)) not in processes.parents(), "its process goes on")
+
+
+@test("again: a failed comparison shows where two texts or lists differ first")
+def differing() -> None:
+    long = "x" * 1000
+    for got, wanted, said in (
+        (long + "a", long + "b", f"they differ at 1000: wanted '{'x' * 40}b', got '{'x' * 40}a'"),
+        (long.encode(), long.encode() + b"y", f"they differ at 1000: wanted {b'x' * 40 + b'y'!r}, got {b'x' * 40!r}"),
+        ([1, [2, long]], [1, [2, long + "y"]], f"they differ at item 1\n    they differ at item 1\n    they differ at 1000: wanted '{'x' * 40}y', got '{'x' * 40}'"),
+        ([1, 2], [1, 3, 4], "they differ at item 1: wanted 3, got 2"),
+        ([1], [1, 2], "wanted 2 items, got 1"),
+    ):
+        try:
+            same(got, wanted)
+        except Failed as why:
+            holds(str(why).endswith(said), f"no {said!r} in {why}")
+        else:
+            raise Failed(f"{got!r:.60} and {wanted!r:.60} are the same")
+
+
+@test("again: a run that is interrupted, or ended by a signal, ends its tests")
+def interrupted() -> None:
+    parent = os.getpid()
+
+    def interrupts(path: str, number: int) -> None:
+        if os.fork() == 0:
+            leaves_a_child(path)
+        while not os.path.exists(path) or not os.path.getsize(path):
+            time.sleep(0.01)
+        os.kill(parent, number)
+        time.sleep(600)
+
+    run.end_by_signal()
+    for number in (signal.SIGINT, signal.SIGTERM):
+        with tempfile.TemporaryDirectory() as room:
+            path = os.path.join(room, "child")
+            try:
+                counted({"interrupts": lambda: interrupts(path, number)})  # pylint: disable=cell-var-from-loop
+            except (KeyboardInterrupt, SystemExit):
+                pass
+            else:
+                raise Failed("the run went on")
+            holds(int(harness.text_of(path)) not in processes.parents(), "a process goes on")

@@ -3,23 +3,26 @@
 Neovim is driven by its own client, Emacs by eglot and by lsp-mode, Vim by ALE and by YouCompleteMe, Kate by its plugin (on a screen
 that nobody sees). Kakoune, which has no client, is in test_syntax_files.py.
 
-A test of an editor that isn't here is left out, by name; `make editors` installs them all."""
+A test of an editor that is missing is left out, by name; `make editors` installs what Debian has."""
 from __future__ import annotations
 
 import functools
 import glob
+import io
 import json
 import os
 import random
 import re
 import shutil
-import sys
+import zipfile
 from collections.abc import Iterator
 from typing import Any, Callable, Dict, List, Tuple, Type, TypeVar
 
 import harness
 import holding
 import keyed
+import package
+import vsix
 from harness import Failed, Message, TOP, edited, ends, extent, holds, on_file, same, test, text_of, want
 from holding import edits_of, patched
 from homes import at_home, put_between, run_in_terminal, run_plainly, temporary, write
@@ -97,22 +100,27 @@ def in_vim(steps: str, text: str, **given: Any) -> Steps:
 
 
 # what pages of editors say in the same words
-ONLY_SHOWN = "**not applicable**: ob0 edits nothing in this editor"
-UNKNOWN = "save first, compare after"
-WRONG_EDIT = "After a wrong edit: undo it, save, close the file and open it again."
-LONE_CR = "Take out each CR that no LF follows: edits behind it may be wrong."
+ONLY_SHOWN = "**not applicable**: ob0 makes no edits in this editor"
+UNKNOWN = "save before each edit, and compare afterwards"
+WRONG_EDIT = "If an edit goes wrong: undo it, save, close the file and open it again."
+LONE_CR = "Remove each CR that no LF follows: edits after it may be wrong."
 ASKED = (
-    "It holds with any editor that sends every change, makes the edits of an answer at once and as the protocol says, and drops an answer "
-    "whose document was changed, or closed and opened again, since it asked. Changes are sent in order, columns are counted as LSP does, "
-    "and to take no keys until the answer comes is as good as to drop it."
+    "The guarantee is proved for every editor that keeps ob0's rules. In short: it tells the server every change, in order, with positions in "
+    "the agreed unit and texts of Unicode scalar values. It makes all edits of an answer as one change. It discards an answer if the document "
+    "has been changed, or closed and reopened, since the request."
 )
 
 
 def verdicts(page: str) -> list[tuple[str, str]]:
-    """Of each row of the first table of a page the editor with its versions, and whether the property holds."""
+    """Of each row of the first table of a page the editor with its versions, and whether the guarantee holds."""
     rows = re.findall(r"^\| ([^|]+) \| ([^|]+) \|", text_of(page).partition("\n|---|")[2].partition("\n\n")[0], re.M)
-    holds(len(rows) > 9, f"the table of {page} has {rows}")
+    holds(len(rows) > 7, f"the table of {page} has {rows}")
     return rows
+
+
+def in_bold(cells: list[str]) -> set[str]:
+    """What is in bold in some cells."""
+    return {it for cell in cells for it in re.findall(r"\*\*([^*]+)\*\*", cell)}
 
 
 def items_of(folder: str, rows: list[tuple[str, str]]) -> list[str]:
@@ -126,10 +134,15 @@ def items_of(folder: str, rows: list[tuple[str, str]]) -> list[str]:
     return found
 
 
-@test("editors: README and each editor's page say whether the proved property holds there, in the words of the table")
+@test("editors: README and each editor's page say whether the guarantee holds there, in the words of the table")
 def held_here() -> None:
     rows = verdicts("editors/README.md")
-    same(verdicts("README.md"), [(which.replace("](", "](editors/"), verdict) for which, verdict in rows], "the table of README")
+    for which, verdict in verdicts("README.md"):
+        named = re.findall(r"\]\(editors/(\w+)/README\.md\)", which)
+        wanted_here = in_bold([said for row, said in rows if any(f"]({it}/README.md)" in row for it in named)])
+        same(in_bold([verdict]), wanted_here, f"the verdicts of README on {named}")
+    linked = set(re.findall(r"\]\((?:editors/)?(\w+)/README\.md\)", "".join(it for it, _ in verdicts("README.md"))))
+    same(linked, set(re.findall(r"\]\((\w+)/README\.md\)", "".join(it for it, _ in rows))), "the editors of README")
     folders = {os.path.basename(os.path.dirname(it)) for it in glob.glob(os.path.join(TOP, "editors", "*", "README.md"))}
     for folder in folders - {"tree-sitter"}:
         wanted = items_of(folder, rows)
@@ -142,9 +155,9 @@ def held_here() -> None:
         same([it for it in wanted if it not in page], [], f"what editors/{folder}/README.md doesn't say")
 
 
-@test("editors: README, the editors' page, the promises and the statement say in the same words what an editor has to do")
+@test("editors: the editors' page, the promises and the statement say in the same words what an editor has to do")
 def asked_of_editors() -> None:
-    for page in ("README.md", "editors/README.md", "docs/PROMISES.md", "docs/STATEMENT.md"):
+    for page in ("editors/README.md", "docs/PROMISES.md", "docs/STATEMENT.md"):
         holds(ASKED in " ".join(text_of(page).split()), f"{page} doesn't say {ASKED!r}")
 
 
@@ -490,46 +503,42 @@ MADE_LATE = {
     **{f"{asked}, later version": " " + WITH_A_LINE for asked in MADE_AT_ONCE},
     "list of actions": WITH_A_LINE,
 }
-CLIENT = "vscode-languageclient"
-
-
-def real_client() -> str | None:
-    """The folder of the packages of Node that has the real client, or None."""
-    folders = [os.path.join(TOP, "editors", "vscode", "node_modules"), "/usr/share/nodejs", "/usr/local/lib/node_modules"]
-    return next((it for it in folders if os.path.isdir(os.path.join(it, CLIENT))), None)
-
-
-def in_vscode(*kind: str) -> tuple[str, Any, list[Message], list[Message]]:
-    """What VS Code's extension did under Node, and the record of what its client and the server said."""
+def in_vscode(folder: str, *kind: str) -> tuple[str, Any, list[Message], list[Message]]:
+    """What VS Code's extension in a folder did under Node, and the record of what its client and the server said."""
     with temporary() as room:
         own = at_home(room, "vscode")
         put_between(room)
-        own["NODE_PATH"] = os.pathsep.join(it for it in (real_client(), own.get("NODE_PATH"), "/usr/share/nodejs") if it)
+        # (one that is packed has its modules with it)
+        nodes = vsix.modules() if folder == vsix.FOLDER else None
+        own["NODE_PATH"] = os.pathsep.join(nodes.folders) if nodes else ""
         file = os.path.join(room, "work", "it's a.mod")
         write(file, "MODULE M;\nBEGIN x := 1 END M.\n")
-        words = ["node", os.path.join(EDITORS, "vscode.js"), os.path.join(TOP, "editors", "vscode"), file, room, *kind]
+        words = ["node", os.path.join(EDITORS, "vscode.js"), folder, file, room, *kind]
         status, said = run_plainly(words, own, room)
         same(status, 0, said[-2000:])
         wire = holding.Wire(room)
         return file, json.loads(said.splitlines()[-1]), wire.sent("initialize"), wire.answers("textDocument/rename")
 
 
-def in_vscode_by(*kind: str) -> None:
-    file, found, started, renamed = in_vscode(*kind)
+def in_vscode_by(*kind: str, folder: str = vsix.FOLDER) -> None:
+    file, found, started, renamed = in_vscode(folder, *kind)
     nothing = {"ended": "activated", "stopped": "deactivated", "said": ["There is no program no-such-program; the setting ob0.path names another."]}
     same(found["without"], nothing, "what is said where there is no program")
     same(found["published"], ["Undeclared"], "the diagnostics")
     matched = [[file, "2", "7", "Undeclared", "not declared"]]
-    same(found["tasks"], {"executed": ["check", "run"], "matched": matched, "provided": ["check", "run"]}, "the tasks")
+    tasks: dict[str, Any] = {"executed": ["check", "run"], "matchers": ["$ob0"], "matched": matched, "status": 1, "words": ["ob0", "run", file], "provided": ["check", "run"]}
+    same(found["tasks"], {**tasks, "resolved": ["mine", file]}, "the tasks")
+    unsaved = "The file wasn't saved, so there is nothing to run."
+    same(found["unsaved"], {"ran": [os.path.join(os.path.dirname(file), "named.mod")], "said": [unsaved, unsaved]}, "files that aren't saved")
     told = ["Request textDocument/formatting failed."] if "real" in kind else []
     same((found["faulty"], found["told"]), ("ill-typed", told), "a layout of a module with a fault, and what is shown of it")
     same(found["edits"]["made"], MADE_AT_ONCE, "what answers leave that come at once")
     same(found["edits"]["late"], MADE_LATE, "what answers leave that come after a change")
     same(found["edits"]["said"], ["The text was changed since the action was offered: ask for it again."], "what is said of an old action")
-    same(found["stopped"], "deactivated", "how it ends")
+    same((found["stopped"], found["restarted"]), ("deactivated", {"said": [], "shutdowns": 3}), "how it ends, and restarts one after another")
     same(found["settings"], ["ob0.path", "ob0.trace.server"], "the settings that are declared")
     announced = [it["params"]["capabilities"]["workspace"]["workspaceEdit"]["documentChanges"] for it in started]
-    same(announced, [True], "whether the client announces that it takes versions")
+    same(announced, [True] * 4, "whether the client announces that it takes versions, at its start and each restart")
     same({version for it in renamed for change in it["result"]["documentChanges"] for version in [change["textDocument"]["version"]]}, {1, 2}, "the versions")
 
 
@@ -542,11 +551,21 @@ def vscode() -> None:
 
 @test("VS Code: the extension, with the real vscode-languageclient and a stand-in for the editor, does the same")
 def vscode_client() -> None:
-    want("Node")
+    # (`npm install` in editors/vscode gets the client, and `make editors RELEASE=trixie` makes it in its root)
+    want("Node", vsix.CLIENT)
     harness.need_program()
-    if not real_client():
-        harness.leave_out(f"{CLIENT} missing: `npm install` in editors/vscode gets it, and `make editors RELEASE=trixie` makes it in its root")
     in_vscode_by("real")
+
+
+@test("VS Code: the extension as it is packed, with the real vscode-languageclient and a stand-in for the editor, does the same")
+def vscode_packed() -> None:
+    want("Node", vsix.CLIENT)
+    harness.need_program()
+    with temporary() as room:
+        for content in package.extension().values():
+            with zipfile.ZipFile(io.BytesIO(content)) as archive:
+                archive.extractall(room)
+        in_vscode_by("real", folder=os.path.join(room, "extension"))
 
 
 def in_vim_by_ycm(steps: str, text: str, **given: Any) -> Steps:
@@ -597,16 +616,10 @@ def in_kate(steps: str, text: str, **given: Any) -> Steps:
         program = put_between(room)
         write(os.path.join(room, ".config", "katerc"), f"[Kate Plugins]\nlspclientplugin=true\n\n[lspclient]\nAllowedServerCommandLines={program} serve\n")
         own["OB0_WIRE"] = room
+        write(os.path.join(room, "breaks"), "late-edit" if steps == "late" else "")  # (as its page says)
 
     own: dict[str, str] = {}
     words = ["xvfb-run", "-a", "dbus-run-session", "--", "python3", os.path.join(EDITORS, "kate.py")]
-    # (keys can come before a window takes them, where the machine has much else to do, and what Kate has started can still write
-    # into the room when it is taken away: then all is done once more)
-    for _ in range(2):
-        try:
-            return play("kate", words, steps, text, given, set_up, more=own)
-        except (Failed, OSError) as why:
-            print(f"Kate is tried again: {why}".splitlines()[0], flush=True)
     return play("kate", words, steps, text, given, set_up, more=own)
 
 
@@ -685,15 +698,9 @@ def is_late(editor: keyed.Keyed, asked: str, when: str) -> None:
 
 
 def by_keys(does: Callable[[Any], T], which: Which, text: str, *names: str) -> T:
-    """Does something with an editor, in a folder of its own, on a file with this text. Where the editor was lost (it took no key, or
-    its server said nothing in time), once more."""
+    """Does something with an editor, in a separate folder, on a file with this text."""
     want(*names)
     harness.need_program()
-    try:
-        with temporary() as folder, which(folder, text) as editor:
-            return does(editor)
-    except (keyed.Lost, OSError) as why:
-        print(f"{names[-1]} is tried again: {why}".splitlines()[0], flush=True)
     with temporary() as folder, which(folder, text) as editor:
         return does(editor)
 

@@ -3,16 +3,23 @@
 The right answers are in tests/answers; each wrong one is a right one with one change."""
 from __future__ import annotations
 
+import csv
+import io
 import itertools
 import os
 import re
+import shutil
+import signal
+import subprocess
 import tempfile
+import time
 from collections.abc import Callable, Iterable
+from typing import Any
 
 import harness
 from common import match_of
-from harness import TOP, Server, did_open, examples, holds, need_program, run, same, test, text_of
-from homes import run_plainly, write
+from harness import TOP, Server, did_open, holds, is_running, need_program, run, same, test, text_of
+from homes import run_plainly, temporary, write
 
 FOLDER = os.path.join("examples", "exercises")
 PAGE = text_of(FOLDER, "README.md")
@@ -270,6 +277,135 @@ def explained() -> None:
     large = f"MODULE Clock; TYPE T = ARRAY 65536 OF INTEGER; PROCEDURE P; VAR {arrays}: T; BEGIN P END P; BEGIN P END Clock."
     said = "the run ends with Memory: it takes too much memory: does each loop and each recursion end? Is an array too large?"
     same(marked("Clock", large), (1, f"Clock.mod   wrong: for the input 3661: {said}"))
+
+
+def marking(room: str, words: list[str], given: Any = None, **more: str) -> tuple[int | None, bytes, bytes]:
+    """Marks in a folder by the script: its status, and what it wrote to standard output (or nothing, if that is `given`) and error."""
+    need_program()
+    script = os.path.join(TOP, FOLDER, "mark.py")
+    line = ["python3", "-B", script, "--program", os.path.abspath(harness.BINARY), *LONGEST, *words]
+    how: dict[str, Any] = {"stdout": given or subprocess.PIPE, "stderr": subprocess.PIPE, "timeout": harness.SECONDS, "cwd": room}
+    found = subprocess.run(line, env={**os.environ, **more}, check=False, **how)
+    return found.returncode, found.stdout, found.stderr
+
+
+LOCALES: list[dict[str, str]] = [{"PYTHONIOENCODING": "utf-8:strict"}, {"LC_ALL": "C", "PYTHONCOERCECLOCALE": "0", "PYTHONUTF8": "0"}]
+
+
+@test("exercises: names of any bytes are marked and printed in any locale, each on one line, and no folder is left out")
+def any_names() -> None:
+    with temporary() as room:
+        for name in ("a", "n\udce4me", "two\nlines", "z"):
+            write(os.path.join(room, name, "Clock.mod"), answer("Clock"))
+        write(os.path.join(room, "a", "Ger\udce4t.txt"), "")
+        for more in LOCALES:
+            status, out, err = marking(room, ["a", "n\udce4me", "two\nlines", "z"], **more)
+            lines = out.split(b"\n")
+            same((status, err, out.count(b"  Clock.mod   right\n")), (0, b"", 4), f"with {more}: {out!r}")
+            same(lines[2], b"  Ger\xe4t.txt is not marked: it isn't named like an exercise", "a name that isn't UTF-8")
+            same(lines[-2], b"a 1, n\xe4me 1, two\\x0alines 1, z 1", "the last line")
+
+
+@test("exercises: a folder or a file that can't be read is said, and the others are marked")
+def unreadable() -> None:
+    if os.geteuid() == 0 and not shutil.which("setpriv"):
+        harness.leave_out("it wants setpriv, to be another user than root")
+    with temporary() as room:
+        # (another user than root may not enter the checkout, so the script and the program are copied)
+        for name in ("mark.py", "README.md", *(f"{it}.txt" for it in NAMES)):
+            shutil.copy(os.path.join(TOP, FOLDER, name), room)
+        write(os.path.join(room, "ob0"), "#!/bin/sh\nexit 0\n")
+        for name in ("a", "b", "c"):
+            write(os.path.join(room, name, "Reverse.mod"), "")
+        for name, mode in (("", 0o755), ("ob0", 0o755), ("b", 0)):
+            os.chmod(os.path.join(room, name), mode)
+        another = ["setpriv", "--reuid=65534", "--clear-groups"] if os.geteuid() == 0 else []
+        status, said = run_plainly([*another, "python3", "-B", "mark.py", "--program", "./ob0", "a", "b", "b/Reverse.mod", "c"], dict(os.environ), room)
+        os.chmod(os.path.join(room, "b"), 0o755)
+    wrong = "  Reverse.mod wrong: for the input 3 10 20 30: line 1 should be 30 20 10, and is empty"
+    missing = f"  0 of 12 right; not there: {', '.join(it for it in NAMES if it != 'Reverse')}"
+    wanted = ["a:", wrong, missing, "b:", "  it can't be read: Permission denied", f"  0 of 12 right; not there: {', '.join(NAMES)}"]
+    wanted += ["b/Reverse.mod can't be read: Permission denied", "c:", wrong, missing, "a 0, b 0, c 0"]
+    same((status, said.splitlines()), (1, wanted))
+
+
+@test("exercises: an output that is closed or full is said in a line, with status 4")
+def unprinted() -> None:
+    with temporary() as room:
+        write(os.path.join(room, "Clock.mod"), answer("Clock"))
+        reader, writer = os.pipe()
+        os.close(reader)
+        with open(writer, "wb") as closed, open("/dev/full", "wb") as full:
+            for file, why in ((closed, b"Broken pipe"), (full, b"No space left on device")):
+                same(marking(room, ["Clock.mod"], file)[::2], (4, b"what was found can't be printed: " + why + b"\n"))
+
+
+@test("exercises: a signal ends the script, and the module that it runs")
+def signalled() -> None:
+    with temporary() as room:
+        write(os.path.join(room, "Clock.mod"), answer("Clock"))
+        write(os.path.join(room, "ob0"), "#!/bin/sh\necho $$ > new\nmv new pid\nexec sleep 600\n")
+        os.chmod(os.path.join(room, "ob0"), 0o755)
+        script, pid = os.path.join(TOP, FOLDER, "mark.py"), os.path.join(room, "pid")
+        for number in (signal.SIGINT, signal.SIGTERM, signal.SIGHUP):
+            words = ["python3", "-B", script, "--program", "./ob0", *LONGEST, "Clock.mod"]
+            with subprocess.Popen(words, cwd=room, stdout=subprocess.DEVNULL, stderr=subprocess.PIPE) as process:
+                while not os.path.exists(pid):
+                    time.sleep(0.01)
+                process.send_signal(number)
+                _, err = process.communicate(timeout=harness.SECONDS)
+            same((process.returncode, err), (-number, b""), "how the script ends")
+            holds(not is_running(int(text_of(pid))), f"the module goes on after signal {number}")
+            os.unlink(pid)
+
+
+@test("exercises: a number of seconds is one above 0")
+def seconds() -> None:
+    with temporary() as room:
+        write(os.path.join(room, "Clock.mod"), answer("Clock"))
+        for word in ("nan", "-1", "0", "inf", "1e300", "ten"):
+            status, out, err = marking(room, ["--seconds", word, "Clock.mod"])
+            said = f"argument --seconds: invalid seconds_of value: '{word}'".encode()
+            same((status, out, said in err, b"Traceback" in err), (2, b"", True, False), f"--seconds {word}: {err!r}")
+
+
+@test("exercises: a table has a row for each path and a column for each exercise, and no cell is a formula or breaks a row")
+def table() -> None:
+    wrong_one, names = answer("Clock").replace("DIV", "MOD", 1), ["anna", "=1+1", "two\nlines", "n\udce4me, \"x\""]
+    with temporary() as room:
+        for name in names:
+            write(os.path.join(room, name, "Clock.mod"), wrong_one if name == "anna" else answer("Clock"))
+        write(os.path.join(room, "anna", "Leap.mod"), answer("Leap"))
+        write(os.path.join(room, "anna", "more.txt"), "")
+        status, out, err = marking(room, ["--table", *names, "nosuch"], **LOCALES[-1])
+    rows = list(csv.reader(io.StringIO(out.decode(), newline="")))
+    same((status, err, rows[0]), (1, b"", ["name", "right", *NAMES, "others"]), "the head")
+    same([it[:2] for it in rows[1:]], [["anna", "1"], ["'=1+1", "1"], ["two\nlines", "1"], ['n\\xe4me, "x"', "1"], ["nosuch", "0"]], "the rows")
+    same({len(it) for it in rows}, {15}, "the number of cells")
+    same(rows[1][2:5], ["wrong: for the input 3661: line 1 should be 1 1 1, and is 61 1 1", "right", ""], "the marks of one")
+    same([it[-1] for it in rows[1:3] + rows[5:]], ["more.txt is not marked: it isn't named like an exercise", "", "there is no nosuch"], "the rest")
+
+
+@test("exercises: a teacher's own inputs are those of another folder, whose files are the exercises")
+def own_inputs() -> None:
+    by_table = "MODULE Leap; VAR y: INTEGER; BEGIN Read(y); IF (y = 2024) OR (y = 4) THEN Write(1) ELSE Write(0) END END Leap."
+    with temporary() as room:
+        write(os.path.join(room, "own", "Leap.txt"), "\ufeffin: 2024\r\nout: 1\r\n \r\n\r\nin: 2028\r\nout: 1\r\n")
+        write(os.path.join(room, "own", "Double.txt"), "in: 4\nout: 8\n")
+        write(os.path.join(room, "anna", "Leap.mod"), by_table)
+        write(os.path.join(room, "anna", "Double.mod"), "MODULE D; VAR y: INTEGER; BEGIN Read(y); Write(2 * y) END D.")
+        write(os.path.join(room, "anna", "Clock.mod"), "")
+        wanted = ["anna:", "  Leap.mod    wrong: for the input 2028: line 1 should be 1, and is 0", "  Double.mod  right"]
+        wanted += ["  Clock.mod is not marked: it isn't named like an exercise", "  1 of 2 right", ""]
+        same(marking(room, ["--inputs", "own", "anna"]), (1, "\n".join(wanted).encode(), b""), "own inputs")
+        for text, said in (
+            ("3 4\n", "own/Leap.txt: a case is a line `in: 1 2` and then lines `out: 3`, and not 3 4"),
+            ("in: x\n", "own/Leap.txt: a case is a line `in: 1 2` and then lines `out: 3`, and not in: x"),
+        ):
+            write(os.path.join(room, "own", "Leap.txt"), text)
+            same(marking(room, ["--inputs", "own", "anna"]), (2, b"", f"{said}\n".encode()), repr(text))
+        same(marking(room, ["--inputs", "anna", "anna"]), (2, b"", b"anna has no file of inputs, such as Clock.txt\n"), "a folder without inputs")
+        same(marking(room, ["--inputs", "nosuch", "anna"]), (2, b"", b"nosuch: No such file or directory\n"), "no folder")
 
 
 @test("exercises: the bounds and ends that the script speaks of are the program's")

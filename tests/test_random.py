@@ -1,9 +1,6 @@
-"""The program against the reference, on random texts and runs.
-
-OB0_RANDOM is how many of each are tried, OB0_SEED where they begin."""
+"""The program against the reference, on random texts and runs: tests/lib/seeds.py says which."""
 from __future__ import annotations
 
-import os
 import random
 import re
 from collections.abc import Callable, Iterator
@@ -19,14 +16,14 @@ from reference import edits, layout, questions
 from reference.runs import Run
 from reference.edits import Edit, Refusal
 from reference.text import Span, Text
+from seeds import COUNT, named, seeds
 
 URI = "file:///m"
-COUNT, SEED = int(os.environ.get("OB0_RANDOM", "300")), int(os.environ.get("OB0_SEED", "0"))
 
 
 def compare(kind: str, count: int) -> None:
     with Server() as server:
-        for seed in range(SEED, SEED + count):
+        for seed in seeds(count):
             same_diagnostics(server, MAKERS[kind](seed), seed)
 
 
@@ -70,35 +67,35 @@ def answers_at(server: Server, found: Text, at: int, where: str) -> None:
 @test("random: hover, definition and references at each place")
 def questions_anywhere() -> None:
     with Server() as server:
-        for seed in range(SEED, SEED + max(1, COUNT // 30)):
+        for seed in seeds(max(1, COUNT // 30)):
             text = corpus.module(900, seed)
             found, chance = Text(text), random.Random(seed)
             server.notify(did_open(text))
             selected = [it[0].start for it in found.fields]
             for at in [*(chance.randrange(len(text)) for _ in range(60)), *chance.sample(selected, min(10, len(selected)))]:
-                answers_at(server, found, at, f"seed {seed}, at {found.position(at)}")
+                answers_at(server, found, at, f"{named(seed)}, at {found.position(at)}")
 
 
 @test("random: hover, definition and references where fields are declared")
 def declared_fields() -> None:
     with Server() as server:
-        for seed in range(SEED, SEED + COUNT // 3):
+        for seed in seeds(COUNT // 3):
             text = faulty_modules.records(seed)
             found = Text(text)
             same_diagnostics(server, text, seed)
             if found.is_well_typed:
                 for it, _, _ in found.fields:
-                    answers_at(server, found, it.start, f"seed {seed}, at {found.position(it.start)} of\n{text}\n")
+                    answers_at(server, found, it.start, f"{named(seed)}, at {found.position(it.start)} of\n{text}\n")
 
 
 @test("random: runs")
 def runs() -> None:
-    print("    " + counted(run_of(random_texts.program, seed) for seed in range(SEED, SEED + COUNT)))
+    print("    " + counted(run_of(random_texts.program, seed) for seed in seeds(COUNT)))
 
 
 @test("random: runs in which arrays and records are passed and copied")
 def aliased_runs() -> None:
-    print("    " + counted(run_of(random_texts.aliased, seed) for seed in range(SEED, SEED + COUNT)))
+    print("    " + counted(run_of(random_texts.aliased, seed) for seed in seeds(COUNT)))
 
 
 def spread(found: Text, changes: list[Edit]) -> list[Message]:
@@ -116,11 +113,11 @@ def keeps_runs(before: str, after: str, seed: int) -> None:
     bounds: list[tuple[list[int], int, int]] = [([], 2, 2), ([7, -1, 0], 3, 1)]
     for given, calls, turns in bounds:
         first, second = ((run.output(), run.end) for run in (Run(it, given, calls, turns) for it in (before, after)))
-        same(first, second, f"seed {seed}, the run of\n{before}\nand of\n{after}")
+        same(first, second, f"{named(seed)}, the run of\n{before}\nand of\n{after}")
 
 
 def modules(count: int) -> Iterator[tuple[int, random.Random, str, Text]]:
-    for seed in range(SEED, SEED + max(1, count)):
+    for seed in seeds(max(1, count)):
         chance = random.Random(f"edit {seed}")
         text = random_texts.program(seed)[0] if chance.random() < 0.7 else corpus.module(900, seed, True)
         yield seed, chance, text, Text(text)
@@ -136,7 +133,7 @@ def renames() -> None:
                 where, new = chance.choice(words).start(), chance.choice([chance.choice(words)[0], "fresh", "x", "1a"])
                 wanted_ = edits.rename(text, where, new)
                 params = {"newName": new, "position": place(*found.position(where)), "textDocument": {"uri": URI}}
-                got, what = server.query("textDocument/rename", params), f"seed {seed}, {found.position(where)} to {new}, of\n{text}\n"
+                got, what = server.query("textDocument/rename", params), f"{named(seed)}, {found.position(where)} to {new}, of\n{text}\n"
                 if isinstance(wanted_, tuple):
                     same(got.get("error"), {"code": -32803, "message": refusal(found, wanted_)}, what)
                 else:
@@ -161,7 +158,7 @@ def inlining() -> None:
                     for title, changes in answers
                     if isinstance(changes, list)
                 ]
-                same(got, wanted_, f"seed {seed}, {found.position(where)} of\n{text}\n")
+                same(got, wanted_, f"{named(seed)}, {found.position(where)} of\n{text}\n")
                 for _, it in answers:
                     if isinstance(it, list):
                         keeps_runs(text, edits.patched(text, it), seed)
@@ -180,4 +177,4 @@ def formatting() -> None:
             wanted_ = layout.layout(text, " " * min(16, max(1, size)) if spaces else "\t")
             params = {"options": {"insertSpaces": spaces, "tabSize": size}, "textDocument": {"uri": URI}}
             got = server.query("textDocument/formatting", params)["result"]
-            same(got, spread(found, wanted_), f"seed {seed} of\n{text}\n")
+            same(got, spread(found, wanted_), f"{named(seed)} of\n{text}\n")

@@ -2,18 +2,17 @@
 for the first time. `make faults` does the same 20,000 times."""
 from __future__ import annotations
 
-import os
-
 import random_changes
 from harness import test
-
-COUNT, SEED = int(os.environ.get("OB0_RANDOM", "300")), int(os.environ.get("OB0_SEED", "0"))
+from seeds import COUNT, starts
 
 
 def make(part: int) -> None:
     @test(f"changes: what is said after each is what a new server says, part {part + 1}")
     def changed() -> None:
-        print(f"    {random_changes.some_changes(COUNT, SEED + 1000 * part)}")
+        start = starts()[part % len(starts())] + 1000 * (part // 2)
+        print(f"    seeds from {start} on", flush=True)
+        print(f"    {random_changes.some_changes(COUNT, start)}")
 
 
 for each in range(4):

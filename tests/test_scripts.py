@@ -5,14 +5,16 @@ import functools
 import os
 import re
 import shutil
+import signal
 import subprocess
 import sys
 import tempfile
+import time
 from collections.abc import Callable, Iterable
 from typing import Any, TypeVar
 
 import harness
-from harness import Content, Message, TOP, examples, frames, holds, need_program, published, same, test, text_of
+from harness import Content, Message, TOP, examples, frames, holds, is_running, need_program, published, same, test, text_of
 from homes import write
 from snippets import fenced
 
@@ -42,7 +44,7 @@ def ran(words: list[str], work: str, environment: dict[str, str], given: str = "
     """The status of a command, and what it wrote to standard output and to standard error."""
     how: dict[str, Any] = {"input": given.encode(), "capture_output": True, "cwd": work, "env": environment, "timeout": harness.SECONDS}
     found = subprocess.run(words, check=False, **how)
-    return found.returncode, found.stdout.decode(), found.stderr.decode()
+    return found.returncode, found.stdout.decode(errors="surrogateescape"), found.stderr.decode(errors="surrogateescape")
 
 
 @test("scripts: ob0-format lays files out and names them, and changes neither those that are laid out nor those with faults")
@@ -127,18 +129,180 @@ def guarded() -> None:
 
 @test("scripts: a failed write leaves the old file, and nothing beside it")
 def failed_write() -> None:
-    if os.geteuid() == 0 and not shutil.which("setpriv"):
-        harness.leave_out("it wants setpriv, to be another user than root")
+    # (root may write everywhere, so it becomes another user, who may have no way into the folder of the sources)
+    become = "import os, sys; os.setgroups([]); os.setgid(65534); os.setuid(65534); os.execvp(sys.argv[1], sys.argv[1:])"
 
     def trial(work: str, own: dict[str, str]) -> None:
+        for name in ("ob0", "ob0-format"):
+            at = os.path.join(work, "..", "bin", name)
+            source = os.path.realpath(at)
+            os.unlink(at)
+            shutil.copy(source, at)
         os.chmod(os.path.dirname(work), 0o755)
         os.chmod(work, 0o555)
-        another = ["setpriv", "--reuid=65534", "--clear-groups"] if os.geteuid() == 0 else []
+        another = [sys.executable, "-c", become] if os.geteuid() == 0 else []
         found = ran([*another, "ob0-format", "loose.ob0"], work, own)
         same((found[0], text_of(work, "loose.ob0"), sorted(os.listdir(work))), (4, LOOSE, sorted(MODULES)), str(found))
         os.chmod(work, 0o755)
 
     in_folder(MODULES, trial)
+
+
+NAMES = ["a.mod", "gr\udcfc\udcdfe.mod", "gr\u00f6\u00dfe.mod", "line\nend.mod", "z.mod"]
+LOCALES: list[dict[str, str]] = [{}, {"PYTHONIOENCODING": "utf-8:strict"}, {"PYTHONIOENCODING": "ascii:strict"}]
+LOCALES.append({"LC_ALL": "C", "PYTHONCOERCECLOCALE": "0", "PYTHONUTF8": "0"})
+
+
+@test("scripts: ob0-format prints names of any bytes in any locale, and tries each file")
+def format_names() -> None:
+    def trial(more: dict[str, str], work: str, own: dict[str, str]) -> None:
+        found = ran(["ob0-format", "--check", *NAMES], work, {**own, **more})
+        same(found, (1, "".join(f"{it}\n" for it in NAMES), ""), f"with --check and {more}")
+        found = ran(["ob0-format", NAMES[0], "\udcff", *NAMES[1:]], work, {**own, **more})
+        same(found, (4, "".join(f"{it}\n" for it in NAMES), "\udcff: No such file or directory\n"), f"with {more}")
+        same([text_of(work, it) for it in NAMES], [LAID_OUT] * len(NAMES), "the files")
+
+    for more in LOCALES:
+        in_folder(dict.fromkeys(NAMES, LOOSE), functools.partial(trial, more))
+
+
+CLOSED = "import os, sys; r, w = os.pipe(); os.close(r); os.dup2(w, 1); os.execvp(sys.argv[1], sys.argv[1:])"
+
+
+@test("scripts: ob0-format formats each file even if their names can't be printed, and says that once")
+def format_unprinted() -> None:
+    def trial(line: str, why: str, work: str, own: dict[str, str]) -> None:
+        found = ran(["sh", "-c", line, "sh", *NAMES], work, own)
+        same(found, (4, "", f"ob0-format: the names of files can't be printed: {why}\n"), line)
+        same([text_of(work, it) for it in NAMES], [LAID_OUT] * len(NAMES), f"the files after {line}")
+
+    for line, why in (
+        (f'exec python3 -c "{CLOSED}" ob0-format "$@"', "Broken pipe"),
+        ('exec ob0-format "$@" > /dev/full', "No space left on device"),
+        ('exec ob0-format "$@" >&-', "it is closed"),
+    ):
+        in_folder(dict.fromkeys(NAMES, LOOSE), functools.partial(trial, line, why))
+
+
+@test("scripts: ob0-format keeps owner, group, mode, attributes and line ends, and leaves a file that is read-only or has two names")
+def format_keeps() -> None:
+    def trial(work: str, own: dict[str, str]) -> None:
+        file = os.path.join(work, "loose.ob0")
+        owner = (65534, 65533) if os.geteuid() == 0 else (os.getuid(), os.getgid())
+        os.chown(file, *owner)
+        os.chmod(file, 0o604)
+        os.setxattr(file, "user.ob0", b"kept")
+        os.chmod(os.path.join(work, "read.mod"), 0o444)
+        os.link(os.path.join(work, "first.mod"), os.path.join(work, "second.mod"))
+        refused = "read.mod: it is read-only\nfirst.mod: it has another name (a hard link), which would keep the old text\n"
+        found = ran(["ob0-format", "read.mod", "first.mod", "loose.ob0", "dos.mod"], work, own)
+        same(found, (4, "loose.ob0\ndos.mod\n", refused), "the files")
+        same([text_of(work, it) for it in ("read.mod", "first.mod")], [LOOSE] * 2, "the refused files")
+        with open(os.path.join(work, "dos.mod"), newline="", encoding="utf-8") as text:
+            same(text.read(), LAID_OUT.replace("\n", "\r\n"), "a file with CR LF")
+        now = os.stat(file)
+        same((now.st_uid, now.st_gid, now.st_mode & 0o777, os.getxattr(file, "user.ob0")), (*owner, 0o604, b"kept"), "what was kept")
+        same(ran(["ob0-format", "--check", "dos.mod"], work, own), (0, "", ""), "a formatted file with CR LF")
+        same(ran(["ob0-format", "--check", "read.mod", "first.mod"], work, own), (1, "read.mod\nfirst.mod\n", ""), "what --check names")
+
+    in_folder({**dict.fromkeys(("loose.ob0", "read.mod", "first.mod"), LOOSE), "dos.mod": LOOSE.replace("\n", "\r\n")}, trial)
+
+
+@test("scripts: ob0-format leaves another user's file, whose owner it can't keep")
+def format_others() -> None:
+    if os.geteuid() != 0 or not shutil.which("setpriv"):
+        harness.leave_out("it wants root and setpriv, to be another user")
+
+    def trial(work: str, own: dict[str, str]) -> None:
+        room = os.path.dirname(work)
+        shutil.copy(FORMAT, os.path.join(room, "ob0-format"))
+        write(os.path.join(room, "ob0"), server_with([{"range": harness.extent("0:7-0:7"), "newText": " "}]))
+        for name, mode in (("", 0o755), ("ob0", 0o755), ("work", 0o777), ("work/good.mod", 0o666)):
+            os.chmod(os.path.join(room, name), mode)
+        found = ran(["setpriv", "--reuid=65534", "--clear-groups", "python3", os.path.join(room, "ob0-format"), "good.mod"], work, own)
+        said = "good.mod: its owner, group, mode or access list can't be kept: Operation not permitted\n"
+        same((found, text_of(work, "good.mod"), os.listdir(work)), ((4, "", said), LAID_OUT, ["good.mod"]))
+
+    in_folder({"good.mod": LAID_OUT}, trial)
+
+
+@test("scripts: ob0-format replaces no device, and reads no more of one than a module may have")
+def format_devices() -> None:
+    refused = "/dev/stdin: only a file can be replaced; --check takes others too\n"
+
+    def trial(work: str, own: dict[str, str]) -> None:
+        same(ran(["sh", "-c", "ob0-format /dev/stdin < loose.ob0"], work, own), (4, "", refused), "a file as standard input")
+        same((text_of(work, "loose.ob0"), sorted(os.listdir(work))), (LOOSE, sorted(MODULES)), "the files")
+        same(ran(["ob0-format", "/dev/stdin"], work, own, LOOSE), (4, "", refused), "a pipe")
+        endless = "/dev/zero has faults, so it isn't laid out: `ob0 check` lists them\n"
+        same(ran(["ob0-format", "/dev/zero"], work, own), (1, "", endless), "a device without an end")
+
+    in_folder(MODULES, trial)
+    holds("`TooLong` | the text has more than 1,048,576 bytes" in text_of("docs", "LANGUAGE.md"), "the page has another longest text")
+
+
+STARTED: list[Content] = [{"id": 1, "result": {"capabilities": {"positionEncoding": "utf-8"}}}]
+
+
+def first_by(lines: str, answers: list[Content], work: str, own: dict[str, str]) -> dict[str, str]:
+    """The environment in which `ob0` writes these answers and then runs these lines of a shell, its process being in the file
+    `pid`, when it is started for the first time. After that it is the program."""
+    other = os.path.join(work, "..", "other")
+    script = f"#!/bin/sh\n[ -e pid ] && exec ob0-itself \"$@\"\necho $$ > new; mv new pid; cat '{other}/answers'\n{lines}\n"
+    write(os.path.join(other, "ob0"), script)
+    os.chmod(os.path.join(other, "ob0"), 0o755)
+    os.symlink(os.path.abspath(harness.BINARY), os.path.join(other, "ob0-itself"))
+    with open(os.path.join(other, "answers"), "wb") as file:
+        file.write(frames(answers))
+    return {**own, "PATH": other + os.pathsep + own["PATH"]}
+
+
+@test("scripts: ob0-format goes on with a new server if one fails over a file")
+def format_again() -> None:
+    strange: list[Content] = [*STARTED, {"method": "textDocument/publishDiagnostics"}]
+    for answers, said in ((STARTED, "the server ended"), (strange, "the server answers something else than it has to")):
+
+        def trial(work: str, own: dict[str, str], answers: list[Content] = answers, said: str = said) -> None:
+            found = ran(["python3", FORMAT, "a.mod", "b.mod"], work, first_by("head -n 5 > /dev/null", answers, work, own))
+            same((found, text_of(work, "a.mod"), text_of(work, "b.mod")), ((4, "b.mod\n", f"a.mod: {said}\n"), LOOSE, LAID_OUT))
+
+        in_folder({"a.mod": LOOSE, "b.mod": LOOSE}, trial)
+
+
+# runs a script that gets a signal just before it replaces a file
+SIGNALLED = """
+import os, runpy, sys
+replace, number = os.replace, int(sys.argv[1])
+def signalled(*words):
+    os.kill(os.getpid(), number)
+    replace(*words)
+os.replace = signalled
+sys.argv = sys.argv[2:]
+runpy.run_path(sys.argv[0], run_name="__main__")
+"""
+SIGNALS = (signal.SIGINT, signal.SIGTERM, signal.SIGHUP)
+
+
+@test("scripts: a signal ends ob0-format and its server between two files, and leaves no file half done and none beside it")
+def format_signalled() -> None:
+    def while_it_writes(number: int, work: str, own: dict[str, str]) -> None:
+        status, out, _ = ran(["python3", "-c", SIGNALLED, str(int(number)), FORMAT, "a.mod", "b.mod"], work, own)
+        same((status, out, sorted(os.listdir(work))), (-number, "", ["a.mod", "b.mod"]), f"signal {number} while it writes")
+        same([text_of(work, it) for it in ("a.mod", "b.mod")], [LAID_OUT, LOOSE], "the files")
+
+    def while_it_waits(number: int, work: str, own: dict[str, str]) -> None:
+        environment = first_by("exec sleep 600", STARTED, work, own)
+        with subprocess.Popen(["python3", FORMAT, "a.mod"], cwd=work, env=environment) as process:
+            while not os.path.exists(os.path.join(work, "pid")):
+                time.sleep(0.01)
+            time.sleep(0.3)
+            process.send_signal(number)
+            same(process.wait(harness.SECONDS), -number, "the status")
+        holds(not is_running(int(text_of(work, "pid"))), f"the server goes on after signal {number}")
+
+    for number in SIGNALS:
+        in_folder({"a.mod": LOOSE, "b.mod": LOOSE}, functools.partial(while_it_writes, number))
+        in_folder({"a.mod": LOOSE}, functools.partial(while_it_waits, number))
 
 
 BLOCKS = [text for name, text in fenced("docs/CI.md") if name == "sh"]
@@ -301,12 +465,12 @@ def job() -> None:
 
 @test("scripts: the lines of the manual page list faults as compilers do, and keep the status")
 def manual_lines() -> None:
+    harness.want("bash")
     page = text_of("share", "ob0.1").partition("List errors as compilers do")[2].partition(".nf\n")[2].partition(".fi\n")[0]
     lines = page.replace("\\(aq", "'").replace("\\e", "\\").replace("\\-", "-")
     for text, status, said in ((FAULTY, 1, "\n".join(LISTED) + "\n"), (LAID_OUT, 0, "")):
         for shell in (["sh", "-c"], ["sh", "-e", "-c"], ["bash", "-e", "-o", "pipefail", "-c"]):
-            if shutil.which(shell[0]):
-                wanted = (status, said.replace("two words.Mod", "Sort.mod"), "")
-                same(in_folder({"Sort.mod": text}, functools.partial(ran, [*shell, lines])), wanted, " ".join(shell))
+            wanted = (status, said.replace("two words.Mod", "Sort.mod"), "")
+            same(in_folder({"Sort.mod": text}, functools.partial(ran, [*shell, lines])), wanted, " ".join(shell))
     missing = in_folder({"other.mod": LAID_OUT}, functools.partial(ran, ["sh", "-c", lines]))
     same(missing, (4, "", "fault: File\n"), "a file that isn't there")

@@ -9,7 +9,7 @@ from collections.abc import Callable
 from typing import TypeVar
 
 from common import match_of
-from harness import TOP, holds, run, same, test, text_of, want, want_proved
+from harness import TOP, holds, need_program, run, same, test, text_of, want, want_proved
 from homes import at_home, run_plainly, temporary, write
 from screen import Screen
 from snippets import fenced
@@ -80,7 +80,7 @@ def in_fish() -> None:
     want("fish")
 
     def offered(room: str, typed: str) -> list[str]:
-        script = f"source {os.path.join(SHARE, 'ob0.fish')}; complete -C {shlex.quote('ob0 ' + typed)}"
+        script = f"source {shlex.quote(os.path.join(SHARE, 'ob0.fish'))}; complete -C {shlex.quote('ob0 ' + typed)}"
         status, said = run_plainly(["fish", "--no-config", "-c", script], environment(room), room)
         same(status, 0, said)
         return sorted(line.split("\t")[0] for line in said.splitlines() if line.strip())
@@ -136,6 +136,7 @@ PAGES = ["README.md", "examples/README.md"]
 
 @test("shell: the transcripts of README are what the program prints")
 def transcripts() -> None:
+    need_program()
     blocks = [text for it in PAGES for name, text in fenced(it) if name == "console"]
     holds(blocks, "there is none")
     with temporary() as room:
@@ -149,6 +150,7 @@ def transcripts() -> None:
 
 @test("shell: the lines of README's first module make it, find nothing wrong and run it")
 def first_module() -> None:
+    need_program()
     page = text_of("README.md").partition("\n## A first module\n\n")[2]
     lines = [it[4:] for it in page.partition("\n\n")[0].splitlines()]
     same(len(lines), 3, "the lines")

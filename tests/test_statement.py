@@ -10,6 +10,7 @@ import sys
 from collections.abc import Iterable
 from typing import Any, Tuple
 
+from common import match_of
 from harness import TOP, Failed, holds, same, test, text_of
 
 PAGE = os.path.join("docs", "STATEMENT.md")
@@ -113,6 +114,21 @@ def names_once() -> None:
     same(sorted({name for name in names if names.count(name) > 1}), [], "names that stand twice")
     at = next(i for i, line in enumerate(text_of(PAGE).splitlines(), 1) if line.startswith("pub record Headline"))
     holds(at < 80, f"the headline stands at line {at}")
+
+
+def quoted(page: str) -> str:
+    """The first quotation of a page, in one line."""
+    return " ".join(match_of(r"(?:^> .*\n)+", text_of(page), re.M)[0].replace("> ", "").split())
+
+
+@test("statement: the page, the promises and the comment of `play_in` have the headline in the same words")
+def one_headline() -> None:
+    comment = match_of(r"((?: *///.*\n)+) *pub fn play_in\(", text_of("crates", "ob0_world", "src", "world.rt"))[1]
+    paragraphs = [" ".join(it.split()) for it in re.sub(r"^ *///", "", comment, flags=re.M).split("\n\n")]
+    headline = quoted(PAGE)
+    holds(headline.startswith("In every interleaving of an editor and the server,"), f"the page begins with {headline!r}")
+    same(quoted(os.path.join("docs", "PROMISES.md")), headline, "the headline of the promises")
+    holds(headline in paragraphs, f"the comment of `play_in` has {paragraphs}")
 
 
 def rows() -> dict[str, list[int]]:

@@ -11,8 +11,8 @@ import harness
 from first_conversation import BORDERS, FIRST, HEADS_IN, HEADS_OUT, IN, INPUT, OUT, OUTPUT
 from harness import Ended, frame, frames, holds, initialize, run, same, serve, serve_in_pieces, test, unframed
 from harness import SHUTDOWN, EXIT, request
+from seeds import COUNT, named, seeds
 
-COUNT, SEED = int(os.environ.get("OB0_RANDOM", "300")), int(os.environ.get("OB0_SEED", "0"))
 
 
 def ended(found: Ended, out: bytes, status: int, err: bytes = b"") -> None:
@@ -207,9 +207,9 @@ def mutated(seed: int) -> bytes:
 
 @test("stream: bytes that are changed at random end a conversation with one of its statuses, and all that is sent is whole")
 def garbage() -> None:
-    for seed in range(SEED, SEED + COUNT):
+    for seed in seeds(COUNT):
         found = serve(mutated(seed))
-        where = f"seed {seed}, {mutated(seed)!r}"
+        where = f"{named(seed)}, {mutated(seed)!r}"
         ends: dict[int | None, list[bytes]] = {0: [b""], 1: [b""], 3: [b"fault: BadHead\n", b"fault: Truncated\n"]}
         holds(found.err in ends.get(found.status, []), f"{where}: status {found.status}, {found.err!r}")
         for it in found.contents():

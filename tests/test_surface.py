@@ -1,21 +1,176 @@
 """docs/SURFACE.md is of the present sources, and each public function has a mutant, or a reason why not."""
 from __future__ import annotations
 
+import contextlib
+import io
 import os
 import shutil
 import subprocess
 import sys
-from typing import Any
+import tempfile
+from typing import Any, Dict, List, Tuple
+from unittest import mock
 
-from harness import TOP, Failed, Skipped, test
+import common
+import public_functions
+import reading
+from harness import TOP, Failed, holds, leave_out, same, test
 
 
 @test("surface: each public function has a mutant, or a reason why not")
 def surface() -> None:
     if not shutil.which("rt"):
-        raise Skipped("rt, which reads the sources, isn't here")
+        leave_out("rt, which reads the sources, is missing")
     script = os.path.join(TOP, "tools", "public_functions.py")
     how: dict[str, Any] = {"stdin": subprocess.DEVNULL, "stdout": subprocess.PIPE, "stderr": subprocess.STDOUT, "text": True}
     ran = subprocess.run([sys.executable, script, "--check"], **how)
     if ran.returncode or "isn't of these sources" in ran.stdout:
         raise Failed(ran.stdout[-3000:])
+
+
+# Two crates: a trait of the lower one has methods on types of both.
+FILES: Dict[str, str] = {
+    "crates.txt": "low:\nhigh: low\n",
+    "crates/low/src/lib.rt": """//! A trait, with methods on types of std.
+#![tactic(auto)]
+
+mod inside;
+
+pub use inside::Count;
+
+/// What has a size.
+pub trait Sized {
+    fn size(&self) -> u64;
+}
+
+impl Sized for u64 {
+    fn size(&self) -> u64 {
+        8
+    }
+}
+
+/// A law.
+pub fn law()
+    ensures { 1 ≡ 1 }
+{
+}
+
+fn private() -> u64 {
+    3
+}
+
+#[test]
+fn tested() {
+    private();
+}
+""",
+    "crates/low/src/inside.rt": """//! A type.
+
+/// How many there are, and of what.
+#[derive(Clone, Copy, Drop)]
+pub enum Count {
+    /// None.
+    Empty,
+    Of(u64, Option<u32>),
+    #[error("too many")]
+    More { than: u64, of: Vec<u8> },
+}
+
+pub struct Hidden {
+    pub here: u64,
+}
+
+impl Count {
+    pub fn of(n: u64) -> Count {
+        Count::Of(n, None)
+    }
+
+    fn inner(&self) -> u64 {
+        1
+    }
+}
+""",
+    "crates/high/src/lib.rt": """//! A type with methods of traits of another crate and of std.
+#![tactic(auto)]
+
+use low::Sized;
+use std::io::Write;
+
+/// A pair.
+pub struct Pair {
+    pub left: &'static [u64],
+    right: u64,
+    pub(crate) both: u64,
+}
+
+impl Sized for Pair {
+    fn size(&self) -> u64 {
+        16
+    }
+}
+
+impl Write for Pair {
+    fn write(&mut self, buf: &[u8]) -> Result<usize, Error> {
+        Ok(buf.len())
+    }
+}
+
+impl Drop for Pair {
+    fn drop(&mut self) {
+        self.right = 0;
+    }
+}
+""",
+}
+LACKING = ["high::Pair::size", "high::Pair::write", "low::inside::Count::of", "low::u64::size"]
+
+
+@contextlib.contextmanager
+def two_crates(top: str) -> Any:
+    """A folder with the two crates, in place of the repository."""
+    for name, text in FILES.items():
+        path = os.path.join(top, name)
+        os.makedirs(os.path.dirname(path), exist_ok=True)
+        with open(path, "w", encoding="utf-8") as file:
+            file.write(text)
+    page, reasons = os.path.join(top, "SURFACE.md"), os.path.join(top, "reasons.txt")
+    for path in (page, reasons):
+        with open(path, "w", encoding="utf-8"):
+            pass
+    with mock.patch.object(common, "TOP", top), mock.patch.object(public_functions, "PAGE", page):
+        with mock.patch.object(public_functions, "REASONS", reasons), mock.patch.object(public_functions, "keep_counts", lambda: None):
+            yield
+
+
+def said_of(top: str) -> Tuple[int, List[str]]:
+    """The status of the script over the two crates, and the functions that it names."""
+    with contextlib.redirect_stdout(io.StringIO()) as said:
+        status = public_functions.main([])
+    return status, sorted(it.strip() for it in said.getvalue().split("\n") if it.startswith("  "))
+
+
+@test("surface: a public function without a mutant fails, also a method of a trait of this repository, and so does a reason of none")
+def lacking() -> None:
+    with tempfile.TemporaryDirectory() as top, two_crates(top):
+        same(said_of(top), (1, LACKING), "the functions that lack a mutant")
+        os.makedirs(os.path.join(top, "crates/low/wrong-bodies"))
+        with open(os.path.join(top, "crates/low/wrong-bodies/empty.edit"), "w", encoding="utf-8") as file:
+            file.write("file: src/inside.rt\nold:         Count::Of(n, None)\nnew:         Count::Empty\n")
+        same(said_of(top)[1], [it for it in LACKING if it != "low::inside::Count::of"], "after one has a mutant")
+        with open(public_functions.REASONS, "w", encoding="utf-8") as file:
+            file.writelines(f"{it}: a reason\n" for it in LACKING[:2] + LACKING[3:])
+        same(said_of(top), (0, []), "after the others have a reason")
+        with open(public_functions.REASONS, "a", encoding="utf-8") as file:
+            file.write("low::gone: a reason\n")
+        same(said_of(top), (1, ["low::gone"]), "a reason of a function that isn't there")
+        with open(public_functions.PAGE, encoding="utf-8") as file:
+            page = file.read()
+        holds("| `inside::Count::of` | wrong-bodies/empty |" in page and "| `law` | law |" in page, page)
+
+
+@test("surface: a public type has its variants, or its public fields, in the order of the source")
+def types() -> None:
+    with tempfile.TemporaryDirectory() as top, two_crates(top):
+        found = {it.path: it.parts for crate in ("low", "high") for it in reading.Source(crate).public_types()}
+    variants = ["Empty", "Of(u64, Option<u32>)", "More { than: u64, of: Vec<u8> }"]
+    same(found, {"inside::Count": variants, "Pair": ["left: &'static [u64]"]}, "types")

@@ -216,6 +216,7 @@ def textmate() -> None:
             '" still "',
             '1:11-18 support.type.oberon0 "INTEGER"',
             '1:35-37 constant.numeric.integer.oberon0 "12"',
+            '1:32-34 keyword.operator.oberon0 ":="',
             '1:38-41 keyword.operator.word.oberon0 "DIV"',
             '1:45-50 support.function.oberon0 "Write"',
             '1:51-53 invalid.illegal.number.oberon0 "4x"',
@@ -388,7 +389,7 @@ def kakoune_indents() -> None:
             same(text_of(file), text, f"{name} as it was typed")
 
 
-@test("syntax files: settings of Kate, Helix, kak-lsp and VS Code name the server and what is there")
+@test("syntax files: settings of Kate and VS Code name the server and files that exist")
 def settings() -> None:
     server = json.loads(text_of("editors", "kate", "settings.json"))["servers"]["oberon0"]
     same(server["command"], ["ob0", "serve"], "Kate's command")
@@ -403,10 +404,13 @@ def settings() -> None:
     for it in package["main"], package["contributes"]["languages"][0]["configuration"], package["contributes"]["grammars"][0]["path"]:
         holds(os.path.isfile(os.path.join(TOP, "editors", "vscode", it)), f"package.json names {it}")
     json.loads(text_of("editors", "vscode", "language-configuration.json"))
-    try:
-        import tomllib
-    except ImportError:
-        return
+
+
+@test("syntax files: settings of Helix and kak-lsp name the server")
+def settings_in_toml() -> None:
+    want("Python 3.11")
+    import tomllib  # pylint: disable=import-outside-toplevel
+
     with temporary() as room:
         at_home(room, "helix")
         helix = tomllib.loads(text_of(room, ".config", "helix", "languages.toml"))

@@ -6,12 +6,11 @@ import json
 import os
 import re
 import shutil
-import subprocess
 from typing import Any
 
 import random_texts
 from common import match_of
-from harness import TOP, Server, did_open, examples, holds, leave_out, need_program, same, test, text_of, want
+from harness import TOP, Server, did_open, examples, holds, need_program, same, test, text_of, want
 from homes import at_home, run_plainly, temporary, write
 from snippets import fenced
 
@@ -29,13 +28,17 @@ BEGIN
   END
 END M.
 """
-# a word of the sample (the first one, after comments) and its capture
+# a word of the sample (the first one, after comments) and its capture, by Neovim's names and by Helix's
 COLOURS = [
-    ("MODULE", "keyword"), ("still", "comment"), ("open", "comment"), ("limit", "constant"), ("12", "constant.numeric.integer"),
-    ("DIV", "keyword.operator"), ("Row", "type"), ("INTEGER", "type.builtin"), ("rows", "variable"), ("Put", "function"),
-    ("cell", "variable.parameter"), ("IF", "keyword.control"), ("~", "operator"), ("OR", "keyword.operator"),
-    ("TRUE", "constant.builtin.boolean"), ("Write", "function.builtin"),
+    ("MODULE", "keyword", "keyword"), ("still", "comment", "comment"), ("open", "comment", "comment"), ("limit", "constant", "constant"),
+    ("12", "number", "constant.numeric.integer"), ("DIV", "keyword.operator", "keyword.operator"), ("Row", "type.definition", "type"),
+    ("INTEGER", "type.builtin", "type.builtin"), ("rows", "variable", "variable"), ("PROCEDURE", "keyword.function", "keyword"),
+    ("Put", "function", "function"), ("cell", "variable.parameter", "variable.parameter"), ("IF", "keyword.conditional", "keyword.control"),
+    ("~", "operator", "operator"), ("OR", "keyword.operator", "keyword.operator"), ("TRUE", "boolean", "constant.builtin.boolean"),
+    ("Write", "function.builtin", "function.builtin"),
 ]  # fmt: skip
+# where the queries of Neovim and of Helix are, below the folder `queries`
+QUERIES = ["highlights", "folds", "helix/highlights", "helix/indents"]
 # the lines (counted from 0) of what can be folded over several
 FOLDS = [(4, 5), (6, 10), (7, 10)]
 # of these faults the grammar knows nothing, or what follows them isn't reported
@@ -56,9 +59,9 @@ def compiled(room: str) -> str:
 
 @functools.lru_cache(None)
 def read_by_neovim(texts: tuple[str, ...]) -> Any:
-    """Which of the texts (a tuple) have an error, and what the queries find in the sample."""
+    """Which of the texts (a tuple) have an error, their trees, and what the queries find in the sample."""
     with temporary() as room:
-        write(os.path.join(room, "given"), json.dumps({"texts": texts, "text": SAMPLE}))
+        write(os.path.join(room, "given"), json.dumps({"texts": texts, "text": SAMPLE, "queries": QUERIES}))
         own = {**os.environ, "HOME": room, "OB0_PARSER": compiled(room), "OB0_QUERIES": os.path.join(FOLDER, "queries")}
         own.update(OB0_GIVEN=os.path.join(room, "given"), OB0_REPORT=os.path.join(room, "report"))
         script = os.path.join(TOP, "tests", "editors", "treesitter.lua")
@@ -100,18 +103,58 @@ def agrees() -> None:
     same([text for text, due, came in zip(texts, wanted, got) if due is not None and due != came], [], "the texts that are taken in another way")
 
 
-@test("tree-sitter: colours and folds of a sample, and the query of indents is read")
+@test("tree-sitter: colours of a sample by the queries of Neovim and of Helix, folds in Neovim, and Helix's indents are read")
 def queries() -> None:
     found = read_by_neovim((SAMPLE,))
     same(found["faulty"], [False], "the sample")
     lines = SAMPLE.split("\n")
-    for word, capture in COLOURS:
+    for word, *captures in COLOURS:
         pattern = rf"\b{word}\b" if word.isalnum() else re.escape(word)
         row, column = next((at, found_at.start()) for at, line in enumerate(lines) for found_at in re.finditer(pattern, line))
-        inside = [name for name, *span in found["captures"] if tuple(span[:2]) <= (row, column) < tuple(span[2:])]
-        same(inside, [capture], f"the captures of {word}")
-    same([(it[1], it[3]) for it in found["folds"] if it[1] != it[3]], FOLDS, "the folds over several lines")
-    holds(found["indents"], "the query of indents finds something")
+        for name, capture in zip(("highlights", "helix/highlights"), captures):
+            inside = [it for it, *span in found["captures"][name] if tuple(span[:2]) <= (row, column) < tuple(span[2:])]
+            same(inside, [capture], f"the captures of {word} by {name}")
+    folds = [(it[1], it[3]) for it in found["captures"]["folds"] if it[1] != it[3]]
+    same(folds, FOLDS, "the folds over several lines")
+    holds(found["captures"]["helix/indents"], "the query of indents finds something")
+
+
+def corpus() -> list[tuple[str, str, str]]:
+    """The cases of test/corpus: of each its name, its text and its tree, which is empty if the text has an error."""
+    found = []
+    for it in sorted(os.listdir(os.path.join(FOLDER, "test", "corpus"))):
+        parts = re.split(r"^=+\n(.*\n(?::error\n)?)=+\n", text_of(FOLDER, "test", "corpus", it), flags=re.M)
+        for heading, rest in zip(parts[1::2], parts[2::2]):
+            text, _, tree = rest.partition("\n---\n")
+            same((":error" in heading, not tree.strip()), (True, True) if ":error" in heading else (False, False), heading)
+            found.append((heading.split("\n")[0], text, " ".join(tree.split())))
+    return found
+
+
+@test("tree-sitter: each text of test/corpus has the tree that stands there, or an error")
+def trees_of_corpus() -> None:
+    cases = corpus()
+    found = read_by_neovim(tuple(text for _, text, _ in cases))
+    for (name, _, wanted), faulty, tree in zip(cases, found["faulty"], found["trees"]):
+        same(faulty, not wanted, f"an error in {name}")
+        if wanted:
+            same(re.sub(r"\w+: ", "", tree).replace(" )", ")"), wanted, name)
+    holds(len(cases) > 8, f"{len(cases)} cases")
+
+
+@test("tree-sitter: its files are those of its conventions, of the grammar's name")
+def conventions() -> None:
+    about = json.loads(text_of(FOLDER, "tree-sitter.json"))
+    (grammar,) = about["grammars"]
+    holds(os.path.isfile(os.path.join(FOLDER, grammar["highlights"])), "the query that it names")
+    holds(re.match(grammar["content-regex"], "(* a *)\n(* b *) MODULE M;") and not re.match(grammar["content-regex"], "module x"), "the first word")
+    made = json.loads(text_of(FOLDER, "src", "grammar.json"))
+    written = text_of(FOLDER, "grammar.js")
+    same({made["name"], grammar["name"], match_of(r'name: "(\w+)"', written)[1]}, {"oberon0"}, "its name")
+    same(list(made["rules"]), re.findall(r"^    (\w+): \(", written, re.M), "the rules of grammar.json")
+    kinds = {it["type"] for it in json.loads(text_of(FOLDER, "src", "node-types.json")) if it["named"]}
+    same(kinds, {it for it in made["rules"] if not it.startswith("_")} | {"comment"}, "the kinds of node-types.json")
+    same(grammar["file-types"], ["ob0", "mod", "Mod"], "its endings")
 
 
 @test("tree-sitter: the reserved words of its grammar are the language's")
@@ -119,32 +162,32 @@ def words() -> None:
     block = match_of(r"The reserved words:\n\n```\n(.*?)```", text_of("docs", "LANGUAGE.md"), re.S)[1]
     found = {*re.findall(r'"([A-Z]+)"', text_of(FOLDER, "grammar.js"))}
     same(sorted(found), sorted(block.split()), "the words")
-    in_query = re.findall(r'"([A-Z]+)"', text_of(FOLDER, "queries", "highlights.scm"))
-    same(sorted(in_query), sorted(block.split()), "the words that are coloured")
+    for name in ("highlights.scm", "helix/highlights.scm"):
+        in_query = re.findall(r'"([A-Z]+)"', re.sub(r"\(#.*", "", text_of(FOLDER, "queries", name)))
+        same(sorted(in_query), sorted(block.split()), f"the words that {name} colours")
 
 
 @test("tree-sitter: the lines of its page and of Helix's compile it and copy its queries")
 def installed() -> None:
     want("cc")
-    for page, library, queries_at in (
-        ("tree-sitter", ".local/share/nvim/site/parser/oberon0.so", ".local/share/nvim/site/queries/oberon0"),
-        ("helix", ".config/helix/runtime/grammars/oberon0.so", ".config/helix/runtime/queries/oberon0"),
+    for page, library, queries_at, own in (
+        ("tree-sitter", ".local/share/nvim/site/parser/oberon0.so", ".local/share/nvim/site/queries/oberon0", "."),
+        ("helix", ".config/helix/runtime/grammars/oberon0.so", ".config/helix/runtime/queries/oberon0", "helix"),
     ):
         with temporary() as room:
             at_home(room, page)
             holds(os.path.getsize(os.path.join(room, library)), library)
-            same(sorted(os.listdir(os.path.join(room, queries_at))), sorted(os.listdir(os.path.join(FOLDER, "queries"))), page)
+            given = os.path.join(FOLDER, "queries", own)
+            wanted = {it: text_of(given, it) for it in os.listdir(given) if it.endswith(".scm")}
+            same({it: text_of(room, queries_at, it) for it in os.listdir(os.path.join(room, queries_at))}, wanted, page)
 
 
-@test("tree-sitter: parser.c is what the command `tree-sitter` makes of grammar.js")
+@test("tree-sitter: parser.c, grammar.json and node-types.json are what the command `tree-sitter` makes of grammar.js")
 def generated() -> None:
-    if not shutil.which("tree-sitter"):
-        leave_out("tree-sitter (tree-sitter-cli of Debian 13) missing")
-    version = subprocess.run(["tree-sitter", "--version"], stdout=subprocess.PIPE, check=True).stdout.decode().split()[1]
-    if not version.startswith("0.22."):
-        leave_out(f"parser.c was made by tree-sitter 0.22, and here is {version}")
+    want("tree-sitter 0.22")  # (tree-sitter-cli of Debian 13)
     with temporary() as room:
         shutil.copy(os.path.join(FOLDER, "grammar.js"), room)
         status, said = run_plainly(["tree-sitter", "generate", "--no-bindings"], {**os.environ, "HOME": room}, room)
         same(status, 0, said)
-        same(text_of(room, "src", "parser.c"), text_of(FOLDER, "src", "parser.c"), "parser.c")
+        for it in ("parser.c", "grammar.json", "node-types.json"):
+            same(text_of(room, "src", it), text_of(FOLDER, "src", it), it)

@@ -28,9 +28,12 @@ from typing import Any, NamedTuple
 
 import common
 import edits
+import notices
 from common import TOP, BINARY
 
 STEP = 15  # seconds between two lines about a crate that takes long
+# what ends a build: Ctrl-C, a job that is cancelled, a terminal that is closed
+ENDING = (signal.SIGINT, signal.SIGTERM, signal.SIGHUP)
 ROOMS = os.path.join(TOP, "bin", "rooms")
 # What rattle makes of a function's body and of its proof, by the last part of a module's name: no crate above can name these. (A
 # program and the tests see the code of all that they reach, and TheLink: what their last line says of that is left to the gate.)
@@ -45,15 +48,16 @@ def processors() -> int:
 
 
 def lanes() -> int:
-    """How many crates are proved side by side: one a processor, and one for each 4 GB of free memory."""
-    free = 4
+    """How many crates are proved side by side: one for each processor, and one for each 3.5 GB of free memory (a check takes 1 to
+    3 GB)."""
+    free = os.sysconf("SC_PAGE_SIZE") * os.sysconf("SC_PHYS_PAGES")
     try:
         with open("/proc/meminfo", encoding="ascii") as file:
             found = re.search(r"MemAvailable:\s+(\d+)", file.read())
-            free = int(found[1]) // (4 << 20) if found else free
+            free = 1024 * int(found[1]) if found else free
     except OSError:
         pass
-    return max(1, min(processors(), free))
+    return max(1, min(processors(), free // 3_500_000_000))
 
 
 def link(old: str, new: str) -> None:
@@ -338,8 +342,8 @@ class Work:
 
 
 def end_all(running: dict[str, Work]) -> None:
-    for work in running.values():
-        work.end()
+    while running:
+        running.popitem()[1].end()
 
 
 def main(words: list[str]) -> int:
@@ -348,6 +352,8 @@ def main(words: list[str]) -> int:
     # (a program that is up to date needs no toolchain)
     if not is_check and common.is_current():
         print("bin/ob0 is up to date", flush=True)
+        if common.kit():
+            notices.of_program()
         return 0
     common.need("rt")
     return carry_out(Plan(is_check))
@@ -359,17 +365,20 @@ def prove_libraries(names: Iterable[str]) -> int:
 
 
 def carry_out(plan: Plan) -> int:
-    """Proves what a plan names; returns the exit status."""
+    """Proves what a plan names; returns the exit status. If a signal ends it, it ends the checks that run first, and brings back from
+    the rooms what was proved. (A signal that is ignored, as `nohup` has it, stays ignored.)"""
     running: dict[str, Work] = {}
+    came: list[int] = []
+    others = {it: signal.getsignal(it) for it in ENDING}
+    for it in (it for it in ENDING if others[it] != signal.SIG_IGN):
+        signal.signal(it, lambda number, _: came.append(number))
     try:
-        return prove_all(running, plan)
-    except KeyboardInterrupt:
-        # (a second interrupt would leave in the rooms what was proved)
-        signal.signal(signal.SIGINT, signal.SIG_IGN)
-        end_all(running)
-        return 130
+        return prove_all(running, plan, came)
     finally:
+        end_all(running)
         shutil.rmtree(ROOMS, ignore_errors=True)
+        for it in ENDING:
+            signal.signal(it, others[it])
 
 
 class Plan:
@@ -443,7 +452,8 @@ class Plan:
         return f"{len(self.all) - len(self.done)} of {len(self.all)} crates are left"
 
 
-def prove_all(running: dict[str, Work], plan: Plan) -> int:
+def prove_all(running: dict[str, Work], plan: Plan, came: list[int]) -> int:
+    """Proves what a plan names, until a signal comes; returns the exit status."""
     ready, most, shown_at = plan.ready(running), lanes(), time.monotonic()
     plan.say(f"{len(plan.done)} of {len(plan.all)} crates are up to date")
     while not plan.is_done:
@@ -454,6 +464,8 @@ def prove_all(running: dict[str, Work], plan: Plan) -> int:
                 running[name] = Work(name, plan.named, jobs, plan.is_check)
                 plan.say(f"{name}: {'building its library again' if name in plan.done else 'proving it'}; {plan.left()}")
         time.sleep(0.2)
+        if came:
+            return 128 + came[0]
         for name, work in list(running.items()):
             if work.process.poll() is None:
                 continue
@@ -485,6 +497,7 @@ def end(plan: Plan) -> int:
         plan.say("this is not the gate: `make test` is")
         return 0
     common.keep(os.path.join(TOP, "crates", "ob0", "out", "ob0"))
+    notices.keep()
     plan.say(f"built {os.path.relpath(BINARY, TOP)}")
     return 0
 

@@ -130,8 +130,8 @@ def kit() -> str | None:
 
 
 def stamp() -> dict[str, str]:
-    """What bin/ob0.stamp says of bin/ob0: the toolchain that proved it, the sums of its sources and of the program, and the
-    gate's last line where the gate built it."""
+    """What bin/ob0.stamp says of bin/ob0: the toolchain that proved it, the sums of its sources and of the program, and the last line
+    of `make test` once that has ended on it."""
     try:
         with open(STAMP, encoding="utf-8") as file:
             return dict(line.rstrip("\n").split(" ", 1) for line in file if " " in line)
@@ -152,13 +152,22 @@ def is_current() -> bool:
     )
 
 
-def keep(linked: str, gate: str | None = None) -> None:
-    """Copies a linked program to bin/ob0, with a stamp: the toolchain's identity, sums over the sources and over the program, and
-    the gate's last line where the gate built it. By it nothing is proved again where nothing changed."""
+def keep(linked: str) -> None:
+    """Copies a linked program to bin/ob0, with a stamp: the toolchain's identity and sums over the sources and over the program. By it
+    nothing is proved again if nothing changed."""
     os.makedirs(os.path.dirname(BINARY), exist_ok=True)
     shutil.copyfile(linked, BINARY + ".new")
     os.chmod(BINARY + ".new", 0o755)
     os.replace(BINARY + ".new", BINARY)
-    lines = {"kit": kit(), "sources": sum_of(sources(below("ob0"))), "program": file_sum(BINARY), "gate": gate}
+    write_stamp({"kit": kit() or "", "sources": sum_of(sources(below("ob0"))), "program": file_sum(BINARY)})
+
+
+def keep_verdict(line: str) -> None:
+    """Adds the last line of `make test` to the stamp of the program that it tested."""
+    if is_current():
+        write_stamp({**stamp(), "gate": line})
+
+
+def write_stamp(lines: dict[str, str]) -> None:
     with open(STAMP, "w", encoding="utf-8") as file:
         file.writelines(f"{name} {value}\n" for name, value in lines.items() if value)

@@ -1,12 +1,13 @@
 #!/usr/bin/env python3
 """Installs by apt-get what the tests want beside the program: the editors that editors/ has packages for, as far as
-Debian has them, the programs that read syntax files, completions and the manual page, and a C compiler, without which
-`make test` doesn't pass.
+Debian has them, the programs that read syntax files, completions and the manual page, and a C compiler, git and bash, without
+which `make test` doesn't pass.
 
-  tools/editors.py          installs what is missing
+  tools/editors.py          installs what is missing, for a quarter of an hour at most
   tools/editors.py --list   says what is here and what is missing
 
-A package that this system doesn't have is named and passed over: the tests that want it are left out, by name."""
+A package that this system doesn't have is named and passed over. `make test` leaves out the tests of an editor or a desktop tool
+that is missing, by name, and says how many; each other tool it requires."""
 from __future__ import annotations
 
 import functools
@@ -15,10 +16,12 @@ import os
 import shutil
 import subprocess
 import sys
+import time
 from collections.abc import Callable
 from typing import Any
 
 import common
+import vsix
 
 
 def here(command: str) -> Callable[[], bool]:
@@ -48,8 +51,17 @@ def folder(pattern: str) -> Callable[[], bool]:
     return lambda: bool(glob.glob(pattern))
 
 
-# name: how to see that it is here, and the package of Debian that has it
-TOOLS = {
+def tree_sitter() -> bool:
+    """Whether the command `tree-sitter` is one of the version that made parser.c."""
+    if not shutil.which("tree-sitter"):
+        return False
+    said = subprocess.run(["tree-sitter", "--version"], stdout=subprocess.PIPE, stdin=subprocess.DEVNULL, check=False).stdout
+    return said.decode(errors="replace").startswith("tree-sitter 0.22.")
+
+
+# Each table has the names of tools: how to see that one is here, and the package of Debian that has it (none: Debian 12 has none).
+# Editors, which tests drive: `make test` leaves a test out if one that it drives is missing.
+EDITORS = {
     "Neovim": (here("nvim"), "neovim"),
     "Emacs": (here("emacs"), "emacs-nox"),
     "eglot": (in_emacs("eglot"), "elpa-eglot"),
@@ -65,26 +77,40 @@ TOOLS = {
     "openbox": (here("openbox"), "openbox"),
     "xdotool": (here("xdotool"), "xdotool"),
     "D-Bus": (here("dbus-run-session"), "dbus-daemon"),
+    "Node": (here("node"), "nodejs"),
+    vsix.CLIENT: (lambda: vsix.modules() is not None, ""),
+    "nano": (here("nano"), "nano"),
+}
+# Desktop tools, which answer once and end: `make test` leaves a test out if one that it wants is missing.
+DESKTOP = {
     "kate-syntax-highlighter": (here("kate-syntax-highlighter"), "libkf5syntaxhighlighting-tools"),
     "Ruby": (here("ruby"), "ruby"),
-    "Node": (here("node"), "nodejs"),
-    "nano": (here("nano"), "nano"),
     "GtkSourceView": (with_gtksourceview, "gir1.2-gtksource-4"),
     "PyGObject": (with_gobject, "python3-gi"),
     "MIME types": (here("update-mime-database"), "shared-mime-info"),
     "gio": (here("gio"), "libglib2.0-bin"),
+    "dpkg": (here("dpkg-deb"), "dpkg"),
+    "apt-get": (here("apt-get"), "apt"),
+    "root": (lambda: os.geteuid() == 0, ""),  # (dpkg unpacks for root only)
+    "Python 3.11": (lambda: sys.version_info >= (3, 11), ""),  # (the first that reads TOML)
     "lintian": (here("lintian"), "lintian"),
     "man": (here("man"), "man-db"),
-    "cc": (here("cc"), "gcc"),
-    "bash": (here("bash"), "bash"),
     "zsh": (here("zsh"), "zsh"),
     "fish": (here("fish"), "fish"),
     "mandoc": (here("mandoc"), "mandoc"),
     "mypy": (here("mypy"), "mypy"),
+    "gpg": (here("gpg"), "gnupg"),
+    "package-lint": (in_emacs("package-lint"), "elpa-package-lint"),
+    "tree-sitter 0.22": (tree_sitter, ""),
 }
-
-# what `make test` doesn't pass without; for lack of the others it leaves tests out
-REQUIRED = ["cc"]
+# What `make test` doesn't pass without.
+REQUIRED = {
+    "cc": (here("cc"), "gcc"),
+    "bash": (here("bash"), "bash"),
+    "git": (here("git"), "git"),
+}
+TOOLS = {**EDITORS, **DESKTOP, **REQUIRED}
+LONGEST = 900  # seconds that everything may take that is installed
 
 
 @functools.lru_cache(None)
@@ -92,44 +118,48 @@ def is_here(name: str) -> bool:
     return TOOLS[name][0]()
 
 
-def install(packages: list[str]) -> str | None:
-    """Installs Debian's packages, and returns why that failed, or None."""
+def install(packages: list[str], end: float) -> str | None:
+    """Installs Debian's packages by this time of the clock, and returns why that failed, or None."""
     words = [] if os.geteuid() == 0 else ["sudo", "-n"]
     environment = {**os.environ, "DEBIAN_FRONTEND": "noninteractive"}
     how: dict[str, Any] = {"stdin": subprocess.DEVNULL, "stdout": subprocess.PIPE, "stderr": subprocess.STDOUT, "env": environment}
     try:
         # (another one that installs is waited for)
         words += ["apt-get", "-o", "DPkg::Lock::Timeout=600", *packages]
-        ran = subprocess.run(words, timeout=1800, check=False, **how)
+        ran = subprocess.run(words, timeout=max(1, end - time.monotonic()), check=False, **how)
     except (OSError, subprocess.TimeoutExpired) as why:
         return str(why)
-    return ran.stdout.decode(errors="replace")[-400:].strip() if ran.returncode else None
+    return f"status {ran.returncode}, {ran.stdout.decode(errors='replace')[-400:].strip()}" if ran.returncode else None
+
+
+def install_all(packages: list[str]) -> None:
+    """Installs packages, and says which ones it couldn't."""
+    end, plainly = time.monotonic() + LONGEST, ["install", "-y", "--no-install-recommends"]
+    why = install(["update"], end)
+    if why:
+        print(f"apt-get update failed: {why}", flush=True)
+    if install([*plainly, *packages], end):
+        # (one that can't be had keeps no other one out)
+        for package in packages:
+            why = install([*plainly, package], end) if time.monotonic() < end else f"{LONGEST} seconds are over"
+            if why:
+                print(f"{package} could not be installed: {why}", flush=True)
 
 
 def main(words: list[str]) -> int:
     missing = [it for it in TOOLS if not is_here(it)]
     if "--list" in words:
         for name, (_, package) in TOOLS.items():
-            print(f"{'missing' if name in missing else 'here   '}  {name} ({package})")
+            print(f"{'missing' if name in missing else 'here   '}  {name} ({package or 'no package of Debian 12'})")
         return 0
-    if not missing:
-        print("all editors and tools that the tests want are here")
-        return 0
-    common.need("apt-get")
-    packages = [TOOLS[it][1] for it in missing]
-    print(f"installing {' '.join(packages)} with apt-get", flush=True)
-    why = install(["update"])
-    if why:
-        print(f"apt-get update failed: {why}", flush=True)
-    if install(["install", "-y", "--no-install-recommends", *packages]):
-        # (one that can't be had keeps no other one out)
-        for package in packages:
-            why = install(["install", "-y", "--no-install-recommends", package])
-            if why:
-                print(f"{package} could not be installed: {why}", flush=True)
-    is_here.cache_clear()
-    lacking = [it for it in missing if not is_here(it)]
-    print(f"missing still, and their tests are left out: {', '.join(lacking)}" if lacking else "all of them are here now")
+    packages = [TOOLS[it][1] for it in missing if TOOLS[it][1]]
+    if packages:
+        common.need("apt-get")
+        print(f"installing {' '.join(packages)} with apt-get", flush=True)
+        install_all(packages)
+        is_here.cache_clear()
+        missing = [it for it in missing if not is_here(it)]
+    print(f"missing: {', '.join(missing)}; `make test` names the tests that want them" if missing else "all editors and tools are here")
     return 0
 
 

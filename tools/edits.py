@@ -1,7 +1,8 @@
-"""The mutants of the crates: files of lines 'file: PATH', 'old: TEXT' and 'new: TEXT', in gate-mutants/ (`make test` tries
-those) and in wrong-bodies/ (`make wrong-bodies` tries both)."""
+"""The mutants of the crates: files of lines 'file: PATH', 'old: TEXT' and 'new: TEXT', in must-fail/ (`rt ci` tries those) and in
+wrong-bodies/ (`make wrong-bodies` tries those)."""
 from __future__ import annotations
 
+import hashlib
 import os
 import re
 from collections.abc import Callable, Iterable
@@ -11,14 +12,15 @@ import common
 import reading
 
 Lines = Dict[Tuple[str, int], str]  # the lines that an edit changes, by path and number
-OF_GATE, OTHERS = "gate-mutants", "wrong-bodies"
-PLACES = (OF_GATE, OTHERS)
-FIRST_LINE = re.compile(r"# (?:.*: r|R)efused by (the clause|the loop|the invariant|(?:the clause )?`\w+`(?: and `\w+`)*) of `([\w:]+)`")
+OF_KIT, OTHERS = "must-fail", "wrong-bodies"
+PLACES = (OF_KIT, OTHERS)
+CLAUSES = r"the clause|the one goal|the loop|the invariant|(?:the clause )?`\w+`(?: and `\w+`)*"
+FIRST_LINE = re.compile(rf"# (?:.*: r|R)efused by ({CLAUSES}) of `([\w:]+)`")
 
 
 class Claim(NamedTuple):
-    """What the first line of a mutant says: the function that is refused, and the clauses that refuse it ('the clause' and 'the
-    loop' where they have no name, 'the invariant' where it is that of a type)."""
+    """What the first line of a mutant says: the function that is refused, and the clauses that refuse it. 'The clause' and 'the
+    loop' have no name, 'the one goal' is that of several clauses at once, and 'the invariant' is that of a type."""
 
     function: str
     clauses: Tuple[str, ...]
@@ -42,7 +44,7 @@ def is_goal_of(clause: str, goal: str) -> bool:
         return bool(re.search(r"(?:^|-)loop-", goal))
     if clause == "the invariant":
         return "invariant_of-" in goal
-    if clause == "the clause":
+    if clause in ("the clause", "the one goal"):
         return "returns" in goal and "-clause-" not in goal
     return bool(re.search(rf"(?:^|-)clause-{clause}(?:-|$)", goal))
 
@@ -51,6 +53,17 @@ def is_of_contract(goal: str) -> bool:
     """Whether a goal of a function is that of one of its clauses, of a loop or of a type's invariant, and not what it needs to run."""
     named = "returns" in goal or "clause-" in goal or is_goal_of("the loop", goal) or is_goal_of("the invariant", goal)
     return named and "-requires" not in goal
+
+
+def clause_of(goal: str) -> str:
+    """The words for a goal's clause in a mutant's first line, or none where it is no goal of a contract."""
+    if not is_of_contract(goal):
+        return ""
+    for words in ("the loop", "the invariant", "the clause"):
+        if is_goal_of(words, goal):
+            return words
+    found = re.search(r"(?:^|-)clause-(\w+)", goal)
+    return f"`{found[1]}`" if found else ""
 
 
 def claim_of(text: str) -> Optional[Claim]:
@@ -62,7 +75,7 @@ def claim_of(text: str) -> Optional[Claim]:
 
 
 class Edit:
-    """One mutant: the lines that it changes, the functions that these belong to, and what its first line says."""
+    """One mutant: the lines that it changes, the functions that these belong to, and the claim of its first line."""
 
     def __init__(self, crate: str, place: str, name: str) -> None:
         self.crate, self.name = crate, f"{place}/{name}"
@@ -74,16 +87,33 @@ class Edit:
             self.claim = claim_of(it.readline())
 
     @property
-    def is_of_gate(self) -> bool:
-        return self.name.startswith(OF_GATE)
+    def is_of_kit(self) -> bool:
+        """Whether `rt ci` tries it."""
+        return self.name.startswith(OF_KIT)
 
     @property
     def path(self) -> str:
         return f"{self.crate}/{self.name}"
 
     def find_turned(self, source: reading.Source) -> None:
-        """Finds the functions that it turns: None where a line belongs to none, as a type's does."""
+        """Finds the functions that it changes: None where a line belongs to none, as a type's does."""
         self.turned = turned_by(source, self.lines)
+
+    def sum_over(self, source: reading.Source) -> str:
+        """A sum over what it changes: the words of each function with its contract, comments and layout apart, and its own lines
+        but the first."""
+        with open(self.file, encoding="utf-8") as file:
+            parts = [line.rstrip() for line in file if not line.startswith("#")]
+        if self.turned is None:
+            parts += [" ".join(source.all_words(path)) for path in sorted({path for path, _ in self.lines})]
+        else:
+            parts += sorted(f"{it.path} {' '.join(source.words_with_contract(it))}" for it in self.turned)
+        return hashlib.sha256("\n".join(parts).encode()).hexdigest()[:16]
+
+
+def has(crate: str, place: str) -> bool:
+    """Whether a crate has mutants in a folder."""
+    return os.path.isdir(os.path.join(common.TOP, "crates", crate, place))
 
 
 def edits_of(crate: str, source: reading.Source | None = None) -> list[Edit]:

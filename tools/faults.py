@@ -9,7 +9,8 @@ documents, each answer compared with that of a server that keeps nothing; many c
 It runs bin/ob0 (or the program that the variable OB0 names) and the programs of tests that `make test` or `rt test` left in
 crates/NAME/out. OB0_LONG is how many messages each long conversation has (100,000), OB0_CHANGES how many random changes are
 tried (20,000), OB0_RUNS how many random modules are run (20,000), OB0_WALK about how many allocations of one test fail
-(10,000): of more, each second, third and so on. The last line is 'N passed, M failed'."""
+(10,000): of more, each second, third and so on. The last line is 'N passed, M failed', and ', K skipped' if something was left out
+for a missing tool; a run of nothing fails."""
 from __future__ import annotations
 
 import functools
@@ -52,8 +53,7 @@ def checks_of(crate: str) -> list[tuple[str, Callable[[], str]]]:
     try:
         return list(refused_tests.checks(crate, WALK))
     except harness.Skipped as why:
-        print(f"left out {crate}: {why}", flush=True)
-        return []
+        return [("all tests", functools.partial(harness.leave_out, str(why)))]
 
 
 def all_of_it() -> Iterator[tuple[str, Callable[[], str]]]:
@@ -73,7 +73,7 @@ def all_of_it() -> Iterator[tuple[str, Callable[[], str]]]:
 
 
 def main(words: list[str]) -> int:
-    passed, failed = 0, 0
+    passed = failed = skipped = 0
     for name, does in all_of_it():
         if words and not any(it in name for it in words):
             continue
@@ -82,6 +82,7 @@ def main(words: list[str]) -> int:
             found = does()
         except harness.Skipped as why:
             print(f"left out {name}: {why}", flush=True)
+            skipped += 1
             continue
         except harness.Failed as why:
             print(f"FAILED   {name}\n    {why}", flush=True)
@@ -89,7 +90,10 @@ def main(words: list[str]) -> int:
             continue
         print(f"ok       {name}: {found} ({time.monotonic() - start:.1f} s)", flush=True)
         passed += 1
-    print(f"{passed} passed, {failed} failed")
+    if not passed + failed:
+        print("nothing was run")
+        failed = 1
+    print(f"{passed} passed, {failed} failed" + (f", {skipped} skipped" if skipped else ""))
     return 1 if failed else 0
 
 

@@ -1,84 +1,75 @@
-"""Tries the mutants of the gate, crates/*/gate-mutants: the prover has to refuse each, for the function and the clause that its
-first line names.
+#!/usr/bin/env python3
+"""Tries the mutants of crates/*/wrong-bodies: the prover has to refuse each by the clause that its first line names.
 
-`make test` calls this after `rt ci`, over the libraries that `rt ci` has proved. A mutant is tried by a check of the function that
-it turns (`rattle check --only`): those of one crate, of which no two turn one function, in one check, and as many crates side by
-side as processors and memory allow. Of each other function of the crate the check has the contract alone, which is all that a
-proof rests on, and which `rt ci` has proved: it has no body, and a hole for a proof. A mutant that isn't refused so by a clause
-that it names is tried alone, with what its function calls, over what the checks before it kept in this run. Where such a check ends
-without a verdict it is made once more, with nothing beside it; where that has none either, the whole crate is checked with the
-mutant; and where a library lacks, all crates are proved as `make check` does, and the mutant is tried over what that keeps."""
+  tools/mutants.py [--lanes N] [--quiet] [CRATE..]  those that weren't refused yet in their present form, of all crates if none is named
+  tools/mutants.py CRATE/WORD..                     those of a crate with this word in their path, refused or not, of must-fail/ too
+  tools/mutants.py --all [CRATE..]                  all of them
+  tools/mutants.py --left [CRATE..]                 lists those that weren't refused yet in their present form, and tries none
+
+First the crates and those below them are proved over kept work, as `make check` does. Then up to some twenty mutants of a crate are
+in one check (`rattle check --only` the functions that they change, over a copy of the crate's kept proofs): the checker judges each
+function for itself. As many checks as processors and memory allow are made side by side (--lanes). A function that stands on one
+that isn't proved, and isn't refused by its clause, is tried again among others of which none stands on another. What isn't judged
+there, or is proved, is tried alone.
+
+A mutant is refused by its clause if a goal of the clause that its first line names isn't proved, or an answer doesn't prove such a
+goal any more; if the line names none, any clause of the function does. One that only something else refuses, as what a callee
+requires, is listed as refused elsewhere. What each came to is written into tools/mutants.txt after each check (tools/verdicts.py),
+so a run that is ended can be resumed.
+
+`make test` calls `try_some` after `rt ci`, over the libraries that it has just proved: a fortieth of the mutants by the commit's
+hash, whatever their rows say. The edits of crates/*/must-fail are tried by `rt ci` itself (tools/refusals.py).
+
+The status is 1 if a mutant isn't refused by its clause, or could not be tried; with --left, if there are any."""
 from __future__ import annotations
 
+import argparse
 import os
 import re
+import shutil
+import subprocess
+import sys
 import tempfile
-from concurrent.futures import ThreadPoolExecutor
-from typing import Iterable, NamedTuple, Optional, Tuple
+from concurrent.futures import FIRST_COMPLETED, Future, ThreadPoolExecutor, wait
+from collections.abc import Callable, Iterable
+from typing import Dict, List, NamedTuple, Optional, Set, Tuple
 
 import build
 import checks
 import common
 import edits
 import reading
-import wrong_bodies
-from common import TOP
 from checks import Said
+from common import TOP
+from edits import Edit
+from refusals import Refusals as Refusals
+from verdicts import Mutants, is_met
 
-# What a try comes to. Only after the last another try can say more.
-REFUSED, ELSEWHERE, PROVED = "refused", "REFUSED ELSEWHERE", "NOT REFUSED"
-BAD, LIMIT, NOT_TRIED = "BAD EDIT", "ONLY A LIMIT", "NOT TRIED"
-README = os.path.join(TOP, "README.md")
-# What the checks of this run keep, a folder for each crate.
-KEPT = os.path.join(build.ROOMS, "kept")
-COUNT = re.compile(r"every proof, (\d+) wrong versions")
-# (what `rt ci` says of a crate that it has proved, or that an earlier run on the machine has)
-HAS_PROVED = re.compile(r"rt: (\w+) (?:proved$|is kept: )")
-# (the exit status of a check in which the prover stopped at a limit of its own, and refused nothing)
-COULD_NOT_TELL = 3
-# What a check reads beside the mutant's functions: the contracts of the others, what they call, or the whole crate.
-CONTRACTS, CALLED, WHOLE = range(3)
-OVER = ("contracts", "what its function calls", "the whole crate")
-# The files of a proof.
-OF_PROOF = ("Answers.antt", "Invariants.antt", "Proof.antt")
-# What is in place of a body that is not proved, and of its proof.
-NO_BODY = "unreachable!()"
-HOLE = """use Rattle.{crate}.proofs.{module}.Statement.{{statement}}
-
-pub {name}_spec : {{M : Type 1}} → statement M
-{name}_spec = ?
-"""
+# Where `make check` keeps a crate's proofs, and where a run of `try_some` does.
+OF_CRATE, OF_RUN = os.path.join(TOP, "crates", "{}", "out", "incremental"), os.path.join(build.ROOMS, "kept", "{}")
+PARTS = 40  # `make test` tries one of so many parts
+MOST = 24  # mutants in one check: with more it takes much memory, and the others wait for it
+REFUSED, ELSEWHERE, PROVED, NOT_JUDGED = "refused", "elsewhere", "PROVED", "not judged"
+WORDS = (REFUSED, ELSEWHERE, PROVED, NOT_JUDGED)
+# How a mutant is tried: among others, among others of which none stands on another, alone.
+AMONG, APART, ALONE = range(3)
 
 
-class Outcome(NamedTuple):
-    """What a try of a mutant came to."""
+class Verdict(NamedTuple):
+    """What a try of a mutant came to: a word, why, and a goal that refuses it, 'GOAL of PROOF', one of its clause if there is one."""
 
-    edit: edits.Edit
     word: str
     why: str
+    goal: str = ""
+
+    @property
+    def row(self) -> str:
+        """The verdict as tools/mutants.txt has it."""
+        return self.goal if self.word == REFUSED else f"{self.word} {self.goal}".rstrip()
 
 
-def judge(edit: edits.Edit, claim: edits.Claim, said: Said, functions: Iterable[reading.Function]) -> Outcome:
-    """What a check says of a mutant. It is refused where the function that its first line names is not proved; elsewhere, where no
-    goal of a clause that the line names is among what refuses it."""
-    error = checks.unreadable(said, edit)
-    if error:
-        return Outcome(edit, BAD, f"it can't be read, so no contract was tried: {error}")
-    symbols = checks.symbols_of(said, functions)
-    refused = [it for it in symbols if said.own(it)]
-    if said.status == COULD_NOT_TELL:
-        return Outcome(edit, LIMIT, "the prover stopped at a limit of its own and refused nothing")
-    if symbols and all(said.verdicts[it] == "proved" for it in symbols):
-        return Outcome(edit, PROVED, f"`{claim.function}` is proved with it")
-    if not refused or not said.ended:
-        return Outcome(edit, NOT_TRIED, f"the check doesn't judge `{claim.function}`: {said.text[-300:].strip()}")
-    goals = [goal for it in refused for goal in said.refusing(it, symbols[it])]
-    named = [it for it in goals if claim.is_goal(edits.name_of(it))]
-    if named:
-        return Outcome(edit, REFUSED, f"`{claim.function}`, {named[0]}")
-    errors = [it for name in refused for it in said.proof_errors(name, symbols[name])]
-    others = "; ".join(goals or errors or [said.verdicts[it] for it in refused])
-    return Outcome(edit, ELSEWHERE, f"`{claim.function}` is refused, but not by {' or '.join(claim.clauses)}: {others[:300]}")
+# (what `rt ci` says of a crate that it has proved, or that an earlier run on the machine has)
+HAS_PROVED = re.compile(r"rt: (\w+) (?:proved$|is kept: )")
 
 
 class Libraries(checks.Libraries):
@@ -86,201 +77,313 @@ class Libraries(checks.Libraries):
     folders before.)"""
 
     def take(self, line: str) -> None:
-        """Takes a crate's library where a line of `rt ci` says that the crate is proved."""
+        """Takes a crate's library if a line of `rt ci` says that the crate is proved."""
         found = HAS_PROVED.match(line.rstrip())
         if found:
             self.add(found[1])
 
 
-class Mutant:
-    """A mutant of the gate, with what its first line says and the functions that it turns."""
-
-    def __init__(self, edit: edits.Edit, source: reading.Source) -> None:
-        self.edit, self.source = edit, source
-        self.claim = edit.claim
-        self.turned = source.proved_with(edit.turned or ())
-        self.named = [it for it in self.turned if self.claim and self.claim.is_of(it)]
-        # (functions that call each other have one proof, and the prover may refuse it under any of their names)
-        self.functions = source.proved_with(self.named)
-
-    @property
-    def fault(self) -> Optional[str]:
-        """Why it can't be tried at all."""
-        if self.edit.why:
-            return self.edit.why
-        if not self.claim:
-            return "its first line doesn't say by which clause of which function it is refused"
-        return None if self.named else f"it doesn't turn `{self.claim.function}`, which its first line names"
-
-    @property
-    def asked(self) -> list[str]:
-        """The paths under which its functions are asked for."""
-        return sorted({it.checked_as for it in self.named})
-
-    def try_over_kept(self, libraries: checks.Libraries) -> Outcome:
-        """Tries it over what a check of the crate has kept."""
-        if not self.claim:
-            return Outcome(self.edit, BAD, self.fault or "")
-        return judge(self.edit, self.claim, wrong_bodies.check(self.edit.crate, [self.edit], libraries), self.functions)
+def judge(edit: Edit, said: Said, source: reading.Source, alone: bool) -> Optional[Verdict]:
+    """What a check says of one mutant: a word and why, or None where it has to be tried again."""
+    error = checks.unreadable(said, edit)
+    if error:
+        return Verdict(NOT_JUDGED, f"it can't be read, so no contract was tried: {error}")
+    symbols = checks.symbols_of(said, source.proved_with(edit.turned or ()))
+    refused = [(it, proof) for it, proof in symbols.items() if said.own(it)]
+    if refused:
+        found = refusal(edit, said, refused)
+        # (of a function that stands on one that isn't proved not all goals need have been tried)
+        is_whole = alone or not any(said.waits(it) for it in symbols)
+        return found if found.word == REFUSED or is_whole else None
+    if not alone:
+        return None
+    if not said.ended:
+        return Verdict(NOT_JUDGED, f"the check did not reach the prover: {said.text[-300:]}")
+    if symbols and said.is_proved():
+        return Verdict(PROVED, "what it turns is still proved with it")
+    others = [(it, "") for it in said.verdicts if said.own(it)]
+    return refusal(edit, said, others) if others else Verdict(NOT_JUDGED, f"no function was judged: {said.text[-300:]}")
 
 
-def try_together(chosen: list[Mutant], libraries: Libraries, reads: int) -> list[Outcome]:
-    """Tries mutants of one crate, of which no two turn one function, by one check of their functions. It reads so much beside them,
-    over what the checks before it kept."""
-    crate, able = chosen[0].edit.crate, [it for it in chosen if not it.fault]
-    asked = [] if reads == WHOLE else sorted({path for it in able for path in it.asked})
-    words = libraries.words(crate, asked) if able and crate in libraries.proved else None
-    if not words:
-        return [outcome_of(it, None, reads) for it in chosen]
-    words += ["--incremental", os.path.join(KEPT, crate)]
-    with tempfile.TemporaryDirectory(dir=build.ROOMS) as room:
-        checks.furnish(room, crate, [it.edit for it in able])
-        if reads == CONTRACTS:
-            leave_contracts(room, able)
-            words.append("--allow-holes")
-        said = checks.check(words, room)
-    return [outcome_of(it, said, reads) for it in chosen]
+def refusal(edit: Edit, said: Said, refused: List[Tuple[str, str]]) -> Verdict:
+    """What to say of functions that are refused for what they do themselves."""
+    uncovered = [it for it, _ in refused if "does not cover" in said.verdicts[it]]
+    if len(uncovered) == len(refused):
+        reason = said.verdicts[uncovered[0]][:200]
+        return Verdict(NOT_JUDGED, f"the checker doesn't cover such a body, so no contract was tried: {reason}")
+    named = next((it for it in refused if said.refusing(*it)), refused[0])
+    goals = [f"{edits.name_of(goal)} of {proof or '?'}" for it, proof in refused for goal in said.refusing(it, proof)]
+    met = [it for it in goals if is_met(edit, *it.split(" of "))]
+    why = f"{named[0].partition('::')[2]}: {said.why(*named)}"
+    return Verdict(REFUSED, why, met[0]) if met else Verdict(ELSEWHERE, why, goals[0] if goals else "")
 
 
-def outcome_of(mutant: Mutant, said: Optional[Said], reads: int) -> Outcome:
-    """What a check says of one of its mutants."""
-    if mutant.fault or not mutant.claim:
-        return Outcome(mutant.edit, BAD, mutant.fault or "")
-    if not said:
-        return Outcome(mutant.edit, NOT_TRIED, "`rt ci` left no library of it, or of a crate below")
-    found = judge(mutant.edit, mutant.claim, said, mutant.functions)
-    # (over holes nothing is proved, and what another clause refuses may be for what a stub lacks)
-    return found._replace(word=NOT_TRIED) if reads == CONTRACTS and found.word != REFUSED else found
+class Group(NamedTuple):
+    """Mutants of a crate that are in one check, and how they are tried."""
+
+    edits: List[Edit]
+    how: int
 
 
-def leave_contracts(room: str, chosen: list[Mutant]) -> None:
-    """Leaves of each function of a crate but those with these mutants the contract alone."""
-    own = {it.proof for mutant in chosen for it in mutant.functions}
-    others = [it for it in chosen[0].source.functions if it.has_body and not it.is_test and it.proof not in own]
-    for path in {it.file for it in others}:
-        with open(os.path.join(room, path), encoding="utf-8") as file:
-            lines = file.read().split("\n")
-        for it in others:
-            if it.file == path:
-                take_body(lines, it)
-        with open(os.path.join(room, path), "w", encoding="utf-8") as file:
-            file.write("\n".join(lines))
-    for it in others:
-        *above, name = it.checked_as.split("::")
-        # (the proof of a cycle is beside its functions; one without a body is in no cycle)
-        for last in (name, it.proof.rpartition("::")[2]):
-            remove_proof(os.path.join(room, "proofs", *above, last))
-        folder = os.path.join(room, "proofs", *above, name)
-        os.makedirs(folder, exist_ok=True)
-        with open(os.path.join(folder, "Proof.antt"), "w", encoding="utf-8") as file:
-            file.write(HOLE.format(crate=it.crate, module=".".join([*above, name]), name=name))
+class Crate:
+    """The mutants of a crate that are tried in this run, and what is known of them."""
+
+    def __init__(self, name: str, chosen: List[Edit], source: reading.Source) -> None:
+        self.name, self.source, self.chosen = name, source, chosen
+        self.below, self.size = source.below(), sum(map(len, source.words.values()))
+        self.found = {it: Verdict(NOT_JUDGED, it.why) for it in chosen if it.why}
+        self.next: Dict[Edit, int] = {}  # those to be tried again, and how
+        self.running, self.checks = 0, 0
+
+    def first(self) -> List[Group]:
+        return [Group(it, AMONG) for it in self.groups([it for it in self.chosen if not it.why], False)]
+
+    def groups(self, left: List[Edit], is_apart: bool) -> List[List[Edit]]:
+        """Groups of mutants, each for one check, of which no two have one proof. In a group few stand on another, or none."""
+        found: List[List[Edit]] = []
+        if not is_apart:
+            counts = [sum(proofs(it) == proofs(other) for other in left) for it in left]
+            found = [[] for _ in range(max([-(-len(left) // MOST), *counts]))]
+        for edit in left:
+            joined: Callable[[List[Edit]], int] = lambda it: sum(self.are_joined(edit, other) for other in it)
+            open_ones = [it for it in found if len(it) < MOST and not any(proofs(edit) & proofs(other) for other in it)]
+            open_ones = [it for it in open_ones if proofs(edit) and not (is_apart and joined(it))]
+            if open_ones:
+                min(open_ones, key=lambda it: (joined(it), len(it))).append(edit)
+            else:
+                found.append([edit])
+        return [it for it in found if it]
+
+    def are_joined(self, one: Edit, other: Edit) -> bool:
+        """Whether what one of two mutants turns stands on what the other turns."""
+        return any(a in self.below[b] or b in self.below[a] for a in proofs(one) for b in proofs(other))
+
+    def take(self, group: Group, said: Said) -> Tuple[Dict[Edit, Verdict], List[Group]]:
+        """Takes what a check says: what is known by it, and what is tried next."""
+        self.running -= 1
+        self.checks += 1
+        is_alone = len(group.edits) == 1
+        judged = {it: judge(it, said, self.source, is_alone) for it in group.edits}
+        settled = {it: verdict for it, verdict in judged.items() if verdict}
+        self.found.update(settled)
+        again = [it for it, verdict in judged.items() if not verdict]
+        if not said.ended and again:
+            # (where the compiler doesn't say which of them it can't read, each half is tried)
+            middle = len(again) // 2 if len(again) == len(group.edits) else 0
+            return settled, [Group(it, group.how) for it in (again[:middle], again[middle:]) if it]
+        for edit in again:
+            symbols = checks.symbols_of(said, self.source.proved_with(edit.turned or ()))
+            is_held = any(said.waits(it) for it in symbols)
+            self.next[edit] = APART if is_held and group.how == AMONG else ALONE
+        return settled, self.later() if not self.running else []
+
+    def later(self) -> List[Group]:
+        """What is tried again, when all of the crate was tried once."""
+        apart = [it for it, how in self.next.items() if how == APART]
+        alone = [it for it, how in self.next.items() if how == ALONE]
+        self.next = {}
+        return [Group(it, APART) for it in self.groups(apart, True)] + [Group([it], ALONE) for it in alone]
+
+    def counts(self) -> List[int]:
+        return [sum(it.word == word for it in self.found.values()) for word in WORDS]
 
 
-def take_body(lines: list[str], function: reading.Function) -> None:
-    """Takes the body of a function from the lines of its file, and what says that it is in a cycle of calls."""
-    for at in range(function.first - 1, function.opens):
-        if lines[at].strip().startswith("#[cycle("):
-            lines[at] = ""
-    if function.opens < function.last:
-        lines[function.opens : function.last - 1] = [""] * (function.last - 1 - function.opens)
-        lines[function.last - 1] = f"{NO_BODY} {lines[function.last - 1]}"
+def check(crate: str, chosen: List[Edit], libraries: checks.Libraries, keeps: str) -> Said:
+    """Checks the functions that some mutants of a crate change, over a copy of the kept proofs. (What a check keeps it writes into
+    new files: the links leave what is kept as it is.) If nothing is kept there yet, it leaves what it keeps itself."""
+    asked: List[List[str]] = [sorted({it.checked_as for edit in chosen for it in edit.turned or ()}), []]
+    said, kept = Said("a library that it rests on is missing", 2), keeps.format(crate)
+    for only in asked:
+        words = libraries.words(crate, only)
+        if not words:
+            return said
+        with tempfile.TemporaryDirectory(dir=build.ROOMS) as room:
+            checks.furnish(room, crate, chosen)
+            if os.path.isdir(kept):
+                shutil.copytree(kept, os.path.join(room, "kept"), copy_function=build.link)
+            said = checks.check([*words, "--incremental", "kept"], room)
+            if keeps == OF_RUN and not os.path.isdir(kept) and os.path.isdir(os.path.join(room, "kept")):
+                os.makedirs(os.path.dirname(kept), exist_ok=True)
+                os.rename(os.path.join(room, "kept"), kept)
+        # (some functions can't be asked for by a name: then all are checked)
+        if said.ended or not re.search(r"^rattle: error: ", said.text, re.M):
+            return said
+    return said
 
 
-def remove_proof(folder: str) -> None:
-    """Removes the files of a function's proof. (Its folder may have others below.)"""
-    for name in OF_PROOF:
-        if os.path.isfile(os.path.join(folder, name)):
-            os.remove(os.path.join(folder, name))
+def libraries_of(crates: Iterable[str]) -> checks.Libraries:
+    """The proved libraries of some crates and of those below them."""
+    found = checks.Libraries(os.path.join(build.ROOMS, "libraries"))
+    for name in dict.fromkeys(it for crate in crates for it in common.below(crate)):
+        found.add(name)
+    return found
 
 
-def mutants_of_gate() -> list[Mutant]:
-    """The mutants of the gate, those of large crates first, whose checks take longest."""
+def proofs(edit: Edit) -> Set[str]:
+    """The proofs of the functions that a mutant changes."""
+    return {it.proof for it in edit.turned or ()}
+
+
+def said_of(counts: Iterable[int]) -> str:
+    """The counts of a run."""
+    words = ("refused by their clause", "refused elsewhere", "proved", "not judged")
+    return ", ".join(f"{count} {word}" for count, word in zip(counts, words))
+
+
+class Run:
+    """A run over crates. It tells `keep` what each mutant came to, after each check."""
+
+    def __init__(self, crates: List[Crate], lanes: int, keep: Callable[[Dict[Edit, Verdict]], object], is_quiet: bool = False) -> None:
+        self.crates, self.lanes, self.keep, self.is_quiet = crates, lanes, keep, is_quiet
+        self.timer, self.left = common.Timer(), sum(len(it.chosen) for it in crates)
+        self.running: Dict[Future[Said], Tuple[Crate, Group]] = {}
+
+    def try_all(self, libraries: checks.Libraries, keeps: str) -> None:
+        """Tries the mutants of all crates, those of large ones first."""
+        os.makedirs(build.ROOMS, exist_ok=True)
+        with ThreadPoolExecutor(self.lanes) as pool:
+
+            def start(crate: Crate, groups: List[Group]) -> None:
+                for group in groups:
+                    crate.running += 1
+                    self.running[pool.submit(check, crate.name, group.edits, libraries, keeps)] = crate, group
+
+            try:
+                for crate in sorted(self.crates, key=lambda it: -it.size * len(it.chosen)):
+                    start(crate, crate.first())
+                while self.running:
+                    for done in wait(self.running, return_when=FIRST_COMPLETED).done:
+                        crate, group = self.running.pop(done)
+                        start(crate, self.take(crate, group, done.result()))
+                        if not crate.running:
+                            self.say(crate)
+            finally:
+                for it in self.running:
+                    it.cancel()
+
+    def take(self, crate: Crate, group: Group, said: Said) -> List[Group]:
+        """Takes what a check says; returns what is tried next."""
+        settled, groups = crate.take(group, said)
+        self.left -= len(settled)
+        self.keep(settled)
+        print(f"[{self.timer}] {crate.name}: of {len(group.edits)} in one check {len(settled)} are judged; {self.left} are left", flush=True)
+        return groups
+
+    def say(self, crate: Crate) -> None:
+        """Says what the mutants of a crate came to."""
+        for edit in crate.chosen:
+            verdict = crate.found[edit]
+            if not self.is_quiet or verdict.word != REFUSED:
+                print(f"  {verdict.word:<10}  {edit.path}: {verdict.why}")
+        print(f"{crate.name}: {said_of(crate.counts())}, in {crate.checks} checks", flush=True)
+
+    def counts(self) -> List[int]:
+        """How many came to each word, over all crates."""
+        return [sum(it) for it in zip([0] * len(WORDS), *(it.counts() for it in self.crates))]
+
+
+def crates_of(chosen: Iterable[Edit], sources: Dict[str, reading.Source]) -> List[Crate]:
+    """The crates of some mutants, each with its own."""
+    found: Dict[str, List[Edit]] = {}
+    for edit in chosen:
+        found.setdefault(edit.crate, []).append(edit)
+    return [Crate(name, own, sources[name]) for name, own in found.items()]
+
+
+def commit() -> str:
+    """The commit's hash, or 0 outside a repository of git."""
+    how = ["git", "-C", TOP, "rev-parse", "HEAD"]
+    ran = subprocess.run(how, stdout=subprocess.PIPE, stderr=subprocess.DEVNULL, check=False) if shutil.which("git") else None
+    return ran.stdout.decode().strip() or "0" if ran else "0"
+
+
+def part_of(paths: List[str], number: int) -> List[str]:
+    """One of the parts of the sorted paths: those of one crate are side by side, so a part needs few checks."""
+    return paths[number * len(paths) // PARTS : (number + 1) * len(paths) // PARTS]
+
+
+def try_some(libraries: checks.Libraries) -> Tuple[int, int]:
+    """Tries a fortieth of the mutants by the commit's hash, over the libraries that `rt ci` proved. Returns how many were refused by
+    their clause, and how many weren't; a mutant over a crate that isn't proved counts among these. Nothing is written."""
+    mutants = Mutants()
+    number = int(commit(), 16) % PARTS
+    chosen = [mutants.edits[it] for it in part_of(sorted(mutants.edits), number)]
+    print(f"part {number + 1} of {PARTS}: {len(chosen)} of {len(mutants.edits)} mutants", flush=True)
+    run = Run(crates_of(chosen, mutants.sources), build.lanes(), lambda settled: None)
+    run.try_all(libraries, OF_RUN)
+    counts = run.counts()
+    return counts[0], sum(counts[1:])
+
+
+def chosen_of(named: Dict[str, List[str]], mutants: Mutants, takes_all: bool) -> List[Edit]:
+    """The mutants of some crates that have one of some words in their path: without a word those that weren't refused yet in their
+    present form, or all."""
     found = []
-    for crate in common.listed():
-        if os.path.isdir(os.path.join(TOP, "crates", crate, edits.OF_GATE)):
-            source = reading.Source(crate)
-            found += [Mutant(it, source) for it in edits.edits_of(crate, source) if it.is_of_gate]
-    return sorted(found, key=lambda it: -sum(map(len, it.source.words.values())))
+    for crate, wanted in named.items():
+        source = mutants.sources.setdefault(crate, reading.Source(crate))
+        for edit in edits.edits_of(crate, source):
+            by_word = any(word and word in edit.name for word in wanted)
+            is_left = not edit.is_of_kit and "" in wanted and (takes_all or not mutants.is_current(edit.path))
+            found += [edit] * (by_word or is_left)
+    return found
 
 
-def apart(chosen: list[Mutant]) -> list[list[Mutant]]:
-    """Mutants in groups, in each of which no two turn one function."""
-    groups: list[Tuple[set[str], list[Mutant]]] = []
-    for mutant in chosen:
-        turned = {it.proof for it in mutant.turned}
-        found = next((it for it in groups if not it[0] & turned), None)
-        if found is None:
-            found = set(), []
-            groups.append(found)
-        found[0].update(turned)
-        found[1].append(mutant)
-    return [group for _, group in groups]
+def try_chosen(chosen: List[Edit], mutants: Mutants, options: argparse.Namespace) -> int:
+    """Tries some mutants, and keeps what they came to."""
+    crates = crates_of(chosen, mutants.sources)
+    if crates and build.prove_libraries([it.name for it in crates]):
+        return 1
+
+    def keep(settled: Dict[Edit, Verdict]) -> None:
+        for edit, verdict in settled.items():
+            if not edit.is_of_kit:
+                mutants.keep(edit.path, mutants.sums[edit.path], verdict.row)
+        mutants.write()
+
+    run = Run(crates, options.lanes, keep, options.quiet)
+    try:
+        run.try_all(libraries_of(it.name for it in crates), OF_CRATE)
+    finally:
+        shutil.rmtree(build.ROOMS, ignore_errors=True)
+    spent = os.times()
+    took = f"{run.timer}, of the processors {common.clock(spent.children_user + spent.children_system)}"
+    print(f"{said_of(run.counts())}, in {sum(it.checks for it in crates)} checks, {options.lanes} side by side: {took}")
+    return 1 if any(run.counts()[1:]) else 0
 
 
-def say(outcome: Outcome, how: str = "") -> Outcome:
-    print(f"{outcome.word}: {outcome.edit.path}{how}: {outcome.why}", flush=True)
-    return outcome
+def list_left(chosen: List[Edit], mutants: Mutants) -> int:
+    """Lists some mutants that weren't refused yet in their present form, each with what it came to in another."""
+    for edit in chosen:
+        print(mutants.row(edit.path).line)
+    print(f"{len(chosen)} of {len(mutants.edits)} mutants weren't refused yet in their present form")
+    return 1 if chosen else 0
 
 
-def try_side_by_side(chosen: list[Mutant], libraries: Libraries, lanes: int, reads: int) -> list[Tuple[Mutant, Outcome]]:
-    """Tries mutants, those of some crates side by side, and says what each came to, but for those that can be tried in another
-    way."""
-    os.makedirs(KEPT, exist_ok=True)
-
-    def try_group(group: list[Mutant]) -> list[Tuple[Mutant, Outcome]]:
-        timer = common.Timer()
-        found = try_together(group, libraries, reads)
-        how = f", {timer} over {OVER[reads]}" + (f", {len(group)} in one check" if len(group) > 1 else "")
-        return [(it, outcome if outcome.word == NOT_TRIED else say(outcome, how)) for it, outcome in zip(group, found)]
-
-    def of_crate(crate: str) -> list[Tuple[Mutant, Outcome]]:
-        own = [it for it in chosen if it.edit.crate == crate]
-        groups = apart(own) if reads == CONTRACTS else [[it] for it in own]
-        return [pair for group in groups for pair in try_group(group)]
-
-    with ThreadPoolExecutor(lanes) as pool:
-        return [it for found in pool.map(of_crate, dict.fromkeys(it.edit.crate for it in chosen)) for it in found]
-
-
-def try_over_all(left: list[Mutant]) -> list[Outcome]:
-    """Tries mutants of which nothing is known, one by one, over what a check of all crates keeps."""
-    if build.prove_libraries(common.listed()):
-        return [say(Outcome(it.edit, NOT_TRIED, "not all crates are proved")) for it in left]
-    libraries = wrong_bodies.libraries_of(it.edit.crate for it in left)
-    return [say(it.try_over_kept(libraries)) for it in left]
+def main(given: List[str]) -> int:
+    words = argparse.ArgumentParser(description="Tries the mutants of crates: the prover has to refuse each.")
+    words.add_argument("--lanes", type=int, default=build.lanes(), metavar="N")
+    words.add_argument("--quiet", action="store_true")
+    words.add_argument("--all", action="store_true")
+    words.add_argument("--left", action="store_true")
+    words.add_argument("crates", nargs="*", metavar="CRATE[/WORD]")
+    options = words.parse_args(given)
+    common.need("rt")
+    named: Dict[str, List[str]] = {}
+    for it in options.crates or common.libraries():
+        name, _, word = it.partition("/")
+        named.setdefault(name, []).append(word)
+    unknown = [it for it in named if it not in common.libraries()]
+    if unknown:
+        common.stop(f"crates.txt names no crate {', '.join(unknown)}")
+    mutants = Mutants()
+    chosen = chosen_of(named, mutants, options.all and not options.left)
+    if options.left:
+        return list_left(chosen, mutants)
+    try:
+        return try_chosen(chosen, mutants, options)
+    except KeyboardInterrupt:
+        return 130
 
 
-def count_of_readme() -> int:
-    """How many mutants of the gate README names."""
-    with open(README, encoding="utf-8") as file:
-        found = COUNT.search(file.read())
-    return int(found[1]) if found else 0
-
-
-def counted(outcomes: list[Outcome], wanted: int) -> tuple[int, int]:
-    """How many mutants were refused by a clause that their first line names, and how many were not or are more or fewer than README
-    says."""
-    refused = sum(it.word == REFUSED for it in outcomes)
-    failed = len(outcomes) - refused
-    elsewhere = [it.edit.path for it in outcomes if it.word == ELSEWHERE]
-    if elsewhere:
-        print(f"refused, but not by a clause that the first line names: {' '.join(elsewhere)}", flush=True)
-    if len({it.edit.path for it in outcomes}) != wanted or len(outcomes) != wanted:
-        print(f"README says that {wanted} wrong versions are tried, and these were {len(outcomes)}", flush=True)
-        failed += 1
-    return refused, failed
-
-
-def try_all(libraries: Libraries, lanes: int, is_gate_passed: bool) -> tuple[int, int]:
-    """Tries all mutants of the gate, and returns how many were refused, and how many were not. Those of crates that the gate didn't
-    prove are not tried."""
-    left, settled = mutants_of_gate(), []
-    for count, reads in ((lanes, CONTRACTS), (lanes, CALLED), (1, CALLED), (lanes, WHOLE)):
-        found = try_side_by_side(left, libraries, count, reads)
-        left = [it for it, outcome in found if outcome.word == NOT_TRIED]
-        settled += [outcome for _, outcome in found if outcome.word != NOT_TRIED]
-    unknown = [outcome for _, outcome in found if outcome.word == NOT_TRIED]
-    if left and is_gate_passed:
-        print(f"{len(left)} had no verdict, as {unknown[0].edit.path}: {unknown[0].why}", flush=True)
-        return counted(settled + try_over_all(left), count_of_readme())
-    return counted(settled + [say(it) for it in unknown], count_of_readme())
+if __name__ == "__main__":
+    sys.exit(main(sys.argv[1:]))

@@ -1,38 +1,51 @@
 #!/usr/bin/env python3
 """Packs and installs bin/ob0, the proved program, with its manual page, completions, editor files, pages and examples.
 
-  tools/package.py package                   a Debian package and a .tar.gz with the same tree, and their SHA256SUMS, in bin/
+  tools/package.py package                   a Debian package and a .tar.gz with the same tree, a .vsix with the extension for
+                                             VS Code if the modules that it needs are here, and their SHA256SUMS, in bin/
+  tools/package.py vsix                      that .vsix alone
   tools/package.py install PREFIX DESTDIR    copies that tree to PREFIX
   tools/package.py uninstall PREFIX DESTDIR  removes what was installed there, or unpacked there from the .tar.gz
+  tools/package.py notes                     prints what CHANGELOG.md says of this version
 
-The tree is that of a folder such as /usr: each editor's files are where that editor looks for them. The same sources, the same
-program and the same maintainer (DEBFULLNAME, DEBEMAIL) give the same bytes. Nothing but Python is needed."""
+The tree is that of a folder such as /usr: each editor's files are where that editor looks for them. The same commit, the same
+program and the same maintainer (DEBFULLNAME, DEBEMAIL) give the same bytes, if zlib and liblzma compress alike. BUILD_VERSION is the
+version of the packages; it is needed if the sources are no git repository. SOURCE_DATE_EPOCH is the time of all files."""
 from __future__ import annotations
 
 import datetime
+import email.utils
 import glob
 import gzip
 import hashlib
 import io
 import lzma
 import os
+import re
+import stat
 import subprocess
 import sys
 import tarfile
 import textwrap
 from collections.abc import Iterable
-from typing import Any, Dict, Tuple, Union
+from typing import Any, Dict, NamedTuple, Tuple, Union
 
 import common
-from common import TOP
+import glibc
+import notices
+import vsix
+from common import TOP, match_of
 
 DOC = "share/doc/ob0"
 LIST = f"{DOC}/installed"  # what an installation put there, for its removal: files, and then folders, which end with /
 VIM = "share/vim/vimfiles/pack/ob0/start/ob0"
 NVIM = "share/nvim/site/pack/ob0/start"
-EMACS = "share/emacs/site-lisp/elpa/ob0-mode-0.1"
+EMACS = "share/emacs/site-lisp/elpa/ob0-mode"
+EXERCISES = "share/ob0/exercises"
 # folders that a system has without ob0: they stay, also where nothing else is in them
 SHARED = {"bin", "share", "share/man"}
+# the one file that others hold the copyright of
+PARSER, PARSER_HOLDER = "editors/tree-sitter/src/tree_sitter/parser.h", "2018-2024 Max Brunsfeld"
 DEFAULT_NAME, DEFAULT_ADDRESS = "The authors of ob0", "ob0@example.org"
 
 # where a file or a folder of the repository goes
@@ -45,7 +58,6 @@ COPIED = {
     "editors/emacs/ob0-mode.el": f"{EMACS}/ob0-mode.el",
     "editors/emacs/snippets": f"{EMACS}/snippets",
     "share/emacs/ob0-mode-autoloads.el": f"{EMACS}/ob0-mode-autoloads.el",
-    "share/emacs/ob0-mode-pkg.el": f"{EMACS}/ob0-mode-pkg.el",
     "editors/kate/oberon0.xml": "share/org.kde.syntax-highlighting/syntax/oberon0.xml",
     "editors/kakoune/ob0.kak": "share/kak/rc/filetype/ob0.kak",
     "editors/gtksourceview/oberon0.lang": "share/gtksourceview-5/language-specs/oberon0.lang",
@@ -57,8 +69,10 @@ COPIED = {
     "docs": f"{DOC}/docs",
     "editors": f"{DOC}/editors",
     "examples": f"{DOC}/examples",
+    # (small images leave out share/doc, and the script that marks answers works without it)
+    "examples/exercises": EXERCISES,
 }
-# a second name for a file or a folder of the tree
+# a second name for a file or a folder of the tree (each file of EXERCISES has one below DOC)
 LINKED = {
     f"{NVIM}/ob0-vim": VIM,
     "share/zsh/site-functions/_ob0": "share/zsh/vendor-completions/_ob0",
@@ -75,17 +89,26 @@ Tree = Dict[str, Tuple[Union[bytes, Link], int]]
 
 
 def moment() -> int:
-    """The time that every packed file has: SOURCE_DATE_EPOCH, or that of the commit."""
-    given = os.environ.get("SOURCE_DATE_EPOCH") or git("log", "-1", "--format=%ct")
-    return int(given) if given.isdigit() else 0
+    """The time of every packed file: SOURCE_DATE_EPOCH, or the commit's, or that of CHANGELOG.md if the sources are no repository."""
+    given = os.environ.get("SOURCE_DATE_EPOCH")
+    if given and not given.isdigit():
+        common.stop(f"SOURCE_DATE_EPOCH is a number of seconds, and not {given}")
+    return int(given or time_of_commit() or os.stat(os.path.join(TOP, "CHANGELOG.md")).st_mtime)
+
+
+def time_of_commit() -> str:
+    return git("log", "-1", "--format=%ct")
 
 
 def git(*words: str) -> str:
+    """What a command of git prints; nothing if the sources are no repository, or git is missing."""
+    if not os.path.exists(os.path.join(TOP, ".git")):
+        return ""
     how: dict[str, Any] = {"cwd": TOP, "stdout": subprocess.PIPE, "stderr": subprocess.DEVNULL, "stdin": subprocess.DEVNULL}
     try:
         # (also by sudo, in a folder of somebody else)
         ran: subprocess.CompletedProcess[bytes] = subprocess.run(["git", "-c", f"safe.directory={TOP}", *words], check=False, **how)
-        return ran.stdout.decode().strip()
+        return os.fsdecode(ran.stdout).strip()
     except OSError:
         return ""
 
@@ -96,24 +119,31 @@ def read(*path: str) -> bytes:
 
 
 def version() -> str:
-    ran = subprocess.run([common.BINARY, "--version"], stdout=subprocess.PIPE, stdin=subprocess.DEVNULL, check=True)
-    return ran.stdout.decode().split()[1]
+    """The program's version: the number in the source of its command line, from which all other places have it."""
+    return match_of(r'const VERSION: &str = "([0-9.]+)";', read("crates", "ob0_cli", "src", "line.rt").decode())[1]
 
 
 def build_version() -> str:
-    """The version of the packages: the program's where the commit has its tag, and otherwise one below it that grows with the time of
-    the commit, so that a mended build replaces an earlier one."""
-    number = version()
+    """The version of the packages: BUILD_VERSION, or the program's if the commit has its tag. Every other commit has a version that
+    grows with its time, below the program's or, after its release, above it: so a later build replaces an earlier one."""
+    number, given = version(), os.environ.get("BUILD_VERSION", "")
+    if given:
+        if not re.fullmatch(rf"{re.escape(number)}[A-Za-z0-9.+~]*", given):
+            common.stop(f"BUILD_VERSION begins with {number}, and then has letters, digits, '.', '+' and '~': not {given}")
+        return given
+    if not time_of_commit():
+        common.stop(f"these sources have no git repository that names their commit: give a version, such as BUILD_VERSION={number}")
     if f"v{number}" in git("tag", "--points-at", "HEAD").split() and not has_changes():
         return number
-    time = datetime.datetime.fromtimestamp(moment(), datetime.timezone.utc)
-    commit = git("log", "-1", "--format=%H")[:8] or "unknown"
-    return f"{number}~git{time:%Y%m%d.%H%M%S}.{commit}" + (".changed" if has_changes() else "")
+    mark = "+" if git("tag", "--merged", "HEAD", "--list", f"v{number}") else "~"
+    time = datetime.datetime.fromtimestamp(int(time_of_commit()), datetime.timezone.utc)
+    return f"{number}{mark}git{time:%Y%m%d.%H%M%S}.{git('log', '-1', '--format=%H')[:8]}" + (".changed" if has_changes() else "")
 
 
 def has_changes() -> bool:
-    """Whether files of the commit are changed."""
-    return bool(git("status", "--porcelain", "--untracked-files=no"))
+    """Whether files of the commit are changed, or the program's sources have a file that isn't in it. (Of what is packed besides, only
+    files that git knows are taken.)"""
+    return bool(git("status", "--porcelain", "--untracked-files=no") or git("ls-files", "--others", "--exclude-standard", "--", "crates"))
 
 
 def maintainer() -> str:
@@ -122,20 +152,38 @@ def maintainer() -> str:
 
 
 def squeezed(content: bytes) -> bytes:
-    return gzip.compress(content, 9, mtime=0)
+    """The content compressed by gzip. (`gzip.compress` writes another head in Python 3.11 than in 3.13.)"""
+    out = io.BytesIO()
+    with gzip.GzipFile(filename="", mode="wb", compresslevel=9, fileobj=out, mtime=0) as file:
+        file.write(content)
+    return out.getvalue()
+
+
+def names_below(source: str) -> list[str]:
+    """The files of a folder of the repository, or the file itself: those that git knows, so that nothing else is packed that lies
+    there. Without a repository they are all files."""
+    if git("rev-parse", "HEAD"):
+        found = git("ls-files", "-z", "--", source).split("\0")
+    elif os.path.isfile(os.path.join(TOP, source)):
+        found = [source]
+    else:
+        found = [os.path.relpath(os.path.join(at, it), TOP) for at, _, names in os.walk(os.path.join(TOP, source)) for it in names]
+    return sorted(it for it in found if it and os.path.isfile(os.path.join(TOP, it)) and "__pycache__" not in it)
 
 
 def files_of(source: str) -> list[tuple[str, str]]:
     """The files of a folder of the repository, or a file: pairs of what is below it and its path. The pages of editors stay out of
     the folders that editors read."""
-    if os.path.isfile(os.path.join(TOP, source)):
-        return [("", source)]
-    found = []
-    for at, folders, names in os.walk(os.path.join(TOP, source)):
-        folders[:] = sorted(it for it in folders if it not in ("__pycache__", "node_modules"))
-        found += [os.path.relpath(os.path.join(at, it), TOP) for it in sorted(names) if not it.endswith((".pyc", ".vsix"))]
-    keeps_pages = COPIED[source].startswith(DOC)
-    return [(os.path.relpath(it, source), it) for it in found if keeps_pages or not it.endswith(".md")]
+    keeps_pages = COPIED[source].startswith((DOC, EXERCISES))
+    return [(os.path.relpath(it, source), it) for it in names_below(source) if keeps_pages or not it.endswith(".md")]
+
+
+def verdict() -> str:
+    """The result of `make test` on the program that is packed."""
+    line = common.stamp().get("gate")
+    if not line:
+        return "NOT TESTED: each function of this program is proved, and `make test` has not ended on it"
+    return line if " 0 failed" in line else f"FAILED: {line}, by `make test` on this program, each of whose functions is proved"
 
 
 def proved() -> bytes:
@@ -143,11 +191,11 @@ def proved() -> bytes:
     found = common.stamp()
     changed = ", with changes that are not committed" if has_changes() else ""
     rows = {
-        "program": f"ob0 {version()} for x86-64 Linux with glibc 2.34 or later",
+        "program": f"ob0 {version()} for x86-64 Linux with glibc {glibc.needed(common.BINARY)} or later",
         "version of the package": build_version(),
         "kit": found["kit"],
         "commit": (git("log", "-1", "--format=%H") or "unknown") + changed,
-        "gate": found.get("gate") or "was not run on this program: `make build` proved each of its functions, and no tests were run",
+        "gate": verdict(),
         "sha256 of bin/ob0": found["program"],
         "sha256 of its sources": found["sources"],
     }
@@ -155,35 +203,106 @@ def proved() -> bytes:
     return f"What was proved of the program in this package, and with what. The kit is the Rattle toolchain.\n\n{lines}".encode()
 
 
-def changelog(number: str) -> bytes:
-    """Debian's form of CHANGELOG.md."""
-    page = read("CHANGELOG.md").decode().partition("\n- ")[2]
-    lines = [" ".join(it.split()) for it in page.split("\n- ")]
-    date = subprocess.run(
-        ["date", "-u", "-R", "-d", f"@{moment()}"], stdout=subprocess.PIPE, env={**os.environ, "LC_ALL": "C"}, check=True
-    ).stdout.decode()
-    listed = "".join("  * " + "\n    ".join(textwrap.wrap(it, 74)) + "\n" for it in lines)
-    return f"ob0 ({number}) unstable; urgency=medium\n\n{listed}\n -- {maintainer()}  {date}".encode()
+class Version(NamedTuple):
+    """A version by CHANGELOG.md; it has no day until it is released."""
+
+    number: str
+    day: str
+    changes: list[str]
+
+
+def versions() -> list[Version]:
+    """The versions of CHANGELOG.md, the latest first."""
+    found = []
+    for part in re.split(r"^## ", read("CHANGELOG.md").decode(), flags=re.M)[1:]:
+        heading, _, rest = part.partition("\n")
+        named = re.fullmatch(r"(\d+\.\d+\.\d+), (?:(\d{4}-\d\d-\d\d)|not released yet)", heading)
+        if not named:
+            common.stop(f"CHANGELOG.md has a heading `{heading}`: neither `NUMBER, not released yet` nor `NUMBER, YEAR-MONTH-DAY`")
+        found.append(Version(named[1], named[2] or "", [" ".join(it.split()) for it in re.split(r"^- ", rest, flags=re.M)[1:]]))
+    return found
+
+
+def known_versions() -> list[Version]:
+    """The versions of CHANGELOG.md, of which the first is the program's, with a day if that is what is packed."""
+    found, number = versions(), version()
+    if not found or found[0].number != number:
+        common.stop(f"the first heading of CHANGELOG.md isn't of {number}, which is the program's version")
+    if build_version() == number and not found[0].day:
+        common.stop(f"CHANGELOG.md says that {number} isn't released yet, and it is to be packed under that number")
+    return found
+
+
+def changelog() -> bytes:
+    """Debian's form of CHANGELOG.md: an entry for each version, the first for this build of it."""
+    entries = []
+    for at, (number, day, changes) in enumerate(known_versions()):
+        noon = datetime.datetime.strptime(f"{day or '1970-01-01'} 12 +0000", "%Y-%m-%d %H %z").timestamp()
+        listed = "".join("  * " + "\n    ".join(textwrap.wrap(it, 74)) + "\n" for it in changes)
+        date = email.utils.formatdate(noon if at else moment())
+        entries.append(f"ob0 ({number if at else build_version()}) unstable; urgency=medium\n\n{listed}\n -- {maintainer()}  {date}\n")
+    return "\n".join(entries).encode()
+
+
+def notes() -> None:
+    """Prints the changes of the program's version, as a release has them."""
+    page = read("CHANGELOG.md").decode()
+    print(match_of(rf"^## {re.escape(known_versions()[0].number)},[^\n]*\n+(.*?)(?=^## |\Z)", page, re.M | re.S)[1].strip())
+
+
+WITHOUT_NOTICE = """The program is linked with crates of the Rattle toolchain, whose notices are below. These have none: {}. They
+come with the toolchain, and nothing there says under what terms a program that holds their code may be handed on. Ask the makers of the
+toolchain before you hand this package to others."""
 
 
 def copyright_page() -> bytes:
-    return b"Format: https://www.debian.org/doc/packaging-manuals/copyright-format/1.0/\nUpstream-Name: ob0\n\n" + (
-        b"Files: *\nCopyright: " + licence_holder() + b"\nLicense: Expat\n" + indented(licence_text())
-        + f"\nFiles: usr/{DOC}/editors/tree-sitter/src/tree_sitter/parser.h\nCopyright: 2018-2024 Max Brunsfeld\nLicense: Expat\n".encode()
-    )
+    """Who holds the copyright of what is packed, and the licences, in Debian's form."""
+    found = notices.of_program()
+    named = [(notices.short_name(crate, file), crate, text) for crate, texts in found.items() for file, text in texts.items()]
+    holders = dict.fromkeys(it for _, crate, text in named for it in notices.holders(crate, text))
+    comment = textwrap.wrap(WITHOUT_NOTICE.format(", ".join(notices.without(found))), 78)
+    program = {
+        "Files": "usr/bin/ob0",
+        "Copyright": "\n ".join([licence_holder(), *holders]),
+        "License": " and ".join(["Expat", *(name for name, _, _ in named)]),
+        "Comment": "\n ".join(comment),
+    }
+    parser = {"Files": f"usr/{DOC}/{PARSER}", "Copyright": PARSER_HOLDER, "License": "Expat"}
+    paragraphs = [
+        {"Format": "https://www.debian.org/doc/packaging-manuals/copyright-format/1.0/", "Upstream-Name": "ob0"},
+        {"Files": "*", "Copyright": licence_holder(), "License": "Expat"},
+        program,
+        parser,
+        {"License": f"Expat\n{indented(licence_text())}"},
+        *({"License": f"{name}\n{indented(text)}"} for name, _, text in named),
+    ]
+    return "\n".join("".join(f"{field}: {value.rstrip()}\n" for field, value in it.items()) for it in paragraphs).encode()
 
 
-def licence_holder() -> bytes:
+def licence_holder() -> str:
     line = next(it for it in read("LICENSE").decode().splitlines() if it.startswith("Copyright"))
-    return line.replace("Copyright (c) ", "").encode()
+    return line.replace("Copyright (c) ", "")
 
 
 def licence_text() -> str:
     return read("LICENSE").decode().partition("\n\n")[2].partition("\n\n")[2]
 
 
-def indented(text: str) -> bytes:
-    return "".join(f" {it or '.'}\n" for it in text.rstrip("\n").split("\n")).encode()
+def indented(text: str) -> str:
+    return "".join(f" {it.strip() and it or '.'}\n" for it in text.strip("\n").split("\n"))
+
+
+def emacs_package() -> bytes:
+    """The file by which Emacs knows the installed package."""
+    line = f"""(define-package "ob0-mode" "{version()}" "Major mode for Oberon-0" '((emacs "26.1")))"""
+    return f";; What Emacs reads of the installed package  -*- no-byte-compile: t -*-\n{line}\n".encode()
+
+
+OVERRIDES = """# the packed program is the proved one, byte for byte
+ob0: unstripped-binary-or-object [usr/bin/ob0]
+# the archive has the same file, for systems without /usr/share/common-licenses
+ob0: copyright-file-contains-full-apache-2-license
+"""
 
 
 def tree() -> Tree:
@@ -194,15 +313,16 @@ def tree() -> Tree:
         "share/man/man1/ob0.1.gz": (squeezed(read("share", "ob0.1")), 0o644),
         "share/man/man1/ob0-format.1.gz": (squeezed(read("share", "ob0-format.1")), 0o644),
         f"{DOC}/PROVED": (proved(), 0o644),
-        f"{DOC}/changelog.gz": (squeezed(changelog(build_version())), 0o644),
+        f"{DOC}/changelog.gz": (squeezed(changelog()), 0o644),
         f"{DOC}/copyright": (copyright_page(), 0o644),
-        # (the packed program is the proved one, byte for byte)
-        "share/lintian/overrides/ob0": (b"ob0: unstripped-binary-or-object [usr/bin/ob0]\n", 0o644),
+        "share/lintian/overrides/ob0": (OVERRIDES.encode(), 0o644),
+        f"{EMACS}/ob0-mode-pkg.el": (emacs_package(), 0o644),
     }
     for source, target in COPIED.items():
         for below, path in files_of(source):
             found[os.path.normpath(os.path.join(target, below))] = (read(path), 0o644)
-    for path, target in LINKED.items():
+    exercises = {f"{DOC}/examples/exercises/{it}": f"{EXERCISES}/{it}" for it, _ in files_of("examples/exercises")}
+    for path, target in {**LINKED, **exercises}.items():
         found[path] = (Link(os.path.relpath(target, os.path.dirname(path))), 0o777)
     return dict(sorted(found.items()))
 
@@ -259,7 +379,7 @@ Version: {build_version()}
 Architecture: amd64
 Maintainer: {maintainer()}
 Installed-Size: {size}
-Depends: libc6 (>= 2.34), python3
+Depends: libc6 (>= {glibc.needed(common.BINARY)}), python3
 Suggests: bash-completion, neovim | vim-ale | elpa-eglot | kate, kakoune
 Section: devel
 Priority: optional
@@ -296,22 +416,43 @@ def need_program() -> None:
         common.stop("bin/ob0 is not the proved program of these sources: `make build` makes it")
 
 
-def write_packages(found: Tree, folder: str) -> None:
-    """Writes both packages of a tree to a folder, with their sums, and takes away those of earlier builds. Beside another run on the
-    same sources each file is there and whole at any time."""
-    number = build_version()
-    made = {
-        f"ob0_{number}_amd64.deb": debian_package(found),
-        f"ob0-{number}-x86_64-linux.tar.gz": squeezed(archive(with_list(found), f"ob0-{number}", False)),
-    }
-    sums = "".join(f"{hashlib.sha256(content).hexdigest()}  {name}\n" for name, content in made.items())
-    for name, content in {**made, "SHA256SUMS": sums.encode()}.items():
+def extension() -> dict[str, bytes]:
+    """The package of the extension for VS Code by its name, or none if the modules of Node that it needs aren't here."""
+    found = vsix.modules()
+    if not found:
+        print("no .vsix is made: `make editors RELEASE=trixie` (as root) or `npm install` in editors/vscode gets the modules that it needs")
+        return {}
+    files = {os.path.relpath(it, "editors/vscode"): read(it) for it in names_below("editors/vscode")}
+    files.update({"LICENSE.txt": read("LICENSE"), "CHANGELOG.md": read("CHANGELOG.md")})
+    return {f"ob0-{build_version()}.vsix": vsix.archive(vsix.with_modules(found, files), moment())}
+
+
+# what an earlier build left beside its packages, a signature of its sums among it
+EARLIER = ["ob0_*_amd64.deb", "ob0-*-x86_64-linux.tar.gz", "ob0-*.vsix", "SHA256SUMS.asc"]
+
+
+def write_files(files: dict[str, bytes], folder: str) -> None:
+    """Writes files to a folder. Beside another run on the same sources each is there and whole at any time."""
+    os.makedirs(folder, exist_ok=True)
+    for name, content in files.items():
         path = os.path.join(folder, name)
         new = f"{path}.{os.getpid()}"
         with open(new, "wb") as file:
             file.write(content)
         os.replace(new, path)
-    for path in (it for pattern in ("ob0_*_amd64.deb", "ob0-*-x86_64-linux.tar.gz") for it in glob.glob(os.path.join(folder, pattern))):
+
+
+def write_packages(found: Tree, folder: str) -> None:
+    """Writes the packages of a tree to a folder, with their sums, and takes away those of earlier builds."""
+    number = build_version()
+    made = {
+        f"ob0_{number}_amd64.deb": debian_package(found),
+        f"ob0-{number}-x86_64-linux.tar.gz": squeezed(archive(with_list(found), f"ob0-{number}", False)),
+        **extension(),
+    }
+    sums = "".join(f"{hashlib.sha256(content).hexdigest()}  {name}\n" for name, content in made.items())
+    write_files({**made, "SHA256SUMS": sums.encode()}, folder)
+    for path in (it for pattern in EARLIER for it in glob.glob(os.path.join(folder, pattern))):
         if os.path.basename(path) not in made:
             remove(path)
     print(sums, end="")
@@ -319,6 +460,8 @@ def write_packages(found: Tree, folder: str) -> None:
 
 def package() -> None:
     write_packages(tree(), os.path.dirname(common.BINARY))
+    if not re.match(r"\d+ passed, 0 failed", verdict()):
+        print(f"this is not a package for others. PROVED says of its program: {verdict()}")
     if not os.environ.get("DEBEMAIL"):
         print(f"the maintainer's address is {DEFAULT_ADDRESS}, which is nobody's: DEBFULLNAME and DEBEMAIL name yours")
 
@@ -341,6 +484,8 @@ def make_folders(path: str) -> list[str]:
         path = os.path.dirname(path)
     for folder in reversed(made):
         os.mkdir(folder)
+        # (for everybody, whatever the umask is; the bit for the group's name is the outer folder's)
+        os.chmod(folder, 0o755 | os.stat(folder).st_mode & stat.S_ISGID)
     return made
 
 
@@ -363,6 +508,7 @@ def install(room: str) -> None:
     folders = {*known, *(os.path.relpath(it, room) for it in made)}
     with open(os.path.join(room, LIST), "w", encoding="utf-8") as file:
         file.write(list_of([*found, LIST], folders))
+    os.chmod(os.path.join(room, LIST), 0o644)
     print(f"installed {os.path.join(room, 'bin/ob0')}, its manual pages, completions, editor files, pages and examples")
 
 
@@ -402,6 +548,10 @@ def room_of(prefix: str, root: str) -> str:
 def main(words: list[str]) -> None:
     command, *places = words
     try:
+        if command == "notes":
+            return notes()
+        if command == "vsix":
+            return write_files(extension(), os.path.dirname(common.BINARY))
         if command == "package":
             need_program()
             return package()

@@ -1,9 +1,10 @@
 #!/usr/bin/env python3
-"""Lists the public functions of each crate and the mutants that turn them, in docs/SURFACE.md, and writes into README how many
-mutants there are.
+"""Lists the public functions of each crate with the mutants that change them, and its public types, in docs/SURFACE.md; writes into
+README how many mutants there are.
 
-It fails where no mutant turns a public function with a result, or one that writes through an argument, unless
-tools/surface_reasons.txt says why: lines 'crate::path::name: reason'. With --check neither page is written."""
+Methods of this repository's traits, and of std's Read and Write, are public functions if their type is public. It fails if no mutant
+changes a public function with a result, or one that writes through an argument, unless tools/surface_reasons.txt says why: lines
+'crate::path::name: reason'. With --check neither page is written."""
 from __future__ import annotations
 
 import os
@@ -13,18 +14,26 @@ import sys
 import common
 import edits
 import reading
+import verdicts
 from common import TOP
 
 PAGE = os.path.join(TOP, "docs", "SURFACE.md")
 REASONS = os.path.join(TOP, "tools", "surface_reasons.txt")
-HEAD = """# Public functions
+HEAD = """# Public functions and types
 
-Made by `make surface`: the functions that each crate has for others, and the mutants that turn them, which the prover
-refuses (`gate-mutants/` in `make test`, `wrong-bodies/` by `make wrong-bodies`). A function with neither a result nor an
-argument that it writes is a law: its contract is all there is of it.
+Made by `make surface`: the functions that each crate has for others with the mutants that change them, and its public types with
+their variants or public fields in order. `rt ci` tries the mutants of `must-fail/`; [mutants.txt](../tools/mutants.txt) says what
+refused those of `wrong-bodies/` when they were last tried. A function with neither a result nor an argument that it writes is a law:
+its contract is all there is of it.
 """
+# Traits of std whose methods other crates call on this repository's types.
+OF_STD = ("Read", "Write")
 README = os.path.join(TOP, "README.md")
-COUNTS = re.compile(r"(every proof, )\d+( wrong versions.*?tries all )\d+( mutants)", re.S)
+COUNTS = re.compile(
+    r"(every proof, )\d+( wrong\s+versions.*?\bof\s+)\d+(\s+others\s+)\d+(\s+were\s+refused\s+in\s+their\s+present\s+form\s+and\s+)"
+    r"\d+(\s+not\s+tried\s+since)",
+    re.S,
+)
 
 
 def reasons() -> dict[str, str]:
@@ -39,7 +48,7 @@ def reasons() -> dict[str, str]:
 
 
 class Row:
-    """A public function with the mutants that turn it."""
+    """A public function with the mutants that change it."""
 
     def __init__(self, function: reading.Function, turning: "list[edits.Edit]") -> None:
         self.function, self.turning = function, turning
@@ -56,11 +65,24 @@ class Row:
         return f"| `{self.function.path}` | {turning} |"
 
 
-def rows_of(crate: str) -> "list[Row]":
+def rows_of(source: reading.Source, traits: "list[str]") -> "list[Row]":
     """A row for each public function of a crate, in the order of the sources."""
-    source = reading.Source(crate)
-    all_edits = edits.edits_of(crate, source)
-    return [Row(it, [edit for edit in all_edits if edit.turned and it in edit.turned]) for it in source.public_functions()]
+    all_edits = edits.edits_of(source.crate, source)
+    return [Row(it, [edit for edit in all_edits if edit.turned and it in edit.turned]) for it in source.public_functions(traits)]
+
+
+def type_line(item: reading.TypeItem) -> str:
+    """A line of the table of a crate's public types."""
+    parts = ", ".join(f"`{it}`" for it in item.parts) or "none that is public"
+    return f"| `{item.kind} {item.path}` | {parts} |"
+
+
+def section(source: reading.Source, rows: "list[Row]", known: "dict[str, str]") -> "list[str]":
+    """A crate's part of the page: its public functions and types."""
+    types = [type_line(it) for it in source.public_types()]
+    found = ["\n| Function | Mutants |", "|---|---|", *(it.line(known) for it in rows)] if rows else []
+    found += ["\n| Type | Variants or public fields |", "|---|---|", *types] if types else []
+    return [f"\n## {source.crate}", *found] if found else []
 
 
 def keep(text: str, only_looks: bool) -> None:
@@ -74,25 +96,37 @@ def keep(text: str, only_looks: bool) -> None:
             print("docs/SURFACE.md isn't of these sources: make surface writes it")
 
 
+def counts() -> "tuple[int, int, int, int]":
+    """How many edits `rt ci` tries; how many others there are, were refused in their present form, and weren't."""
+    of_kit = sum(it.is_of_kit for crate in common.listed() for it in edits.edits_of(crate))
+    mutants = verdicts.Mutants()
+    return of_kit, len(mutants.edits), len(mutants.edits) - len(mutants.stale), len(mutants.stale)
+
+
+def with_counts(text: str) -> str:
+    """README's text with the counts of mutants."""
+    of_kit, others, refused, left = counts()
+    return COUNTS.sub(rf"\g<1>{of_kit}\g<2>{others}\g<3>{refused}\g<4>{left}\g<5>", text)
+
+
 def keep_counts() -> None:
-    """Writes into README how many mutants the gate tries, and how many there are (a test compares them)."""
-    found = [it for crate in common.listed() for it in edits.edits_of(crate)]
-    of_gate = sum(it.is_of_gate for it in found)
+    """Writes the counts of mutants into README (a test compares them)."""
     with open(README, encoding="utf-8") as file:
         text = file.read()
     with open(README, "w", encoding="utf-8") as file:
-        file.write(COUNTS.sub(rf"\g<1>{of_gate}\g<2>{len(found)}\g<3>", text))
+        file.write(with_counts(text))
 
 
 def main(words: list[str]) -> int:
     named = common.libraries()
     order = list(dict.fromkeys(it for top in named for it in common.below(top, named)))
-    known, page, rows = reasons(), [HEAD], []
-    for crate in order:
-        found = rows_of(crate)
+    sources = [reading.Source(it) for it in order]
+    traits = [*OF_STD, *(name for source in sources for name, is_pub in source.traits.items() if is_pub)]
+    known, page, rows = reasons(), [HEAD.rstrip("\n")], []
+    for source in sources:
+        found = rows_of(source, traits)
         rows += found
-        if found:
-            page += [f"\n## {crate}\n", "| Function | Mutants |", "|---|---|", *(it.line(known) for it in found)]
+        page += section(source, found, known)
     keep("\n".join(page) + "\n", "--check" in words)
     if "--check" not in words:
         keep_counts()

@@ -25,6 +25,8 @@ class Function:
         self.impl_words, self.is_test = scope.impl_words, scope.is_test
         self.name, self.is_pub, self.words = name, is_pub, [it.text for it in words]
         self.file, self.first, self.last = scope.file, words[0].line, words[-1].line
+        # (a method of a trait has its contract at the head of its impl)
+        self.contract_from = min(scope.block_from or self.first, self.first) if scope.trait else self.first
         self.head, self.has_body = heading(self.words), self.words[-1] == "}"
         # (the line on which its body begins)
         self.opens = words[min(len(self.head), len(words) - 1)].line
@@ -75,6 +77,71 @@ class Function:
         return is_met and (not self.is_of_reference or plain.startswith("ref"))
 
 
+class TypeItem:
+    """A type of a crate: its kind, and its variants or public fields in the order of the source."""
+
+    def __init__(self, scope: Scope, words: list[Word], at: int, is_pub: bool) -> None:
+        texts = [it.text for it in words]
+        self.crate, self.module, self.kind, self.name = scope.crate, scope.module, texts[at], texts[at + 1]
+        self.is_pub, self.is_test = is_pub, scope.is_test
+        self.parts = parts_of(self.kind, texts[at + 2 :])
+
+    @property
+    def path(self) -> str:
+        """As a reader names it: module::Name."""
+        return "::".join([*self.module, self.name])
+
+
+def parts_of(kind: str, texts: list[str]) -> list[str]:
+    """The variants of an enum or the public fields of a struct, spelled; of another type what it stands for."""
+    if kind == "type":
+        return [spelled(texts[texts.index("=") + 1 : -1])] if "=" in texts else []
+    opens = next((at for at, it in enumerate(texts) if it in "{("), None)
+    found: list[str] = []
+    while opens is not None and opens + 1 < len(texts) and texts[opens + 1] not in "})":
+        end = end_of_part(texts, opens + 1)
+        part = without_attributes(texts[opens + 1 : end])
+        is_shown = kind == "enum" or part[:1] == ["pub"] and part[1:2] != ["("]
+        found += [spelled(part[part[:1] == ["pub"] :])] if part and is_shown else []
+        opens = end if texts[end : end + 1] == [","] else None
+    return found
+
+
+def end_of_part(texts: list[str], at: int) -> int:
+    """The place of the comma or bracket that ends a variant or field."""
+    depth = 0
+    while at < len(texts) and (depth or texts[at] not in ",})"):
+        depth += (texts[at] in "([{<") - (texts[at] in ")]}" or texts[at] == ">" and texts[at - 1] != "-")
+        at += 1
+    return at
+
+
+def without_attributes(texts: list[str]) -> list[str]:
+    """The words of a variant or field after its attributes."""
+    while texts[:1] == ["#"]:
+        texts = texts[end_of_brackets(texts, 1) :]
+    return texts
+
+
+def end_of_brackets(texts: list[str], at: int) -> int:
+    """The place after the brackets that open at a place."""
+    depth = 0
+    for place in range(at, len(texts)):
+        depth += (texts[place] in "([{") - (texts[place] in ")]}")
+        if not depth:
+            return place + 1
+    return len(texts)
+
+
+def spelled(texts: list[str]) -> str:
+    """Words of a type as they are written on one line."""
+    found = " ".join(texts)
+    for old, new in ((" : :", "::"), (":: ", "::"), (" :", ":"), (" ,", ","), (" (", "("), ("( ", "("), (" )", ")"), (" <", "<"), ("< ", "<"),
+                     (" >", ">"), ("& ", "&"), ("[ ", "["), (" ]", "]"), (" ;", ";"), (", }", " }"), (",)", ")")):
+        found = found.replace(old, new)
+    return found
+
+
 class Word:
     def __init__(self, line: int, text: str) -> None:
         self.line, self.text, self.is_test = line, text, False
@@ -93,8 +160,10 @@ class Scope:
         impl_words: tuple[str, ...] = (),
         is_test: bool = False,
         is_of_reference: bool = False,
+        block_from: int = 0,
     ) -> None:
         self.crate, self.file, self.module, self.owner, self.trait = crate, file, module, owner, trait
+        self.block_from = block_from  # the first line of the impl or trait
         # (whether a trait is that of references to the owner)
         self.impl_words, self.is_test, self.is_of_reference = impl_words, is_test, is_of_reference
 
@@ -117,23 +186,35 @@ def rattle() -> str:
     return os.path.join(os.path.dirname(os.path.realpath(common.need("rt"))), "rattle")
 
 
-def words_of(files: list[str]) -> dict[str, list[Word]]:
-    """The words of code of each file, by its path."""
+class Text:
+    """The words of a file: those of its code, and all, with those of contracts, each after its line."""
+
+    def __init__(self) -> None:
+        self.code: list[Word] = []
+        self.all: list[Tuple[int, str]] = []
+
+
+def words_of(files: list[str]) -> dict[str, Text]:
+    """The words of each file, by its path; comments left out."""
     if not files:
         return {}
     ran = subprocess.run([rattle(), "fmt", "--tokens", *files], stdin=subprocess.DEVNULL, stdout=subprocess.PIPE)
     if ran.returncode:
         common.stop(f"{files[0]} or a file beside it can't be read")
-    found: dict[str, list[Word]] = {}
-    words: list[Word] = []
+    found: dict[str, Text] = {}
+    words = Text()
     for line in ran.stdout.decode("utf-8").split("\n"):
         if line.startswith("file "):
-            words = found[files[int(line[5:])]] = []
+            words = found[files[int(line[5:])]] = Text()
         elif line:
-            at, _, _, kind, text = line.split(" ", 4)
+            at, _, _, kind, told = line.split(" ", 4)
+            text = json.loads(told)
             # (a comment above a type of errors is a literal to the toolchain)
-            if kind in ("Code", "Literal") and not json.loads(text).startswith("//"):
-                words.append(Word(int(at), json.loads(text)))
+            if text.startswith("//"):
+                continue
+            words.all.append((int(at), text))
+            if kind in ("Code", "Literal"):
+                words.code.append(Word(int(at), text))
     return found
 
 
@@ -191,11 +272,14 @@ class Source:
         self.functions: list[Function] = []
         self.constants: dict[str, tuple[str, int, int]] = {}  # the file, the first line and the last
         self.types: dict[str, tuple[Module, bool]] = {}  # the module, and whether it is public
+        self.traits: dict[str, bool] = {}  # whether it is public
+        self.type_items: list[TypeItem] = []
         self.declared: set[tuple[Module, str]] = set()
         self.public_modules: set[Module] = {()}
         self.brought_out: list[tuple[Module, list[str]]] = []
         self.imports: list[tuple[list[str], bool]] = []
-        self.words = words_of(sources(crate))
+        self.texts = words_of(sources(crate))
+        self.words = {path: text.code for path, text in self.texts.items()}
         self.folder = os.path.join(common.TOP, "crates", crate)
         for top in ("lib.rt", "main.rt"):
             self.read(os.path.join(self.folder, "src", top), Scope(crate, f"src/{top}", ()))
@@ -242,9 +326,11 @@ class Source:
             self.block(words, at, scope)
             if word == "trait":
                 self.types[name] = (scope.module, is_pub)
+                self.traits[name] = is_pub
         elif word in ("struct", "enum", "type"):
             self.types[name] = (scope.module, is_pub)
             self.declared.add((scope.module, name))
+            self.type_items.append(TypeItem(scope, words, at, is_pub))
         elif word in ("const", "static"):
             self.constants[name] = (scope.file, words[0].line, words[-1].line)
         elif word == "use":
@@ -258,7 +344,7 @@ class Source:
         head = [it.text for it in words[at + 1 : opens]]
         head = head[: head.index("where")] if "where" in head else head
         if words[at].text == "trait":
-            inner = scope.inside(owner=head[0], trait=head[0], impl_words=(head[0],))
+            inner = scope.inside(owner=head[0], trait=head[0], impl_words=(head[0],), block_from=words[0].line)
         else:
             generics = head[: close_angle(head)] if head[:1] == ["<"] else []
             head = head[len(generics) :]
@@ -268,9 +354,19 @@ class Source:
             said = tuple(it for it in dict.fromkeys(head) if it.isidentifier() and it not in hidden)
             of = [] if cut is None else head[cut + 1 :]
             words_said = () if cut is None else said
-            inner = scope.inside(owner=owner, trait="" if cut is None else head[0], impl_words=words_said)
+            trait = "" if cut is None else head[0]
+            inner = scope.inside(owner=owner, trait=trait, impl_words=words_said, block_from=words[0].line)
             inner.is_of_reference = of[:1] == ["&"] and "[" not in of
         self.items(words[opens + 1 : -1], inner)
+
+    def all_words(self, path: str, first: int = 0, last: int = 1 << 30) -> list[str]:
+        """The words between two lines of a file, contracts included."""
+        text = self.texts.get(os.path.join(self.folder, path))
+        return [word for line, word in text.all if first <= line <= last] if text else []
+
+    def words_with_contract(self, function: Function) -> list[str]:
+        """The words of a function and of its contract."""
+        return self.all_words(function.file, function.contract_from, function.last)
 
     def is_public(self, module: Module, name: str) -> bool:
         """Whether other crates can name an item of a module."""
@@ -278,21 +374,26 @@ class Source:
             return True
         return any(brings(words, at, module, name) for at, words in self.brought_out if at in self.public_modules)
 
-    def public_functions(self) -> list[Function]:
-        """Each function that other crates can call, tests left out."""
-        found = []
+    def public_functions(self, traits: Iterable[str] = ()) -> list[Function]:
+        """Each function that other crates can call, tests left out; with the methods of some traits of other crates."""
+        found, counted = [], {*traits, *self.traits}
         for function in self.functions:
             if function.is_test or not function.is_pub or not function.has_body:
                 continue
             if not function.owner:
                 is_seen = self.is_public(function.module, function.name)
             else:
-                # (a method of a trait of another library is called by that library's name for it)
-                is_own = not function.trait or function.trait in self.types
+                # (a type of another crate is seen, since only a trait of this repository can have a method on it)
+                is_own = function.owner in self.types
                 at, is_pub = self.types.get(function.owner, (function.module, False))
-                is_seen = is_own and is_pub and self.is_public(at, function.owner)
+                is_counted = not function.trait or function.trait in counted
+                is_seen = is_counted and (is_pub and self.is_public(at, function.owner) if is_own else self.traits.get(function.trait, False))
             found += [function] * is_seen
         return found
+
+    def public_types(self) -> list[TypeItem]:
+        """Each type that other crates can name, tests left out."""
+        return [it for it in self.type_items if it.is_pub and not it.is_test and self.is_public(it.module, it.name)]
 
     def below(self) -> dict[str, set[str]]:
         """Of each proof those that it may stand on: of what its functions name, and of what these name in turn."""

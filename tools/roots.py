@@ -27,7 +27,6 @@ SUITES = ["bookworm", "trixie"]
 MIRROR = "http://deb.debian.org/debian"
 # what a system keeps for itself, and what is no part of a system
 LEFT_OUT = {"dev", "proc", "run", "sys", "tmp", "var"}
-DAY = 86400
 PAGE = f"{package.DOC}/README.md"
 MENDED = b"\nA mended build.\n"
 
@@ -70,10 +69,10 @@ def same_state(root: str, before: State, what: str) -> None:
 
 
 def make_builds(folder: str) -> dict[str, list[str]]:
-    """Packs two builds, the second a day younger and with another page: for each its Debian package and its archive."""
-    builds, now = {}, package.moment()
-    for name, page, age in (("first", b"", DAY), ("mended", MENDED, 0)):
-        os.environ["SOURCE_DATE_EPOCH"] = str(now - age)
+    """Packs two builds, the second of a later version and with another page: for each its Debian package and its archive."""
+    builds = {}
+    for name, page in (("first", b""), ("mended", MENDED)):
+        os.environ["BUILD_VERSION"] = f"{package.version()}~{name}"
         found = package.tree()
         found[PAGE] = (package.read("README.md") + page, 0o644)
         room = os.path.join(folder, name)
@@ -103,11 +102,11 @@ def try_debian(root: str, builds: dict[str, list[str]]) -> None:
 
 
 def readme_lines() -> tuple[str, str]:
-    """README's lines that unpack the archive and take it away."""
+    """README's lines that unpack the archive, and the one that takes it away."""
     with open(os.path.join(TOP, "README.md"), encoding="utf-8") as file:
         page = file.read()
-    unpack, take_away = (match_of(rf"^    (.*{word}.*)$", page, re.M)[1].partition("  #")[0] for word in ("sudo tar", "xargs"))
-    return unpack.replace("sudo ", ""), take_away.replace("sudo ", "")
+    umask, unpack, take_away = (match_of(rf"^    (.*{word}.*)$", page, re.M)[1].partition("  #")[0] for word in ("umask", "sudo tar", "xargs"))
+    return f"{umask}; {unpack}".replace("sudo ", ""), take_away.replace("sudo ", "")
 
 
 def try_archive(root: str, archive: str) -> None:

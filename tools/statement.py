@@ -34,7 +34,8 @@ SERVE = ("ob0_session", "serving", "serve")
 LAW = ("ob0_world_determined", "laws", "a_conversation_is_served")
 STEP = ("ob0_world", "world", "step")
 # (laws that the words name)
-LAWS = [("ob0_world_rules", "laws", name) for name in ("one_step", "a_course_fits", "answers_are_one", "edits_keep_the_run", "server_mirrors")]
+LAWS = [("ob0_world_rules", "laws", name) for name in ("one_step", "a_course_fits", "answers_are_one", "edits_keep_the_run")]
+LAWS += [("ob0_world_rules", "laws", name) for name in ("made_in_order", "server_mirrors")]
 LAWS += [("ob0_world", "laws", "versions_suffice"), ("ob0_world_determined", "laws", "one_output")]
 LAW_NAMES = [name for _, _, name in LAWS]
 # (the contracts that a part shows)
@@ -51,7 +52,7 @@ CLOSED = {
     "a content, and what is to be said",
     ("ob0_session_server", "Answers", "SaysReply"): "nothing is sent, or one content, the JSON text of what is to be "
     "said: a publication, a result or an error, as docs/PROTOCOL.md has it",
-    ("ob0_rpc", "Messages", "ReadsContent"): "the bytes are the JSON text of this value; none, where they aren't JSON",
+    ("ob0_rpc", "Messages", "ReadsContent"): "the bytes are the JSON text of this value; None if they aren't JSON",
     ("ob0_rpc", "Messages", "meaning"): "a request with its id, method and params, a notification, a response, or no "
         "message",
     ("ob0_session_server", "Answers", "ServerState"): "a session's lifecycle (`phase`), what its client can do, and "
@@ -126,20 +127,20 @@ BELIEVED = {
     "Range": "from one position to another",
     "width_of": "how many units a character has",
     "cut_at": "the cut of a range: between the characters at its two positions, the lesser first",
-    "Cut": "where characters are taken out, and those that are put there",
+    "Cut": "the place where characters are removed, and those put there",
     "all_apart": "no two of the cuts share a character (an insertion strictly inside another cut does)",
     "in_text_order": "the cuts by their starts, then by their ends, then as in the list",
     "pieced": "what cuts in this order make of the text from a place on",
     "device_of, has_failed, is_flushed, reads_of": "of a `Noted` its device; whether a call of it has returned an "
     "error; whether a flush has succeeded since the last write, or nothing was written; how it was read",
     "IsTaken": "by at most 2^40 reads, each of at most 8,192 bytes",
-    "Serves": "`put` is the frames of the replies to contents of `taken` (at `Err(Write)` perhaps their first bytes "
-    "alone). To which, a table in part 6 says by the result: at `Err(Memory)` to the first n, for some n",
+    "Serves": "`put` is the frames of the replies to contents of `taken` (at `Err(Write)` perhaps only their first "
+    "bytes). To which, a table in part 6 says by the result: at `Err(Memory)` to the first n, for some n",
     "AreAllRead": "2^40 reads were made",
     "IsFlushedAfter": "if the writer was flushed before, or anything was put, it is flushed now",
     "code.Event": "an event of the code",
     "PlayFault": "`played`, and `steps`: how many events were played",
-    "PlaysNothing": "nothing was played, and no content has passed",
+    "PlaysNothing": "the fault says that nothing was played, and that no content has passed",
     "Played": "what `play_in` returns",
     "event_of": "the same as an event of the model (`Take` is `take_message`, and so on)",
     "all_applied, all_made": "the edits and the publications that are returned",
@@ -181,7 +182,7 @@ WORDS = (
     ("Noted", "a reader or a writer, with notes of its calls", "`ob0_session`"),
     (
         "R.remaining d, W.contents d",
-        "the bytes that a device has left to give, and those that were written to it, where its type knows them",
+        "the bytes that a device has left to give, and those that were written to it, if its type knows them",
         "`std::io`",
     ),
     ("Data", "a JSON value", "`serde_json`"),
@@ -210,16 +211,16 @@ WORKED = """
 ROWS = """
 | `serve` returns | The program's status | It has written the frames of |
 |---|---|---|
-| `Ok(status)` | `status` | all replies up to an `exit`, which gives the status; or, with status 1, all replies, where no `exit` came and the input ends between messages |
+| `Ok(status)` | `status` | all replies up to an `exit`, which gives the status; or, with status 1, all replies, if no `exit` came and the input ends between messages |
 | `Err(BadHead)` | 3 | all replies to the contents before the place where no message can begin, as one with too long a content |
 | `Err(Truncated)` | 3 | all replies; the input ends inside a message |
 | `Err(Read)` | 4 | all replies to the contents read; a call of the reader has returned an error |
 | `Err(TooManyReads)` | 4 | all replies to the contents read, by 2^40 reads and from at least as many bytes |
-| `Err(Write)` | 4 | all replies to the first n contents, for some n, or these frames' first bytes alone; a call of the writer has returned an error |
+| `Err(Write)` | 4 | all replies to the first n contents, for some n, or only these frames' first bytes; a call of the writer has returned an error |
 | `Err(Memory)` | 5 | all replies to the first n contents, for some n, each whole |
 """
 AFTER_ROWS = (
-    "No call of the reader or the writer has returned an error but where it is said. At the first four errors no `exit` came. Except at `Err(Write)` it is "
+    "No call of the reader or the writer has returned an error unless the row says so. At the first four errors no `exit` came. Except at `Err(Write)` it is "
     "*flushed*: if the writer was flushed before the call, or `serve` wrote anything, the writer is flushed at the "
     "return."
 )
@@ -238,7 +239,7 @@ PARTS: list[tuple[str, list[str], str, str]] = [
             "(and that is a `Made`, with its text), which is right by `IsEmptyIfCorrect`;\n"
             "- for the close of an open document: an empty list without a version;\n"
             "- for each request: one answer with its number. If the document is `InStep`, it has the edits that were "
-            "requested, by docs/PROTOCOL.md, or none, where docs/PROTOCOL.md refuses them or the text isn't a "
+            "requested, by docs/PROTOCOL.md, or none, if docs/PROTOCOL.md refuses them or the text isn't a "
             "well-typed module (`GivesEdits` and `Refuses`, in part 8). Else it has none.",
             "*The editor* (`done_by`) sends each opening, change, close and request. It applies answers as part 0 "
             "says, at any time.",
@@ -272,7 +273,7 @@ PARTS: list[tuple[str, list[str], str, str]] = [
             "`MayServe` and more ([by definition](#determined-of-ob0_world_determined-part-6)). By the law "
             "`a_conversation_is_served`, under the premises of part 0, the bytes written are the frames of `got ++ "
             "unread`.",
-            "After an `Err` of `play_in` the law [`in_every_interleaving`](#part-0-the-headline) alone speaks of the "
+            "After an `Err` of `play_in` only the law [`in_every_interleaving`](#part-0-the-headline) speaks of the "
             "events that follow.",
         ],
         "that `serve` writes what `play_in` returns as sent, for what that returns as taken",
@@ -287,7 +288,7 @@ PARTS: list[tuple[str, list[str], str, str]] = [
             "An editor that counts no openings, compares the version in an answer with its document's, and drops what "
             "it asked about a document before this was opened again, does the same with an answer as the model does "
             "(the law `versions_suffice`). By the law [`versions_are_named`](PROMISES.md#client-and-server) edits "
-            "that answer a request name that version, but for those of a formatting, which name none.",
+            "that answer a request name that version, except those of a formatting, which name none.",
         ],
         "what parts 0 and 1 say of these names",
         "the laws `one_step`, `server_mirrors` and `versions_suffice` (part 9), and the test `worlds_play_as_written` "
@@ -305,10 +306,11 @@ PARTS: list[tuple[str, list[str], str, str]] = [
     (
         "Part 6: the wire",
         [
-            "That before each read all replies to the contents read are written and flushed is inferred from the "
-            "contract of `serve`: it holds for all readers and writers, also for such as fail from any call on, and "
-            "`Serves` allows no result where a read returned an error and after it a write. So nothing can be left to write "
-            "after a read, which may fail. This is no theorem; tests show it too.",
+            "That before each call of `Noted::read` all replies to the contents read are written and flushed is inferred "
+            "from the contract of `serve`: it holds for all readers and writers, also for such as fail from any call on, and "
+            "`Serves` allows no result if a read returned an error and after it a write. So nothing can be left to write "
+            "after a read, which may fail. This is no theorem, and it says nothing of the device: a `Noted::read` that "
+            "reads it twice meets its contract (docs/PROVING.md). Tests show that each reply comes.",
             "`Serves`, case by case:",
             ROWS,
             AFTER_ROWS,
@@ -343,23 +345,25 @@ PARTS: list[tuple[str, list[str], str, str]] = [
     ),
 ]
 SENTENCE = (
-    "> In every interleaving of a model editor and the server, each edit of the server's that the editor applies to a "
-    "well-typed document leaves a well-typed module with the same run: the same output and end for every input and "
-    "every bound on calls and loop turns; and an open document's latest diagnostics are empty exactly when the text "
-    "they were made for is a well-typed module."
+    "> In every interleaving of an editor and the server, each edit that the editor applies to a well-typed document "
+    "leaves a well-typed module with the same run: the same output and end for every input and every bound on calls and "
+    "loop turns; and an open document's latest diagnostics are empty exactly when the text they were made for is a "
+    "well-typed module."
 )
 OPENING = (
     "`ob0` is a language server for Oberon-0: an *editor* starts it and speaks with it by LSP 3.17. A message is sent "
     "in a *frame*: a head with a length, and the *content*, JSON of that many bytes. A *session* is what one server has "
     "taken and sent, from `initialize` on. An *opening* of a document lasts until its close. The code is in Rattle: "
     "Rust with contracts that a checker proves: `requires` is what a caller owes, `ensures` what then holds at the "
-    "return. A *law* is the contract of a function with an empty body: a fact about definitions."
+    "return. A *law* is the contract of a function without arguments whose body is empty, or only calls other laws: a "
+    "fact about definitions."
 )
 AFTER_SENTENCE = (
-    "*No session of a real editor is covered by the theorem alone*: for these it is inferred, and tested. The "
-    "premises, and what is proved, inferred, tested or not promised, come [below](#what-is-proved-and-what-isnt), after "
-    "the definitions. The definitions say more: *every* applied edit was made in a well-typed text (`before_fits`), and "
-    "*every* list of diagnostics with a version is right in this way."
+    "*Editor* means a model of one here (part 1); the edits that it applies are the server's. Laws say the same of every "
+    "editor that keeps [ob0's rules](PROMISES.md#the-rules-for-an-editor); that a real one keeps them is tested, not "
+    "proved. The premises come [below](#what-is-proved-and-what-isnt), after the definitions. These say more: *every* "
+    "applied edit was made in a well-typed text (`before_fits`), and *every* list of diagnostics with a version is "
+    "right in this way."
 )
 # (what its words mean, an item each)
 MEANINGS = (
@@ -370,8 +374,9 @@ MEANINGS = (
     "editor applies an answer only while the document has the opening and the version that it had at the request; else "
     "nothing of it is applied.",
     "*The latest diagnostics* of a document are the last list with a version that the server published for its uri, "
-    "taken by the editor or not. (The empty list that it sends at a close has none.) The document had the text that "
-    "they were made for, with that version, in this opening or an earlier one (`made_for`). When the server has taken "
+    "taken by the editor or not. (The empty list that it sends at a close has none.) They were *made for* the text that "
+    "the document had at that version in that opening: the n-th list for the n-th document announced (the law "
+    "`made_in_order`; the field `made_for` below leaves the opening open). When the server has taken "
     "all messages, they are of the present version and text (`latest_made`); until then there may be none.",
 )
 # (how the headline is tied to the program, a paragraph each)
@@ -380,12 +385,12 @@ TIE = (
     "list of events with a `Session`, the server's code, and code of a model editor. `ob0 serve` runs `serve` "
     "(`ob0_session`), which gives a `Session` what it reads, and writes what that sends. Both are proved against one "
     "specification (`react`, docs/PROTOCOL.md as a function): so for the same contents `serve` writes what `play_in` "
-    "returns as sent, under the premises below. The last step, to standard input and output, is tested.",
-    "*What each contract says.* The law `in_every_interleaving` is of the model alone (part 1). There a publication is "
+    "returns as sent, under the premises below.",
+    "*What each contract says.* The law `in_every_interleaving` is only about the model (part 1). There a publication is "
     "right by definition, and an answer has the edits that part 8 determines (`Replies`); that these keep the run is "
     "the law `edits_keep_the_run`. That the code publishes and answers so is what the contract of `play_in` adds, list "
-    "by list, with `made_for`: where a call of it returns an `Ok`, the headline holds of the session that it played. "
-    "That it does where memory suffices is tested; no contract says it.",
+    "by list: if a call of it returns an `Ok`, the headline holds of the session that it played. That it does if memory "
+    "suffices is tested; no contract says it.",
 )
 LISTS = "What is proved, and what isn't"
 # (what is promised with a proof, what without one, and what isn't, an item each)
@@ -393,37 +398,36 @@ PROVED = (
     "*The headline, and that its events were those of a session*, for fewer than 2^63 - 1 events (`few`) on which "
     "`play_in` returns an `Ok`: by its contract (`Plays`).",
     "*`Holds`* of each state of the model that events lead to, without a premise: by the law `in_every_interleaving`.",
+    "*The headline with other editors*, up to `shutdown`: by the laws `every_exchange_holds` and "
+    "`every_exchange_is_served`. The guarantee is proved for every editor that keeps ob0's rules. In short: it tells the "
+    "server every change, in order, with positions in the agreed unit and texts of Unicode scalar values. It makes all "
+    "edits of an answer as one change. It discards an answer if the document has been changed, or closed and reopened, "
+    "since the request. ([All rules](PROMISES.md#the-rules-for-an-editor); their definitions aren't on this page.)",
     "*`serve` has written the frames of what that session sent*: by its contract, and the law "
     "[`a_conversation_is_served`](#part-3-the-tie-to-the-program). The premises: the types of its *devices*, a reader "
     "and a writer, say which bytes are left or written (`R.remaining`, `W.contents`), which those of standard input "
     "and output don't; no call of either had returned an error before (`reads`, `writes`); it has read exactly the "
     "frames of what the session took, with no content of more than 16,777,216 bytes; it has returned, and neither "
     "`Err(Memory)` nor `Err(Write)`.",
-    "*Where memory runs out* `play_in` may return an `Err`, whose cause no contract knows: then all that an `Ok` says "
-    "holds of the first n events, for some n, or no session had begun (`PlaysBefore`). `serve` may return "
-    "`Err(Memory)`: then it has written whole replies to the first n contents, for some n. (That the headline holds of "
-    "these is inferred.)",
-    "*Every function returns*, also where an allocation fails, given stack enough and devices whose calls return, and "
+    "*If memory runs out*, `play_in` may return an `Err`, whose cause no contract knows: then all that an `Ok` says "
+    "holds of the first n events, for some n, or it returns that nothing was played (`PlaysBefore`). `serve` may return "
+    "`Err(Memory)`: then it has written whole replies to the first n contents, for some n.",
+    "*Every function returns*, even if an allocation fails, given enough stack and devices whose calls return, and "
     "none has undefined behaviour: by the checker. (`serve` hasn't returned while its reader waits.)",
 )
 UNPROVED = (
-    "*The headline with another editor* (inferred). It holds with any editor that sends every change, makes the edits "
-    "of an answer at once and as the protocol says, and drops an answer whose document was changed, or closed and "
-    "opened again, since it asked. Changes are sent in order, columns are counted as LSP does, and to take no keys "
-    "until the answer comes is as good as to drop it. The model's editor does so. Real ones are tested "
-    "(editors/README.md).",
-    "*Other messages* (inferred; tested in tests/test_lifecycle.py). The model begins after an `initialize` that takes "
-    "edits with versions and code actions with edits, and has openings, changes, closes and requests for edits alone. A "
-    "real session has `initialized` too, `shutdown` and `exit` at its normal end, and perhaps hovers. By `react` these "
-    "change no document, nor, up to `shutdown`, another reply.",
+    "*That a real editor keeps ob0's rules* (tested: editors/README.md).",
+    "*Other messages* (tested in tests/test_lifecycle.py). The model begins after an `initialize` that takes edits with "
+    "versions and code actions with edits, and has only openings, changes, closes and requests for edits. The laws on "
+    "other editors allow others, up to `shutdown`. What follows is inferred from `react`.",
     "*Standard input and output* (tested in tests/test_stream.py and tests/test_devices.py). That pipes lose, add and "
-    "reorder nothing is trusted. `main`, which has no contract, calls `serve` and hands its status on "
+    "reorder nothing is trusted. `main` has no contract; it calls `serve` and hands its status on "
     "(tests/test_lifecycle.py), 5 for `Err(Memory)`.",
-    "*A `serve` that still runs* has written and flushed each reply before it reads on (inferred in part 6; tested in "
-    "tests/test_stream.py). An editor waits for replies, while the contract takes all that will come as given at the "
-    "call (`R.remaining`): that is harmless, since `serve` sees only what has come.",
-    "*That these errors come only where an allocation failed* (tested, docs/ROBUSTNESS.md): contracts don't know how "
-    "much memory there is, so a `play_in` that always fails would meet its own.",
+    "*A `serve` that still runs* has written and flushed each reply before its next call of `Noted::read` (inferred in "
+    "part 6; tested in tests/test_stream.py). An editor waits for replies, while the contract takes all that will come "
+    "as given at the call (`R.remaining`): that is harmless, since `serve` sees only what has come.",
+    "*That these errors come only if an allocation failed* (tested, docs/ROBUSTNESS.md): contracts don't know how much "
+    "memory there is.",
 )
 UNPROMISED = (
     "**Not promised**: that memory, stack and time suffice; that an editor does its part; that events lead somewhere "
@@ -443,15 +447,15 @@ BESIDE = (
 # (what a reader has to know of the notation of parts 0 to 3, an item each)
 READING = (
     "*This page*: '`X` of `ob0_y`' is the file X of the crate crates/ob0_y. What the indented comments say is *believed*.",
-    "*Names*: where two files define a name, the one that is later on this page is shown with its file's: `start` is "
+    "*Names*: if two files define a name, the later one on this page is shown with its file's: `start` is "
     "the model's, `Answers.start` a session's. Parts of records and cases of types may have any name: `answers` is a "
     "case and a part, `serve` an event and a function.",
     "*Contracts*: `few`, `ok` and such are names of clauses. `result` is what is returned, `x.now` what an argument "
     "is, `x.old` and `x.new` what it was and is afterwards; `IfOk result f` and `IfErr result f` say f of the value "
     "of an `Ok` and of the error of an `Err`. `Consumes r s taken` says that a reader that had r to give has s left, "
     "having given `taken`; `IsAtEnd s` that none is left; `Appends v w put` that a writer that had v written has w, "
-    "with `put` at its end.",
-    "*Lists*: a text is the list of its characters, a uri and a content that of its bytes; `v.items` is the list of a "
+    "with `put` at its end. Of bytes that aren't known they say nothing.",
+    "*Lists*: a text is the list of its characters (Unicode scalar values), a uri and a content that of its bytes; `v.items` is the list of a "
     "`Vec` of the code. `take` and `drop` cut after n elements, `flat_map f xs` joins the lists f x.",
 )
 # (and what who is used to such definitions knows)
@@ -459,12 +463,12 @@ KNOWN_SIGNS = (
     "*Definitions*: `name : type`, and then equations, by cases; `_` is any other case. `data` lists the cases of a "
     "type; a `record` is a value with named parts, or a list of facts that all hold. `record { a = x }` is one with "
     "this part, `record e { a = x }` is `e` with that part replaced. `abbrev`, `unfoldable`, `pub` and the 0 of `Type "
-    "0` matter to the checker alone.",
+    "0` matter only to the checker.",
     "*Facts*: `(x : A) → B` is 'for all x', `A → B` 'if A then B', `A × B` 'A and B', `(x : A) × B` 'some x with B', "
     "`A ⊎ B` 'A or B', `A ↔ B` 'A exactly if B', `≡` equality; `⊥` never holds. `IsTrue b` is `b ≡ true`; `All P xs` "
-    "says P of each element, `MatchOption o P f` says P where `o` has no value, and else f of it.",
+    "says P of each element, `MatchOption o P f` says P if `o` has no value, and otherwise f of it.",
     "*Values*: `λ x. y` gives y for x; `let` names a value (in a `do` for the lines below). In a `do`, `x ← o` takes "
-    "the value out of `o`; where `o` has none, the whole has none (so has `o >>= f`). `is_some o` says whether `o` "
+    "the value out of `o`; if `o` has none, the whole has none (so has `o >>= f`). `is_some o` says whether `o` "
     "has a value, `unwrap_or o x` is that or x. `==` and `&&` give truth values. `x ∷ xs` has x first, `xs ++ ys` "
     "joins two. `pos n` is the number n of ℤ.",
 )
@@ -473,10 +477,10 @@ OTHERS = "The notation of the other parts"
 MORE = (
     "*This page*: what a definition uses comes after it; *Elsewhere* leads to what it uses of other files. *Rule* is "
     "the text that the definitions of a file state.",
-    "*Facts*: `¬ A` is 'not A', `≢` is not equal; `⊤` and the library's `Unit {0}` always hold (`Unit` alone is what "
-    "positions are counted in). `OnOk result P` says P where the result is an `Ok`.",
+    "*Facts*: `¬ A` is 'not A', `≢` is not equal; `⊤` and the library's `Unit {0}` always hold (plain `Unit` is what "
+    "positions are counted in). `OnOk result P` says P if the result is an `Ok`.",
     "*Values*: `elim x [ p ↦ y | q ↦ z ]` is y or z, by what x is. `negsuc n` is -(n + 1); in ℕ are `zero` and `suc "
-    "n`, and `n - m` is 0 where m is larger. `not`, `nat_lt` (<) and `nat_le` (≤) give truth values. `p.0` and `p.1` "
+    "n`, and `n - m` is 0 if m is larger. `not`, `nat_lt` (<) and `nat_le` (≤) give truth values. `p.0` and `p.1` "
     "are the parts of a pair. `option_to_list` is a list of a value or none.",
     "*Lists and texts*: `fold f a xs` goes over a list from its beginning, `list_all p xs` is p of all; `slice_get xs "
     "n` is the element with index n, if there is one; `bytes_eq` says whether two are equal. A text is the list of its "
@@ -486,7 +490,7 @@ MORE = (
     "and `remove`; `slice_cmp nat_cmp` is the order of lists of numbers.",
     "*Names*: in `TokenKind.Comma` the word before the dot is the type whose case it is; in `Lexed.joined` the group "
     "that defines this `joined` (an operator has a stroke then). Where two groups have that name, *Elsewhere* leads to "
-    "the right one. An argument in braces is left out where it is clear. `unfolding` matters to the checker alone; "
+    "the right one. An argument in braces is left out if it is clear. `unfolding` matters only to the checker; "
     "`mutual` comes before definitions that name one another.",
 )
 NAMED = "Named and not unfolded"
@@ -514,13 +518,13 @@ HOW = (
     "and which laws and tests speak for that."
 )
 WHOLE = (
-    "No definition that the headline needs is left out, but for those that the table of part 6 gives with a file: this "
+    "No definition that the headline needs is left out, except those that the table of part 6 gives with a file: this "
     "is the work of the page's script, and a test counts them in another way."
 )
 PACES = (
     f"Times are of {WORDS_A_MINUTE} words and {LINES_A_MINUTE} lines a minute, for who knows types, each rounded up; "
     f"in the last column of {LINES_ONCE_USED} lines, for who is used to the notation. Lines are those of definitions "
-    "in the sources (of contracts in the times alone); words are all others, without lists of links."
+    "in the sources (of contracts only in the times); words are all others, without lists of links."
 )
 
 

@@ -6,7 +6,7 @@
 The cases are those of the end-to-end tests: what these would run is noted, all of it is run by `rt try`, which compiles the program
 without its proofs, and then the tests are played with what came. A test that wants something else than these commands on a small
 file (a conversation, a device, a file that isn't there, what an earlier run printed) is left out, by name. Whether an output ends
-with a line feed isn't seen. The last line is 'N passed, M failed'.
+with a line feed isn't seen. The last line is 'N passed, M failed', and ', K skipped' if tests were left out; a run of no test fails.
 
 What takes time is the compile (some 100 seconds of a processor) and then 0.7 seconds for each case, whatever it does: `rt try` makes
 the program ready for an interpreter too, each time, which then runs nothing that reads arguments. So the cases are dealt out to as
@@ -310,19 +310,23 @@ class Conversation:
 
 
 def judge(chosen: list[tuple[str, harness.Test]], left_out: dict[str, Exception]) -> int:
-    passed, failed = 0, 0
+    passed = failed = skipped = 0
     for name, function in chosen:
         why = left_out.get(name) or play(function)
         if why is None:
             passed += 1
             print(f"ok       {name}")
         elif isinstance(why, (Unknown, harness.Skipped)):
+            skipped += 1
             print(f"left out {name}: it wants {why}")
         else:
             failed += 1
             print(f"FAILED   {name}\n    {why}")
     print("(the program was compiled without its proofs: nothing is proved by this)")
-    print(f"{passed} passed, {failed} failed")
+    if not passed + failed:
+        print("no test was run")
+        failed = 1
+    print(f"{passed} passed, {failed} failed" + (f", {skipped} skipped" if skipped else ""))
     return 1 if failed else 0
 
 

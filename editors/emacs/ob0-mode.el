@@ -1,6 +1,6 @@
 ;;; ob0-mode.el --- Major mode for Oberon-0  -*- lexical-binding: t -*-
 
-;; Version: 0.1
+;; Version: 0.1.0
 ;; Package-Requires: ((emacs "26.1"))
 ;; Keywords: languages
 
@@ -12,7 +12,9 @@
 
 ;;; Code:
 
+(require 'cl-lib)
 (require 'compile)
+(require 'seq)
 
 (defgroup ob0 nil
   "Oberon-0, the language of Wirth's Compiler Construction."
@@ -113,6 +115,9 @@
 
 ;;; Indentation
 
+;; What decides is the text from the heading above (MODULE or PROCEDURE, first in its line) to the line; the column of a
+;; PROCEDURE is taken for its level.
+
 (defconst ob0--deciding
   (concat "\\_<"
           (regexp-opt '("MODULE" "PROCEDURE" "IF" "WHILE" "REPEAT" "RECORD" "END" "UNTIL"
@@ -120,52 +125,74 @@
           "\\_>\\|[][();]\\|[A-Za-z0-9]+\\|[^ \t\r\n]")
   "What decides levels, and every other token.")
 
-(defun ob0--skip-comment ()
-  "Go after the comment that the match before point is in or opens, if any."
-  (let ((state (save-excursion (syntax-ppss (min (point-max) (1+ (match-beginning 0)))))))
-    (cond ((nth 4 state) (goto-char (nth 8 state)) (forward-comment 1) t)
-          ((and (equal (match-string 0) "(") (eq (char-after) ?*))
-           (goto-char (match-beginning 0))
-           (or (forward-comment 1) (goto-char (point-max)))
-           t))))
+(cl-defstruct (ob0--state (:copier nil))
+  "What is open at a place outside comments: blocks and the rest with their
+levels, and parentheses; and whether a statement begins there."
+  (stack nil) (parens 0) (fresh t))
 
 (defun ob0--inside (stack)
   "The level of what is inside the innermost block or statement of STACK.
 A record is neither."
-  (let ((found (assq-delete-all 'record (copy-alist stack))))
-    (if found (1+ (cdar found)) 0)))
+  (let ((found (seq-find (lambda (it) (not (eq (car it) 'record))) stack)))
+    (if found (1+ (cdr found)) 0)))
 
-(defun ob0--level (start)
-  "The level of the line that begins at START."
-  (let ((stack nil) (parens 0) (fresh t) (case-fold-search nil) (next "") (records 0))
-    (save-excursion
-      (goto-char (point-min))
-      (while (and (< (point) start) (re-search-forward ob0--deciding start t))
-        (unless (ob0--skip-comment)
-          (let ((it (match-string 0)))
-            (pcase it
-              ("MODULE" (push '(block . 0) stack))
-              ("PROCEDURE" (push (cons 'block (ob0--inside stack)) stack))
-              ((or "IF" "WHILE" "REPEAT") (push (cons 'statement (ob0--inside stack)) stack))
-              ("RECORD" (push '(record . 0) stack))
-              ((or "END" "UNTIL") (pop stack))
-              ((or "(" "[") (setq parens (1+ parens)))
-              ((or ")" "]") (setq parens (1- parens))))
-            (setq fresh (and (<= parens 0)
-                             (not (eq (caar stack) 'record))
-                             (member it '(";" "BEGIN" "THEN" "DO" "ELSE" "REPEAT" "CONST" "TYPE" "VAR")))))))
-      ;; (a line of comments is indented as what follows it)
-      (goto-char start)
-      (forward-comment (buffer-size))
-      (when (looking-at ob0--deciding) (setq next (match-string 0))))
-    (dolist (it stack) (when (eq (car it) 'record) (setq records (1+ records))))
+(defun ob0--take (state token)
+  "Take a TOKEN into a STATE."
+  (let ((stack (ob0--state-stack state)))
+    (pcase token
+      ("MODULE" (push '(block . 0) stack))
+      ("PROCEDURE" (push (cons 'block (ob0--inside stack)) stack))
+      ((or "IF" "WHILE" "REPEAT") (push (cons 'statement (ob0--inside stack)) stack))
+      ("RECORD" (push '(record . 0) stack))
+      ((or "END" "UNTIL") (pop stack))
+      ((or "(" "[") (cl-incf (ob0--state-parens state)))
+      ((or ")" "]") (cl-decf (ob0--state-parens state))))
+    (setf (ob0--state-stack state) stack
+          (ob0--state-fresh state)
+          (and (<= (ob0--state-parens state) 0)
+               (not (eq (caar stack) 'record))
+               (member token '(";" "BEGIN" "THEN" "DO" "ELSE" "REPEAT" "CONST" "TYPE" "VAR"))))))
+
+(defun ob0--scan (state end)
+  "Take the text from point to END into a STATE.
+Go to END, or after the comment that it is in."
+  (let ((case-fold-search nil))
+    (while (and (< (point) end) (re-search-forward ob0--deciding end 'move))
+      (if (not (and (eq (char-before) ?\() (eq (char-after) ?*)))
+          (ob0--take state (match-string-no-properties 0))
+        (backward-char)
+        (unless (forward-comment 1) (goto-char (point-max)))))))
+
+(defun ob0--go-to-heading (start)
+  "Go to the heading before START, or to the start of the text.
+Return the state there: in a block for each level."
+  (let ((case-fold-search nil) (found nil))
+    (goto-char start)
+    (while (and (not found) (re-search-backward "^[ \t]*\\(MODULE\\|PROCEDURE\\)\\_>" nil 'move))
+      (let ((outer (save-match-data (nth 8 (syntax-ppss (match-beginning 1))))))
+        (if outer (goto-char outer) (setq found t))))
+    (make-ob0--state
+     :stack (when (and found (equal (match-string 1) "PROCEDURE"))
+              (mapcar (lambda (it) (cons 'block it))
+                      (number-sequence (1- (max 1 (/ (current-indentation) ob0-indent-offset))) 0 -1))))))
+
+(defun ob0--level (state)
+  "The level of the line at point, in a STATE."
+  (let* ((stack (ob0--state-stack state))
+         (top (car stack))
+         (records (seq-count (lambda (it) (eq (car it) 'record)) stack))
+         (case-fold-search nil)
+         ;; (a line of comments is indented as what follows it)
+         (next (save-excursion
+                 (forward-comment (buffer-size))
+                 (if (looking-at ob0--deciding) (match-string-no-properties 0) ""))))
     (cond ((null stack) 0)
-          ((or (and (<= parens 0) (eq (caar stack) 'block) (member next '("CONST" "TYPE" "VAR" "BEGIN")))
-               (and (not (eq (caar stack) 'record)) (member next '("END" "ELSIF" "ELSE" "UNTIL"))))
-           (cdar stack))
+          ((or (and (<= (ob0--state-parens state) 0) (eq (car top) 'block) (member next '("CONST" "TYPE" "VAR" "BEGIN")))
+               (and (not (eq (car top) 'record)) (member next '("END" "ELSIF" "ELSE" "UNTIL"))))
+           (cdr top))
           ;; (fields are one level further in than the name of their record's declaration, and END is below that name)
           ((> records 0) (+ (ob0--inside stack) records (if (equal next "END") -1 0)))
-          (t (+ (ob0--inside stack) (if (or fresh (equal next "PROCEDURE")) 0 1))))))
+          (t (+ (ob0--inside stack) (if (or (ob0--state-fresh state) (equal next "PROCEDURE")) 0 1))))))
 
 (defun ob0-indent-line ()
   "Indent this line as the server's layout does."
@@ -174,10 +201,42 @@ A record is neither."
         (from-end (- (point-max) (point))))
     ;; (inside a comment lines stay as they are)
     (unless (nth 4 (save-excursion (syntax-ppss start)))
-      (let ((column (* ob0-indent-offset (ob0--level start))))
-        (indent-line-to column)
+      (let ((level (save-excursion
+                     (let ((state (ob0--go-to-heading start)))
+                       (ob0--scan state start)
+                       (ob0--level state)))))
+        (indent-line-to (* ob0-indent-offset level))
         (when (> (- (point-max) from-end) (point))
           (goto-char (- (point-max) from-end)))))))
+
+(defun ob0-indent-region (start end)
+  "Indent the lines from START to END as the server's layout does, in one pass."
+  (interactive "r")
+  (save-excursion
+    (goto-char start)
+    (let* ((last (copy-marker end))
+           (from (line-beginning-position))
+           (state (ob0--go-to-heading from)))
+      ;; (this ends after the comment that the line begins in, if it does)
+      (ob0--scan state from)
+      (while (< (point) last)
+        (let ((line (line-beginning-position)))
+          ;; (after a comment of several lines point is behind the start of its last line, which stays as it is)
+          (when (<= (point) line)
+            (if (looking-at "[ \t]*$")
+                (delete-horizontal-space)
+              (indent-line-to (* ob0-indent-offset (ob0--level state)))))
+          (ob0--scan state (line-beginning-position 2))))
+      (set-marker last nil))))
+
+(defconst ob0--electric
+  (concat "^[ \t]*" (regexp-opt '("MODULE" "CONST" "TYPE" "VAR" "PROCEDURE" "BEGIN" "END" "ELSIF" "ELSE" "UNTIL")) "\\=")
+  "The words that indent their line when they are typed, as the first in it.")
+
+(defun ob0--ends-word (_)
+  "Whether the character before point ends a word that indents its line."
+  (let ((case-fold-search nil))
+    (save-excursion (re-search-backward ob0--electric (line-beginning-position) t))))
 
 ;;; Procedures
 
@@ -236,13 +295,15 @@ From a start go to the one before; with a negative ARG to the next."
               case-fold-search nil
               font-lock-defaults '(ob0-font-lock-keywords)
               indent-line-function #'ob0-indent-line
+              indent-region-function #'ob0-indent-region
               beginning-of-defun-function #'ob0-beginning-of-defun
               end-of-defun-function #'ob0-end-of-defun
               indent-tabs-mode nil
               tab-width ob0-indent-offset
               standard-indent ob0-indent-offset
               eglot-stay-out-of (cons 'imenu (bound-and-true-p eglot-stay-out-of))
-              imenu-generic-expression '((nil "^\\s-*PROCEDURE\\s-+\\([A-Za-z][A-Za-z0-9]*\\)" 1))))
+              imenu-generic-expression '((nil "^\\s-*PROCEDURE\\s-+\\([A-Za-z][A-Za-z0-9]*\\)" 1)))
+  (add-hook 'electric-indent-functions #'ob0--ends-word nil t))
 
 (defun ob0-begins-with-module ()
   "Whether the first word of this buffer, comments left out, is MODULE.

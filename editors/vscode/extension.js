@@ -1,50 +1,84 @@
-// Starts `ob0 serve` for buffers of Oberon-0, and has tasks that check and run the file that is shown.
+// Starts `ob0 serve` for documents of Oberon-0, and has tasks that check and run the file that is shown.
 const { execFile } = require("child_process");
 const vscode = require("vscode");
 const { LanguageClient } = require("vscode-languageclient/node");
 
 let client;
 
+function notThere(name) {
+  return `There is no program ${name}; the setting ob0.path names another.`;
+}
+
 function program() {
   return vscode.workspace.getConfiguration("ob0").get("path", "ob0");
 }
 
-// `ob0 check` counts lines and columns from 0 and names no file; the problem matcher wants both as compilers write them.
-const AS_COMPILERS = '{ l = $1 + 1; c = $2 + 1; sub(/^[0-9]+:[0-9]+: /, ""); print f ":" l ":" c ": " $0 }';
-
-function quoted(word) {
-  return "'" + word.replace(/'/g, "'\\''") + "'";
+// `ob0 check` counts lines and columns from 0 and names no file. A problem matcher needs both as compilers write them.
+function asCompilers(file, text) {
+  return text.replace(/^(\d+):(\d+): /gm, (_, line, column) => `${file}:${Number(line) + 1}:${Number(column) + 1}: `);
 }
 
-function commandLine(command, file) {
-  const line = [program(), command, file].map(quoted).join(" ");
-  return command === "check" ? `${line} | awk -F: -v f=${quoted(file)} ${quoted(AS_COMPILERS)}` : line;
+// A terminal in which a file is checked: no shell reads the file's name, and its status is the program's.
+class Check {
+  written = new vscode.EventEmitter();
+  ended = new vscode.EventEmitter();
+  onDidWrite = this.written.event;
+  onDidClose = this.ended.event;
+  constructor(file) {
+    this.file = file;
+  }
+  open() {
+    const name = program();
+    this.process = execFile(name, ["check", this.file], { maxBuffer: 1 << 24 }, (error, out, said) => {
+      const missing = error && error.syscall ? notThere(name) + "\n" : "";
+      this.written.fire((asCompilers(this.file, out) + said + missing).replace(/\n/g, "\r\n"));
+      this.ended.fire(error ? (Number.isInteger(error.code) ? error.code : 1) : 0);
+    });
+  }
+  close() {
+    this.process.kill();
+  }
 }
 
-function taskOf(command, file) {
+function executionOf(command, file) {
+  if (command === "check") return new vscode.CustomExecution(async () => new Check(file));
+  const [name, shown] = [program(), file].map((value) => ({ value, quoting: vscode.ShellQuoting.Strong }));
+  return new vscode.ShellExecution(name, ["run", shown]);
+}
+
+function taskOf(definition, file) {
+  const { command } = definition;
   const matchers = command === "check" ? ["$ob0"] : [];
-  const run = new vscode.ShellExecution(commandLine(command, file));
-  return new vscode.Task({ type: "ob0", command }, vscode.TaskScope.Workspace, command, "ob0", run, matchers);
+  return new vscode.Task(definition, vscode.TaskScope.Workspace, command, "ob0", executionOf(command, file), matchers);
 }
 
-function shownFile() {
-  const editor = vscode.window.activeTextEditor;
-  return editor && editor.document.languageId === "oberon0" ? editor.document.uri.fsPath : undefined;
+function shownDocument() {
+  const document = vscode.window.activeTextEditor && vscode.window.activeTextEditor.document;
+  return document && document.languageId === "oberon0" ? document : undefined;
 }
 
 function tasks() {
-  const file = shownFile();
-  return file ? ["check", "run"].map((command) => taskOf(command, file)) : [];
+  const document = shownDocument();
+  return document && !document.isUntitled ? ["check", "run"].map((command) => taskOf({ type: "ob0", command }, document.uri.fsPath)) : [];
+}
+
+// A task of tasks.json, which names the command alone.
+function resolved(task) {
+  const document = shownDocument();
+  return document && !document.isUntitled ? taskOf(task.definition, document.uri.fsPath) : undefined;
 }
 
 async function execute(command) {
-  const file = shownFile();
-  if (!file) {
+  const document = shownDocument();
+  if (!document) {
     vscode.window.showErrorMessage("No file of Oberon-0 is shown.");
     return;
   }
-  await vscode.window.activeTextEditor.document.save();
-  await vscode.tasks.executeTask(taskOf(command, file));
+  const isSaved = await document.save();
+  // (an untitled document becomes another one when it is saved, which is then shown)
+  const saved = document.isUntitled ? shownDocument() : document;
+  if (!isSaved || !saved || saved.isUntitled) vscode.window.showErrorMessage(`The file wasn't saved, so there is nothing to ${command}.`);
+  else await vscode.tasks.executeTask(taskOf({ type: "ob0", command }, saved.uri.fsPath));
 }
 
 // An answer is of the text that it was asked about, and the client makes its edits in whatever the document has by then. So
@@ -90,7 +124,7 @@ function isThere(name) {
 async function start() {
   const name = program();
   if (!(await isThere(name))) {
-    vscode.window.showErrorMessage(`There is no program ${name}; the setting ob0.path names another.`);
+    vscode.window.showErrorMessage(notThere(name));
     return;
   }
   const documentSelector = ["file", "untitled"].map((scheme) => ({ language: "oberon0", scheme }));
@@ -98,24 +132,38 @@ async function start() {
   await client.start();
 }
 
-async function restart() {
-  await deactivate();
-  await start();
+// Starts and stops wait for each other: two changes of a setting in a row leave one server.
+let turn = Promise.resolve();
+function inTurn(step) {
+  turn = turn.catch(() => undefined).then(step);
+  return turn;
+}
+
+async function stop() {
+  if (client && client.needsStop()) await client.stop();
+}
+
+function restart() {
+  return inTurn(async () => {
+    await stop();
+    await start();
+  });
 }
 
 async function activate(context) {
   context.subscriptions.push(
-    vscode.tasks.registerTaskProvider("ob0", { provideTasks: tasks, resolveTask: () => undefined }),
+    vscode.tasks.registerTaskProvider("ob0", { provideTasks: tasks, resolveTask: resolved }),
     vscode.commands.registerCommand("ob0.check", () => execute("check")),
     vscode.commands.registerCommand("ob0.run", () => execute("run")),
+    vscode.commands.registerCommand("ob0.restart", restart),
     vscode.commands.registerCommand("ob0.apply", apply),
     vscode.workspace.onDidChangeConfiguration((change) => (change.affectsConfiguration("ob0.path") ? restart() : undefined)),
   );
-  await start();
+  await inTurn(start);
 }
 
 function deactivate() {
-  return client && client.needsStop() ? client.stop() : undefined;
+  return inTurn(stop);
 }
 
-module.exports = { activate, deactivate, commandLine };
+module.exports = { activate, deactivate };

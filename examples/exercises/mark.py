@@ -1,14 +1,18 @@
 #!/usr/bin/env python3
 """Marks modules of Oberon-0 by the exercises of this folder.
 
-  python3 mark.py [--program FILE] [--seconds N] PATH..
+  python3 mark.py [--program FILE] [--seconds N] [--inputs FOLDER] [--table] PATH..
 
 A path is a module that is named like an exercise (Clock.mod, Clock.Mod or Clock.ob0), or a folder with such modules. Each is
 checked, and run on each input of its exercise. README.md has the exercises; Clock.txt has the inputs of Clock (`in:`) with the
 lines that are to be printed (`out:`). The status is 0 if each path has a module to mark and all of them are right, 1 if not, 2 if
-there was nothing to mark in any path."""
+there was nothing to mark in any path, or the command line is refused, 4 if what was found can't be printed."""
+from __future__ import annotations
+
 import argparse
 import codecs
+import csv
+import io
 import os
 import re
 import resource
@@ -17,7 +21,7 @@ import signal
 import subprocess
 import sys
 import tempfile
-from typing import IO, Any, Dict, Iterator, List, NamedTuple, Optional
+from typing import IO, Any, Dict, Iterator, List, NamedTuple, NoReturn, Optional, TextIO, Union
 
 HERE = os.path.dirname(os.path.abspath(__file__))
 ENDINGS = (".mod", ".Mod", ".ob0")
@@ -35,7 +39,22 @@ CAUSES = {
     "Write": "it prints too much: does each loop end?",
 }
 
+STOPPING = (signal.SIGINT, signal.SIGTERM, signal.SIGHUP)
+FORMULA = ("=", "+", "-", "@", "\t", "\r")  # what a spreadsheet takes as the start of a formula
+
 Lines = List[List[str]]
+
+
+class Refused(Exception):
+    """The inputs can't be used."""
+
+
+class Unprinted(Exception):
+    """What was found can't be printed."""
+
+
+class Stopped(BaseException):
+    """A signal has come, which is its argument."""
 
 
 class Case(NamedTuple):
@@ -53,18 +72,55 @@ class Ended(NamedTuple):
     status: Optional[int]
 
 
-class Bounds(NamedTuple):
-    """The program ob0, and how many seconds one run of it may take."""
+class Marking(NamedTuple):
+    """The program ob0, how many seconds one run of it may take, and the cases of each exercise, in the order of the exercises."""
 
     program: str
     seconds: float
+    cases: Dict[str, List[Case]]
+
+
+class Marked(NamedTuple):
+    """A module of an exercise, and why it isn't right, or None."""
+
+    name: str
+    exercise: str
+    why: Optional[str]
+
+    def said(self) -> str:
+        return "right" if self.why is None else f"wrong: {self.why}"
 
 
 class Result(NamedTuple):
-    """Of a path: of how many exercises it has modules, and for how many all of these are right."""
+    """What was found in a path: its modules, and lines about the rest."""
 
-    marked: int
-    right: int
+    path: str
+    modules: List[Marked]
+    others: List[str]
+
+    def exercises(self) -> Dict[str, bool]:
+        """Whether all its modules of an exercise are right, for each exercise of which it has any."""
+        found: Dict[str, bool] = {}
+        for it in self.modules:
+            found[it.exercise] = it.why is None and found.get(it.exercise, True)
+        return found
+
+
+def say(line: Union[str, bytes], stream: Optional[TextIO] = sys.stdout) -> None:
+    """Prints a line. A name has the bytes that it has in its folder."""
+    if stream is None:
+        raise Unprinted("it is closed")
+    left = os.fsencode(line) + b"\n"
+    try:
+        while left:
+            left = left[os.write(stream.fileno(), left) :]
+    except OSError as why:
+        raise Unprinted(why.strerror) from None
+
+
+def on_a_line(name: str) -> str:
+    """Returns a name with a number for each control character, so that it is a part of one line."""
+    return re.sub(r"[\x00-\x1f\x7f]", lambda it: f"\\x{ord(it[0]):02x}", name)
 
 
 def numbers_of(lines: List[str]) -> Lines:
@@ -75,45 +131,64 @@ def numbers_of(lines: List[str]) -> Lines:
     return found
 
 
-def exercises() -> List[str]:
-    """The names of the exercises, in the order of the page."""
+def exercises_in(folder: str) -> List[str]:
+    """Returns the names of a folder's exercises: in the order of the page, and then those that it hasn't."""
     with open(os.path.join(HERE, "README.md"), encoding="utf-8") as page:
-        return re.findall(r"^## \d+\. (\w+)$", page.read(), re.M)
+        listed = re.findall(r"^## \d+\. (\w+)$", page.read(), re.M)
+    found = sorted(it[:-4] for it in os.listdir(folder) if re.fullmatch(r"\w+\.txt", it, re.A))
+    return sorted(found, key=lambda it: listed.index(it) if it in listed else len(listed))
 
 
-def cases_of(exercise: str) -> List[Case]:
-    """The cases of an exercise's file: an empty line separates two."""
-    with open(os.path.join(HERE, f"{exercise}.txt"), encoding="utf-8") as file:
-        parts = file.read().strip().split("\n\n")
+def cases_in(file: str) -> List[Case]:
+    """Returns the cases of an exercise's file: an empty line separates two."""
+    with open(file, encoding="utf-8-sig") as text:
+        parts = re.split(r"\n\s*\n", text.read().strip())
     found = []
     for part in parts:
+        if not re.fullmatch(r"in:(\s+-?[0-9]+)*\s*(\nout:(\s+-?[0-9]+)*\s*)*", part, re.A):
+            wrong = shortened(part.encode("unicode_escape").decode())
+            raise Refused(f"{file}: a case is a line `in: 1 2` and then lines `out: 3`, and not {wrong}")
         first, *lines = part.split("\n")
         found.append(Case(first.partition("in:")[2].strip(), numbers_of([it.partition("out:")[2] for it in lines])))
     return found
 
 
-def limit() -> None:
-    """Bounds what a run may write and take (in the new process)."""
-    resource.setrlimit(resource.RLIMIT_FSIZE, (MOST_PRINTED, MOST_PRINTED))
-    resource.setrlimit(resource.RLIMIT_DATA, (MOST_MEMORY, MOST_MEMORY))
+def inputs_in(folder: str) -> Dict[str, List[Case]]:
+    """Returns the cases of each exercise that a folder has a file of."""
+    try:
+        found = {it: cases_in(os.path.join(folder, f"{it}.txt")) for it in exercises_in(folder)}
+    except OSError as why:
+        raise Refused(f"{why.filename}: {why.strerror}") from None
+    except UnicodeDecodeError:
+        raise Refused(f"a file of inputs in {folder} isn't UTF-8") from None
+    if not found:
+        raise Refused(f"{folder} has no file of inputs, such as Clock.txt")
+    return found
 
 
-def call(bounds: Bounds, words: List[str], given: str = "") -> Ended:
+def call(marking: Marking, words: List[str], given: str = "") -> Ended:
     """Runs the program with these words on this input, under the limits."""
+
+    def limit() -> None:
+        """Bounds what a run may write and take. (Its processor time is bounded too, in case this script is killed before it ends.)"""
+        seconds = int(marking.seconds) + 2
+        for which, most in ((resource.RLIMIT_FSIZE, MOST_PRINTED), (resource.RLIMIT_DATA, MOST_MEMORY), (resource.RLIMIT_CPU, seconds)):
+            resource.setrlimit(which, (most, most))
+
     with tempfile.TemporaryFile() as out, tempfile.TemporaryFile() as err:
         how: Dict[str, Any] = {"stdout": out, "stderr": err, "preexec_fn": limit}
         status: Optional[int] = None
         try:
-            status = subprocess.run([bounds.program, *words], input=given.encode(), timeout=bounds.seconds, check=False, **how).returncode
+            status = subprocess.run([marking.program, *words], input=given.encode(), timeout=marking.seconds, check=False, **how).returncode
         except subprocess.TimeoutExpired:
             pass
         return Ended(text_in(out), text_in(err), status)
 
 
 def text_in(file: IO[bytes]) -> str:
-    """What was written to a file, from its start."""
+    """Returns what was written to a file, from its start, in ASCII."""
     file.seek(0)
-    return file.read().decode(errors="replace")
+    return file.read().decode("ascii", "backslashreplace")
 
 
 def shortened(text: str, most: int = 60) -> str:
@@ -131,9 +206,9 @@ def difference(wanted: Lines, printed: Lines) -> str:
     return "it prints something else"
 
 
-def fault_of(bounds: Bounds, file: str) -> Optional[str]:
+def fault_of(marking: Marking, file: str) -> Optional[str]:
     """Why a file isn't a module that can be run, or None."""
-    found = call(bounds, ["check", "--", file])
+    found = call(marking, ["check", "--", file])
     if found.status == 0:
         return None
     place = re.match(r"(\d+):(\d+): (?:Syntax: )?(.*)", found.out)
@@ -150,11 +225,11 @@ def begins_with_mark(file: str) -> bool:
         return it.read(3) == codecs.BOM_UTF8
 
 
-def why_wrong(bounds: Bounds, file: str, case: Case) -> Optional[str]:
+def why_wrong(marking: Marking, file: str, case: Case) -> Optional[str]:
     """Why a module is wrong for a case, or None."""
-    found = call(bounds, ["run", "--", file], case.given)
+    found = call(marking, ["run", "--", file], case.given)
     if found.status is None:
-        return f"it had not ended after {bounds.seconds:g} seconds: does each loop end?"
+        return f"it had not ended after {marking.seconds:g} seconds: does each loop end?"
     if found.status == -signal.SIGXFSZ:
         return CAUSES["Write"]
     if found.status < 0:
@@ -166,38 +241,50 @@ def why_wrong(bounds: Bounds, file: str, case: Case) -> Optional[str]:
     return None if printed == case.wanted else difference(case.wanted, printed)
 
 
-def marked(bounds: Bounds, exercise: str, file: str) -> Optional[str]:
+def why_not_right(marking: Marking, exercise: str, file: str) -> Optional[str]:
     """Why a module isn't right, or None."""
-    fault = fault_of(bounds, file)
+    fault = fault_of(marking, file)
     if fault:
         return fault
-    for case in cases_of(exercise):
-        why = why_wrong(bounds, file, case)
+    for case in marking.cases[exercise]:
+        why = why_wrong(marking, file, case)
         if why:
             return f"for the input {shortened(case.given)}: {why}"
     return None
 
 
-def modules_in(path: str) -> Iterator[str]:
-    """The modules of a folder that are named like exercises, in the order of the exercises; or the one module."""
+def marked(marking: Marking, exercise: str, file: str) -> Marked:
+    """Marks a module. The program takes only names in UTF-8, so another one's file gets a second name for that time."""
+    try:
+        os.fsencode(file).decode()
+        why = why_not_right(marking, exercise, file)
+    except UnicodeDecodeError:
+        with tempfile.TemporaryDirectory() as room:
+            os.symlink(os.path.abspath(file), os.path.join(room, "module"))
+            why = why_not_right(marking, exercise, os.path.join(room, "module"))
+    except OSError as fault:
+        why = f"it can't be read: {fault.strerror}"
+    return Marked(os.path.basename(file), exercise, why)
+
+
+def modules_in(marking: Marking, path: str) -> List[str]:
+    """Returns the modules of a folder that are named like exercises, in the order of the exercises; or the one module."""
     if not os.path.isdir(path):
-        yield path
-        return
-    for exercise in exercises():
-        yield from (it for it in (os.path.join(path, exercise + ending) for ending in ENDINGS) if os.path.isfile(it))
+        return [path]
+    return [it for name in marking.cases for it in (os.path.join(path, name + ending) for ending in ENDINGS) if os.path.isfile(it)]
 
 
-def unmarked(path: str) -> Iterator[str]:
-    """A line for each entry of a folder that isn't marked, but for hidden ones."""
-    marked_ones = {os.path.basename(it) for it in modules_in(path)}
+def unmarked(marking: Marking, path: str) -> Iterator[str]:
+    """Yields a line for each entry of a folder that isn't marked, except hidden ones."""
+    marked_ones = {os.path.basename(it) for it in modules_in(marking, path)}
     for entry in sorted(it for it in os.listdir(path) if it not in marked_ones and not it.startswith(".")):
-        yield f"  {entry} is not marked: {why_unmarked(os.path.join(path, entry))}"
+        yield f"{on_a_line(entry)} is not marked: {why_unmarked(marking, os.path.join(path, entry))}"
 
 
-def why_unmarked(path: str) -> str:
+def why_unmarked(marking: Marking, path: str) -> str:
     """Why an entry of a folder isn't marked."""
     stem, ending = os.path.splitext(os.path.basename(path))
-    meant = next((it for it in exercises() if it.lower() == stem.lower()), None)
+    meant = next((it for it in marking.cases if it.lower() == stem.lower()), None)
     if not os.path.isfile(path):
         return "it is a folder" if os.path.isdir(path) else "it isn't a file"
     if meant and ending.lower() in ENDINGS:
@@ -205,47 +292,126 @@ def why_unmarked(path: str) -> str:
     return "it isn't named like an exercise"
 
 
-def mark(bounds: Bounds, path: str) -> Result:
-    """Marks a path, and prints what is found."""
-    if not os.path.exists(path):
-        print(f"there is no {path}")
-        return Result(0, 0)
-    names = exercises()
-    results: Dict[str, bool] = {}
-    print(f"{path}:")
-    for file in modules_in(path):
+def mark(marking: Marking, path: str, is_said: bool) -> Result:
+    """Marks a path, and prints what is found if `is_said`."""
+    result = Result(path, [], [])
+
+    def found(line: str, is_other: bool = False) -> None:
+        if is_other:
+            result.others.append(line.strip())
+        if is_said:
+            say(line)
+
+    try:
+        os.stat(path)
+    except OSError as why:
+        is_missing = isinstance(why, FileNotFoundError)
+        found(f"there is no {on_a_line(path)}" if is_missing else f"{on_a_line(path)} can't be read: {why.strerror}", True)
+        return result
+    found(f"{on_a_line(path)}:")
+    for file in modules_in(marking, path):
         exercise, ending = os.path.splitext(os.path.basename(file))
-        if exercise not in names or ending not in ENDINGS:
-            print(f"  {os.path.basename(file)} is not the module of an exercise: {', '.join(names)}")
+        if exercise not in marking.cases or ending not in ENDINGS:
+            found(f"  {on_a_line(os.path.basename(file))} is not the module of an exercise: {', '.join(marking.cases)}", True)
             continue
-        why = marked(bounds, exercise, file)
-        results[exercise] = why is None and results.get(exercise, True)
-        print(f"  {os.path.basename(file):11} {'right' if why is None else f'wrong: {why}'}", flush=True)
+        it = marked(marking, exercise, file)
+        result.modules.append(it)
+        found(f"  {it.name:11} {it.said()}")
     if os.path.isdir(path):
-        for line in unmarked(path):
-            print(line)
-        missing = [it for it in names if it not in results]
-        print(f"  {sum(results.values())} of {len(names)} right" + (f"; not there: {', '.join(missing)}" if missing else ""))
-    return Result(len(results), sum(results.values()))
+        try:
+            for line in unmarked(marking, path):
+                found(f"  {line}", True)
+        except OSError as why:
+            found(f"  it can't be read: {why.strerror}", True)
+        rights = result.exercises()
+        missing = [it for it in marking.cases if it not in rights]
+        found(f"  {sum(rights.values())} of {len(marking.cases)} right" + (f"; not there: {', '.join(missing)}" if missing else ""))
+    return result
+
+
+def plain(text: str) -> str:
+    """Returns a text for a cell of a table: in UTF-8, and no formula."""
+    shown = os.fsencode(text).decode(errors="backslashreplace")
+    return "'" + shown if shown.startswith(FORMULA) else shown
+
+
+def row_of(marking: Marking, result: Result) -> bytes:
+    """Returns a line of a table in CSV: a path's name, how many exercises are right, a cell for each exercise, and the rest."""
+    cells = ["; ".join(it.said() for it in result.modules if it.exercise == exercise) for exercise in marking.cases]
+    return csv_line([name_of(result.path), str(sum(result.exercises().values())), *cells, "; ".join(result.others)])
+
+
+def csv_line(cells: List[str]) -> bytes:
+    file = io.StringIO()
+    csv.writer(file).writerow([plain(it) for it in cells])
+    return file.getvalue().encode()[:-1]
+
+
+def name_of(path: str) -> str:
+    return os.path.basename(os.path.abspath(path))
+
+
+def mark_all(marking: Marking, paths: List[str], is_table: bool) -> int:
+    """Marks each path, prints what is found, and returns the status."""
+    if is_table:
+        say(csv_line(["name", "right", *marking.cases, "others"]))
+    results = []
+    for path in paths:
+        results.append(mark(marking, path, not is_table))
+        if is_table:
+            say(row_of(marking, results[-1]))
+    folders = [f"{on_a_line(name_of(it.path))} {sum(it.exercises().values())}" for it in results if os.path.isdir(it.path)]
+    if len(folders) > 1 and not is_table:
+        say(", ".join(folders))
+    if not any(it.modules for it in results):
+        return 2
+    return 0 if all(it.modules and all(it.exercises().values()) for it in results) else 1
+
+
+def seconds_of(word: str) -> float:
+    """Returns the number of seconds that a word is."""
+    if not 0 < float(word) <= 1e6:
+        raise ValueError
+    return float(word)
+
+
+def parsed(words: List[str]) -> argparse.Namespace:
+    """Returns what a command line gives."""
+    parser = argparse.ArgumentParser(description="Marks modules of Oberon-0 by the exercises of this folder.")
+    parser.add_argument("--program", default="ob0", help="the program ob0, where it isn't on PATH")
+    parser.add_argument("--seconds", type=seconds_of, default=10, help="the longest that one run may take (10)")
+    parser.add_argument("--inputs", metavar="FOLDER", default=HERE, help="a folder with other inputs, such as a file Clock.txt")
+    parser.add_argument("--table", action="store_true", help="print a table in CSV: a row for each path, a column for each exercise")
+    parser.add_argument("paths", metavar="PATH", nargs="+", help="a module, or a folder with modules")
+    return parser.parse_args(words)
+
+
+def stop(number: int, frame: object) -> NoReturn:
+    for it in STOPPING:
+        signal.signal(it, signal.SIG_IGN)
+    raise Stopped(number)
 
 
 def main(words: List[str]) -> int:
-    parser = argparse.ArgumentParser(description="Marks modules of Oberon-0 by the exercises of this folder.")
-    parser.add_argument("--program", default="ob0", help="the program ob0, where it isn't on PATH")
-    parser.add_argument("--seconds", type=float, default=10, help="the longest that one run may take (10)")
-    parser.add_argument("paths", metavar="PATH", nargs="+", help="a module, or a folder with modules")
-    given = parser.parse_args(words)
-    program = shutil.which(given.program)
-    if program is None:
-        print(f"there is no program {given.program}: --program names another", file=sys.stderr)
+    given = parsed(words)
+    for number in STOPPING:
+        if signal.getsignal(number) != signal.SIG_IGN:
+            signal.signal(number, stop)
+    try:
+        program = shutil.which(given.program)
+        if program is None:
+            raise Refused(f"there is no program {given.program}: --program names another")
+        return mark_all(Marking(os.path.abspath(program), given.seconds, inputs_in(given.inputs)), given.paths, given.table)
+    except Refused as refused:
+        say(str(refused), sys.stderr)
         return 2
-    results = [mark(Bounds(os.path.abspath(program), given.seconds), it) for it in given.paths]
-    folders = [(path, it.right) for path, it in zip(given.paths, results) if os.path.isdir(path)]
-    if len(folders) > 1:
-        print(", ".join(f"{os.path.basename(os.path.abspath(path))} {right}" for path, right in folders))
-    if not any(it.marked for it in results):
-        return 2
-    return 0 if all(it.right == it.marked > 0 for it in results) else 1
+    except Unprinted as why:
+        say(f"what was found can't be printed: {why}", sys.stderr)
+        return 4
+    except Stopped as stopped:
+        signal.signal(stopped.args[0], signal.SIG_DFL)
+        os.kill(os.getpid(), stopped.args[0])
+        return 4
 
 
 if __name__ == "__main__":

@@ -11,13 +11,15 @@ function make(from, to) {
   for (const it of fs.readdirSync(from, { withFileTypes: true })) {
     const [source, target] = [path.join(from, it.name), path.join(to, it.name)];
     if (it.isDirectory()) make(source, target);
-    else if (it.name.endsWith(".ts")) {
-      const { outputText } = ts.transpileModule(fs.readFileSync(source, "utf8"), { compilerOptions });
+    else {
       fs.mkdirSync(to, { recursive: true });
-      fs.writeFileSync(target.replace(/ts$/, "js"), outputText);
+      if (it.name.endsWith(".ts")) {
+        const { outputText } = ts.transpileModule(fs.readFileSync(source, "utf8"), { compilerOptions });
+        fs.writeFileSync(target.replace(/ts$/, "js"), outputText);
+      } else fs.copyFileSync(source, target); // (a script of a shell, by which it ends a server that hangs)
     }
   }
 }
 
 make(path.join(sources, "src"), path.join(made, "lib"));
-for (const it of ["package.json", "node.js"]) fs.copyFileSync(path.join(sources, it), path.join(made, it));
+for (const it of ["package.json", "node.js", "License.txt"]) fs.copyFileSync(path.join(sources, it), path.join(made, it));

@@ -54,6 +54,18 @@
       (let ((inhibit-message t)) (indent-region (point-min) (point-max)))
       (should (equal (buffer-string) text)))))
 
+(ert-deftest indents-words-as-they-are-typed ()
+  (with-temp-buffer
+    (switch-to-buffer (current-buffer))
+    (insert "MODULE M;\n  PROCEDURE P;")
+    (ob0-mode)
+    (electric-indent-mode 1)
+    (execute-kbd-macro "\rBEGIN\rIF TRUE THEN\rWrite(1)\rELSE\rBEGINS(2)\rEND\rEND P;\rBEGIN\rP\rEND M.")
+    (electric-indent-mode -1)
+    (should (equal (buffer-string)
+                   (concat "MODULE M;\n  PROCEDURE P;\n  BEGIN\n    IF TRUE THEN\n      Write(1)\n    ELSE\n      BEGINS(2)\n    END\n  END P;\n"
+                           "BEGIN\n  P\nEND M.")))))
+
 (ert-deftest left-alone ()
   (let ((ob0-mod nil)
         (file (make-temp-file "l" nil ".mod" "MODULE M; END M.\n")))

@@ -1,5 +1,5 @@
 -- The tree-sitter grammar in Neovim, without a screen. OB0_PARSER is the compiled parser, OB0_QUERIES the folder of its queries,
--- OB0_GIVEN a file of JSON: texts to parse, and one text for the queries. What is found goes to OB0_REPORT, as JSON.
+-- OB0_GIVEN a file of JSON: texts to parse, the names of queries, and a text for these. What is found goes to OB0_REPORT, as JSON.
 local add = vim.treesitter.language.add
 if add then -- Neovim 0.9 and later
   add("oberon0", { path = vim.env.OB0_PARSER })
@@ -19,9 +19,10 @@ local function root(text)
 end
 
 local given = vim.fn.json_decode(read(vim.env.OB0_GIVEN))
-local found = { faulty = {}, captures = {}, folds = {} }
+local found = { faulty = {}, trees = {}, captures = {} }
 for at, text in ipairs(given.texts) do
   found.faulty[at] = root(text):has_error()
+  found.trees[at] = root(text):sexpr()
 end
 
 local parse = vim.treesitter.query and vim.treesitter.query.parse or vim.treesitter.parse_query
@@ -33,7 +34,9 @@ local function captures(name)
   end
   return list
 end
-found.captures, found.folds, found.indents = captures("highlights"), captures("folds"), #captures("indents")
+for _, name in ipairs(given.queries) do
+  found.captures[name] = captures(name)
+end
 local report = assert(io.open(vim.env.OB0_REPORT, "w"))
 report:write(vim.fn.json_encode(found))
 report:close()

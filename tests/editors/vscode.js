@@ -175,16 +175,58 @@ async function withoutProgram(extension) {
   return { ended, stopped, said: done.messages };
 }
 
+// What a task prints in a terminal of its own, and its status.
+async function ranByItself(execution) {
+  const terminal = await execution.terminal();
+  let text = "";
+  terminal.onDidWrite((piece) => (text += piece));
+  const ended = new Promise((settle) => terminal.onDidClose(settle));
+  terminal.open();
+  return [await ended, text.trim().split("\r\n")];
+}
+
 async function tasksThatRun(manifest) {
   const matcher = manifest.contributes.problemMatchers[0];
-  for (const it of manifest.contributes.commands) await done.commands[it.command]();
-  // (what the tasks print, and what the problem matcher makes of it)
-  const matched = done.executed
-    .filter((task) => task.matchers.includes("$" + matcher.name))
-    .flatMap((task) => execSync(task.execution.line + "; true", { encoding: "utf8" }).trim().split("\n"))
+  for (const command of ["ob0.check", "ob0.run"]) await done.commands[command]();
+  const [check, run] = done.executed;
+  const [status, lines] = await ranByItself(check.execution);
+  // (what the problem matcher makes of what the task prints)
+  const matched = lines
     .map((line) => new RegExp(matcher.pattern.regexp).exec(line))
     .map((it) => it && ["file", "line", "column", "code", "message"].map((part) => it[matcher.pattern[part]]));
-  return { executed: done.executed.map((it) => it.name), matched, provided: done.tasks.provider.provideTasks().map((it) => it.name) };
+  const { command, args } = run.execution;
+  const given = done.tasks.provider.resolveTask({ definition: { type: "ob0", command: "run", label: "mine" } });
+  return {
+    executed: done.executed.map((it) => it.name),
+    matchers: check.matchers,
+    ...{ matched, status, words: [command.value, args[0], args[1].value] },
+    provided: done.tasks.provider.provideTasks().map((it) => it.name),
+    resolved: [given.definition.label, given.execution.args[1].value],
+  };
+}
+
+// The files that are run where the one that is shown has no name yet, or can't be written; and what is said then.
+async function unsaved(faulty) {
+  const [named, before] = [path.join(path.dirname(file), "named.mod"), done.executed.length];
+  done.messages = [];
+  for (const savedAs of [undefined, named]) {
+    user.openUntitled("MODULE M; END M.\n", savedAs);
+    await done.commands["ob0.run"]();
+  }
+  vscode.window.activeTextEditor = { document: faulty };
+  faulty.isFull = true;
+  await done.commands["ob0.run"]();
+  faulty.isFull = false;
+  return { ran: done.executed.slice(before).map((it) => it.execution.args[1].value), said: done.messages };
+}
+
+// Two changes of a setting in a row, and the servers that run then.
+async function restarted() {
+  const [before, wire_] = [done.messages.length, path.join(wire, "wire")];
+  user.set("path", "ob0");
+  user.set("path", "ob0");
+  await done.commands["ob0.restart"]();
+  return { said: done.messages.slice(before), shutdowns: fs.readFileSync(wire_, "utf8").split('"shutdown"').length - 1 };
 }
 
 async function main() {
@@ -196,10 +238,12 @@ async function main() {
   await until(() => done.diagnostics[file], "the diagnostics");
   found.published = done.diagnostics[file];
   found.tasks = await tasksThatRun(manifest);
+  found.unsaved = await unsaved(faulty);
   done.messages = [];
   found.faulty = await user.layOut(faulty).then(String, (why) => why.message);
   found.told = done.messages;
   found.edits = await edits();
+  found.restarted = await restarted();
   found.stopped = await extension.deactivate().then(() => "deactivated", String);
   found.settings = Object.keys(manifest.contributes.configuration.properties);
   console.log(JSON.stringify(found));

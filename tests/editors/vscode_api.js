@@ -59,13 +59,17 @@ class Task {
   constructor(definition, scope, name, source, execution, matchers) { Object.assign(this, { definition, name, execution, matchers }); }
 }
 class ShellExecution {
-  constructor(line) { this.line = line; }
+  constructor(command, args) { Object.assign(this, { command, args }); }
+}
+class CustomExecution {
+  constructor(terminal) { this.terminal = terminal; }
 }
 
 class Document {
   languageId = "oberon0";
   version = 1;
   isClosed = false;
+  isUntitled = false;
   constructor(file, text) { Object.assign(this, { uri: Uri.file(file), fileName: file, text }); }
   getText() { return this.text; }
   offsetAt({ line, character }) { return this.text.split("\n").slice(0, line).reduce((sum, it) => sum + it.length + 1, character); }
@@ -74,7 +78,16 @@ class Document {
     return new Position(lines.length - 1, lines[lines.length - 1].length);
   }
   get lineCount() { return this.text.split("\n").length; }
-  async save() { fs.writeFileSync(this.fileName, this.text); return true; }
+  // (a user who is asked for a name gives `savedAs`, or cancels; a disk may be full)
+  async save() {
+    if (this.isFull) return false;
+    if (!this.isUntitled) return fs.writeFileSync(this.fileName, this.text), true;
+    if (!this.savedAs) return false;
+    fs.writeFileSync(this.savedAs, this.text);
+    user.close(this);
+    user.open(this.savedAs);
+    return true;
+  }
 }
 
 const settings = { path: "ob0" };
@@ -124,7 +137,7 @@ const tasks = filledIn(
 const named = {
   ...{ workspace, window, languages, commands, tasks, version: "1.82.0", env: { appName: "stand-in", language: "en" } },
   ...{ Position, Range, TextEdit, WorkspaceEdit, Uri, CodeActionKind, CodeAction, Diagnostic, EventEmitter, CancellationTokenSource },
-  ...{ Disposable, Task, ShellExecution, TaskScope: { Workspace: 2 } },
+  ...{ Disposable, Task, ShellExecution, CustomExecution, ShellQuoting: { Strong: 2 }, TaskScope: { Workspace: 2 } },
 };
 const vscode = filledIn(named, () => class {});
 
@@ -148,6 +161,13 @@ const user = {
     workspace.textDocuments.push(document);
     window.activeTextEditor = { document };
     events.onDidOpenTextDocument?.fire(document);
+    return document;
+  },
+  openUntitled(text, savedAs) {
+    const document = new Document("Untitled-1", text);
+    Object.assign(document, { uri: Uri.parse("untitled:Untitled-1"), isUntitled: true, savedAs });
+    workspace.textDocuments.push(document);
+    window.activeTextEditor = { document };
     return document;
   },
   type(document, line, character, text) {

@@ -15,6 +15,7 @@ import ways
 from harness import Message, Server, did_change, did_close, did_open, holds, same
 from long_conversation import LITERALS, position_of
 from random_texts import LEXEME
+from seeds import named
 
 URI = "file:///m"
 STEPS = 100  # the changes of one conversation
@@ -227,7 +228,7 @@ def converse(seed: int) -> Counter[str]:
                 # (the text before had as many lines, and its faults were at the lines where they are now)
                 found.update(ways.faults_about(before, edited.text, body))
             last, module, before = now or last, ways.last_module(module, now), published
-            same_as_new(keeping, fresh, edited, published, f"file:///n{step}", f"seed {seed}, step {step}")
+            same_as_new(keeping, fresh, edited, published, f"file:///n{step}", f"{named(seed)}, step {step}")
         for it in (keeping, fresh):
             same(it.end(), 0, "the status")
     return found

@@ -4,15 +4,17 @@ from __future__ import annotations
 import collections
 import concurrent.futures
 from collections.abc import Callable, Iterable
-from typing import Dict
+from typing import Dict, List
 
 import faulty_modules
 import random_texts
-from harness import MESSAGES, Message, Server, diagnostic, did_open, on_file, same
+from harness import MESSAGES, Failed, Message, Server, diagnostic, did_open, holds, on_file, same
 from reference.parser import Node
 from reference.runs import Activation, Run
 from reference.text import Text
 from reference.values import Ends
+from seeds import named
+from shrinking import fail_shortly
 
 LONG = "ended here, since it takes long"
 
@@ -27,8 +29,18 @@ def diagnostics_of(text: str) -> list[Message]:
 
 
 def same_diagnostics(server: Server, text: str, seed: int) -> None:
-    """Holds what the server publishes of a text to the reference."""
-    same(server.notify(did_open(text)), diagnostics_of(text), f"seed {seed}, of the text\n{text}\n")
+    """Compares what the server publishes about a text with the reference. If they differ, it fails on a text as short as possible."""
+    try:
+        same(server.notify(did_open(text)), diagnostics_of(text), f"{named(seed)}, of the text\n{text}\n")
+    except Failed:
+        fail_shortly(text, lambda shorter: same_by_another(shorter, seed))
+        raise
+
+
+def same_by_another(text: str, seed: int) -> None:
+    """The same of a server that has had no other text."""
+    with Server() as server:
+        same(server.notify(did_open(text)), diagnostics_of(text), f"{named(seed)}, of a text made shorter\n{text}\n")
 
 
 MAKERS: Dict[str, Callable[[int], str]] = {
@@ -74,19 +86,29 @@ class Short(Run):
 def run_of(make: Callable[[int], random_texts.Program], seed: int) -> str:
     """Holds a run to that by the reference, and gives how it ends."""
     text, given, calls, turns = make(seed)
+    try:
+        return end_of(text, given, calls, turns, seed)
+    except Failed:
+        fail_shortly(text, lambda shorter: Text(shorter).is_well_typed and end_of(shorter, given, calls, turns, seed))
+        raise
+
+
+def end_of(text: str, given: List[int], calls: int, turns: int, seed: int) -> str:
+    """The same for a module with its input and bounds."""
     found = Short(text, given, calls, turns)
     if found.end == LONG:
         return LONG
     got = on_file("run", text, "--calls", str(calls), "--turns", str(turns), given=" ".join(map(str, given)).encode())
     err = "" if found.end == "Done" else f"fault: {found.end}\n"
     result = (found.output(), err, 1 if err else 0)
-    same((got.out.decode(), got.err.decode(), got.status), result, f"seed {seed}, input {given}, {calls} calls, {turns} turns, of\n{text}\n")
+    same((got.out.decode(), got.err.decode(), got.status), result, f"{named(seed)}, input {given}, {calls} calls, {turns} turns, of\n{text}\n")
     return found.end
 
 
 def counted(found: Iterable[str]) -> str:
-    """How often each end came, as a line."""
+    """How often each end came, as a line; at least half of the runs have to be compared."""
     counts = collections.Counter(found)
+    holds(2 * counts[LONG] <= sum(counts.values()), f"too few runs were compared: {counts}")
     return ", ".join(f"{name} {counts[name]:,}" for name in sorted(counts))
 
 

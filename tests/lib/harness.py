@@ -8,6 +8,7 @@ import glob
 import json
 import os
 import select
+import signal
 import subprocess
 import sys
 import tempfile
@@ -51,17 +52,21 @@ class Skipped(Exception):
     """A test that is left out; the run says so by name."""
 
 
-def leave_out(why: str, is_required: bool = False) -> NoReturn:
-    """Leaves this test out. In `make test` (the variable OB0_WHOLE) what is required fails instead."""
-    if is_required and os.environ.get("OB0_WHOLE"):
-        raise Failed(f"{why}, and the whole test requires it")
+class NoProgram(Skipped):
+    """A test that wants a program that isn't there yet."""
+
+
+def leave_out(why: str, may_lack: bool = False) -> NoReturn:
+    """Leaves this test out. In `make test` (the variable OB0_WHOLE) it fails instead, unless it's for a tool that may lack there."""
+    if os.environ.get("OB0_WHOLE") and not may_lack:
+        raise Failed(f"{why}, and the whole test leaves no test out for that")
     raise Skipped(why)
 
 
 def need_program() -> None:
-    """Leaves this test out where there is no program yet."""
+    """Leaves this test out if there is no program yet."""
     if not os.path.exists(BINARY):
-        raise Skipped("it runs the program")
+        raise NoProgram("it runs the program")
 
 
 def shown(value: object, most: int = 600) -> str:
@@ -69,9 +74,22 @@ def shown(value: object, most: int = 600) -> str:
     return text if len(text) <= most else f"{text[:most]}.. ({len(text)} in all)"
 
 
+def first_difference(got: Any, wanted: Any) -> str:
+    """Where two texts or two lists differ first, with the text around that place; nothing for other values."""
+    if type(got) is not type(wanted) or not isinstance(got, (str, bytes, list, tuple)):
+        return ""
+    at = next((at for at, (one, other) in enumerate(zip(got, wanted)) if one != other), min(len(got), len(wanted)))
+    if isinstance(got, (str, bytes)):
+        part = slice(max(0, at - 40), at + 40)
+        return f"\n    they differ at {at}: wanted {wanted[part]!r}, got {got[part]!r}"
+    if at < min(len(got), len(wanted)):
+        return f"\n    they differ at item {at}{first_difference(got[at], wanted[at]) or f': wanted {shown(wanted[at])}, got {shown(got[at])}'}"
+    return f"\n    wanted {len(wanted)} items, got {len(got)}"
+
+
 def same(got: object, wanted: object, what: str = "the result") -> None:
     if got != wanted:
-        raise Failed(f"{what}: wanted {shown(wanted)}\n    got {shown(got)}")
+        raise Failed(f"{what}: wanted {shown(wanted)}\n    got {shown(got)}{first_difference(got, wanted)}")
 
 
 def holds(fact: object, what: str) -> None:
@@ -262,6 +280,15 @@ def serve_in_pieces(pieces: Iterable[bytes]) -> Ended:
     return Ended(written["out"], written["err"], process.returncode)
 
 
+def is_running(number: int) -> bool:
+    """Whether a process that ought to have ended still runs; it is killed."""
+    try:
+        os.kill(number, signal.SIGKILL)
+    except ProcessLookupError:
+        return False
+    return True
+
+
 S = TypeVar("S", bound="Server")
 
 
@@ -338,24 +365,25 @@ class Server:
 # Editors and other tools
 
 
-MISSING: Dict[str, List[str]] = {}  # what tests wanted and isn't here, with its package
-DRIVEN: List[str] = []  # what the test that runs has wanted: the other programs that it drives
+WANTED: List[str] = []  # the tools that the test that runs has wanted
+DRIVEN: List[str] = []  # the editors, and the programs in a terminal, that it drives
 
 
 def want(*names: str) -> None:
-    """Leaves this test out where one of these tools (of tools/editors.py) isn't here. A test that drives one is run once more, where
-    it fails (tests/run.py)."""
-    DRIVEN.extend(names)
+    """Leaves this test out if one of these tools (of tools/editors.py) is missing; in `make test` it fails for a tool that is required.
+    A test that drives an editor and fails is run again (tests/run.py)."""
+    WANTED.extend(names)
+    DRIVEN.extend(it for it in names if it in editors.EDITORS)
     missing = [it for it in names if not editors.is_here(it)]
-    MISSING.update({it: [editors.TOOLS[it][1]] for it in missing})
     if missing:
-        leave_out(f"{' and '.join(missing)} missing", any(it in editors.REQUIRED for it in missing))
+        leave_out(f"{' and '.join(missing)} missing", not any(it in editors.REQUIRED for it in missing))
 
 
 def want_proved() -> None:
-    """Leaves a test out where the program isn't bin/ob0, or that isn't the proved program of these sources."""
+    """Leaves a test out if the program isn't bin/ob0, or that isn't the proved program of these sources."""
+    need_program()
     if os.path.abspath(BINARY) != common.BINARY or not common.is_current():
-        raise Skipped("bin/ob0 is not the proved program of these sources")
+        leave_out("bin/ob0 is not the proved program of these sources")
 
 
 # Texts and files

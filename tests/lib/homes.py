@@ -3,7 +3,6 @@ from __future__ import annotations
 
 import contextlib
 import os
-import shlex
 import shutil
 import signal
 import subprocess
@@ -14,6 +13,7 @@ from typing import Any
 
 import harness
 import holding
+import watched
 from harness import TOP, Failed
 from screen import Screen
 from snippets import snippets
@@ -24,10 +24,11 @@ SECONDS = 900  # the longest that an editor may take (also where the machine has
 @contextlib.contextmanager
 def temporary() -> Iterator[str]:
     """A folder that is taken away at the end, but for what a program that was started there still writes into it (tests/run.py takes
-    that away too)."""
+    that away too). What ob0-watch has seen there of an editor has to be what is expected."""
     room = tempfile.mkdtemp()
     try:
         yield room
+        watched.expect(room)
     finally:
         shutil.rmtree(room, ignore_errors=True)
 
@@ -35,9 +36,8 @@ def temporary() -> Iterator[str]:
 def at_home(room: str, editor: str) -> dict[str, str]:
     """Sets an editor up in a home of its own, by the commands of its page: the environment that it is started in."""
     own = {key: value for key, value in os.environ.items() if not key.startswith("XDG_")}
-    os.makedirs(os.path.join(room, "bin"))
-    os.symlink(os.path.abspath(harness.BINARY), os.path.join(room, "bin", "ob0"))
-    own.update(HOME=room, XDG_RUNTIME_DIR=room, PATH=os.path.join(room, "bin") + os.pathsep + os.environ["PATH"], TERM="xterm")
+    watched.put_program(room, [os.path.abspath(harness.BINARY)])
+    own.update(HOME=room, XDG_RUNTIME_DIR=room, LC_ALL="C.UTF-8", PATH=os.path.join(room, "bin") + os.pathsep + os.environ["PATH"], TERM="xterm")
     for line in snippets(editor, "sh"):
         status, said = run_plainly(["sh", "-e", "-c", line], own, TOP)
         if status:
@@ -47,12 +47,7 @@ def at_home(room: str, editor: str) -> dict[str, str]:
 
 def put_between(room: str) -> str:
     """Has `ob0 serve` start what holds answers between the editor at home in this room and the server; gives the program's path."""
-    program, real = os.path.join(room, "bin", "ob0"), os.path.abspath(harness.BINARY)
-    server = shlex.join([sys.executable, holding.__file__, room, real])
-    os.unlink(program)
-    write(program, f'#!/bin/sh\n[ "$1" = serve ] && exec {server} "$@"\nexec {shlex.quote(real)} "$@"\n')
-    os.chmod(program, 0o755)
-    return program
+    return watched.put_program(room, [sys.executable, holding.__file__, room, os.path.abspath(harness.BINARY)])
 
 
 def write(path: str, text: str) -> None:

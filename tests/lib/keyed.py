@@ -20,10 +20,6 @@ SECONDS = 300  # the longest that something is waited for (also where the machin
 RENAME, ACTION, LAYOUT = "textDocument/rename", "textDocument/codeAction", "textDocument/formatting"
 
 
-class Lost(Failed):
-    """Something was waited for in vain: the editor has taken no more keys, or its server says nothing."""
-
-
 K = TypeVar("K", bound="Keyed")
 
 
@@ -39,7 +35,7 @@ class Keyed:
         self.folder, self.wire, self.count = folder, Wire(folder), 0
         self.file = os.path.join(folder, "work", "m.mod")
         write(self.file, text)
-        own = {**at_home(folder, self.page), "LC_ALL": "C.UTF-8", "TERM": "xterm-256color"}
+        own = {**at_home(folder, self.page), "TERM": "xterm-256color"}
         put_between(folder)
         for path, lines in self.settings().items():
             write(os.path.join(folder, path), lines)
@@ -94,7 +90,7 @@ class Keyed:
 
     def await_(self, what: str, holds: Callable[[], object]) -> None:
         if not self.waits(holds):
-            raise Lost(f"waited in vain for {what}: {self.screen.drawn[-1500:]!r}")
+            raise Failed(f"waited in vain for {what}: {self.screen.drawn[-1500:]!r}")
 
     def keys(self, typed: str) -> None:
         self.screen.keys(typed.encode())

@@ -12,7 +12,7 @@ import struct
 import termios
 import time
 
-from harness import Failed
+from harness import DRIVEN, Failed
 
 
 class Screen:
@@ -23,6 +23,7 @@ class Screen:
     ) -> None:
         self.drawn = b""
         self.status: int | None = None
+        DRIVEN.append(words[0])
         self.process, self.terminal = pty.fork()
         if self.process == 0:
             if size:

@@ -130,9 +130,12 @@ impl<T: TextStore> World<T> {
 
     /// Plays a list of events from the beginning, with positions in this unit.
     ///
-    /// In every interleaving of the editor and the server, each edit that the editor applies to a well-typed document
-    /// leaves a well-typed module with the same run, and an open document's latest diagnostics are empty exactly when
-    /// the text they were made for is a well-typed module.
+    /// In every interleaving of an editor and the server, each edit that the editor applies to a well-typed document
+    /// leaves a well-typed module with the same run: the same output and end for every input and every bound on calls
+    /// and loop turns; and an open document's latest diagnostics are empty exactly when the text they were made for is a
+    /// well-typed module.
+    ///
+    /// The editor is the model's. The law `every_exchange_holds` says the same of every editor that keeps ob0's rules.
     pub fn play_in(alloc: Global, unit: Unit, events: &[Event]) -> Result<Played, PlayFault>
         requires few { length events.now < 2 ^ 63 - 1 }
         ensures ok { IfOk result (λ played. Plays unit events.now played) }

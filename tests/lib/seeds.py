@@ -1,0 +1,43 @@
+"""The numbers that random tests begin with: half of them are always the same, and the others are the commit's own.
+
+OB0_RANDOM is how many a test tries (300). With OB0_SEED they begin with this number: a failure names its own."""
+from __future__ import annotations
+
+import functools
+import os
+import subprocess
+from typing import List
+
+from harness import TOP
+
+COUNT = int(os.environ.get("OB0_RANDOM", "300"))
+
+
+@functools.lru_cache(None)
+def of_commit() -> int:
+    """A number made of the commit's hash; 0 outside a repository."""
+    words = ["git", "-c", f"safe.directory={TOP}", "rev-parse", "--short=7", "HEAD"]
+    try:
+        found = subprocess.run(words, cwd=TOP, stdout=subprocess.PIPE, stderr=subprocess.DEVNULL, stdin=subprocess.DEVNULL, check=False)
+        return int(found.stdout[:7] or b"0", 16)
+    except OSError:
+        return 0
+
+
+def starts() -> List[int]:
+    """Where the numbers begin, those that are always the same first."""
+    given = os.environ.get("OB0_SEED")
+    return [int(given)] if given else [0, of_commit()]
+
+
+def seeds(count: int) -> List[int]:
+    """So many numbers, and prints where they begin."""
+    found = starts()
+    print(f"    seeds from {' and '.join(map(str, found))} on", flush=True)
+    size = -(-count // len(found))
+    return [it for start in found for it in range(start, start + size)]
+
+
+def named(seed: int) -> str:
+    """A number as a failure names it."""
+    return f"seed {seed} (OB0_SEED={seed} tries it again)"

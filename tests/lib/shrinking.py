@@ -1,0 +1,45 @@
+"""Makes a random text on which a check fails shorter."""
+from __future__ import annotations
+
+import re
+import time
+from typing import Callable
+
+from harness import Failed
+from random_texts import LEXEME
+
+PIECE = re.compile(rf"\s+|(?:{LEXEME.pattern})\s*", re.S)
+SECONDS = 60.0  # the longest that this may take
+SHORT = 16  # lexemes: stretches of at most so many are tried at each place
+
+
+def shrunk(text: str, fails: Callable[[str], bool]) -> str:
+    """A text that fails too, and of which no short stretch of lexemes can be left out: long stretches are tried first."""
+    pieces, end = PIECE.findall(text), time.monotonic() + SECONDS
+    before = len(pieces) + 1
+    while len(pieces) < before and time.monotonic() < end:
+        before = len(pieces)
+        sizes = [before >> it for it in range(before.bit_length()) if before >> it > SHORT]
+        for size in [*sizes, *range(SHORT, 0, -1)]:
+            at = 0
+            while at < len(pieces) and time.monotonic() < end:
+                shorter = pieces[:at] + pieces[at + size :]
+                if fails("".join(shorter)):
+                    pieces = shorter
+                else:
+                    at += size if size > SHORT else 1
+    return "".join(pieces)
+
+
+def fail_shortly(text: str, check: Callable[[str], object]) -> None:
+    """Fails as a check fails on the shortest text that is found, which begins with this one. Returns if the check doesn't fail on it."""
+
+    def fails(shorter: str) -> bool:
+        try:
+            check(shorter)
+        except Failed:
+            return True
+        return False
+
+    if fails(text):
+        check(shrunk(text, fails))

@@ -1,0 +1,86 @@
+"""Editors watched by ob0-watch: the program that starts their server through it, and its reports. If the variable OB0_REPORTS names a
+folder, the reports are kept there, by the editors."""
+from __future__ import annotations
+
+import glob
+import importlib.machinery
+import importlib.util
+import os
+import re
+import shlex
+import shutil
+import sys
+import time
+from typing import Any, NamedTuple
+
+import harness
+from harness import TOP, Failed, same
+
+SCRIPT = os.path.join(TOP, "share", "ob0-watch")
+SECONDS = 60  # the longest that a report is waited for, once its editor has ended
+
+
+def load() -> Any:
+    """The script as a module."""
+    loader = importlib.machinery.SourceFileLoader("ob0_watch", SCRIPT)
+    spec = importlib.util.spec_from_loader("ob0_watch", loader)
+    assert spec
+    found = sys.modules["ob0_watch"] = importlib.util.module_from_spec(spec)
+    loader.exec_module(found)
+    return found
+
+
+def put_program(room: str, server: list[str]) -> str:
+    """Makes bin/ob0 in a room: `ob0 serve` starts this server, watched, and any other command is the program's. Returns its path."""
+    program = os.path.join(room, "bin", "ob0")
+    os.makedirs(os.path.join(room, "bin"), exist_ok=True)
+    report = f"{shlex.quote(os.path.join(room, 'watched'))}/$$"
+    words = f"{shlex.join([sys.executable, SCRIPT])} --report {report} -- {shlex.join(server)}"
+    with open(program, "w", encoding="utf-8") as file:
+        file.write(f'#!/bin/sh\n[ "$1" = serve ] && exec {words} "$@"\nexec {shlex.quote(os.path.abspath(harness.BINARY))} "$@"\n')
+    os.chmod(program, 0o755)
+    return program
+
+
+class Count(NamedTuple):
+    """How much was judged by a rule, and what was found."""
+
+    watched: int
+    broken: int
+    notes: int
+
+
+class Report(NamedTuple):
+    text: str
+    counts: dict[str, Count]
+
+    def broken(self) -> set[str]:
+        return {rule for rule, it in self.counts.items() if it.broken}
+
+
+def reports(room: str) -> list[Report]:
+    """The reports in a room, each once its watcher has ended."""
+    found, end = [], time.monotonic() + SECONDS
+    for path in sorted(glob.glob(os.path.join(glob.escape(room), "watched", "*[0-9]"))):
+        while os.path.exists(f"/proc/{os.path.basename(path)}") and time.monotonic() < end:
+            time.sleep(0.02)
+        with open(path, encoding="utf-8") as file:
+            text = file.read()
+        rows = re.findall(r"^([\w-]+): watched (\d+), broken (\d+), notes (\d+) ", text, re.M)
+        found.append(Report(text, {rule: Count(*map(int, counts)) for rule, *counts in rows}))
+    return found
+
+
+def expect(room: str) -> None:
+    """Holds the editors of a room to the rules: those of the file `breaks`, if there is one, are broken, and no others are."""
+    breaks: set[str] = set()
+    if os.path.exists(os.path.join(room, "breaks")):
+        with open(os.path.join(room, "breaks"), encoding="utf-8") as file:
+            breaks = {*file.read().split()}
+    found = reports(room)
+    if found and os.environ.get("OB0_REPORTS"):
+        folder = os.path.join(os.environ["OB0_REPORTS"], " ".join(dict.fromkeys(harness.DRIVEN)))
+        shutil.copytree(os.path.join(room, "watched"), folder, dirs_exist_ok=True)
+    if any("stopped watching" in it.text for it in found):
+        raise Failed("\n".join(it.text for it in found))
+    same(set().union(*(it.broken() for it in found)), breaks, "the broken rules of\n" + "\n".join(it.text for it in found))

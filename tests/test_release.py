@@ -1,0 +1,361 @@
+"""A release: its number, its changes, the notices of what it is linked with, and CONTRIBUTING's recipe, followed in a repository of
+its own with a program that stands in for ob0."""
+from __future__ import annotations
+
+import contextlib
+import gzip
+import json
+import os
+import re
+import shutil
+import stat
+import subprocess
+import sys
+import tarfile
+from collections.abc import Callable, Iterator
+from unittest import mock
+
+import common
+import glibc
+import notices
+import package
+from common import match_of
+from harness import TOP, holds, leave_out, same, test, text_of, want
+from homes import run_plainly, temporary, write
+from snippets import FENCED
+
+# each place that has the program's version, with what is around it
+PLACES = [
+    ("share/ob0.1", r'^\.TH OB0 1 \S+ "ob0 (\S+)"'),
+    ("share/ob0-format.1", r'^\.TH OB0-FORMAT 1 \S+ "ob0 (\S+)"'),
+    ("CHANGELOG.md", r"^## (\S+),"),
+    ("editors/emacs/ob0-mode.el", r"^;; Version: (\S+)"),
+    ("editors/vscode/package.json", r'^  "version": "([^"]+)"'),
+    ("editors/tree-sitter/tree-sitter.json", r'^    "version": "([^"]+)"'),
+]
+SOURCE = "crates/ob0_cli/src/line.rt"
+NEEDED = [*package.COPIED, "tools", "share", "LICENSE", "Makefile", "crates.txt", "HANDLES", SOURCE]
+# notices of crates that aren't there, beside a program that isn't ob0
+STAND_IN = """import common, json, notices, sys
+common.keep(sys.argv[1])
+common.keep_verdict("1 passed, 0 failed")
+json.dump({**notices.head(), "crates": {"low": {}, "mid": {"LICENSE": "Copyright (c) 2001 A B\\n\\nDo as you like.\\n"}}}, open(notices.KEPT, "w"))
+"""
+
+
+class Repository:
+    """A repository of its own with what is packed, and a program that stands in for ob0."""
+
+    def __init__(self, room: str) -> None:
+        self.room = os.path.join(room, "repository")
+        home = os.path.join(room, "home")
+        os.mkdir(home)
+        kept = {key: value for key, value in os.environ.items() if not key.startswith(("GIT_", "BUILD_", "SOURCE_", "DEB", "MAKE"))}
+        names = {"NAME": "x", "EMAIL": "x@example.org"}
+        self.own = {**kept, "HOME": home, **{f"GIT_{who}_{it}": value for who in ("AUTHOR", "COMMITTER") for it, value in names.items()}}
+        found = subprocess.run(["git", "ls-files", "-z", "--", *NEEDED], cwd=TOP, stdout=subprocess.PIPE, check=True).stdout
+        for it in (os.fsdecode(name) for name in found.split(b"\0") if name):
+            if os.path.isfile(os.path.join(TOP, it)):
+                os.makedirs(os.path.dirname(os.path.join(self.room, it)), exist_ok=True)
+                shutil.copy(os.path.join(TOP, it), os.path.join(self.room, it))
+        write(os.path.join(self.room, ".gitignore"), text_of(".gitignore"))
+        self.ran("git", "init", "--quiet")
+        self.commit()
+        self.build()
+
+    def ran(self, *words: str, **named: str) -> str:
+        """What a command prints, which has to end well."""
+        status, said = self.tried(*words, **named)
+        same(status, 0, f"{words}: {said}")
+        return said
+
+    def tried(self, *words: str, **named: str) -> tuple[int, str]:
+        return run_plainly(list(words), {**self.own, **named}, self.room)
+
+    def commit(self) -> None:
+        self.ran("git", "add", ".")
+        self.ran("git", "commit", "--quiet", "--allow-empty", "-m", "x")
+
+    def build(self, program: str = "/bin/true") -> None:
+        """Has a program stand in for that of the present sources."""
+        self.ran(sys.executable, "-B", "-c", f"import sys; sys.path.insert(0, 'tools')\n{STAND_IN}", program)
+
+    def change(self, path: str, pattern: str, new: str) -> None:
+        """Replaces the first group of a pattern in a file."""
+        found = match_of(pattern, text_of(self.room, path), re.M)
+        write(os.path.join(self.room, path), found.string[: found.start(1)] + new + found.string[found.end(1) :])
+
+    def call(self, line: str, **named: str) -> tuple[int, str]:
+        """The status and the output of a line of Python over tools/package.py."""
+        script = f"import sys; sys.path.insert(0, 'tools'); import package\n{line}"
+        return self.tried(sys.executable, "-B", "-c", script, **named)
+
+    def tree(self) -> list[str]:
+        return self.call("print(chr(10).join(package.tree()))")[1].splitlines()
+
+
+@contextlib.contextmanager
+def repository() -> Iterator[Repository]:
+    want("git")
+    with temporary() as room:
+        yield Repository(room)
+
+
+@test("release: every place that has the version has that of the program's source")
+def places() -> None:
+    number = package.version()
+    for path, pattern in PLACES:
+        same(match_of(pattern, text_of(path), re.M)[1], number, path)
+    for path in ("README.md", "CONTRIBUTING.md", "docs/DECISIONS.md", "editors/vscode/README.md"):
+        found = {*re.findall(r"\bob0[-_ ](\d+\.\d+\.\d+)", text_of(path)), *re.findall(r"(\d+\.\d+\.\d+)[~+]git", text_of(path))}
+        same(found - {number}, set(), f"other versions of ob0 on {path}")
+
+
+@test("release: each crate of the kit that the program is linked with has its notice in the package, and a crate without one is named there")
+def linked() -> None:
+    if not shutil.which("rt"):
+        leave_out("it wants the toolchain")
+    folder, lines = notices.kit_folder(), common.listed()
+    direct = {it for name in common.below("ob0") for it in lines[name] if it not in lines}
+    found = notices.linked(folder)
+    holds(len(direct) >= 7 and direct < {*found} and {"std", "json"} < {*found}, f"{direct} of {found}")
+    with mock.patch.object(notices, "of_program", notices.collected):
+        page = package.copyright_page().decode()
+    said = " ".join(match_of(r"^Comment: (.*?)(?=\n\S|\n\n)", page, re.M | re.S)[1].split())
+    for crate in found:
+        files = [it for it in os.listdir(os.path.join(folder, "rattle", crate)) if it.startswith(("LICENSE", "COPYING", "NOTICE"))]
+        holds(bool(files) != bool(re.search(rf"have none:[^.]*\b{crate}\b", said)), f"{crate}: {files}, {said}")
+        for name in files:
+            if name != "LICENSE-APACHE" or "LICENSE-MIT" not in files:
+                holds(package.indented(text_of(folder, "rattle", crate, name)) in page, f"{name} of {crate} isn't in the package")
+    recipe = text_of("CONTRIBUTING.md").partition("\n## A release\n")[2]
+    holds(all(f"`{it}`" in recipe for it in ("json", "std")), "CONTRIBUTING's recipe names the crates without a notice")
+
+
+@test("release: notices are kept with the program that they are of, and without them and the toolchain nothing is packed")
+def kept() -> None:
+    with repository() as made:
+        page = "print(package.copyright_page().decode())"
+        said = made.call(page)[1]
+        holds("License: Expat and mid\n" in said and " 2001 A B (mid)\n" in said and "have none: low." in said, said)
+        path = ":".join(it for it in os.environ["PATH"].split(":") if not os.path.exists(os.path.join(it, "rt")))
+        os.unlink(os.path.join(made.room, "bin", "ob0.notices"))
+        status, said = made.call(page, PATH=path)
+        same((status, "`make build` with rt on PATH" in said), (2, True), said)
+
+
+@test("release: only files that git knows are packed, and a version says whether they or the program's sources differ from the commit")
+def known() -> None:
+    with repository() as made:
+        version: Callable[..., str] = lambda **named: made.call("print(package.build_version())", **named)[1].strip()
+        before, number = made.tree(), version()
+        holds(len(before) > 100 and not number.endswith(".changed"), number)
+        for it in ("docs/private.md", "editors/vim/.ob0.vim.swp", "examples/mine/Solution.mod", "examples/exercises/New.txt"):
+            write(os.path.join(made.room, it), "mine\n")
+        same((made.tree(), version()), (before, number), "with files that git doesn't know")
+        write(os.path.join(made.room, "crates", "ob0_cli", "src", "more.rt"), "")
+        same(version(), f"{number}.changed", "with a source that git doesn't know")
+        os.unlink(os.path.join(made.room, "crates", "ob0_cli", "src", "more.rt"))
+        write(os.path.join(made.room, "docs", "CI.md"), "changed\n")
+        same(version(), f"{number}.changed", "with a changed page")
+        made.commit()
+        holds(f"{package.DOC}/docs/private.md" in made.tree() and not version().endswith(".changed"), "once it is of the commit")
+        # (a time is the files' and not the version's)
+        same(version(SOURCE_DATE_EPOCH="315532800"), version(), "with SOURCE_DATE_EPOCH")
+        same(made.call("print(package.moment())", SOURCE_DATE_EPOCH="315532800"), (0, "315532800\n"), "the files' time")
+        status, said = made.call("print(package.moment())", SOURCE_DATE_EPOCH="abc")
+        same((status, "is a number of seconds" in said), (2, True), said)
+
+
+@test("release: without git a version has to be given, and it begins with the program's")
+def given() -> None:
+    with repository() as made:
+        shutil.rmtree(os.path.join(made.room, ".git"))
+        status, said = made.tried(sys.executable, "-B", "tools/package.py", "package")
+        same((status, "such as BUILD_VERSION=" in said), (2, True), said)
+        number = package.version()
+        for wrong in ("9.9.9", f"{number}-1", f"{number}/x", f"{number} x"):
+            status, said = made.tried("make", "--silent", "package", f"BUILD_VERSION={wrong}")
+            same((status, "BUILD_VERSION begins with" in said), (2, True), said)
+        os.utime(os.path.join(made.room, "CHANGELOG.md"), (1700000000, 1700000000))
+        made.ran("make", "--silent", "package", f"BUILD_VERSION={number}~mine")
+        with tarfile.open(os.path.join(made.room, "bin", f"ob0-{number}~mine-x86_64-linux.tar.gz")) as tar:
+            same({it.mtime for it in tar}, {1700000000}, "the time of the files")
+
+
+@test("release: the same content is compressed to the same bytes by every Python")
+def compressed() -> None:
+    same(package.squeezed(b"x")[:10], b"\x1f\x8b\x08\0\0\0\0\0\x02\xff", "the head of a .gz, with no time and no name of a system")
+    same(gzip.decompress(package.squeezed(b"some text")), b"some text", "what was compressed")
+
+
+@test("release: the package depends on the glibc that the program's symbols need")
+def needed() -> None:
+    with repository() as made, temporary() as room:
+        with open("/bin/true", "rb") as file:
+            content = file.read()
+        latest = glibc.needed("/bin/true")
+        if shutil.which("objdump"):
+            said = subprocess.run(["objdump", "-p", "/bin/true"], stdout=subprocess.PIPE, check=True).stdout.decode()
+            found = re.findall(r"^ +0x\w+ 0x\w+ \d+ (\S+)$", said, re.M)
+            same(sorted(it for _, it in glibc.needs("/bin/true")), sorted(found), "the versions that it needs, by objdump")
+        # (the same program, which needs a later one)
+        other = latest[:-1] + str((int(latest[-1]) + 1) % 10)
+        program = os.path.join(room, "program")
+        with open(program, "wb") as file:
+            file.write(content.replace(f"GLIBC_{latest}\0".encode(), f"GLIBC_{other}\0".encode()))
+        os.chmod(program, 0o755)
+        for path in ("/bin/true", program):
+            made.build(path)
+            said = made.call("found = package.tree(); print(package.control(found).decode(), package.proved().decode())")[1]
+            wanted = glibc.needed(path)
+            holds(f"\nDepends: libc6 (>= {wanted}), python3\n" in said and f"with glibc {wanted} or later" in said, said)
+        same(glibc.needed(program) != latest, True, "another program needs another glibc")
+
+
+CHANGES = """# Changes
+
+## {}, {}
+
+- A new thing, on two
+  lines.
+
+## 0.0.2, 2026-02-03
+
+- An older thing.
+- And one more.
+"""
+
+
+@test("release: Debian's changelog has an entry for each heading of CHANGELOG.md, and a version that isn't released has no release")
+def entries() -> None:
+    with repository() as made:
+        number, page = package.version(), os.path.join(made.room, "CHANGELOG.md")
+        changelog: Callable[[], tuple[int, str]] = lambda: made.call("print(package.changelog().decode(), end='')", SOURCE_DATE_EPOCH="1800000000", DEBEMAIL="y@z")
+        write(page, CHANGES.format(number, "2026-04-05"))
+        made.commit()
+        made.ran("git", "tag", f"v{number}")
+        author = f" -- {package.DEFAULT_NAME} <y@z>  "
+        wanted = (
+            f"ob0 ({number}) unstable; urgency=medium\n\n  * A new thing, on two lines.\n\n{author}Fri, 15 Jan 2027 08:00:00 -0000\n\n"
+            f"ob0 (0.0.2) unstable; urgency=medium\n\n  * An older thing.\n  * And one more.\n\n{author}Tue, 03 Feb 2026 12:00:00 -0000\n"
+        )
+        same(changelog(), (0, wanted), "the changelog")
+        same(made.ran(sys.executable, "-B", "tools/package.py", "notes"), "- A new thing, on two\n  lines.\n", "the notes")
+        for heading, word in ((f"{number}, not released yet", "isn't released yet"), ("0.0.1, 2026-01-01", "which is the program's version"), (f"{number} (soon)", "has a heading")):
+            write(page, CHANGES.replace("{}, {}", heading))
+            made.commit()
+            made.ran("git", "tag", "--force", f"v{number}")
+            status, said = changelog()
+            same((status, word in said), (2, True), f"{heading}: {said}")
+
+
+def release(made: Repository, number: str, day: str) -> list[str]:
+    """Makes a release by the recipe; returns its packages."""
+    made.change(SOURCE, r'const VERSION: &str = "([0-9.]+)"', number)
+    for path, pattern in PLACES:
+        made.change(path, pattern, number)
+    made.change("CHANGELOG.md", rf"^## {number}, (.*)$", day)
+    made.build()
+    ((_, block),) = FENCED.findall(text_of("CONTRIBUTING.md").partition("\n## A release\n")[2])
+    made.commit()
+    made.ran("sh", "-e", "-c", block, version=number, DEBFULLNAME="X Y", DEBEMAIL="x@example.org")
+    found = [f"ob0_{number}_amd64.deb", f"ob0-{number}-x86_64-linux.tar.gz"]
+    names = [*found, "SHA256SUMS", "SHA256SUMS.asc", "notes.md"]
+    same([it for it in names if not os.path.isfile(os.path.join(made.room, "bin", it))], [], f"the assets of {number} that are missing")
+    made.ran("gpg", "--quiet", "--verify", "bin/SHA256SUMS.asc", "bin/SHA256SUMS")
+    made.ran("git", "tag", "--verify", f"v{number}")
+    made.ran("sh", "-c", "cd bin && sha256sum --quiet --check SHA256SUMS")
+    room = os.path.join(made.own["HOME"], number)
+    shutil.copytree(os.path.join(made.room, "bin"), room)
+    return [os.path.join(room, it) for it in found]
+
+
+@test("release: two releases in a row by CONTRIBUTING's recipe, the second installed over the first, and nothing left after its removal")
+def twice() -> None:
+    want("dpkg", "gpg", "root")
+    with repository() as made, temporary() as room:
+        made.own["GNUPGHOME"] = os.path.join(made.own["HOME"], "keys")
+        os.mkdir(made.own["GNUPGHOME"], 0o700)
+        made.ran("gpg", "--batch", "--quiet", "--passphrase", "", "--quick-generate-key", "x <x@example.org>", "ed25519", "sign")
+        try:
+            first = release(made, "0.1.0", "2026-12-01")
+            later = "## 0.2.0, not released yet\n\n- One more thing.\n\n"
+            made.change("CHANGELOG.md", r"^()## 0\.1\.0", later)
+            second = release(made, "0.2.0", "2027-01-31")
+        finally:
+            made.tried("gpgconf", "--kill", "all")
+        same(text_of(os.path.dirname(second[0]), "notes.md"), "- One more thing.\n", "the notes of the second")
+        installed_in_turn(room, first[0], second[0])
+        in_prefix(made, os.path.join(room, "usr local"))
+
+
+def installed_in_turn(room: str, *debs: str) -> None:
+    """Installs packages one over the other in a root of its own, and removes them."""
+    admin = os.path.join(room, "var", "lib", "dpkg")
+    for it in ("available", "info/format", "updates/x", "triggers/Unincorp"):
+        write(os.path.join(admin, it), "1\n" if it == "info/format" else "")
+    os.unlink(os.path.join(admin, "updates", "x"))
+    known = "Package: {}\nStatus: install ok installed\nVersion: {}\nArchitecture: amd64\nMaintainer: x <x@example.org>\nDescription: x\n\n"
+    write(os.path.join(admin, "status"), known.format("libc6", "2.99") + known.format("python3", "3.8.2"))
+    words = ["dpkg", f"--root={room}", "--log=/dev/null", "--force-bad-path"]
+    for deb in debs:
+        status, said = run_plainly([*words, "--install", deb], dict(os.environ), room)
+        same(status, 0, said)
+        with gzip.open(os.path.join(room, "usr", package.DOC, "changelog.gz"), "rt", encoding="utf-8") as file:
+            same(file.readline(), f"ob0 ({os.path.basename(deb).split('_')[1]}) unstable; urgency=medium\n", "the installed changelog")
+    status, said = run_plainly([*words, "--remove", "ob0"], dict(os.environ), room)
+    left = [os.path.join(at, it) for at, folders, files in os.walk(room) for it in folders + files if not at.startswith(os.path.join(room, "var"))]
+    same((status, left), (0, [os.path.join(room, "var")]), f"what is left: {said}")
+
+
+def in_prefix(made: Repository, prefix: str) -> None:
+    """Installs and removes the second release by `make`, over another program's folder."""
+    os.makedirs(os.path.join(prefix, "bin"))
+    made.ran("make", "--silent", "install", f"PREFIX={prefix}")
+    made.ran("make", "--silent", "uninstall", f"PREFIX={prefix}")
+    same([at for at, _, _ in os.walk(prefix)], [prefix, os.path.join(prefix, "bin")], "what `make uninstall` leaves")
+
+
+@test("release: under umask 077 everybody can read what is installed; a PREFIX may have blanks, quotes and signs of a shell")
+def for_everybody() -> None:
+    with repository() as made, temporary() as room:
+        prefix = os.path.join(room, 'a "b" \'c\' $HOME `d` \\e')
+        for command, there in (("install", True), ("uninstall", False)):
+            words = ["sh", "-c", 'umask 077; make --silent "$@"', "sh", command, f"PREFIX={prefix.replace('$', '$$')}"]
+            made.ran(*words)
+            same(os.path.exists(prefix), there, f"{prefix} after `make {command}`")
+            modes = {os.path.join(at, it): os.lstat(os.path.join(at, it)) for at, folders, files in os.walk(prefix) for it in folders + files}
+            closed = [it for it, found in modes.items() if found.st_mode & 0o444 != 0o444 or stat.S_ISDIR(found.st_mode) and found.st_mode & 0o777 != 0o755]
+            same(closed, [], "what others can't read")
+        made.ran("make", "--silent", "package")
+        readme = text_of("README.md").partition("**From a package.**")[2]
+        lines = [it[4:].partition("  #")[0] for it in readme.splitlines() if it.startswith(("    umask", "    sudo tar"))]
+        unpack = "\n".join(["umask 077", *lines]).replace("sudo ", "").replace("/usr/local", room)
+        made.ran("sh", "-e", "-c", f"cd bin\n{unpack}")
+        closed = [at for at, _, _ in os.walk(room) if at != room and os.stat(at).st_mode & 0o777 != 0o755]
+        same(closed, [], "folders of the archive that others can't enter")
+
+
+@test("release: the exercises can be marked if a system leaves out share/doc")
+def without_pages() -> None:
+    with repository() as made, temporary() as room:
+        made.ran("make", "--silent", "install", f"PREFIX={room}")
+        folder, page = os.path.join(room, package.EXERCISES), os.path.join(room, package.DOC, "examples", "exercises")
+        same(sorted(os.listdir(page)), sorted(os.listdir(folder)), "the exercises among the pages")
+        same(os.path.samefile(os.path.join(page, "mark.py"), os.path.join(folder, "mark.py")), True, "mark.py there")
+        shutil.rmtree(os.path.join(room, "share", "doc"))
+        os.mkdir(os.path.join(room, "answers"))
+        status, said = run_plainly([sys.executable, os.path.join(folder, "mark.py"), "--program", "/bin/true", "answers"], dict(os.environ), room)
+        holds("Traceback" not in said and "answers" in said, said)
+
+
+@test("release: licences by REUSE: every file has one, and LICENSES/MIT.txt is LICENSE")
+def reuse() -> None:
+    terms: Callable[..., str] = lambda *path: text_of(*path).partition("Permission")[2]
+    same(terms("LICENSES", "MIT.txt"), terms("LICENSE"), "the text of the licence")
+    table = text_of("REUSE.toml")
+    found = re.findall(r'^path = "(.*)"\nSPDX-FileCopyrightText = "(.*)"\nSPDX-License-Identifier = "MIT"$', table, re.M)
+    same(found, [("**", package.licence_holder()), (package.PARSER, package.PARSER_HOLDER)], "the table")
+    if shutil.which("reuse") and "version 1" not in subprocess.run(["reuse", "--version"], stdout=subprocess.PIPE, check=True).stdout.decode():
+        same(run_plainly(["reuse", "lint", "--quiet"], dict(os.environ), TOP), (0, ""), "what `reuse lint` says")

@@ -1,0 +1,100 @@
+"""The notices of the kit's crates that the program is linked with. They are collected when the program is built and kept beside it,
+so that packing needs no kit."""
+from __future__ import annotations
+
+import json
+import os
+import re
+from typing import Dict
+
+import common
+
+KEPT = common.BINARY + ".notices"
+# each crate with its notices: the text of each file
+Notices = Dict[str, Dict[str, str]]
+
+
+def kit_folder() -> str:
+    """The folder of the toolchain, which holds the sources and the libraries of its crates."""
+    return os.path.dirname(os.path.dirname(os.path.realpath(common.need("rt"))))
+
+
+def named_by(name: str, folder: str) -> list[str]:
+    """The crates that a crate of the kit names, as its library lists them."""
+    with open(os.path.join(folder, "rlibs", f"{name}.rlib", "format"), encoding="utf-8") as file:
+        return [line.split()[1] for line in file if line.startswith("dep ")]
+
+
+def linked(folder: str) -> list[str]:
+    """The crates of the kit below the program: those that crates.txt names, `std`, and the crates that these name."""
+    lines = common.listed()
+    waiting = ["std", *(it for name in common.below("ob0") for it in lines[name] if it not in lines)]
+    found = set()
+    while waiting:
+        name = waiting.pop()
+        if name not in found:
+            found.add(name)
+            waiting += named_by(name, folder)
+    return sorted(found)
+
+
+def texts_in(folder: str) -> dict[str, str]:
+    """The notices in the folder of a crate. If a crate may be used under the MIT licence or Apache's, it is used under the former."""
+    names = [it for it in sorted(os.listdir(folder)) if it.startswith(("LICENSE", "NOTICE", "COPYING")) and not os.path.isdir(os.path.join(folder, it))]
+    found = {}
+    for name in names:
+        if name != "LICENSE-APACHE" or "LICENSE-MIT" not in names:
+            with open(os.path.join(folder, name), encoding="utf-8") as file:
+                found[name] = file.read()
+    return found
+
+
+def collected() -> Notices:
+    """Each crate of the kit below the program, with its notices."""
+    folder = kit_folder()
+    return {name: texts_in(os.path.join(folder, "rattle", name)) for name in linked(folder)}
+
+
+def head() -> dict[str, str | None]:
+    """The toolchain and the sources of the program that was built, by which kept notices are known to be its own."""
+    return {it: common.stamp().get(it) for it in ("kit", "sources")}
+
+
+def keep() -> Notices:
+    """Collects the notices and writes them beside the program."""
+    found = collected()
+    with open(KEPT + ".new", "w", encoding="utf-8") as file:
+        json.dump({**head(), "crates": found}, file, indent=1)
+    os.replace(KEPT + ".new", KEPT)
+    return found
+
+
+def of_program() -> Notices:
+    """The notices of the program that was built: those that were kept with it, or else those of the toolchain that is here."""
+    try:
+        with open(KEPT, encoding="utf-8") as file:
+            kept = json.load(file)
+        if {it: kept[it] for it in head()} == head():
+            found: Notices = kept["crates"]
+            return found
+    except (OSError, ValueError, KeyError):
+        pass
+    if not common.kit():
+        common.stop(f"the notices of the crates that bin/ob0 is linked with are missing ({KEPT}): `make build` with rt on PATH collects them")
+    return keep()
+
+
+def without(found: Notices) -> list[str]:
+    """The crates that have no notice."""
+    return sorted(name for name, texts in found.items() if not texts)
+
+
+def short_name(crate: str, file: str) -> str:
+    """How a page of copyrights names a notice."""
+    return crate + file.replace("LICENSE", "").replace("-MIT", "")
+
+
+def holders(crate: str, text: str) -> list[str]:
+    """Who holds the copyright by a notice: its own lines, or the authors of a crate whose notice has none."""
+    lines = re.findall(r"^\s*Copyright (?:\(c\) )?(.*\b(?:contributors|\d{4})\b.*?)\s*$", text, re.M | re.I)
+    return [f"{it} ({crate})" for it in lines] or [f"the authors of {crate}"]

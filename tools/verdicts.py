@@ -1,0 +1,107 @@
+"""Reads and writes tools/mutants.txt: what each mutant of crates/*/wrong-bodies came to when it was last tried.
+
+A line is 'PATH SUM VERDICT': the mutant, a sum over what it changes (the words of each function with its contract, comments and
+layout apart, and the edit), and what refused it, 'GOAL of FUNCTION', or a word for another verdict. A mutant that was never tried has
+'-' for its sum. A verdict is of the present sources as long as the sum is, so a change elsewhere leaves it: tools/mutants.py tries
+the others again, and with --all each of them."""
+from __future__ import annotations
+
+import os
+import re
+from typing import Dict, List, NamedTuple, Optional
+
+import common
+import edits
+import reading
+from common import TOP
+
+PATH = os.path.join(TOP, "tools", "mutants.txt")
+NEVER = "-"
+NOT_TRIED = "not tried"
+REFUSED = re.compile(r"(\S+) of (\S+)$")
+
+
+class Row(NamedTuple):
+    """A line of tools/mutants.txt."""
+
+    path: str
+    sum: str
+    verdict: str
+
+    @property
+    def line(self) -> str:
+        return f"{self.path} {self.sum} {self.verdict}"
+
+    def is_refused(self, edit: edits.Edit) -> bool:
+        """Whether a goal of the clause that the mutant's first line names refused it."""
+        found = REFUSED.match(self.verdict)
+        return bool(found) and is_met(edit, found[1], found[2]) if found else False
+
+
+def is_met(edit: edits.Edit, goal: str, proof: str) -> bool:
+    """Whether a goal is of the clause that a mutant's first line names; if it names none, of any clause of a function that it
+    changes."""
+    claim = edit.claim
+    # (functions that call each other have one proof, and the prover may refuse it under any of their names)
+    proofs = {it.proof for it in edit.turned or () if not claim or claim.is_of(it)}
+    is_goal = claim.is_goal if claim else edits.is_of_contract
+    return proof in proofs and is_goal(edits.name_of(goal))
+
+
+class Mutants:
+    """All mutants of crates/*/wrong-bodies with their present sums, and the rows that are kept of them."""
+
+    def __init__(self, path: str = PATH) -> None:
+        self.path = path
+        self.sources: Dict[str, reading.Source] = {}
+        self.edits: Dict[str, edits.Edit] = {}
+        self.sums: Dict[str, str] = {}
+        for crate in sorted(common.listed()):
+            if edits.has(crate, edits.OTHERS):
+                self.read(crate)
+        self.rows = {it.path: it for it in rows_of(path)}
+
+    def read(self, crate: str) -> None:
+        """Reads a crate's sources and mutants."""
+        source = self.sources[crate] = reading.Source(crate)
+        for edit in edits.edits_of(crate, source):
+            if not edit.is_of_kit:
+                self.edits[edit.path], self.sums[edit.path] = edit, edit.sum_over(source)
+
+    def row(self, path: str) -> Row:
+        """The row of a mutant; one that was never tried if there is none."""
+        return self.rows.get(path, Row(path, NEVER, NOT_TRIED))
+
+    def is_current(self, path: str) -> bool:
+        """Whether a mutant was refused by its clause in its present form."""
+        row = self.row(path)
+        return row.sum == self.sums[path] and row.is_refused(self.edits[path])
+
+    @property
+    def stale(self) -> List[str]:
+        """The paths of the others, in order."""
+        return [it for it in sorted(self.edits) if not self.is_current(it)]
+
+    def keep(self, path: str, tried_on: str, verdict: str) -> None:
+        """Keeps what a mutant came to, with the sum of what it was tried on."""
+        self.rows[path] = Row(path, tried_on, verdict)
+
+    def write(self) -> None:
+        """Writes a row for each mutant, sorted."""
+        with open(self.path + ".new", "w", encoding="utf-8") as file:
+            file.writelines(self.row(it).line + "\n" for it in sorted(self.edits))
+        os.replace(self.path + ".new", self.path)
+
+
+def row_of(line: str) -> Optional[Row]:
+    """The row that a line has, if it has the form of one."""
+    parts = line.rstrip("\n").split(" ", 2)
+    return Row(*parts) if len(parts) == 3 else None
+
+
+def rows_of(path: str) -> List[Row]:
+    """The rows of a file; none if it doesn't exist."""
+    if not os.path.isfile(path):
+        return []
+    with open(path, encoding="utf-8") as file:
+        return [row for row in map(row_of, file) if row]

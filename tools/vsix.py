@@ -1,0 +1,165 @@
+"""The package of the VS Code extension: a zip with two lists of what is in it, and the modules of Node that it needs, with their
+notices. The modules are those that `npm install` gets in editors/vscode, or Debian's."""
+from __future__ import annotations
+
+import io
+import json
+import os
+import re
+import time
+import zipfile
+from typing import Any, Dict, List, NamedTuple
+from xml.sax.saxutils import escape, quoteattr
+
+import common
+from common import TOP
+
+CLIENT = "vscode-languageclient"
+FOLDER = os.path.join(TOP, "editors", "vscode")
+NOTICES = "ThirdPartyNotices.txt"
+KINDS = {".js": "application/javascript", ".json": "application/json", ".md": "text/markdown", ".png": "image/png", ".sh": "application/x-sh", ".txt": "text/plain"}
+Files = Dict[str, bytes]
+
+
+class Modules(NamedTuple):
+    """Folders with modules of Node, and the root of the system of which they are."""
+
+    root: str
+    folders: List[str]
+
+    def folder_of(self, name: str) -> str | None:
+        return next((os.path.join(it, name) for it in self.folders if os.path.isfile(os.path.join(it, name, "package.json"))), None)
+
+
+def of_system(root: str) -> Modules:
+    return Modules(root, [os.path.join(root, "usr", "local", "lib", "node_modules"), os.path.join(root, "usr", "share", "nodejs")])
+
+
+def modules() -> Modules | None:
+    """The modules that are here, of which one is the client: by npm, of the root of Debian 13 that `make editors` makes, of this system."""
+    places = [Modules("/", [os.path.join(FOLDER, "node_modules")]), of_system(os.path.join(TOP, "bin", "roots", "trixie")), of_system("/")]
+    return next((it for it in places if it.folder_of(CLIENT)), None)
+
+
+def read(path: str) -> bytes:
+    with open(path, "rb") as file:
+        return file.read()
+
+
+def needed(found: Modules, names: list[str]) -> list[str]:
+    """The names of modules and of all that they need, by what each says of itself."""
+    waiting, known = list(names), set()
+    while waiting:
+        name = waiting.pop()
+        folder = found.folder_of(name)
+        if not folder:
+            common.stop(f"the module {name}, which the extension for VS Code needs, is missing in {' and '.join(found.folders)}")
+        if name not in known:
+            known.add(name)
+            waiting += json.loads(read(os.path.join(folder, "package.json"))).get("dependencies", {})
+    return sorted(known)
+
+
+def files_of(folder: str) -> Files:
+    """The files of a module that run: no types, and nothing for its developers."""
+    found = {}
+    for at, folders, names in os.walk(folder):
+        folders[:] = sorted(it for it in folders if it not in ("node_modules", "test", "tests"))
+        for name in sorted(names):
+            if os.path.splitext(name)[1] in (".js", ".json", ".sh") and not name.startswith("tsconfig"):
+                found[os.path.relpath(os.path.join(at, name), folder)] = read(os.path.join(at, name))
+    return found
+
+
+def package_with(found: Modules, path: str) -> str | None:
+    """The Debian package that has a file, by the lists of what is installed."""
+    lists, wanted = os.path.join(found.root, "var", "lib", "dpkg", "info"), "/" + os.path.relpath(path, found.root)
+    for name in sorted(os.listdir(lists)) if os.path.isdir(lists) else []:
+        if name.endswith(".list") and wanted in read(os.path.join(lists, name)).decode().splitlines():
+            return name[: -len(".list")].partition(":")[0]
+    return None
+
+
+def notice_of(found: Modules, name: str) -> str:
+    """The notice of a module: its own file, or the page of its Debian package."""
+    folder = found.folder_of(name) or ""
+    own = sorted(it for it in os.listdir(folder) if re.match("licen[cs]e", it, re.I))
+    if own:
+        return "\n".join(read(os.path.join(folder, it)).decode() for it in own)
+    package = package_with(found, os.path.join(folder, "package.json"))
+    page = os.path.join(found.root, "usr", "share", "doc", package or "", "copyright")
+    if not os.path.isfile(page):
+        common.stop(f"the module {name} has no notice in {folder}, so it can't be handed on")
+    return read(page).decode()
+
+
+def with_modules(found: Modules, files: Files) -> Files:
+    """The files of the extension with the modules that it needs, and the notices of those."""
+    made, notices = dict(files), []
+    for name in needed(found, list(json.loads(files["package.json"])["dependencies"])):
+        folder = found.folder_of(name) or ""
+        made.update({f"node_modules/{name}/{path}": content for path, content in files_of(folder).items()})
+        version = json.loads(read(os.path.join(folder, "package.json")))["version"]
+        notices.append(f"{name} {version}\n\n{notice_of(found, name).strip()}\n")
+    made[NOTICES] = f"\n{'-' * 72}\n\n".join(["The extension has these modules in node_modules.\n", *notices]).encode()
+    # (a link out of the folder leads nowhere in the extension)
+    made["README.md"] = re.sub(rb"\[([^\]]*)\]\(\.\./[^)]*\)", rb"\1", files["README.md"])
+    return made
+
+
+def manifest(about: Any) -> bytes:
+    """The list by which VS Code and its shops know an extension."""
+    named = {"Manifest": "package.json", "Content.Details": "README.md", "Content.Changelog": "CHANGELOG.md", "Content.License": "LICENSE.txt"}
+    places = {f"Microsoft.VisualStudio.{'Code' if it == 'Manifest' else 'Services'}.{it}": path for it, path in named.items()}
+    places["Microsoft.VisualStudio.Services.Icons.Default"] = about["icon"]
+    assets = "\n".join(f'    <Asset Type="{kind}" Path={quoteattr("extension/" + path)} Addressable="true"/>' for kind, path in places.items())
+    return f"""<?xml version="1.0" encoding="utf-8"?>
+<PackageManifest Version="2.0.0" xmlns="http://schemas.microsoft.com/developer/vsx-schema/2011">
+  <Metadata>
+    <Identity Language="en-US" Id={quoteattr(about["name"])} Version={quoteattr(about["version"])} Publisher={quoteattr(about["publisher"])}/>
+    <DisplayName>{escape(about["displayName"])}</DisplayName>
+    <Description xml:space="preserve">{escape(about["description"])}</Description>
+    <Tags>{escape(",".join(about["keywords"]))}</Tags>
+    <Categories>{escape(",".join(about["categories"]))}</Categories>
+    <GalleryFlags>Public</GalleryFlags>
+    <Properties>
+      <Property Id="Microsoft.VisualStudio.Code.Engine" Value={quoteattr(about["engines"]["vscode"])}/>
+      <Property Id="Microsoft.VisualStudio.Code.ExtensionKind" Value="workspace"/>
+    </Properties>
+    <License>extension/LICENSE.txt</License>
+    <Icon>extension/{about["icon"]}</Icon>
+  </Metadata>
+  <Installation>
+    <InstallationTarget Id="Microsoft.VisualStudio.Code"/>
+  </Installation>
+  <Dependencies/>
+  <Assets>
+{assets}
+  </Assets>
+</PackageManifest>
+""".encode()
+
+
+def content_types(names: list[str]) -> bytes:
+    """The list of the kinds of files, by their endings."""
+    endings = sorted({os.path.splitext(it)[1] for it in names})
+    lines = "".join(f'\n  <Default Extension="{it}" ContentType="{KINDS[it]}"/>' for it in endings)
+    lines += '\n  <Default Extension=".vsixmanifest" ContentType="text/xml"/>'
+    return f"""<?xml version="1.0" encoding="utf-8"?>
+<Types xmlns="http://schemas.openxmlformats.org/package/2006/content-types">{lines}
+</Types>
+""".encode()
+
+
+def archive(files: Files, moment: int) -> bytes:
+    """The package of an extension, every file of which has this time."""
+    held = {f"extension/{name}": content for name, content in sorted(files.items())}
+    lists = {"extension.vsixmanifest": manifest(json.loads(files["package.json"])), "[Content_Types].xml": content_types(list(files))}
+    out, written = io.BytesIO(), time.gmtime(max(moment, 315532800))[:6]
+    with zipfile.ZipFile(out, "w", zipfile.ZIP_DEFLATED, compresslevel=9) as packed:
+        for name, content in {**lists, **held}.items():
+            entry = zipfile.ZipInfo(name, written)
+            entry.create_system, entry.compress_type = 3, zipfile.ZIP_DEFLATED
+            entry.external_attr = (0o100755 if name.endswith(".sh") else 0o100644) << 16
+            packed.writestr(entry, content)
+    return out.getvalue()
