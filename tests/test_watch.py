@@ -5,6 +5,7 @@ from __future__ import annotations
 import json
 import os
 import random
+import shutil
 import signal
 import subprocess
 import sys
@@ -335,7 +336,7 @@ def at_once() -> None:
                 same(out.read(1), INPUT[at : at + 1], f"byte {at}")
             process.send_signal(signal.SIGTERM)
             same(process.wait(harness.SECONDS), -signal.SIGTERM, "the status")
-        report = harness.text_of(os.path.join(room, "report"))
+        report = watched.complete(os.path.join(room, "report"))
         holds("readable: watched 4, broken 0" in report and report.endswith("by signal 15.\n"), report)
 
 
@@ -416,3 +417,66 @@ def random_talks() -> None:
                 several.step()
             same(server.end(), 0)
         write(os.path.join(room, "breaks"), "readable")
+
+
+# ---- editors that break rules
+
+
+def breaks(room: str, *rules: str) -> None:
+    """Says which rules the editor in this room breaks."""
+    write(os.path.join(room, "breaks"), " ".join(rules))
+
+
+class PlainNeovim(keyed.Neovim):
+    """Neovim's own client, without ob0's files."""
+
+    start = """
+vim.api.nvim_create_autocmd({ "BufRead" }, { callback = function()
+  local id = vim.lsp.start_client({ name = "plain", cmd = { "ob0", "serve" } })
+  vim.lsp.buf_attach_client(0, id)
+end })
+"""
+
+    def settings(self) -> Dict[str, str]:
+        shutil.rmtree(os.path.join(self.folder, ".local", "share", "nvim", "site", "pack", "ob0"))
+        found = super().settings()
+        return {name: lines + self.start for name, lines in found.items()}
+
+
+@test("watch: Neovim without ob0's files makes a late answer, and that is found")
+def plain_neovim() -> None:
+    want("Neovim")
+    need_program()
+    with temporary() as room, PlainNeovim(room, TEXT) as editor:
+        editor.wire.hold(RENAME)
+        editor.keys(editor.going(1, 4) + editor.asks["rename"][0])
+        editor.await_("the request", editor.wire.is_held)
+        editor.keys(editor.line_above)
+        editor.reports("(* new *)\n" + TEXT)
+        editor.wire.release()
+        editor.await_("the late edit", lambda: "tot" in (editor.wire.text() or ""))
+        breaks(room, "late-edit")
+
+
+BEHIND = "MODULE M;\nVAR n: INTEGER;\nBEGIN (* {} *) n := 1; Write(n)\nEND M.\n"
+
+
+@test("watch: Vim by ALE makes an edit behind other letters at wrong places, and that is found")
+def ale_places() -> None:
+    want("Vim", "ALE")
+    need_program()
+    with temporary() as room, keyed.Ale(room, BEHIND.format("\u00e9")) as editor:
+        editor.keys(editor.going(1, 4) + editor.asks["rename"][0])
+        editor.await_("the edit", lambda: "tot" in (editor.wire.text() or ""))
+        breaks(room, "wrong-places")
+
+
+@test("watch: Emacs by lsp-mode loses a change behind an emoji, and that is found once the file is written")
+def lsp_mode_places() -> None:
+    want("Emacs", "lsp-mode")
+    need_program()
+    with temporary() as room, keyed.LspMode(room, BEHIND.format("\U0001f600")) as editor:
+        editor.keys(editor.going(2, 9) + "\x1b:(progn (end-of-line) (insert \";\") (save-buffer))\r")
+        editor.await_("the file", lambda: harness.text_of(editor.file) != BEHIND.format("\U0001f600"))
+        editor.text(comes_last=True)
+        breaks(room, "lost-change")
