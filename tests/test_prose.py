@@ -39,15 +39,12 @@ fn first() {} // where it isn't a comment of its own
 LONG = " ".join(["word"] * 36)
 
 
-@test("prose: no file has more of the forty phrases or of comments without a verb than before, and no page another long sentence")
+@test("prose: no file has more of the forty phrases or of comments without a verb than tests/prose.txt says, no page another long sentence")
 def none_rose() -> None:
-    same(prose.risen(), [], "what rose: word it otherwise (`tools/prose.py FILE` shows each place)")
-
-
-@test("prose: tests/prose.txt says what is there now")
-def written_down() -> None:
-    known = text_of(os.path.relpath(prose.LIST, TOP))
-    holds("\n".join(prose.lines()) + "\n" == known, "counts fell, or files went: `tools/prose.py --write` writes them down")
+    wanted = list(prose.lines())
+    if "\n".join(wanted) + "\n" != text_of(os.path.relpath(prose.LIST, TOP)):
+        same(prose.risen(), [], "what rose: word it otherwise (`tools/prose.py FILE` shows each place)")
+        holds(False, "counts fell, or files went: `tools/prose.py --write` writes that down")
 
 
 @test("prose: phrases, long sentences and comments without a verb are found, and code isn't read")
