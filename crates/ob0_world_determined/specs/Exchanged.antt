@@ -20,6 +20,11 @@ pub record ServedExchange (begin now : Exchange) : Type 0 where
       → (put : List ℕ) (result : Result ℕ ServeFault) → IsWritten result
       → MayServe result (flat_map frame now.wire.taken) put
       → put ≡ flat_map frame (now.wire.got ++ now.wire.to_editor)
+  -- if the input goes on, it writes these first, and then what it writes for the rest
+  pub written_first : All (λ content. length content ≤ max_content) now.wire.taken
+      → (more put : List ℕ) (result : Result ℕ ServeFault) → IsWritten result
+      → MayServe result (flat_map frame now.wire.taken ++ more) put
+      → (later : List ℕ) × (put ≡ flat_map frame (now.wire.got ++ now.wire.to_editor) ++ later)
   -- where it returns `Memory` it has answered the first contents that it read: where these are what
   -- the session took, it has written the same
   pub in_part : (taken put : List ℕ) (part : PrefixServed taken put)
