@@ -1,4 +1,4 @@
--- An editor that keeps the protocol, and a session: what passes between them. No server of the model
+-- An editor that keeps ob0's rules, and a session: what passes between them. No server of the model
 -- is in it: what the session sends is by the protocol alone (`Answers`).
 -- Rule: LSP 3.17; for a law of every editor with a session.
 use Rattle.std.specs.Prelude.{◌≡◌, ◌⊎◌, ◌<◌, ◌≤◌, map, filter_map, ⊤, ℕ, zero, suc, ℤ, pos, List, [], ◌∷◌, ◌++◌, All, fold, Bool, true, false, Option, Some, None, MatchOption, option_map, Result, Ok, Err, if◌then◌else◌, codes}
@@ -241,7 +241,7 @@ pub record IsOfTheModel (unit : Unit) (turns : List Turn) (x : Exchange) : Type 
   pub conversation : Conversation server.start x.wire.taken (x.wire.got ++ x.wire.to_editor)
       x.wire.session
 
--- so it is with every editor that keeps the protocol, and every session
+-- so it is with every editor that keeps ob0's rules, and every session
 abbrev pub EveryExchangeIsOfTheModel : Type 0
 EveryExchangeIsOfTheModel =
     (unit : Unit) (begin now : Exchange) (turns : List Turn)
@@ -291,7 +291,7 @@ last_published uri published =
 abbrev pub notes_in : List (List ℕ) → List ToServer
 notes_in contents = filter_map (heard []) contents
 
--- What holds of an editor that keeps the protocol and a session, whatever has passed between them.
+-- What holds of an editor that keeps ob0's rules and a session, whatever has passed between them.
 pub record HoldsOfExchange (begin now : Exchange) : Type 0 where
   -- each edit that the editor applied keeps the run
   pub applied : All KeepsTheRun now.applied
@@ -319,7 +319,7 @@ pub record HoldsOfExchange (begin now : Exchange) : Type 0 where
   pub conversation : Conversation server.start now.wire.taken
       (now.wire.got ++ now.wire.to_editor) now.wire.session
 
--- so it is with every editor that keeps the protocol, and every session
+-- so it is with every editor that keeps ob0's rules, and every session
 abbrev pub EveryExchangeHolds : Type 0
 EveryExchangeHolds =
     (unit : Unit) (begin now : Exchange) (turns : List Turn)

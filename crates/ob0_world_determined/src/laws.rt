@@ -89,7 +89,7 @@ pub fn a_conversation_is_served_first()
     written_is_read();
 }
 
-/// The headline, with every editor that keeps the protocol, of what `serve` writes: what the editor and a session have
+/// The headline, with every editor that keeps ob0's rules, of what `serve` writes: what the editor and a session have
 /// exchanged has what is said of it, and for the frames of what the session took `serve` writes the frames of what the
 /// session sent, unless it returns `Memory` or `Write`; at `Memory` it has written so for the contents that it answered.
 pub fn every_exchange_is_served()

@@ -1,4 +1,4 @@
--- What holds with every editor that keeps the protocol. Other messages apart, its moves keep what the model's acts keep.
+-- What holds with every editor that keeps ob0's rules. Other messages apart, its moves keep what the model's acts keep.
 use Rattle.std.proofs.Common.{◌≡◌, ◌∙◌, ℕ, suc, ◌+◌, cond, List, [], ◌∷◌, ◌++◌, map, length, replicate, append-nil, append_assoc, refl, sym, ap, subst}
 use Rattle.std.specs.Prelude.{pos, All, Option, Some, None, option_map}
 use Rattle.std.specs.FinMap as map_of

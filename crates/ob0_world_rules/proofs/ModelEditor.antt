@@ -1,4 +1,4 @@
--- The model's editor keeps the protocol: each of its acts is a move that it may make, or leaves everything as it is.
+-- The model's editor keeps ob0's rules: each of its acts is a move that it may make, or leaves everything as it is.
 use Rattle.std.proofs.Common.{◌≡◌, ◌∙◌, ℕ, ◌+◌, arith, inl, inr, List, [], ◌∷◌, ◌++◌, map, append-nil, refl, sym, ap, subst}
 use Rattle.std.specs.Prelude.{◌⊎◌, Some}
 use Rattle.std.proofs.lemmas.List.{map-append}

@@ -1,4 +1,4 @@
--- Editors that keep the protocol: what such an editor may do, and what it sends.
+-- Editors that keep ob0's rules: what such an editor may do, and what it sends.
 -- The model's editor (`done_by`) is one of them: it does each thing in one way.
 -- Rule: LSP 3.17, Text Document Synchronization, versioned documents.
 use Rattle.std.specs.Prelude.{◌≡◌, ◌<◌, ◌+◌, ℕ, pos, List, [], ◌∷◌, ◌++◌, map, Some, None}

@@ -1,4 +1,4 @@
--- What holds with every editor that keeps the protocol, in every interleaving.
+-- What holds with every editor that keeps ob0's rules, in every interleaving.
 -- Rule: docs/PROMISES.md, Client and server.
 use Rattle.std.specs.Prelude.{◌≡◌, ℕ, List, [], ◌∷◌, ◌++◌, map, replicate, Option, Some, None}
 use Rattle.ob0_text.specs.declared.position_types.Unit.{Unit}
@@ -167,14 +167,14 @@ pub record HoldsWithEditor (w : EditorAndServer) : Type 0 where
   pub made_of : AreMadeOf w.made published
   pub still_wait : map versioned_uri waiting ≡ named_in (without_others w.to_server)
 
--- so it is with every editor that keeps the protocol, in every interleaving
+-- so it is with every editor that keeps ob0's rules, in every interleaving
 abbrev pub WithEveryEditor : Type 0
 WithEveryEditor =
     (unit : Unit) (turns : List Turn) (w : EditorAndServer)
     → MayLead (nothing_yet unit) turns w
     → HoldsWithEditor w
 
--- The model's editor keeps the protocol: whatever its events lead to may be so.
+-- The model's editor keeps ob0's rules: whatever its events lead to may be so.
 abbrev pub TheModelIsOne : Type 0
 TheModelIsOne =
     (unit : Unit) (events : List Event) (end : ClientAndServer)
