@@ -324,6 +324,25 @@ def neovim_without() -> None:
     same((status, said.strip()), (0, "There is no program no-such-program; vim.g.ob0_program names another"))
 
 
+@test("Neovim: a text that is typed after the buffer was empty has the end of its last line in the server too")
+def neovim_emptied() -> None:
+    same(in_neovim("emptied", GOOD), [("opened", []), ("left to do", []), ("left to do", []), ("ended", ENDED)])
+
+
+@test("Neovim: a refused rename is told with the line that Neovim shows, and a format of a module with an error says so")
+def neovim_refused() -> None:
+    text = "MODULE M;\nVAR x, y: INTEGER;\n  PROCEDURE P(z: INTEGER);\n  BEGIN (* \u00e4\U0001f600 *) x := z + y\n  END P;\nBEGIN P(1)\nEND M.\n"
+    steps = [("y", "line 2: `y` is declared there already (Duplicate)"), ("z", "line 4: `x` would mean another declaration (Captures)"), ("END", "BadName")]
+    told = ("format", "ob0: the module has an error: fix the first one that is marked (ill-typed)")
+    same(in_neovim("refused", text, place=[1, 4], names=["y", "z", "END"]), [("opened", []), *steps, told, ("ended", ENDED)])
+
+
+@test("Neovim: where it shows no messages with diagnostics, ob0's files do, unless the user has them not")
+def neovim_messages() -> None:
+    shown = [("by Neovim", 0), ("by the user's choice", 0), ("by ob0", 1)]
+    same(in_neovim("messages", GOOD.replace("WriteLn", "x := 1")), [("opened", 1), *shown, ("ended", ENDED)])
+
+
 @test("Emacs: the index of procedures, while eglot is on")
 def emacs_index() -> None:
     same(in_emacs("index", CALLS), [("opened", []), ("index", ["*Rescan*", "F"]), ("ended", 0)])

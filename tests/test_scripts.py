@@ -411,7 +411,7 @@ def hook() -> None:
         git(work, own, "add", ".")
         status, out, err = git(work, own, "commit", "-q", "-m", "all")
         same((status, "loose.ob0 isn't laid out: ob0-format -- loose.ob0\n" in err), (1, True), f"the commit of all: {out}{err}")
-        holds("two words.Mod has faults, or cannot be checked\n" in err and "3:2: Undeclared: not declared" in out + err, f"the faults: {out}{err}")
+        holds("\n".join([*LISTED, ""]) in err, f"the faults: {out}{err}")
         # (what is in the folder doesn't count)
         write(os.path.join(work, "two words.Mod"), LAID_OUT)
         same(git(work, own, "commit", "-q", "-m", "all")[0], 1, "a commit of what isn't in the folder any more")
@@ -439,28 +439,71 @@ def hook_names() -> None:
             same((found[0] != 0, said % ((name,) * said.count("%s")) in found[2]), (status, True), f"the commit of {name!r}: {found}")
             git(work, own, "rm", "-q", "-f", "--cached", "--", "./" + name)
 
-    for text, status, said in ((LAID_OUT, False, ""), (FAULTY, True, "%s has faults, or cannot be checked\n"), (LOOSE, True, "%s isn't laid out: ob0-format -- %s\n")):
+    for text, status, said in ((LAID_OUT, False, ""), (FAULTY, True, "%s:3:3: Undeclared: not declared\n"), (LOOSE, True, "%s isn't laid out: ob0-format -- %s\n")):
         in_folder({"other.txt": ""}, functools.partial(trial, text, status, said))
 
 
-@test("scripts: the page's job finds faults and what isn't laid out")
+# files that end as modules do, and whether they are some
+TAKEN = [
+    ("go.mod", "module example.com/x\n", False),
+    ("a.mod", "DEFINITION MODULE M;\n", False),
+    ("b.Mod", "(* MODULE M; *) x\n", False),
+    ("c.mod", "(* MODULE M;\n", False),
+    ("d.mod", "MODULES M;\n", False),
+    ("e.mod", "", False),
+    ("f.mod", "(* one (* and two *) *)\n\n(*) three *) MODULE\nx\n", True),
+    ("g.mod", "\r\n\tMODULE;\r\n", True),
+    ("h.ob0", "x\n", True),
+    ("i.Mod", "MODULE", True),
+]
+
+
+@test("scripts: the page's hook and its job take Oberon-0's files alone, and no symbolic links")
+def taken() -> None:
+    if not shutil.which("git"):
+        harness.leave_out("it wants git")
+
+    def trial(work: str, own: dict[str, str]) -> None:
+        git(work, own, "init", "-q")
+        os.symlink("f.mod", os.path.join(work, "link.mod"))
+        for name, _, is_taken in [*TAKEN, ("link.mod", "", False)]:
+            git(work, own, "add", name)
+            found = ran(["sh", "hook"], work, own)
+            same((found[0] != 0, found[1].startswith(f"{name}:"), found[2]), (is_taken, is_taken, ""), f"the hook, on {name}: {found}")
+            git(work, own, "rm", "-q", "-f", "--cached", name)
+        git(work, own, "add", ".")
+        status, out, _ = ran(["sh", "-c", JOB.splitlines()[1]], work, own)
+        holds(status, "the job passes")
+        same([it.partition(":")[0] for it in out.splitlines()], [name for name, _, is_taken in TAKEN if is_taken], f"the job: {out}")
+
+    in_folder({**{name: text for name, text, _ in TAKEN}, "hook": HOOK, "ci/pre-commit": HOOK}, trial)
+
+
+@test("scripts: the page's job finds faults and what isn't laid out, and lists them as ob0-check does")
 def job() -> None:
     if not shutil.which("git"):
         harness.leave_out("it wants git")
-    install, *lines = JOB.splitlines()
+    install, line = JOB.splitlines()
     same(install.split()[:3], ["sudo", "apt-get", "install"], "the first line")
 
-    def trial(statuses: list[bool], said: str, work: str, own: dict[str, str]) -> None:
+    def trial(fails: bool, said: str, work: str, own: dict[str, str]) -> None:
         git(work, own, "init", "-q")
         git(work, own, "add", ".")
-        found = [ran(["sh", "-c", it], work, own) for it in lines]
-        same(([it[0] != 0 for it in found], "".join(it[1] for it in found)), (statuses, said), str(found))
+        found = ran(["sh", "-c", line], work, own)
+        same((found[0] != 0, *found[1:]), (fails, said, ""), str(found))
+        found = ran(["sh", "-c", line], work, {**own, "GITHUB_ACTIONS": "true"})
+        same((found[0] != 0, *found[1:]), (fails, functools.reduce(lambda text, pair: text.replace(*pair), zip(LISTED, MARKED), said), ""), "in GitHub")
 
-    in_folder({**MODULES, "ob0-check": CHECK}, functools.partial(trial, [True, True], "\n".join([*LISTED, "loose.ob0"]) + "\n"))
-    for text, statuses, said in ((LAID_OUT, [False, False], ""), (LOOSE, [False, True], "-ugly.mod\n")):
-        in_folder({"-ugly.mod": text, "ob0-check": CHECK}, functools.partial(trial, statuses, said))
-    in_folder({"good.mod": LAID_OUT, "ob0-check": CHECK}, functools.partial(trial, [False, False], ""))
-    in_folder({"ob0-check": CHECK}, functools.partial(trial, [False, False], ""))
+    loose = "%s isn't laid out: ob0-format -- %s\n"
+    rows: list[tuple[dict[str, str], bool, str]] = [
+        (MODULES, True, loose % (("loose.ob0",) * 2) + "\n".join([*LISTED, ""])),
+        ({"-ugly.mod": LAID_OUT}, False, ""),
+        ({"-ugly.mod": LOOSE}, True, loose % (("-ugly.mod",) * 2)),
+        ({"good.mod": LAID_OUT}, False, ""),
+        ({}, False, ""),
+    ]
+    for files, fails, said in rows:
+        in_folder({**files, "ci/pre-commit": HOOK}, functools.partial(trial, fails, said))
 
 
 @test("scripts: the lines of the manual page list faults as compilers do, and keep the status")

@@ -126,7 +126,7 @@ def in_zsh() -> None:
 @test("shell: the manual pages are well formed")
 def manual() -> None:
     want("mandoc")
-    for it in ("ob0.1", "ob0-format.1"):
+    for it in ("ob0.1", "ob0-format.1", "ob0-watch.1"):
         status, said = run_plainly(["mandoc", "-Tlint", "-W", "warning", os.path.join(SHARE, it)], dict(os.environ), TOP)
         same((status, said), (0, ""), f"mandoc -Tlint {it}")
 

@@ -101,7 +101,7 @@ def named_files() -> None:
 def types_fit() -> None:
     want("mypy")
     # (two scripts are named run.py, so the measurements are checked apart)
-    for patterns in (["tools/*.py", "tests/**/*.py", "examples/exercises/*.py", "share/ob0-format"], ["bench/*.py"]):
+    for patterns in (["tools/*.py", "tests/**/*.py", "examples/exercises/*.py", "share/ob0-format", "share/ob0-watch"], ["bench/*.py"]):
         files = [it for pattern in patterns for it in glob.glob(os.path.join(TOP, pattern), recursive=True)]
         words = ["mypy", "--config-file", os.path.join(TOP, "tools", "mypy.ini"), *files]
         status, said = run_plainly(words, dict(os.environ), TOP)

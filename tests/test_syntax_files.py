@@ -283,6 +283,24 @@ END R.
 """
 
 
+# (below the heading of Q each line is as it would be if all above it were whole)
+BROKEN = """MODULE B;
+  PROCEDURE P(
+  VAR
+    r: RECORD
+      x
+  PROCEDURE Q;
+  BEGIN
+    IF TRUE THEN
+      Write(1)
+    END
+  END Q;
+BEGIN
+  Q
+END B.
+"""
+
+
 def by_vim(editor: str, words: list[str], name: str) -> None:
     """Vim's files, in Vim or Neovim: file types, colours, :make, indentation."""
     need_program()
@@ -296,6 +314,7 @@ def by_vim(editor: str, words: list[str], name: str) -> None:
         write(os.path.join(work, "sample.mod"), SAMPLE)
         write(os.path.join(work, "faulty.ob0"), "MODULE M;\nBEGIN x := 1 END M.\n")
         write(os.path.join(work, "record.mod"), RECORD)
+        write(os.path.join(work, "broken.mod"), BROKEN)
         for it in examples():
             write(os.path.join(work, os.path.basename(it)), text_of(it))
         report = os.path.join(room, "report")
@@ -307,7 +326,9 @@ def by_vim(editor: str, words: list[str], name: str) -> None:
         found = json.loads(text_of(report))
     same([it == "ob0" for it in found["types"]], [it[2] for it in FILES], f"what {name} takes as Oberon-0: {found['types']}")
     same(found["colours"], [f"ob0{it[2]}" if it[2] else "" for it in COLOURS], "the colours")
-    same(found["faults"], [[2, 7, "Undeclared: not declared"]], "what :make finds")
+    same(found["refused"], "line 2, column 7: Undeclared: not declared", "what :Ob0Run says of a module with an error")
+    same(found["faults"], [[2, 8, "Undeclared: not declared"]], "what :make finds in a text that isn't saved yet")
+    same(found["broken"], [], "lines that are indented by more than the heading above")
     same(found["indented"], [], "examples that are indented in another way than the server lays them out")
     same(found["commented"], "(* x := 1 *)", "a comment by 'commentstring'")
     same(found["new"], [False, True], "whether a new file is Oberon-0, before and after it is saved")
@@ -338,7 +359,7 @@ def in_emacs() -> None:
         own = at_home(room, "emacs")
         own.update(OB0_TOP=TOP, OB0_EXAMPLES=json.dumps([os.path.join(TOP, it) for it in examples()]))
         own["OB0_FILES"] = json.dumps([[it[0], it[1], it[2]] for it in FILES])
-        own["OB0_RECORD"] = json.dumps(RECORD)
+        own.update(OB0_RECORD=json.dumps(RECORD), OB0_BROKEN=json.dumps(BROKEN))
         words = ["emacs", "--batch", "-L", os.path.join(room, ".emacs.d", "lisp"), "-l", "ob0-mode"]
         status, said = run_plainly([*words, "-l", os.path.join(TOP, "tests", "editors", "mode.el"), "-f", "ert-run-tests-batch-and-exit"], own, room)
         same(status, 0, said[-3000:])

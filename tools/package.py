@@ -310,8 +310,10 @@ def tree() -> Tree:
     found: Tree = {
         "bin/ob0": (read("bin", "ob0"), 0o755),
         "bin/ob0-format": (read("share", "ob0-format"), 0o755),
+        "bin/ob0-watch": (read("share", "ob0-watch"), 0o755),
         "share/man/man1/ob0.1.gz": (squeezed(read("share", "ob0.1")), 0o644),
         "share/man/man1/ob0-format.1.gz": (squeezed(read("share", "ob0-format.1")), 0o644),
+        "share/man/man1/ob0-watch.1.gz": (squeezed(read("share", "ob0-watch.1")), 0o644),
         f"{DOC}/PROVED": (proved(), 0o644),
         f"{DOC}/changelog.gz": (squeezed(changelog()), 0o644),
         f"{DOC}/copyright": (copyright_page(), 0o644),
@@ -390,8 +392,9 @@ Description: language server, checker and interpreter for Oberon-0
  and its renames, inlining of constants and layout keep what a module does.
  .
  The package has files for Neovim, Vim, Emacs, Kate, Kakoune, nano and editors
- with GtkSourceView, completions for bash, zsh and fish, and ob0-format, which
- lays files out by what the server answers.
+ with GtkSourceView, completions for bash, zsh and fish, and two scripts:
+ ob0-format lays files out by what the server answers, and ob0-watch reports
+ whether an editor keeps the rules under which ob0's promises hold.
 """.encode()
 
 

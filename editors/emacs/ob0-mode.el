@@ -66,20 +66,27 @@
 (defvar-local ob0--checked nil
   "The file that this buffer's lines are about.")
 
-(defun ob0--one-more (group)
-  "The number that the GROUP of the last match is, counted from 1."
-  (1+ (string-to-number (match-string group))))
-
-;; `ob0 check' counts lines and columns from 0 and names no file
 (add-to-list 'compilation-error-regexp-alist-alist
-             `(ob0 "^\\([0-9]+\\):\\([0-9]+\\): [A-Za-z]+: "
+             `(ob0 "^line \\([0-9]+\\), column \\([0-9]+\\): "
                    ,(lambda () (or ob0--checked "*unknown*"))
-                   ,(lambda () (ob0--one-more 1))
-                   ,(lambda () (ob0--one-more 2))))
+                   1 2))
+
+(defun ob0--count-from-one ()
+  "Write the places in what the compilation has printed as Emacs counts.
+`ob0 check' counts lines and columns from 0."
+  (save-excursion
+    (goto-char compilation-filter-start)
+    (beginning-of-line)
+    (while (re-search-forward "^\\([0-9]+\\):\\([0-9]+\\): " nil t)
+      (replace-match (format "line %d, column %d: "
+                             (1+ (string-to-number (match-string 1)))
+                             (1+ (string-to-number (match-string 2))))
+                     t t))))
 
 (define-compilation-mode ob0-check-mode "Oberon-0 check"
   "What is wrong with a file."
-  (setq-local compilation-error-regexp-alist '(ob0)))
+  (setq-local compilation-error-regexp-alist '(ob0))
+  (add-hook 'compilation-filter-hook #'ob0--count-from-one nil t))
 
 (defun ob0--program ()
   "The program, or an error that says how to name another."
@@ -103,10 +110,14 @@
       (setq ob0--checked file))))
 
 (defun ob0-run (numbers)
-  "Save this buffer's file, run its module on NUMBERS, and show what it prints."
+  "Save this buffer's file, run its module on NUMBERS, and show what it prints.
+The errors of a module that can't be run are listed as by `ob0-check'."
   (interactive "sNumbers that it reads (RET ends them): ")
   (let ((program (ob0--program))
         (file (ob0--saved-file)))
+    (unless (eql 0 (call-process program nil nil nil "check" file))
+      (ob0-check)
+      (user-error "The module has errors"))
     (with-current-buffer (get-buffer-create "*ob0-run*")
       (erase-buffer)
       (insert numbers)

@@ -31,6 +31,9 @@ try
   endfor
   let s:found.commented = substitute(&commentstring, '%s', 'x := 1', '')
   call s:Open('faulty.ob0')
+  let s:found.refused = trim(execute('Ob0Run'))
+  " (what is checked is what the buffer has, saved or not)
+  call setline(2, 'BEGIN  y := 1 END M.')
   silent! make!
   let s:found.faults = map(filter(getqflist(), 'v:val.valid'), '[v:val.lnum, v:val.col, v:val.text]')
   " (a new file has no first word before it is saved)
@@ -53,6 +56,12 @@ try
   call s:Type(s:terminal, "40\n\<C-D>")
   call add(s:found.terminal, s:Shows(s:terminal, ' 43'))
   execute 'bwipeout!' s:terminal
+  " (lines below a heading whatever is open above it)
+  call s:Open('broken.mod')
+  let s:found.broken = []
+  for v:lnum in range(7, line('$'))
+    if Ob0Indent() != indent(v:lnum) | call add(s:found.broken, getline(v:lnum)) | endif
+  endfor
   " (a record over several lines, and what belongs to an END)
   call s:Open('record.mod')
   let s:before = getline(1, '$')

@@ -54,6 +54,13 @@
       (let ((inhibit-message t)) (indent-region (point-min) (point-max)))
       (should (equal (buffer-string) text)))))
 
+(ert-deftest indents-by-the-heading-above ()
+  (let ((text (given "OB0_BROKEN")))
+    (with-text text
+      (forward-line 6)
+      (while (not (eobp)) (ob0-indent-line) (forward-line))
+      (should (equal (buffer-string) text)))))
+
 (ert-deftest indents-words-as-they-are-typed ()
   (with-temp-buffer
     (switch-to-buffer (current-buffer))
@@ -124,6 +131,8 @@
           (while (get-buffer-process buffer) (accept-process-output nil 0.1)))
         (with-current-buffer buffer
           (goto-char (point-min))
+          (should (search-forward "\nline 2, column 7: Undeclared: not declared\n" nil t))
+          (goto-char (point-min))
           (compilation-next-error 1)
           (let* ((message (get-text-property (point) 'compilation-message))
                  (place (compilation--message->loc message)))
@@ -141,6 +150,16 @@
       (replace-match "x + 1")
       (let ((inhibit-message t)) (save-window-excursion (ob0-run "21")))
       (with-current-buffer "*ob0-run*" (should (equal (buffer-string) " 22"))))))
+
+(ert-deftest runs-no-module-with-errors ()
+  (let ((file (make-temp-file "e" nil ".mod" "MODULE M;\nBEGIN x := 1 END M.\n")))
+    (with-current-buffer (find-file-noselect file)
+      (save-window-excursion (should-error (ob0-run "") :type 'user-error))
+      (with-timeout (300 (error "The check did not end"))
+        (while (get-buffer-process "*ob0-check*") (accept-process-output nil 0.1)))
+      (with-current-buffer "*ob0-check*"
+        (goto-char (point-min))
+        (should (search-forward "\nline 2, column 7: Undeclared: not declared\n" nil t))))))
 
 (ert-deftest no-program ()
   (with-temp-buffer

@@ -245,6 +245,66 @@ function steps.format(client)
   say("text again", text())
 end
 
+-- What the server would still format in a formatted text that was typed after the buffer was empty, in one go and after a wait.
+function steps.emptied(client)
+  say("opened", diagnosed(0))
+  for _, waits in ipairs({ false, true }) do
+    if waits then
+      after(keys("ggdG"))
+      vim.wait(500)
+    end
+    after(keys("ggdGiMODULE M;<Esc>oEND M.<Esc>"))
+    vim.wait(500)
+    say("left to do", answer_of(client, "textDocument/formatting", 0, 0, vim.lsp.util.make_formatting_params()))
+  end
+end
+
+-- What is said of edits that are refused.
+function steps.refused()
+  say("opened", diagnosed(0))
+  local said = nil
+  vim.notify = function(text)
+    said = text
+  end
+  vim.api.nvim_echo = function(chunks)
+    said = chunks[1][1]
+  end
+  vim.api.nvim_err_writeln = vim.notify
+  for _, name in ipairs(given.names) do
+    said = nil
+    go(given.place)
+    vim.lsp.buf.rename(name)
+    await("what is said", function()
+      return said ~= nil
+    end)
+    say(name, (said:gsub("^.-: %-?%d+: ", "")))
+  end
+  after(keys("ggO$<Esc>"))
+  said = nil
+  lay_out()
+  say("format", said)
+end
+
+-- The messages that are shown with diagnostics where Neovim shows none.
+function steps.messages(client)
+  say("opened", #diagnosed(0))
+  vim.lsp.enable = vim.lsp.enable or function() end
+  local function shown()
+    vim.diagnostic.show()
+    local space = vim.lsp.diagnostic.get_namespace(client.id)
+    local texts = vim.diagnostic.get_namespace(space).user_data.virt_text_ns
+    return texts and #vim.api.nvim_buf_get_extmarks(0, texts, 0, -1, {}) or 0
+  end
+  vim.diagnostic.config({ virtual_text = false })
+  say("by Neovim", shown())
+  vim.g.ob0_messages = 0
+  require("ob0").show_messages(client)
+  say("by the user's choice", shown())
+  vim.g.ob0_messages = nil
+  require("ob0").show_messages(client)
+  say("by ob0", shown())
+end
+
 local function run()
   vim.cmd("edit " .. vim.fn.fnameescape(file))
   assert(vim.bo.filetype == "ob0", "the file was taken as " .. vim.bo.filetype)

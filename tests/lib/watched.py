@@ -2,6 +2,7 @@
 folder, the reports are kept there, by the editors."""
 from __future__ import annotations
 
+import contextlib
 import glob
 import importlib.machinery
 import importlib.util
@@ -17,7 +18,8 @@ import harness
 from harness import TOP, Failed, same
 
 SCRIPT = os.path.join(TOP, "share", "ob0-watch")
-SECONDS = 60  # the longest that a report is waited for, once its editor has ended
+LAST = ("The server ended ", "It stopped watching, ", "ob0-watch was killed.")  # how the last line of a report begins
+SECONDS = 300  # the longest that a report is waited for, once its editor has ended
 
 
 def load() -> Any:
@@ -35,9 +37,10 @@ def put_program(room: str, server: list[str]) -> str:
     program = os.path.join(room, "bin", "ob0")
     os.makedirs(os.path.join(room, "bin"), exist_ok=True)
     report = f"{shlex.quote(os.path.join(room, 'watched'))}/$$"
+    os.makedirs(os.path.join(room, "watched"), exist_ok=True)
     words = f"{shlex.join([sys.executable, SCRIPT])} --report {report} -- {shlex.join(server)}"
     with open(program, "w", encoding="utf-8") as file:
-        file.write(f'#!/bin/sh\n[ "$1" = serve ] && exec {words} "$@"\nexec {shlex.quote(os.path.abspath(harness.BINARY))} "$@"\n')
+        file.write(f'#!/bin/sh\n[ "$1" = serve ] && : >{report} && exec {words} "$@"\nexec {shlex.quote(os.path.abspath(harness.BINARY))} "$@"\n')
     os.chmod(program, 0o755)
     return program
 
@@ -58,14 +61,24 @@ class Report(NamedTuple):
         return {rule for rule, it in self.counts.items() if it.broken}
 
 
-def reports(room: str) -> list[Report]:
-    """The reports in a room, each once its watcher has ended."""
-    found, end = [], time.monotonic() + SECONDS
-    for path in sorted(glob.glob(os.path.join(glob.escape(room), "watched", "*[0-9]"))):
-        while os.path.exists(f"/proc/{os.path.basename(path)}") and time.monotonic() < end:
-            time.sleep(0.02)
-        with open(path, encoding="utf-8") as file:
+def complete(path: str) -> str:
+    """A report, once it is complete."""
+    end = time.monotonic() + SECONDS
+    text = ""
+    while time.monotonic() < end:
+        with contextlib.suppress(FileNotFoundError), open(path, encoding="utf-8") as file:
             text = file.read()
+        if text and text.splitlines()[-1].startswith(LAST):
+            return text
+        time.sleep(0.02)
+    raise Failed(f"a report isn't complete: {text}")
+
+
+def reports(room: str) -> list[Report]:
+    """The reports in a room, each once it is complete."""
+    found = []
+    for path in sorted(glob.glob(os.path.join(glob.escape(room), "watched", "*[0-9]"))):
+        text = complete(path)
         rows = re.findall(r"^([\w-]+): watched (\d+), broken (\d+), notes (\d+) ", text, re.M)
         found.append(Report(text, {rule: Count(*map(int, counts)) for rule, *counts in rows}))
     return found

@@ -1,5 +1,5 @@
--- What an editor that keeps the protocol and a session exchange is of the model, turn by turn.
-use Rattle.std.proofs.Common.{◌≡◌, ◌∙◌, ℕ, Bool, true, false, cond, List, [], ◌∷◌, ◌++◌, map, replicate, refl, sym, ap, subst, inl, inr}
+-- What an editor that keeps ob0's rules and a session exchange is of the model, turn by turn.
+use Rattle.std.proofs.Common.{◌≡◌, ◌∙◌, ℕ, zero, suc, Bool, true, false, cond, List, [], ◌∷◌, ◌++◌, map, replicate, refl, sym, ap, subst, inl, inr}
 use Rattle.std.specs.Prelude.{⊤, pos, fold, All, Option, Some, None, MatchOption, Result, Ok, Err, is_some, filter_map, option_map, option_and_then, unwrap_or, codes}
 use Rattle.std.specs.List.{cons_option}
 use Rattle.std.specs.Option.{option_to_list}
@@ -29,25 +29,25 @@ use Rattle.ob0_session_answers.specs.Formatted.{AnswersFormatting}
 use Rattle.ob0_session_json.specs.Shapes.{edits_value}
 use Rattle.ob0_session_server.specs.Answers as server
 use Rattle.ob0_session_server.specs.Answers.{ServerState, begins, SaysReply, Sends, Reaction, react, react_to_request, react_to_notification, apply_notification, answer_request, answer_method, answers_about, answers_name, offers_actions, lays_out, refuses, Answers, Conversation}
-use Rattle.ob0_world_editor.specs.Heard.{request_number, IsAsk}
+use Rattle.ob0_world_editor.specs.Heard.{request_number, request_read, notification_read, message_read, heard, IsAsk}
 use Rattle.ob0_world_editor.specs.Understood.{understood, value_understood, answer_understood, answer_to, publication_understood, workspace_items, edits_in, edits_for}
-use Rattle.ob0_world_editor.proofs.Hearing.{understood_as}
+use Rattle.ob0_world_editor.proofs.Hearing.{said, says_heard, understood_as}
 use Rattle.ob0_world_rules.specs.Asks.{Ask, rename, inline_here, inline_all, format}
 use Rattle.ob0_world_rules.specs.ClientAndServer.{Open, SentAsk, Editor, request_numbered, open_at, ToServer, notifies, requests, ToEditor, publishes, answers, Made, after_message}
 use Rattle.ob0_world_rules.specs.Editing.{Done, reads, without_answer}
 use Rattle.ob0_world_rules.specs.Editors.{Revision, Move, to_open, to_revise, to_close, to_ask, to_apply, to_drop, revised, with_document, Revises, May}
-use Rattle.ob0_world_rules.specs.EveryEditor.{EditorAndServer, nothing_yet, without_others, no_ask, without_numbers, Turn, editor_does, editor_says, server_takes, editor_takes, MayHappen, MayLead, HoldsWithEditor}
+use Rattle.ob0_world_rules.specs.EveryEditor.{EditorAndServer, nothing_yet, without_others, notes_among, no_ask, without_numbers, Turn, editor_does, editor_says, server_takes, editor_takes, MayHappen, MayLead, HoldsWithEditor}
 use Rattle.ob0_world_rules.specs.Answers.{Inlining, Here, Everywhere, IsEmptyIfCorrect}
 use Rattle.ob0_world_rules.specs.Serving.{Publishes, Replies}
 use Rattle.ob0_world_rules.specs.Headline.{IsRight, last_publication}
 use Rattle.ob0_world_rules.specs.Mirror.{as_open}
-use Rattle.ob0_world_rules.specs.MadeInOrder.{Announced, AreMadeOf, named_in, versioned_uri}
+use Rattle.ob0_world_rules.specs.MadeInOrder.{Announced, AreMadeOf, versions_announced, named_in}
 use Rattle.ob0_world_rules.proofs.UriLaws.{mapped_choice}
 use Rattle.ob0_world_rules.proofs.SameDocument.{numbered_push}
 use Rattle.ob0_world_rules.proofs.EveryEditor.{with_every_editor}
 use Rattle.ob0_world.specs.Worlds.{Wire, TakesFirst}
 use Rattle.ob0_world.specs.Queues.{IsRunning, made_first}
-use Rattle.ob0_world.specs.Exchanges.{Exchange, BeginsExchange, IsActionsRequest, SaysToSession, IsQuestion, IsOwnNumber, IsOtherMessage, IsOther, reads_meaning, GetsOne, with_contents, Exchanges, ExchangeLeads, EachSays, BringsNothing, EachMeans, IsOfTheModel, EveryExchangeIsOfTheModel, Published, with_version, published_in, AreRightOf, last_published, HoldsOfExchange, EveryExchangeHolds}
+use Rattle.ob0_world.specs.Exchanges.{Exchange, BeginsExchange, IsActionsRequest, SaysToSession, IsQuestion, IsOwnNumber, IsOtherMessage, IsOther, reads_meaning, GetsOne, with_contents, Exchanges, ExchangeLeads, EachSays, BringsNothing, EachMeans, IsOfTheModel, EveryExchangeIsOfTheModel, Published, with_version, published_in, AreRightOf, last_published, notes_in, HoldsOfExchange, EveryExchangeHolds}
 use Rattle.ob0_world.proofs.Answering.{Served, served, inline_served, inlining_at, going_on, reacts_so}
 use Rattle.ob0_world.proofs.Places.{place_of_range}
 use Rattle.ob0_world.proofs.Waiting.{says_still, understood_still}
@@ -58,7 +58,8 @@ use Rattle.ob0_world.proofs.Courses.{Conversed, takes_conversed, gets_conversed,
 module _ (requested more : List SentAsk) where
   number_still : (o : Option ℕ) → IsOwnNumber requested o → IsOwnNumber (requested ++ more) o
   number_still None h = tt
-  number_still (Some k) h = numbered_push requested more k no_ask h
+  number_still (Some zero) h = tt
+  number_still (Some (suc k)) h = numbered_push requested more (suc k) no_ask h
 
   message_still : (m : MessageMeaning) → IsOtherMessage requested m → IsOtherMessage (requested ++ more) m
   message_still not_json h = h
@@ -170,8 +171,9 @@ no_answer_to requested id message no_method has_id no_edits own more =
   where
     go : (o : Option ℕ) → IsOwnNumber requested o → BringsNothing (option_and_then (answer_to (requested ++ more) message) o)
     go None h = inl refl
-    go (Some k) h =
-        inr (k, ap (option_map (λ (a : SentAsk). answers k (edits_for a.ask message))) (numbered_push requested more k no_ask h) ∙ ap (λ edits. Some (answers k edits)) no_edits)
+    go (Some zero) h = inl refl
+    go (Some (suc k)) h =
+        inr (suc k, ap (option_map (λ (a : SentAsk). answers (suc k) (edits_for a.ask message))) (numbered_push requested more (suc k) no_ask h) ∙ ap (λ edits. Some (answers (suc k) edits)) no_edits)
 
 refused_other : (requested : List SentAsk) (before after : ServerState) (id : Data) (code : _) (said : List ℕ) (sent : List (List ℕ)) → after ≡ before → Sends (error_message id code said) sent → IsOwnNumber requested (request_number id) → OtherServed requested before after sent
 refused_other requested before after id code said sent same sends own =
@@ -635,18 +637,56 @@ latest_right : (d : Open) (o : Option Made) → MatchOption o ⊥ (λ m. (m.vers
 latest_right d None h right = h
 latest_right d (Some m) h right = (h.0, subst (λ text. IsEmptyIfCorrect text m.empty) h.1 right)
 
--- nothing waits in the model where no content does
-none_waits : (requested : List SentAsk) (q : List (Option ToServer)) (contents : List (List ℕ)) → EachSays requested q contents → contents ≡ [] → q ≡ []
-none_waits requested [] [] h none = refl
-none_waits requested [] (c ∷ contents) h none = absurd h
-none_waits requested (Some m ∷ q) [] h none = absurd h
-none_waits requested (None ∷ q) [] h none = absurd h
-none_waits requested (Some m ∷ q) (c ∷ contents) h none = absurd (cc)
-none_waits requested (None ∷ q) (c ∷ contents) h none = absurd (cc)
+-- ---- what waits, as it is read
 
-none_mapped : (ts : List Announced) → map versioned_uri ts ≡ [] → ts ≡ []
-none_mapped [] none = refl
-none_mapped (t ∷ ts) none = absurd (cc)
+-- a request is of no known ask
+none_read : (o : Option ℕ) → option_and_then (request_read []) o ≡ None
+none_read None = refl
+none_read (Some zero) = refl
+none_read (Some (suc k)) = refl
+
+request_unheard : (content : List ℕ) (json id params : Data) (method : List ℕ) → ReadsContent content (Some json) → meaning_of json ≡ request id method params → heard [] content ≡ None
+unfolding heard
+request_unheard content json id params method reads_so means =
+    said (λ d. message_read [] (meaning_of d)) content json reads_so ∙ ap (message_read []) means ∙ none_read (request_number id)
+
+ask_unheard : (requested : List SentAsk) (k : ℕ) (uri : List ℕ) (ask : Ask) (content : List ℕ) → SaysToSession requested (requests k uri ask) content → heard [] content ≡ None
+ask_unheard requested k uri (rename position name) content (is, of) = request_unheard content is.json (number (unsigned k)) is.params (codes "textDocument/rename") is.reads is.means
+ask_unheard requested k uri (inline_here position) content (is, of) = request_unheard content is.json (number (unsigned k)) is.params (codes "textDocument/codeAction") is.reads is.means
+ask_unheard requested k uri (inline_all position) content (is, of) = request_unheard content is.json (number (unsigned k)) is.params (codes "textDocument/codeAction") is.reads is.means
+ask_unheard requested k uri (format indent) content (is, of) = request_unheard content is.json (number (unsigned k)) is.params (codes "textDocument/formatting") is.reads is.means
+
+other_unheard : (requested : List SentAsk) (content : List ℕ) → IsOther requested content → heard [] content ≡ None
+unfolding heard
+other_unheard requested content (json, reads_so, is) = said (λ d. message_read [] (meaning_of d)) content json reads_so ∙ go (meaning_of json) is
+  where
+    go : (m : MessageMeaning) → IsOtherMessage requested m → message_read [] m ≡ None
+    go not_json is = refl
+    go not_a_message is = refl
+    go response is = refl
+    go (request id method params) is = none_read (request_number id)
+    go (notice method params) is = ap notification_read is
+
+-- what the contents that wait say about documents is what the model's messages say
+notes_waiting : (requested : List SentAsk) (q : List (Option ToServer)) (contents : List (List ℕ)) → EachSays requested q contents → notes_in contents ≡ notes_among (without_others q)
+notes_waiting requested [] [] h = refl
+notes_waiting requested (Some (notifies note) ∷ q) (c ∷ contents) h = λ i. cons_option (says_heard [] (notifies note) c h.0 i) (notes_waiting requested q contents h.1 i)
+notes_waiting requested (Some (requests k uri ask) ∷ q) (c ∷ contents) h = λ i. cons_option (ask_unheard requested k uri ask c h.0 i) (notes_waiting requested q contents h.1 i)
+notes_waiting requested (None ∷ q) (c ∷ contents) h = λ i. cons_option (other_unheard requested c h.0 i) (notes_waiting requested q contents h.1 i)
+notes_waiting requested [] (c ∷ contents) h = absurd h
+notes_waiting requested (Some m ∷ q) [] h = absurd h
+notes_waiting requested (None ∷ q) [] h = absurd h
+
+-- requests announce no document, and change none
+notes_named : (q : List ToServer) → named_in q ≡ named_in (notes_among q)
+notes_named [] = refl
+notes_named (notifies note ∷ q) = ap (λ names. versions_announced (notifies note) ++ names) (notes_named q)
+notes_named (requests k uri ask ∷ q) = notes_named q
+
+notes_change : (held : OpenDocuments) (q : List ToServer) → fold after_message held (notes_among q) ≡ fold after_message held q
+notes_change held [] = refl
+notes_change held (notifies note ∷ q) = notes_change (after_message held (notifies note)) q
+notes_change held (requests k uri ask ∷ q) = notes_change held q
 
 pub every_exchange_holds : EveryExchangeHolds
 every_exchange_holds unit begin now turns b leads =
@@ -654,6 +694,8 @@ every_exchange_holds unit begin now turns b leads =
     let w : EditorAndServer = model_of now led.q led.r led.made in
     let holds : HoldsWithEditor w = with_every_editor unit turns w led.leads in
     let shown : Shown begin.wire.got now.wire led.made = led.tied.shown in
+    let waiting : List ToServer = without_others led.q in
+    let notes : notes_in now.wire.to_server ≡ notes_among waiting = notes_waiting now.editor.requested led.q now.wire.to_server led.tied.says in
     record {
       applied = holds.holds.applied;
       since = shown.since;
@@ -662,13 +704,13 @@ every_exchange_holds unit begin now turns b leads =
       not_yet = holds.waiting;
       announced = holds.all;
       right = subst (λ ps. AreRightOf ps holds.published) (sym shown.published) (right_of led.made holds.published holds.holds.made holds.made_of);
-      complete = λ nothing_waits. none_mapped holds.waiting (holds.still_wait ∙ ap (λ q. named_in (without_others q)) (none_waits now.editor.requested led.q now.wire.to_server led.tied.says nothing_waits));
-      latest = λ nothing_waits uri d at.
+      still_wait = holds.still_wait ∙ notes_named waiting ∙ ap named_in (sym notes);
+      latest = λ quiet uri d at.
           subst (λ o. MatchOption o ⊥ (λ p. (p.version ≡ pos d.version) × IsEmptyIfCorrect d.text p.empty)) (sym (ap (last_published uri) shown.published ∙ last_named uri None led.made))
           (latest_right d (last_publication uri led.made)
-          (holds.holds.latest_made (ap without_others (none_waits now.editor.requested led.q now.wire.to_server led.tied.says nothing_waits)) uri d at)
+          (holds.latest (sym notes ∙ quiet) uri d at)
           (last_right uri None led.made tt holds.holds.made));
-      mirrors = λ nothing_waits uri.
-          subst (λ q. document_at (fold after_message now.wire.session.held (without_others q)) uri ≡ option_map as_open (open_at now.editor uri)) (none_waits now.editor.requested led.q now.wire.to_server led.tied.says nothing_waits) (holds.mirrors uri);
+      mirrors = λ uri.
+          ap (λ held. document_at held uri) (ap (fold after_message now.wire.session.held) notes ∙ notes_change now.wire.session.held waiting) ∙ holds.mirrors uri;
       conversation = as_conversation now.wire led.tied.conversed;
     }

@@ -1,7 +1,7 @@
--- An editor that keeps the protocol, and a session: what passes between them. No server of the model
+-- An editor that keeps ob0's rules, and a session: what passes between them. No server of the model
 -- is in it: what the session sends is by the protocol alone (`Answers`).
 -- Rule: LSP 3.17; for a law of every editor with a session.
-use Rattle.std.specs.Prelude.{◌≡◌, ◌⊎◌, ◌<◌, ◌≤◌, map, ⊤, ℕ, ℤ, pos, List, [], ◌∷◌, ◌++◌, All, fold, Bool, true, false, Option, Some, None, MatchOption, option_map, Result, Ok, Err, if◌then◌else◌, codes}
+use Rattle.std.specs.Prelude.{◌≡◌, ◌⊎◌, ◌<◌, ◌≤◌, map, filter_map, ⊤, ℕ, zero, suc, ℤ, pos, List, [], ◌∷◌, ◌++◌, All, fold, Bool, true, false, Option, Some, None, MatchOption, option_map, Result, Ok, Err, if◌then◌else◌, codes}
 use Rattle.std.specs.Str.{bytes_eq}
 use Rattle.serde_json.specs.Data.{Data, number, unsigned}
 use Rattle.ob0_text.specs.declared.position_types.Position.{Position}
@@ -18,17 +18,17 @@ use Rattle.ob0_session_answers.specs.Actions.{allows_inlining}
 use Rattle.ob0_session_server.specs.Answers as server
 use Rattle.ob0_session_server.specs.Answers.{begins, Conversation}
 use Rattle.ob0_session_server.specs.Units.{unit_for}
-use Rattle.ob0_world_editor.specs.Heard.{request_number, IsAsk, SaysToServer}
+use Rattle.ob0_world_editor.specs.Heard.{request_number, heard, IsAsk, SaysToServer}
 use Rattle.ob0_world_editor.specs.Understood.{understood}
 use Rattle.ob0_world_rules.specs.Asks.{rename, inline_here, inline_all, format}
-use Rattle.ob0_world_rules.specs.ClientAndServer.{Open, SentAsk, Editor, new_editor, request_numbered, open_at, ToServer, notifies, requests, ToEditor, publishes, answers, Applied}
+use Rattle.ob0_world_rules.specs.ClientAndServer.{Open, SentAsk, Editor, new_editor, request_numbered, open_at, ToServer, notifies, requests, ToEditor, publishes, answers, Applied, after_message}
 use Rattle.ob0_world_rules.specs.Editing.{Done, reads}
 use Rattle.ob0_world_rules.specs.Editors.{Move, May}
 use Rattle.ob0_world_rules.specs.EveryEditor.{EditorAndServer, nothing_yet, no_ask, without_numbers, Turn, editor_does, editor_says, server_takes, editor_takes, MayLead, HoldsWithEditor}
 use Rattle.ob0_world_rules.specs.Answers.{IsEmptyIfCorrect}
 use Rattle.ob0_world_rules.specs.Headline.{KeepsTheRun}
 use Rattle.ob0_world_rules.specs.Mirror.{as_open}
-use Rattle.ob0_world_rules.specs.MadeInOrder.{Announced}
+use Rattle.ob0_world_rules.specs.MadeInOrder.{Announced, named_in, versioned_uri}
 use Rattle.ob0_world_rules.specs.Happens.{Event}
 use Rattle.ob0_world.specs.Worlds.{Wire, Connection, Begins, ConnectionCourse, TakesFirst}
 
@@ -81,9 +81,10 @@ IsQuestion (Ok (asked.code_action uri range only)) = ⊤
 IsQuestion (Ok (asked.formatting uri indent)) = ⊤
 IsQuestion (Err fault) = ⊤
 
--- where an id is a number, it is that of no ask
+-- if an id is a number, it is that of no ask; asks have the numbers from 1 on
 abbrev pub IsOwnNumber : List SentAsk → Option ℕ → Type 0
-IsOwnNumber requested (Some k) = request_numbered requested k ≡ Some no_ask
+IsOwnNumber requested (Some zero) = ⊤
+IsOwnNumber requested (Some (suc k)) = request_numbered requested (suc k) ≡ Some no_ask
 IsOwnNumber requested None = ⊤
 
 -- it says nothing of documents, and asks for no edit that is applied: a request that changes nothing,
@@ -240,7 +241,7 @@ pub record IsOfTheModel (unit : Unit) (turns : List Turn) (x : Exchange) : Type 
   pub conversation : Conversation server.start x.wire.taken (x.wire.got ++ x.wire.to_editor)
       x.wire.session
 
--- so it is with every editor that keeps the protocol, and every session
+-- so it is with every editor that keeps ob0's rules, and every session
 abbrev pub EveryExchangeIsOfTheModel : Type 0
 EveryExchangeIsOfTheModel =
     (unit : Unit) (begin now : Exchange) (turns : List Turn)
@@ -286,7 +287,11 @@ abbrev pub last_published : List ℕ → List Published → Option Published
 last_published uri published =
     fold (λ last p. if bytes_eq p.uri uri then Some p else last) None published
 
--- What holds of an editor that keeps the protocol and a session, whatever has passed between them.
+-- What these contents say about documents. (No ask is known here: so a request says nothing.)
+abbrev pub notes_in : List (List ℕ) → List ToServer
+notes_in contents = filter_map (heard []) contents
+
+-- What holds of an editor that keeps ob0's rules and a session, whatever has passed between them.
 pub record HoldsOfExchange (begin now : Exchange) : Type 0 where
   -- each edit that the editor applied keeps the run
   pub applied : All KeepsTheRun now.applied
@@ -298,20 +303,23 @@ pub record HoldsOfExchange (begin now : Exchange) : Type 0 where
   pub not_yet : List Announced
   pub announced : now.announced ≡ published_of ++ not_yet
   pub right : AreRightOf (published_in since) published_of
-  -- when nothing waits for the session, they are of all of these; the latest of each open document is
-  -- of its present version and text; and the session's documents are the editor's
-  pub complete : now.wire.to_server ≡ [] → not_yet ≡ []
-  pub latest : now.wire.to_server ≡ [] → (uri : List ℕ) (d : Open)
+  -- the others are announced by contents that still wait for the session
+  pub still_wait : map versioned_uri not_yet ≡ named_in (notes_in now.wire.to_server)
+  -- when no content that waits says anything about documents, the latest list of each open document
+  -- is of its present version and text
+  pub latest : notes_in now.wire.to_server ≡ [] → (uri : List ℕ) (d : Open)
       → open_at now.editor uri ≡ Some d
       → MatchOption (last_published uri (published_in since)) ⊥
       (λ p. (p.version ≡ pos d.version) × IsEmptyIfCorrect d.text p.empty)
-  pub mirrors : now.wire.to_server ≡ [] → (uri : List ℕ)
-      → document_at now.wire.session.held uri ≡ option_map as_open (open_at now.editor uri)
+  -- the session's documents, once it has taken what waits, are the editor's
+  pub mirrors : (uri : List ℕ)
+      → document_at (fold after_message now.wire.session.held (notes_in now.wire.to_server)) uri
+      ≡ option_map as_open (open_at now.editor uri)
   -- all that passed is one conversation of a session, by the protocol
   pub conversation : Conversation server.start now.wire.taken
       (now.wire.got ++ now.wire.to_editor) now.wire.session
 
--- so it is with every editor that keeps the protocol, and every session
+-- so it is with every editor that keeps ob0's rules, and every session
 abbrev pub EveryExchangeHolds : Type 0
 EveryExchangeHolds =
     (unit : Unit) (begin now : Exchange) (turns : List Turn)

@@ -14,13 +14,13 @@ pub fn versions_suffice()
     ensures { VersionsSuffice }
 {}
 
-/// What an editor that keeps the protocol and a session of the server exchange is of the model of every editor, turn by
+/// What an editor that keeps ob0's rules and a session of the server exchange is of the model of every editor, turn by
 /// turn: so every edit that the editor applies keeps the run, and what the session publishes is right.
 pub fn every_exchange_is_of_the_model()
     ensures { EveryExchangeIsOfTheModel }
 {}
 
-/// Whatever an editor that keeps the protocol and a session have exchanged, each edit that the editor applied keeps the
+/// Whatever an editor that keeps ob0's rules and a session have exchanged, each edit that the editor applied keeps the
 /// run, each list of diagnostics with a version is right and of a document that the editor announced, in order, and when
 /// nothing waits for the session, its documents are the editor's.
 pub fn every_exchange_holds()

@@ -3,6 +3,7 @@
 use Rattle.std.proofs.Common.{◌≡◌, ◌≢◌, ◌≤◌, ◌∙◌, ℕ, ◌⊎◌, List, [], ◌∷◌, ◌++◌, length, Result, Ok, Err, refl, sym, ap, subst, inl, inr, append_assoc, append-nil}
 use Rattle.std.specs.Prelude.{⊤, All}
 use Rattle.std.specs.List.{flat_map}
+use Rattle.std.proofs.lemmas.Grind.{flat_map-append}
 use Rattle.ob0_frame.specs.Frames.{Frames, frame}
 use Rattle.ob0_frame.specs.Head.{max_content}
 use Rattle.ob0_frame.specs.Framing.{Rest, Open, Broken, Feeds}
@@ -13,7 +14,7 @@ use Rattle.ob0_session_server.specs.Steps.{IsGoingOn}
 use Rattle.ob0_session_server.specs.declared.session.Phase.TheVariants.{Ended}
 use Rattle.ob0_session.specs.declared.serving.ServeFault.{ServeFault}
 use Rattle.ob0_session.specs.declared.serving.ServeFault.TheVariants.{BadHead, Truncated, Read, Write, Memory, TooManyReads}
-use Rattle.ob0_world_determined.specs.Determined.{ConversationIsServed, IsDecided, IsOfBytes, IsWritten, MayServe, OneConversation, OneResult}
+use Rattle.ob0_world_determined.specs.Determined.{ConversationIsServed, ConversationIsServedFirst, IsDecided, IsOfBytes, IsWritten, MayServe, OneConversation, OneResult}
 use Rattle.ob0_world_determined.proofs.Conversations.{Contents}
 use Rattle.ob0_world_determined.proofs.Fronts.{Framed, fed_front}
 
@@ -239,6 +240,36 @@ module _ (one : OneConversation) (feeds : OneFeed) (taken sent : Contents) (afte
       let s = h.served in
       let same : taken ≡ s.answered = (feeds (Open []) (Open []) rest (flat_map frame taken) taken (s.answered ++ []) fed s.feeds).0 ∙ append-nil s.answered in
       s.frames ∙ ap (flat_map frame) (one start s.answered s.sent sent h.after after s.conversation (subst (λ cs. Conversation start cs sent after) same talk)).0
+
+-- and of a conversation with which a longer input begins
+module _ (one : OneConversation) (feeds : OneFeed) (taken sent : Contents) (after : ServerState) (talk : Conversation start taken sent after) (fed : Feeds (Open []) (flat_map frame taken) taken (Open [])) (more : List ℕ) where
+  -- more contents are answered than these
+  goes_on : (mid answered said : Contents) (end : ServerState) → answered ≡ taken ++ mid → Conversation start answered said end → (later : List ℕ) × (flat_map frame said ≡ flat_map frame sent ++ later)
+  goes_on mid answered said end is h =
+      let parts : Cut start taken mid said end = cut start taken mid said end (subst (λ cs. Conversation start cs said end) is h) in
+      let same = one start taken parts.first sent parts.between after parts.begins talk in
+      (flat_map frame parts.later, ap (flat_map frame) (parts.is ∙ ap (λ cs. cs ++ parts.later) same.0) ∙ flat_map-append frame sent parts.later)
+
+  frames_first : (put : List ℕ) (e : Ending) → EndsIn e (flat_map frame taken ++ more) put → (later : List ℕ) × (put ≡ flat_map frame sent ++ later)
+  frames_first put (at_exit status) (h, ended) =
+      let s = h.served in
+      let parts = fed_front (Open []) (Open []) h.rest (flat_map frame taken) more taken (s.answered ++ h.waiting) fed s.feeds in
+      elim (begins_other s.answered h.waiting taken parts.0 parts.1) [
+        | inl (mid, is) ↦
+            let same = longer one feeds (flat_map frame taken) status s.answered mid s.sent sent h.after after ended s.conversation (subst (λ cs. Conversation start cs sent after) is talk) in
+            ([], s.frames ∙ ap (flat_map frame) same.0 ∙ sym (append-nil (flat_map frame sent)))
+        | inr (mid, is) ↦ (let found = goes_on mid s.answered s.sent h.after is s.conversation in (found.0, s.frames ∙ found.1))
+      ]
+  frames_first put (with_rest rest) h =
+      let s = h.served in
+      let parts = fed_front (Open []) (Open []) rest (flat_map frame taken) more taken (s.answered ++ []) fed s.feeds in
+      let found = goes_on parts.0 s.answered s.sent h.after (sym (append-nil s.answered) ∙ parts.1) s.conversation in
+      (found.0, s.frames ∙ found.1)
+
+pub conversation_is_served_first : OneConversation → OneFeed → Feeds (Open []) [] [] (Open []) → ((contents : Contents) → All (λ content. length content ≤ max_content) contents → Frames (flat_map frame contents) contents []) → ConversationIsServedFirst
+conversation_is_served_first one feeds nothing read taken sent after small talk more put result written served =
+    let e = ending_of result (flat_map frame taken ++ more) put written served in
+    frames_first one feeds taken sent after talk (read taken small, nothing.1) more put e.0 e.1
 
 pub conversation_is_served : OneConversation → OneFeed → Feeds (Open []) [] [] (Open []) → ((contents : Contents) → All (λ content. length content ≤ max_content) contents → Frames (flat_map frame contents) contents []) → ConversationIsServed
 conversation_is_served one feeds nothing read taken sent after small talk put result written served =

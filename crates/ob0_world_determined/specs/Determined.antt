@@ -123,3 +123,13 @@ ConversationIsServed =
     → (put : List ℕ) (result : Result ℕ ServeFault) → IsWritten result
     → MayServe result (flat_map frame taken) put
     → put ≡ flat_map frame sent
+
+-- For a longer input, one that begins with these frames, it writes the same first.
+abbrev pub ConversationIsServedFirst : Type 0
+ConversationIsServedFirst =
+    (taken sent : List (List ℕ)) (after : ServerState)
+    → All (λ content. length content ≤ max_content) taken
+    → Conversation start taken sent after
+    → (more put : List ℕ) (result : Result ℕ ServeFault) → IsWritten result
+    → MayServe result (flat_map frame taken ++ more) put
+    → (later : List ℕ) × (put ≡ flat_map frame sent ++ later)

@@ -1,4 +1,4 @@
--- What `serve` writes to an editor that keeps the protocol: the headline, as bytes.
+-- What `serve` writes to an editor that keeps ob0's rules: the headline, as bytes.
 -- Rule: docs/PROMISES.md, Client and server.
 use Rattle.std.specs.Prelude.{◌≡◌, ◌≤◌, ◌++◌, ℕ, List, length, All, Result}
 use Rattle.std.specs.List.{flat_map}
@@ -11,7 +11,7 @@ use Rattle.ob0_world_rules.specs.EveryEditor.{Turn}
 use Rattle.ob0_world.specs.Exchanges.{Exchange, BeginsExchange, ExchangeLeads, HoldsOfExchange}
 use Rattle.ob0_world_determined.specs.Determined.{MayServe, IsWritten}
 
--- What an editor that keeps the protocol and a session have exchanged, and what `serve` writes of it.
+-- What an editor that keeps ob0's rules and a session have exchanged, and what `serve` writes of it.
 pub record ServedExchange (begin now : Exchange) : Type 0 where
   pub holds : HoldsOfExchange begin now
   -- for the frames of the contents that the session took it writes the frames of those that the
@@ -20,13 +20,18 @@ pub record ServedExchange (begin now : Exchange) : Type 0 where
       → (put : List ℕ) (result : Result ℕ ServeFault) → IsWritten result
       → MayServe result (flat_map frame now.wire.taken) put
       → put ≡ flat_map frame (now.wire.got ++ now.wire.to_editor)
+  -- if the input goes on, it writes these first, and then what it writes for the rest
+  pub written_first : All (λ content. length content ≤ max_content) now.wire.taken
+      → (more put : List ℕ) (result : Result ℕ ServeFault) → IsWritten result
+      → MayServe result (flat_map frame now.wire.taken ++ more) put
+      → (later : List ℕ) × (put ≡ flat_map frame (now.wire.got ++ now.wire.to_editor) ++ later)
   -- where it returns `Memory` it has answered the first contents that it read: where these are what
   -- the session took, it has written the same
   pub in_part : (taken put : List ℕ) (part : PrefixServed taken put)
       → part.answered ≡ now.wire.taken
       → put ≡ flat_map frame (now.wire.got ++ now.wire.to_editor)
 
--- so it is with every editor that keeps the protocol, and every session
+-- so it is with every editor that keeps ob0's rules, and every session
 abbrev pub EveryExchangeIsServed : Type 0
 EveryExchangeIsServed =
     (unit : Unit) (begin now : Exchange) (turns : List Turn)

@@ -1,5 +1,5 @@
 //! What holds of the definitions that the contracts cite.
-ghost use Rattle.ob0_world_determined.specs.Determined.{AListFits, ConversationIsServed, OneAnswer, OneConversation, OneDiagnosis, OneOutput, OneReply, OneResult, OneTable};
+ghost use Rattle.ob0_world_determined.specs.Determined.{AListFits, ConversationIsServed, ConversationIsServedFirst, OneAnswer, OneConversation, OneDiagnosis, OneOutput, OneReply, OneResult, OneTable};
 ghost use Rattle.ob0_world_determined.specs.Exchanged.{EveryExchangeIsServed};
 
 use ob0_analysis::laws::one_refusal;
@@ -79,7 +79,17 @@ pub fn a_conversation_is_served()
     written_is_read();
 }
 
-/// The headline, with every editor that keeps the protocol, of what `serve` writes: what the editor and a session have
+/// Fed with a longer input that begins with these frames, `serve` writes the frames of what the session sent first.
+pub fn a_conversation_is_served_first()
+    ensures { ConversationIsServedFirst }
+{
+    one_conversation();
+    feeding_is_determined();
+    nothing_is_fed();
+    written_is_read();
+}
+
+/// The headline, with every editor that keeps ob0's rules, of what `serve` writes: what the editor and a session have
 /// exchanged has what is said of it, and for the frames of what the session took `serve` writes the frames of what the
 /// session sent, unless it returns `Memory` or `Write`; at `Memory` it has written so for the contents that it answered.
 pub fn every_exchange_is_served()
@@ -87,5 +97,6 @@ pub fn every_exchange_is_served()
 {
     every_exchange_holds();
     a_conversation_is_served();
+    a_conversation_is_served_first();
     one_conversation();
 }

@@ -1,4 +1,4 @@
--- What holds with every editor that keeps the protocol. Other messages apart, its moves keep what the model's acts keep.
+-- What holds with every editor that keeps ob0's rules. Other messages apart, its moves keep what the model's acts keep.
 use Rattle.std.proofs.Common.{◌≡◌, ◌∙◌, ℕ, suc, ◌+◌, cond, List, [], ◌∷◌, ◌++◌, map, length, replicate, append-nil, append_assoc, refl, sym, ap, subst}
 use Rattle.std.specs.Prelude.{pos, All, Option, Some, None, option_map}
 use Rattle.std.specs.FinMap as map_of
@@ -17,7 +17,7 @@ use Rattle.ob0_world_rules.specs.Headline.{KeepsTheRun}
 use Rattle.ob0_world_rules.specs.Laws.{EditsPreserveRun}
 use Rattle.ob0_world_rules.specs.MadeInOrder.{Announced, AreMadeOf, versions_announced, versioned_uri}
 use Rattle.ob0_world_rules.specs.Editors.{Revision, Move, to_open, to_revise, to_close, to_ask, to_apply, to_drop, revised, with_document, Revises, told, AppliesAnswer, opened_as, May}
-use Rattle.ob0_world_rules.specs.EveryEditor.{EditorAndServer, nothing_yet, without_others, as_model, no_ask, without_numbers, Turn, editor_does, editor_says, server_takes, editor_takes, after_move, TakesNext, after_one, MayHappen, MayLead, HoldsWithEditor, WithEveryEditor}
+use Rattle.ob0_world_rules.specs.EveryEditor.{EditorAndServer, nothing_yet, without_others, notes_among, as_model, no_ask, without_numbers, Turn, editor_does, editor_says, server_takes, editor_takes, after_move, TakesNext, after_one, MayHappen, MayLead, HoldsWithEditor, WithEveryEditor}
 use Rattle.ob0_world_rules.proofs.UriLaws.{get_put, uri_itself}
 use Rattle.ob0_world_rules.proofs.SameDocument.{Known, Same, later_answers, later_ask}
 use Rattle.ob0_world_rules.proofs.Keeping.{AnswerFits, Kept, acts_kept, revise_kept, held_known}
@@ -283,7 +283,8 @@ module _ (unit : Unit) where
   holds_with : (w : EditorAndServer) → Good w → HoldsWithEditor w
   holds_with w good =
       record {
-        holds = record { applied = good.kept.applied; made = good.kept.made; latest_made = up_to_date unit (as_model w) (good.kept, good.latest) };
+        holds = record { applied = good.kept.applied; made = good.kept.made; latest_made = λ nothing_waits. up_to_date unit (as_model w) (good.kept, good.latest) (ap notes_among nothing_waits) };
+        latest = up_to_date unit (as_model w) (good.kept, good.latest);
         mirrors = good.kept.mirror;
         published = good.published;
         waiting = good.waiting;

@@ -19,6 +19,7 @@ use Rattle.ob0_world_rules.specs.Editing.{stays, closes, asks, all_but, without_
 use Rattle.ob0_world_rules.specs.Serving.{Publishes, RepliesToNotification, Replies}
 use Rattle.ob0_world_rules.specs.Happens.{after_act, after_taking, ServerTakes}
 use Rattle.ob0_world_rules.specs.Editors.{opened_as}
+use Rattle.ob0_world_rules.specs.EveryEditor.{notes_among}
 use Rattle.ob0_world_rules.specs.Mirror.{will_have, as_open}
 use Rattle.ob0_world_rules.specs.Headline.{KeepsTheRun, IsRight, last_publication, AreUpToDate}
 use Rattle.ob0_world_rules.specs.Laws.{EditsPreserveRun}
@@ -27,6 +28,12 @@ use Rattle.ob0_world_rules.proofs.Latest.{IsMadeFor, latest_push}
 use Rattle.ob0_world_rules.proofs.SameDocument.{Known, later_answers, later_open, later_close, later_ask, slice_get_last, found, left}
 use Rattle.ob0_world_rules.proofs.KeptRuns.{answer_keeps}
 use Rattle.ob0_world_rules.proofs.Keeping.{Fits, AnswerFits, HeldFits, AsksSee, Kept, message_unit, acts_kept, put_mirrors, remove_mirrors, answers_kept}
+
+-- messages that say nothing about documents leave the server's as they are
+quiet_stays : (held : OpenDocuments) (q : List ToServer) → notes_among q ≡ [] → fold after_message held q ≡ held
+quiet_stays held [] quiet = refl
+quiet_stays held (notifies note ∷ q) quiet = absurd (cc)
+quiet_stays held (requests k uri ask ∷ q) quiet = quiet_stays held q quiet
 
 -- ---- the editor's events
 
@@ -306,7 +313,7 @@ module _ (unit : Unit) where
     λ uri version text at. nothing_at uri (InStep version text) (IsMadeFor version text None) at,
   )
 
-  pub up_to_date : (w : ClientAndServer) → Both w → w.to_server ≡ [] → AreUpToDate w.editor w.made
-  up_to_date w (kept, now) nothing_waits uri d at =
-      let held : document_at w.held uri ≡ Some (as_open d) = subst (λ q. document_at (fold after_message w.held q) uri ≡ Some (as_open d)) nothing_waits (kept.mirror uri ∙ ap (option_map as_open) at) in
+  pub up_to_date : (w : ClientAndServer) → Both w → notes_among w.to_server ≡ [] → AreUpToDate w.editor w.made
+  up_to_date w (kept, now) quiet uri d at =
+      let held : document_at w.held uri ≡ Some (as_open d) = subst (λ held. document_at held uri ≡ Some (as_open d)) (quiet_stays w.held w.to_server quiet) (kept.mirror uri ∙ ap (option_map as_open) at) in
       now uri (pos d.version) d.text held

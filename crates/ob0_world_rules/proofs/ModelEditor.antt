@@ -1,7 +1,6 @@
--- The model's editor keeps the protocol: each of its acts is a move that it may make, or leaves everything as it is.
-use Rattle.std.proofs.Common.{◌≡◌, ◌∙◌, ℕ, ◌+◌, arith, cond, inl, inr, List, [], ◌∷◌, ◌++◌, map, append-nil, refl, sym, ap, subst}
+-- The model's editor keeps ob0's rules: each of its acts is a move that it may make, or leaves everything as it is.
+use Rattle.std.proofs.Common.{◌≡◌, ◌∙◌, ℕ, ◌+◌, arith, inl, inr, List, [], ◌∷◌, ◌++◌, map, append-nil, refl, sym, ap, subst}
 use Rattle.std.specs.Prelude.{◌⊎◌, Some}
-use Rattle.std.specs.FinMap as map_of
 use Rattle.std.proofs.lemmas.List.{map-append}
 use Rattle.ob0_text.specs.declared.position_types.Unit.{Unit}
 use Rattle.ob0_text.specs.OpenDocuments.{TextChange, changed_text}
@@ -15,7 +14,6 @@ use Rattle.ob0_world_rules.specs.Laws.{InEveryInterleaving, ServerMirrors}
 use Rattle.ob0_world_rules.specs.MadeInOrder.{Announced}
 use Rattle.ob0_world_rules.specs.Editors.{Revision, Move, to_open, to_revise, to_close, to_ask, to_apply, to_drop, revised, with_document, Revises, AppliesAnswer, May}
 use Rattle.ob0_world_rules.specs.EveryEditor.{EditorAndServer, as_model, Turn, editor_does, server_takes, editor_takes, TakesNext, after_one, MayHappen, MayLead, TheModelIsOne}
-use Rattle.ob0_world_rules.proofs.UriLaws.{get_put, uri_itself}
 use Rattle.ob0_world_rules.proofs.SameDocument.{Same}
 use Rattle.ob0_world_rules.proofs.Acts.{edit_of, of_each}
 use Rattle.ob0_world_rules.proofs.EveryEditor.{others_none, with_every_editor}
@@ -81,9 +79,10 @@ applied_so e k edits a d text answered numbered same makes =
       makes = makes;
       new = with_document (without_answer e k) a.uri (revised d r);
       revises = rewritten_revises (without_answer e k) a.uri d (whole_text text ∷ []) text same.at (whole e.unit d.text text);
-      last = revised d r;
-      then_open = get_put e.documents a.uri (revised d r) a.uri ∙ ap (λ b. cond b (Some (revised d r)) (map_of.get e.documents a.uri)) (uri_itself a.uri);
-      last_text = refl;
+      first = whole_text text ∷ [];
+      next = [];
+      cut = refl;
+      first_make = whole e.unit d.text text;
       is = refl;
     }
 

@@ -1,7 +1,7 @@
--- Editors that keep the protocol: what such an editor may do, and what it sends.
+-- Editors that keep ob0's rules: what such an editor may do, and what it sends.
 -- The model's editor (`done_by`) is one of them: it does each thing in one way.
 -- Rule: LSP 3.17, Text Document Synchronization, versioned documents.
-use Rattle.std.specs.Prelude.{◌≡◌, ◌<◌, ◌+◌, ℕ, pos, List, [], ◌∷◌, map, Some, None}
+use Rattle.std.specs.Prelude.{◌≡◌, ◌<◌, ◌+◌, ℕ, pos, List, [], ◌∷◌, ◌++◌, map, Some, None}
 use Rattle.std.specs.FinMap as map_of
 use Rattle.ob0_text.specs.OpenDocuments.{TextChange, Opened, Changed}
 use Rattle.ob0_world_rules.specs.Edited.{Replacement, edited, after_changes}
@@ -56,10 +56,16 @@ Revises e uri (r ∷ more) new announced =
 abbrev pub told : List ℕ → List Revision → List ToServer
 told uri revisions = map (λ r. notifies (Changed uri (pos r.version) r.how)) revisions
 
+-- the changes that are sent of revisions, one after another
+abbrev pub changes_of : List Revision → List TextChange
+changes_of [] = []
+changes_of (r ∷ more) = r.how ++ changes_of more
+
 -- ---- answers
 
--- The edits of answer k are made at once, of the document that was asked about, which is the same
--- opening with the same version, by revisions whose last has the edited text.
+-- The edits of answer k are made at once, in the document that was asked about, while it is the same
+-- opening with the same version. The first of the changes that are then sent make the edited text;
+-- the others are what the user did next, which an editor may send together with the edits.
 pub record AppliesAnswer (e : Editor) (k : ℕ) (revisions : List Revision) (done : Done)
     (announced : List Announced) : Type 0 where
   pub edits : List Replacement
@@ -74,9 +80,10 @@ pub record AppliesAnswer (e : Editor) (k : ℕ) (revisions : List Revision) (don
   pub makes : edited e.unit document.text edits ≡ Some text
   pub new : Editor
   pub revises : Revises (without_answer e k) requested.uri revisions new announced
-  pub last : Open
-  pub then_open : open_at new requested.uri ≡ Some last
-  pub last_text : last.text ≡ text
+  pub first : List TextChange
+  pub next : List TextChange
+  pub cut : changes_of revisions ≡ first ++ next
+  pub first_make : after_changes e.unit (Some document.text) first ≡ Some text
   pub is : done
       ≡ record {
         editor = new;

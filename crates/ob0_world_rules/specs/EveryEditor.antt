@@ -1,14 +1,14 @@
--- What holds with every editor that keeps the protocol, in every interleaving.
+-- What holds with every editor that keeps ob0's rules, in every interleaving.
 -- Rule: docs/PROMISES.md, Client and server.
 use Rattle.std.specs.Prelude.{◌≡◌, ℕ, List, [], ◌∷◌, ◌++◌, map, replicate, Option, Some, None}
 use Rattle.ob0_text.specs.declared.position_types.Unit.{Unit}
 use Rattle.ob0_text.specs.OpenDocuments.{OpenDocuments, none_open}
 use Rattle.ob0_world_rules.specs.Asks.{rename}
-use Rattle.ob0_world_rules.specs.ClientAndServer.{SentAsk, Editor, new_editor, ToServer, ToEditor, Applied, Made, ClientAndServer, start, after_message}
+use Rattle.ob0_world_rules.specs.ClientAndServer.{SentAsk, Editor, new_editor, ToServer, notifies, requests, ToEditor, Applied, Made, ClientAndServer, start, after_message}
 use Rattle.ob0_world_rules.specs.Editing.{Done, reads}
 use Rattle.ob0_world_rules.specs.Serving.{Replies}
 use Rattle.ob0_world_rules.specs.Happens.{Event, Course}
-use Rattle.ob0_world_rules.specs.Headline.{Holds}
+use Rattle.ob0_world_rules.specs.Headline.{Holds, AreUpToDate}
 use Rattle.ob0_world_rules.specs.Mirror.{Mirrors}
 use Rattle.ob0_world_rules.specs.MadeInOrder.{Announced, AreMadeOf, named_in, versioned_uri}
 use Rattle.ob0_world_rules.specs.Editors.{Move, May}
@@ -46,6 +46,12 @@ abbrev pub without_others : {A : Type 0} → List (Option A) → List A
 without_others [] = []
 without_others (None ∷ queue) = without_others queue
 without_others (Some message ∷ queue) = message ∷ without_others queue
+
+-- the messages of a queue that say something about documents
+abbrev pub notes_among : List ToServer → List ToServer
+notes_among [] = []
+notes_among (notifies note ∷ queue) = notifies note ∷ notes_among queue
+notes_among (requests k uri ask ∷ queue) = notes_among queue
 
 -- what the model says of client and server: all but the other messages
 abbrev pub as_model : EditorAndServer → ClientAndServer
@@ -149,6 +155,8 @@ pub record HoldsWithEditor (w : EditorAndServer) : Type 0 where
   -- was made for is a well-typed module; the latest ones are of the present text, when no message
   -- about a document waits for the server
   pub holds : Holds (as_model w)
+  -- so they are even if asks and other messages wait
+  pub latest : notes_among (without_others w.to_server) ≡ [] → AreUpToDate w.editor w.made
   -- the server's documents, after the messages that wait for it, are the editor's documents
   pub mirrors : Mirrors (as_model w)
   -- publications were made for the documents that the editor announced, one for each and in this
@@ -159,14 +167,14 @@ pub record HoldsWithEditor (w : EditorAndServer) : Type 0 where
   pub made_of : AreMadeOf w.made published
   pub still_wait : map versioned_uri waiting ≡ named_in (without_others w.to_server)
 
--- so it is with every editor that keeps the protocol, in every interleaving
+-- so it is with every editor that keeps ob0's rules, in every interleaving
 abbrev pub WithEveryEditor : Type 0
 WithEveryEditor =
     (unit : Unit) (turns : List Turn) (w : EditorAndServer)
     → MayLead (nothing_yet unit) turns w
     → HoldsWithEditor w
 
--- The model's editor keeps the protocol: whatever its events lead to may be so.
+-- The model's editor keeps ob0's rules: whatever its events lead to may be so.
 abbrev pub TheModelIsOne : Type 0
 TheModelIsOne =
     (unit : Unit) (events : List Event) (end : ClientAndServer)

@@ -54,13 +54,13 @@ pub fn made_in_order()
     ensures { MadeInOrder }
 {}
 
-/// With every editor that keeps the protocol, whatever the order of what happens: every applied edit keeps the run,
+/// With every editor that keeps ob0's rules, whatever the order of what happens: every applied edit keeps the run,
 /// diagnostics are right, made for what the editor announced and in this order, and in the end of the present text.
 pub fn with_every_editor()
     ensures { WithEveryEditor }
 {}
 
-/// The model's editor is one that keeps the protocol.
+/// The model's editor is one that keeps ob0's rules.
 pub fn the_model_is_one()
     ensures { TheModelIsOne }
 {}

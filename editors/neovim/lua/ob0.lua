@@ -25,9 +25,32 @@ local function is_current(made_for)
   return made_for.tick ~= nil and made_for.tick == tick_of(made_for.buffer)
 end
 
--- An answer as its handler gets it: an error instead of edits of another text. The edits of code actions keep what they were
--- made for, since they are applied when one is chosen.
-local function checked(made_for, fault, result)
+local refusals = {
+  Captures = "line %d: `%s` would mean another declaration (Captures)",
+  Duplicate = "line %d: `%s` is declared there already (Duplicate)",
+}
+
+-- The text of a refusal, with the line as the editor counts it and the name that stands there.
+local function in_words(refusal, buffer, encoding)
+  if refusal == "ill-typed" then
+    return "the module has an error: fix the first one that is marked (ill-typed)"
+  end
+  local kind, line, column = refusal:match("^(%a+) (%d+):(%d+)%-%d+:%d+$")
+  line, column = tonumber(line), tonumber(column)
+  local text = refusals[kind] and vim.api.nvim_buf_get_lines(buffer, line, line + 1, false)[1]
+  if not text then
+    return refusal
+  end
+  local start = encoding == "utf-8" and column or vim.str_byteindex(text, column, true)
+  return refusals[kind]:format(line + 1, text:match("^%w*", start + 1))
+end
+
+-- An answer as its handler gets it: an error instead of edits of another text, and a refusal in words. The edits of code actions
+-- keep what they were made for, since they are applied when one is chosen.
+local function checked(made_for, fault, result, encoding)
+  if fault and fault.message and is_current(made_for) then
+    fault = vim.tbl_extend("force", fault, { message = in_words(fault.message, made_for.buffer, encoding) })
+  end
   if type(result) ~= "table" then
     return fault, result
   end
@@ -73,9 +96,44 @@ local function guard_actions()
   end
 end
 
+-- Says why a module isn't formatted, as Neovim doesn't.
+local function tell(method, fault)
+  if fault and method == "textDocument/formatting" then
+    vim.notify("ob0: " .. fault.message, vim.log.levels.WARN)
+  end
+end
+
+-- Sends the whole text instead of changes at its start, if Neovim is 0.7: that loses the end of the last line where the buffer
+-- was empty.
+local function send_starts_whole(client)
+  local ends = { unix = "\n", dos = "\r\n", mac = "\r" }
+  wrap(client, "notify", function(notify, method, params)
+    local is_at_start = false
+    for _, it in ipairs(method == "textDocument/didChange" and params.contentChanges or {}) do
+      is_at_start = is_at_start or it.range and it.range.start.line == 0 and it.range.start.character == 0
+    end
+    if is_at_start then
+      local buffer = vim.uri_to_bufnr(params.textDocument.uri)
+      local line_end = ends[vim.bo[buffer].fileformat]
+      local text = table.concat(vim.api.nvim_buf_get_lines(buffer, 0, -1, true), line_end)
+      params.contentChanges = { { text = vim.bo[buffer].eol and text .. line_end or text } }
+    end
+    return notify(method, params)
+  end)
+end
+
+-- Shows the message of each diagnostic at the end of its line, if nothing shows messages: as in Neovim 0.11 and later, unless the
+-- user has set something else.
+function found.show_messages(client)
+  local shown = vim.diagnostic.config()
+  if vim.lsp.enable and vim.g.ob0_messages ~= 0 and not shown.virtual_text and not shown.virtual_lines then
+    vim.diagnostic.config({ virtual_text = true }, vim.lsp.diagnostic.get_namespace(client.id))
+  end
+end
+
 local guarded = setmetatable({}, { __mode = "k" })
 
--- Has a client refuse answers that are late, and count places as the server does.
+-- Has a client refuse answers that are late, say why, and count places as the server does.
 function found.guard(client)
   if guarded[client] then
     return
@@ -83,6 +141,10 @@ function found.guard(client)
   guarded[client] = true
   guard_actions()
   client.offset_encoding = client.server_capabilities.positionEncoding or client.offset_encoding
+  found.show_messages(client)
+  if not vim.lsp.start then
+    send_starts_whole(client)
+  end
   wrap(client, "request", function(request, method, params, handler, buffer)
     if not answered_by_edits[method] then
       return request(method, params, handler, buffer)
@@ -90,7 +152,8 @@ function found.guard(client)
     local made_for = snapshot(buffer)
     handler = handler or client.handlers[method] or vim.lsp.handlers[method]
     return request(method, params, function(fault, result, ...)
-      fault, result = checked(made_for, fault, result)
+      fault, result = checked(made_for, fault, result, client.offset_encoding)
+      tell(method, fault)
       return handler(fault, result, ...)
     end, buffer)
   end)
@@ -98,7 +161,8 @@ function found.guard(client)
     local made_for = snapshot(buffer)
     local answer, why = request(method, params, timeout, buffer)
     if answer and answered_by_edits[method] then
-      answer.err, answer.result = checked(made_for, answer.err, answer.result)
+      answer.err, answer.result = checked(made_for, answer.err, answer.result, client.offset_encoding)
+      tell(method, answer.err)
     end
     return answer, why
   end)

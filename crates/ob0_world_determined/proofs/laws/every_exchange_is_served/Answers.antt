@@ -11,6 +11,7 @@ returns c unit begin now turns begins leads =
     record {
       holds = holds;
       written = λ short put result written served. c.a_conversation_is_served.ensures now.wire.taken (now.wire.got ++ now.wire.to_editor) now.wire.session short holds.conversation put result written served;
+      written_first = λ short more put result written served. c.a_conversation_is_served_first.ensures now.wire.taken (now.wire.got ++ now.wire.to_editor) now.wire.session short holds.conversation more put result written served;
       in_part = λ taken put part are.
           part.frames
           ∙ ap (flat_map frame)

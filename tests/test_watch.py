@@ -1,0 +1,482 @@
+"""ob0-watch: it passes every byte on, finds each planted fault by the name of its rule, and finds none in conversations that keep the
+rules. (tests/lib/watched.py has the editors that the other tests drive run through it.)"""
+from __future__ import annotations
+
+import json
+import os
+import random
+import shutil
+import signal
+import subprocess
+import sys
+import time
+from collections.abc import Iterable
+from typing import Any, Callable, Dict, List, Optional, Tuple
+
+import conversations
+import harness
+import keyed
+import long_conversation
+import several_documents
+import watched
+from first_conversation import INPUT, OUTPUT
+from harness import EXIT, SHUTDOWN, Failed, Message, did_change, did_close, did_open, extent, frame, holds, need_program, notice, place, request
+from harness import same, test, want
+from homes import temporary, write
+from snippets import snippets
+
+WATCH = watched.load()
+EDITS: Message = {"workspace": {"workspaceEdit": {"documentChanges": True}}, "textDocument": {"codeAction": {"codeActionLiteralSupport": {}}}}
+URI = "file:///m"
+RENAME, FORMAT, ACTION = keyed.RENAME, keyed.LAYOUT, keyed.ACTION
+Edits = List[Message]
+Fault = Callable[["Talk"], object]
+
+TEXT = "MODULE M;\nVAR n: INTEGER;\nBEGIN n := 1; Write(n)\nEND M.\n"
+PLACES = ["1:4-1:5", "2:6-2:7", "2:20-2:21"]
+RENAMED = harness.edited(TEXT, PLACES, "tot")
+
+
+def replacements(new: str, places: Iterable[str] = PLACES) -> Edits:
+    return [{"range": extent(it), "text": new} for it in places]
+
+
+def inserted(where: Message, text: str) -> Message:
+    return {"range": {"start": where, "end": where}, "text": text}
+
+
+class Talk:
+    """A conversation that a watcher is told of: it is initialized, and a document is open at version 1."""
+
+    def __init__(self, text: str = TEXT, uri: str = URI, file_of: Callable[[str], Optional[str]] = lambda uri: None, **capabilities: Any) -> None:
+        self.watcher, self.version, self.idents = WATCH.Watcher(file_of), 1, 0
+        self.uri, self.now = uri, 1000.0
+        self.sends(harness.initialize(0, **{**EDITS, **capabilities}))
+        self.sends(notice("initialized", {}))
+        if text:
+            self.sends(did_open(text, uri))
+
+    def sends(self, *contents: harness.Content) -> None:
+        for it in contents:
+            self.now += 1
+            self.watcher.take("editor", frame(it), self.now)
+
+    def changes(self, changes: Any, version: Optional[int] = None) -> None:
+        """A notification with these changes, at the next version."""
+        self.version = self.version + 1 if version is None else version
+        self.sends(did_change(changes, self.uri, self.version))
+
+    def asks(self, method: str = RENAME) -> int:
+        self.idents += 1
+        document = {"uri": self.uri}
+        params: Message = {"textDocument": document, "position": place(1, 4), "newName": "tot"}
+        if method == FORMAT:
+            params = {"textDocument": document, "options": {"tabSize": 2, "insertSpaces": True}}
+        if method == ACTION:
+            params = {"textDocument": document, "range": extent("1:4-1:4"), "context": {"diagnostics": []}}
+        self.sends(request(self.idents, method, params))
+        return self.idents
+
+    def answers(self, ident: int, result: Any) -> None:
+        self.watcher.take("server", frame({"id": ident, "jsonrpc": "2.0", "result": result}), self.now)
+
+    def is_answered(self, edits: Edits, method: str = RENAME) -> None:
+        """A request, and an answer with edits or with an action for each list of edits."""
+        self.answers(self.asks(method), self.result(edits, method))
+
+    def result(self, edits: Any, method: str = RENAME) -> Any:
+        if method == ACTION:
+            return [{"title": "Inline here", "edit": self.result(it)} for it in edits]
+        made = [{"range": it["range"], "newText": it["text"]} for it in edits]
+        return made if method == FORMAT else {"documentChanges": [{"textDocument": {"uri": self.uri, "version": self.version}, "edits": made}]}
+
+    def found(self, is_broken: bool) -> set[str]:
+        """The rules that are broken at the end, or those that have notes."""
+        self.watcher.end(self.now)
+        return {it.rule for it in self.watcher.findings if it.is_broken == is_broken}
+
+
+# how an editor tells of the edits of a rename: the changes of each notification
+IN_TURN = replacements("tot", reversed(PLACES))
+TAKEN_OUT: Edits = [it for edit in IN_TURN for it in ({**edit, "text": ""}, inserted(edit["range"]["start"], "tot"))]
+TOLD: Dict[str, List[Any]] = {
+    "as the whole text": [RENAMED],
+    "from the last place to the first": [IN_TURN],
+    "one at a time": [[it] for it in IN_TURN],
+    "each taken out and put in": [TAKEN_OUT],
+    "each taken out and put in, one at a time": [[it] for it in TAKEN_OUT],
+    "as one range": [[{"range": extent("1:4-2:21"), "text": "tot: INTEGER;\nBEGIN tot := 1; Write(tot"}]],
+    "as lines": [[{"range": extent("1:0-3:0"), "text": RENAMED.partition("\n")[2].rpartition("END")[0]}]],
+    "with what is typed next": [[*IN_TURN, *(inserted(place(0, at), it) for at, it in enumerate("(* new *)\n"))]],
+}
+HOVER = request("h", "textDocument/hover", {"textDocument": {"uri": URI}, "position": place(0, 0)})
+
+
+@test("watch: an edit that is made as it should be is no finding, however it is told, and it is counted")
+def clean() -> None:
+    for how, notifications in TOLD.items():
+        for between in ([], [notice("$/setTrace", {"value": "off"})]):
+            talk = Talk()
+            talk.is_answered(replacements("tot"))
+            for changes in notifications:
+                talk.changes(changes)
+                talk.sends(*between)
+            talk.changes([inserted(place(0, 0), " ")])
+            counts = talk.watcher.watched
+            same((talk.found(True), counts["half-edit"], counts["late-edit"]), (set(), 1, 0), f"a rename that is told {how}")
+
+
+@test("watch: what a user types, undoes and makes again is no finding, with answers that were dropped before")
+def typed() -> None:
+    talk = Talk()
+    for method, edits in ((RENAME, replacements("tot")), (FORMAT, [inserted(place(1, 0), "  ")]), (ACTION, [replacements("7", PLACES[1:2]), replacements("7")])):
+        talk.is_answered(edits, method)
+        talk.changes([inserted(place(0, 0), "\n")])
+    talk.is_answered(replacements("tot", ["2:4-2:5", "3:6-3:7", "3:20-3:21"]))
+    for text in (RENAMED, TEXT, RENAMED, TEXT.replace("1", "2"), "", TEXT):
+        talk.changes(text)
+    same(talk.found(True), set())
+
+
+def late(talk: Talk, changes: Any, method: str = RENAME, edits: Any = None) -> None:
+    """An answer comes after a line was typed above; then the editor tells these changes."""
+    ident = talk.asks(method)
+    talk.changes([inserted(place(0, 0), "(* new *)\n")])
+    talk.answers(ident, talk.result(edits or replacements("tot"), method))
+    for it in changes if isinstance(changes[0], list) else [changes]:
+        talk.changes(it)
+
+
+def lower(edits: Edits) -> Edits:
+    """The same edits, a line lower."""
+    moved = lambda at: place(at["line"] + 1, at["character"])  # noqa: E731
+    return [{**it, "range": {end: moved(it["range"][end]) for end in ("start", "end")}} for it in edits]
+
+
+def reopened(talk: Talk, text: str, changes: Edits) -> None:
+    ident = talk.asks()
+    talk.sends(did_close(), did_open(text))
+    talk.answers(ident, talk.result(replacements("tot")))
+    talk.changes(changes)
+
+
+def told(*contents: harness.Content) -> Fault:
+    return lambda talk: talk.sends(*contents)
+
+
+def changed(*changes: Any) -> Fault:
+    return lambda talk: [talk.changes(it) for it in changes]
+
+
+def renamed(*changes: Any) -> Fault:
+    """An answer to a rename comes, and the editor tells these changes."""
+    return lambda talk: (talk.is_answered(replacements("tot")), changed(*changes)(talk))
+
+
+def inlined(text: str) -> Fault:
+    """An answer comes with an action, for a constant behind an emoji, and the editor tells this text."""
+
+    def fault(talk: Talk) -> None:
+        talk.changes(EMOJI)
+        talk.is_answered([replacements("7", ["2:21-2:22"])], ACTION)
+        talk.changes(text)
+
+    return fault
+
+
+EMOJI = "MODULE M;\nCONST k = 7;\nBEGIN (* \U0001f600 *) Write(k) END M.\n"
+TYPED = [inserted(place(0, 0), " ")]
+# what is done in a conversation, and the rule that is broken so
+BROKEN: Dict[str, Tuple[str, Fault]] = {
+    "a version that falls": ("versions", lambda talk: [talk.changes(TYPED, it) for it in (5, 4)]),
+    "a version that comes again": ("versions", lambda talk: talk.changes(TYPED, 1)),
+    "a late edit at its old places": ("late-edit", lambda talk: late(talk, IN_TURN)),
+    "a late edit that moves along": ("late-edit", lambda talk: late(talk, lower(IN_TURN))),
+    "a late edit that moves along, one change at a time": ("late-edit", lambda talk: late(talk, [[it] for it in lower(TAKEN_OUT)])),
+    "a late edit as the whole text": ("late-edit", lambda talk: late(talk, "(* new *)\n" + RENAMED)),
+    "a late edit with what was typed before and after": (
+        "late-edit",
+        lambda talk: late(talk, [*TYPED, *lower(IN_TURN), inserted(place(1, 0), "x")]),
+    ),
+    "a late layout": ("late-edit", lambda talk: late(talk, [inserted(place(2, 0), "  ")], FORMAT, [inserted(place(1, 0), "  ")])),
+    "a late inlining": ("late-edit", lambda talk: late(talk, lower(IN_TURN[:1]), ACTION, [IN_TURN, IN_TURN[:1]])),
+    "an edit that is made with what was typed before it": ("late-edit", renamed([*TYPED, *IN_TURN])),
+    "an edit after a reopen": ("reopened-edit", lambda talk: reopened(talk, "\n" + TEXT, lower(IN_TURN))),
+    "an edit after a reopen, at its old places": ("reopened-edit", lambda talk: reopened(talk, "\n" + TEXT, IN_TURN)),
+    "half an edit": ("half-edit", renamed(IN_TURN[:2], *[TYPED] * 3)),
+    "half an edit, and what is typed next": ("half-edit", renamed([*IN_TURN[:1], *TYPED * 9])),
+    "half an edit as the whole text": ("half-edit", renamed(harness.edited(TEXT, PLACES[1:], "tot"), *[TYPED] * 3)),
+    "half an edit at the end": ("half-edit", renamed(IN_TURN[:2])),
+    "half an edit, and a close": ("half-edit", lambda talk: (renamed(IN_TURN[:2])(talk), talk.sends(did_close(), did_open("")))),
+    "an edit at columns counted in bytes": ("wrong-places", inlined(EMOJI.replace("Write", "Writ7"))),
+    "an edit at columns counted in characters": ("wrong-places", inlined(EMOJI.replace("(k)", "(k7"))),
+    "a range inside a character": ("ranges", changed(EMOJI, [inserted(place(2, 10), "x")])),
+    "a change of what isn't open": ("open", told(did_change("x", "file:///other"))),
+    "a change of what was closed": ("open", told(did_close(), did_change("x"))),
+    "no JSON": ("readable", told("x")),
+    "no UTF-8": ("readable", told(b'{"method":"\xff"}')),
+    "half a surrogate pair": ("readable", told('{"method":"x","params":"\\ud83d"}')),
+    "a word of JavaScript": ("readable", told('{"method":"x","params":NaN}')),
+    "a value that is nested too deep": ("readable", told('{"method":"x","params":%s}' % ("[" * 127 + "]" * 127))),
+    "a batch": ("readable", told("[%s]" % harness.compact(EXIT))),
+    "a method that is no text": ("readable", told('{"method":1}')),
+    "a fraction as the id": ("readable", told('{"id":1.5,"method":"shutdown"}')),
+    "a change without a version": ("readable", told(notice("textDocument/didChange", {"textDocument": {"uri": URI}, "contentChanges": []}))),
+    "a document without a uri": ("readable", told(notice("textDocument/didClose", {"textDocument": {}}))),
+    "a head without a length": ("readable", lambda talk: talk.watcher.take("editor", b"Content-Type: x\r\n\r\n", 0.0)),
+    "an id that waits for its answer": ("numbers", lambda talk: (talk.asks(), talk.sends(request(1, "textDocument/hover")))),
+}
+# and what is no fault, but isn't covered by the proofs
+NOTED: Dict[str, Tuple[str, Fault]] = {
+    "a range past the end of a line": ("ranges", changed([{"range": extent("0:99-1:0"), "text": "\n"}])),
+    "a range past the end of the text": ("ranges", changed([inserted(place(99, 0), "x")])),
+    "a range that ends before it starts": ("ranges", changed([{"range": extent("1:0-0:3"), "text": "\n"}])),
+    "a document that is opened twice": ("open", told(did_open(TEXT))),
+    "a close of what isn't open": ("open", told(did_close("file:///other"))),
+    "a question about what isn't open": ("open", told(did_close(), HOVER)),
+    "a version below zero": ("versions", told(did_open("", "file:///other", -1))),
+    "params that can't be read": ("readable", told(request(1, RENAME, {"textDocument": {"uri": URI}}))),
+    "an answer without a result": ("readable", told('{"id":1}')),
+    "an end inside a message": ("readable", lambda talk: [talk.watcher.take("editor", it, 0.0) for it in (b"Content-L", b"")]),
+    "a reopen with the same text": ("reopened-edit", lambda talk: reopened(talk, TEXT, IN_TURN)),
+    "a rename with a text as its id": ("numbers", told({**HOVER, "id": "a", "method": RENAME, "params": {**HOVER["params"], "newName": "x"}})),
+    "ids that skip numbers": ("numbers", lambda talk: [(setattr(talk, "idents", at), talk.asks()) for at in (1, 5)]),
+    "ids that fall": ("numbers", lambda talk: [(setattr(talk, "idents", at), talk.asks()) for at in (7, 5)]),
+}
+
+
+def found(fault: Fault, is_broken: bool) -> set[str]:
+    talk = Talk()
+    fault(talk)
+    return talk.found(is_broken)
+
+
+@test("watch: each planted fault is found by the name of its rule, and nothing else")
+def planted() -> None:
+    for what, (rule, fault) in BROKEN.items():
+        same(found(fault, True), {rule}, f"the broken rules of {what}")
+    for what, (rule, fault) in NOTED.items():
+        same((found(fault, True), found(fault, False)), (set(), {rule}), f"the broken rules and the notes of {what}")
+
+
+@test("watch: what a client doesn't announce is noted, and an opening before the request `initialize` is found")
+def beginnings() -> None:
+    talk = Talk(workspace={}, textDocument={})
+    same((talk.found(True), [it.rule for it in talk.watcher.findings]), (set(), ["capabilities"] * 2), "a client that announces nothing")
+    watcher = WATCH.Watcher()
+    watcher.take("editor", frame(did_open(TEXT)), 0.0)
+    same([(it.rule, it.is_broken, it.number, it.method) for it in watcher.findings], [("start", True, 1, "textDocument/didOpen")])
+
+
+@test("watch: positions are counted in the unit that was agreed on, and edits with CR LF for LF are noted")
+def units_and_ends() -> None:
+    talk = Talk(EMOJI, general={"positionEncodings": ["utf-16", "utf-8"]})
+    talk.is_answered([replacements("7", ["2:23-2:24"])], ACTION)
+    talk.changes(replacements("7", ["2:23-2:24"]))
+    same((talk.found(True), talk.watcher.watched["wrong-places"]), (set(), 1), "by bytes")
+    text = "MODULE M;\r\nVAR n: INTEGER;\r\nEND M.\r\n"
+    talk = Talk(text)
+    talk.is_answered([{"range": extent("1:3-1:4"), "text": "\n  "}, {"range": extent("1:6-1:7"), "text": "  "}], FORMAT)
+    talk.changes(text.replace("VAR ", "VAR\r\n  ").replace(": ", ":  "))
+    same((talk.found(True), talk.found(False)), (set(), {"line-ends"}), "with CR LF")
+
+
+@test("watch: a file that is written has a text that was told, else a change was lost")
+def files() -> None:
+    for written, told_then, is_lost in ((TEXT, [], False), (RENAMED, [RENAMED], False), (RENAMED, [], True), ("x", [TEXT + " "], True)):
+        for ends in ("\n", "\r\n"):
+            with temporary() as room:
+                path = os.path.join(room, "m 1.mod")
+                write(path, "before")
+                talk = Talk(uri="file://" + path.replace(" ", "%20"), file_of=WATCH.path_of)
+                write(path, "\ufeff" + written.rstrip("\n").replace("\n", ends))
+                talk.sends(notice("textDocument/didSave", {}))
+                for text in told_then:
+                    talk.changes(text)
+                same(talk.found(True), {"lost-change"} if is_lost else set(), f"{written!r} was written, {told_then!r} told")
+                same(talk.watcher.watched["lost-change"], 1, "how many were compared")
+
+
+# ---- the program
+
+
+def watch(room: str, *words: str, given: bytes = b"", first: Iterable[str] = ()) -> Tuple[int, bytes, bytes, str]:
+    """Runs ob0-watch: its status, what it wrote, and its report."""
+    report = os.path.join(room, "report")
+    command = [sys.executable, *(first or [watched.SCRIPT]), "--report", report, "--", *words]
+    ran = subprocess.run(command, input=given, capture_output=True, timeout=harness.SECONDS, check=False)
+    return ran.returncode, ran.stdout, ran.stderr, harness.text_of(report) if os.path.exists(report) else ""
+
+
+@test("watch: every byte is passed on, and the status is the server's")
+def passed_on() -> None:
+    chance = random.Random(1)
+    for given in (b"", b"x", INPUT, INPUT[:100], INPUT.replace(b"Length", b"Width"), bytes(chance.randrange(256) for _ in range(300_000)), INPUT * 300):
+        with temporary() as room:
+            same(watch(room, "cat", given=given)[:3], (0, given, b""), f"what is passed on of {given[:40]!r}")
+    for words, status, last in (
+        (["sh", "-c", "exit 7"], 7, "with status 7."),
+        (["sh", "-c", "kill -KILL $$"], -9, "by signal 9."),
+        (["sh", "-c", "exec <&-; sleep 0.2; exit 3"], 3, "with status 3."),
+    ):
+        with temporary() as room:
+            got, out, err, report = watch(room, *words, given=INPUT)
+            same((got, out, err, report.splitlines()[-1]), (status, b"", b"", f"The server ended {last}"), f"the end of {words}")
+
+
+@test("watch: bytes that come one at a time are passed on as they come, and a signal reaches the server")
+def at_once() -> None:
+    with temporary() as room:
+        words = [sys.executable, watched.SCRIPT, "--report", os.path.join(room, "report"), "--", "cat"]
+        with subprocess.Popen(words, stdin=subprocess.PIPE, stdout=subprocess.PIPE, bufsize=0) as process:
+            given, out = process.stdin, process.stdout
+            assert given and out
+            for at in range(len(INPUT)):
+                given.write(INPUT[at : at + 1])
+                same(out.read(1), INPUT[at : at + 1], f"byte {at}")
+            process.send_signal(signal.SIGTERM)
+            same(process.wait(harness.SECONDS), -signal.SIGTERM, "the status")
+        report = watched.complete(os.path.join(room, "report"))
+        holds("readable: watched 4, broken 0" in report and report.endswith("by signal 15.\n"), report)
+
+
+@test("watch: neither a fault of the watcher nor a report that can't be written touches the conversation")
+def robust() -> None:
+    with temporary() as room:
+        fault = "import watched; it = watched.load(); it.Watcher.told = 0; import sys; it.end_as(it.main(sys.argv[1:]))"
+        status, out, err, report = watch(room, "cat", given=INPUT * 9, first=["-c", f"import sys; sys.path[:0] = {sys.path!r}; {fault}"])
+        same((status, out, err), (0, INPUT * 9, b""), "with a fault of the watcher")
+        same(report.splitlines()[-1], "It stopped watching, by a fault of its own: TypeError: 'int' object is not callable")
+        os.mkdir(os.path.join(room, "report.new"))
+        os.remove(os.path.join(room, "report"))
+        status, out, err, report = watch(room, "cat", given=INPUT)
+        same((status, out, report), (0, INPUT, ""), "without a report")
+        holds(err.startswith(b"ob0-watch: the report can't be written: "), err)
+
+
+@test("watch: the command line, where the report is, and commands of ob0 that aren't watched")
+def command_line() -> None:
+    need_program()
+    with temporary() as room:
+        os.mkdir(os.path.join(room, "bin"))
+        os.symlink(os.path.abspath(harness.BINARY), os.path.join(room, "bin", "ob0"))
+        write(os.path.join(room, "m.mod"), "MODULE M; $ END M.\n")
+        own = {**os.environ, "XDG_STATE_HOME": "", "HOME": room, "PATH": os.path.join(room, "bin") + os.pathsep + os.environ["PATH"]}
+
+        def ran(*words: str, given: bytes = b"", **other: str) -> Tuple[int, bytes]:
+            how: Dict[str, Any] = {"input": given, "stdout": subprocess.PIPE, "stderr": subprocess.DEVNULL, "cwd": room, "env": {**own, **other}}
+            found = subprocess.run([sys.executable, watched.SCRIPT, *words], check=False, **how)
+            return found.returncode, found.stdout
+
+        for words in ([], ["serve"], ["serve", "--stdio"], ["--", "ob0", "serve"]):
+            same(ran(*words, given=INPUT), (0, OUTPUT), f"ob0-watch {words}")
+        same(len(os.listdir(os.path.join(room, ".local", "state", "ob0"))), 4, "the reports")
+        same(ran(given=INPUT, XDG_STATE_HOME=os.path.join(room, "state")), (0, OUTPUT))
+        same(len(os.listdir(os.path.join(room, "state", "ob0"))), 1, "the report")
+        same(ran("check", "m.mod"), (1, b"0:10: BadChar: bad character\n"), "ob0-watch check")
+        same(ran("--help")[0], 0, "the status with --help")
+        same([ran(*it) for it in (["--reprot"], ["--"], ["--report"])], [(2, b"")] * 3, "a wrong command line")
+        same([ran(*it, PATH="/nowhere") for it in ([], ["--", "no-such-program"])], [(4, b"")] * 2, "no program")
+
+
+def by_watched(room: str) -> None:
+    """Has this process's tests start the program watched, with reports in this room."""
+    need_program()
+    harness.BINARY = watched.put_program(room, [os.path.abspath(harness.BINARY)])
+
+
+@test("watch: the conversations of tests/inputs break no rule, but for the messages in them that can't be read")
+def recorded() -> None:
+    cases = {name: it for name, it in {**conversations.SHORT, **conversations.LONG}.items() if it.words == ["serve"]}
+    for name, case in cases.items():
+        with temporary() as room:
+            before = harness.serve(case.given)
+            status, out, err, _ = watch(room, harness.BINARY, "serve", given=case.given)
+            same((status, out, err), (before.status, before.out, before.err), name)
+            os.makedirs(os.path.join(room, "watched"))
+            os.rename(os.path.join(room, "report"), os.path.join(room, "watched", "0"))
+            unreadable = name == "faults of every kind, changed"
+            write(os.path.join(room, "breaks"), "readable" if unreadable else "")
+
+
+# (a change by chance can equal a part of an answer: with these seeds none does)
+@test("watch: conversations of random changes and questions break no rule, but for the changes in them that can't be read")
+def random_talks() -> None:
+    with temporary() as room:
+        by_watched(room)
+        with harness.Server(capabilities=long_conversation.LITERALS) as server:
+            one = long_conversation.Talk(server, random.Random(3))
+            one.begin()
+            for _ in range(150):
+                (one.query if one.chance.random() < 0.4 else one.change)()
+            same(server.end(), 0)
+        with harness.Server(capabilities=several_documents.CLIENT) as server:
+            several = several_documents.Talk(server, random.Random(1))
+            del several.documents[len(several_documents.SMALL) :]
+            for _ in range(150):
+                several.step()
+            same(server.end(), 0)
+        write(os.path.join(room, "breaks"), "readable")
+
+
+# ---- editors that break rules
+
+
+def breaks(room: str, *rules: str) -> None:
+    """Says which rules the editor in this room breaks."""
+    write(os.path.join(room, "breaks"), " ".join(rules))
+
+
+class PlainNeovim(keyed.Neovim):
+    """Neovim's own client, without ob0's files."""
+
+    start = """
+vim.api.nvim_create_autocmd({ "BufRead" }, { callback = function()
+  local id = vim.lsp.start_client({ name = "plain", cmd = { "ob0", "serve" } })
+  vim.lsp.buf_attach_client(0, id)
+end })
+"""
+
+    def settings(self) -> Dict[str, str]:
+        shutil.rmtree(os.path.join(self.folder, ".local", "share", "nvim", "site", "pack", "ob0"))
+        found = super().settings()
+        return {name: lines + self.start for name, lines in found.items()}
+
+
+@test("watch: Neovim without ob0's files makes a late answer, and that is found")
+def plain_neovim() -> None:
+    want("Neovim")
+    need_program()
+    with temporary() as room, PlainNeovim(room, TEXT) as editor:
+        editor.wire.hold(RENAME)
+        editor.keys(editor.going(1, 4) + editor.asks["rename"][0])
+        editor.await_("the request", editor.wire.is_held)
+        editor.keys(editor.line_above)
+        editor.reports("(* new *)\n" + TEXT)
+        editor.wire.release()
+        editor.await_("the late edit", lambda: "tot" in (editor.wire.text() or ""))
+        breaks(room, "late-edit")
+
+
+BEHIND = "MODULE M;\nVAR n: INTEGER;\nBEGIN (* {} *) n := 1; Write(n)\nEND M.\n"
+
+
+@test("watch: Vim by ALE makes an edit behind other letters at wrong places, and that is found")
+def ale_places() -> None:
+    want("Vim", "ALE")
+    need_program()
+    with temporary() as room, keyed.Ale(room, BEHIND.format("\u00e9")) as editor:
+        editor.keys(editor.going(1, 4) + editor.asks["rename"][0])
+        editor.await_("the edit", lambda: "tot" in (editor.wire.text() or ""))
+        breaks(room, "wrong-places")
+
+
+@test("watch: Emacs by lsp-mode loses a change behind an emoji, and that is found once the file is written")
+def lsp_mode_places() -> None:
+    want("Emacs", "lsp-mode")
+    need_program()
+    with temporary() as room, keyed.LspMode(room, BEHIND.format("\U0001f600")) as editor:
+        editor.keys(editor.going(2, 9) + "\x1b:(progn (end-of-line) (insert \";\") (save-buffer))\r")
+        editor.await_("the file", lambda: harness.text_of(editor.file) != BEHIND.format("\U0001f600"))
+        editor.text(comes_last=True)
+        breaks(room, "lost-change")
