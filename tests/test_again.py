@@ -161,10 +161,22 @@ def none_at_all() -> None:
     same((found.stdout.decode(), found.returncode), ("no test has such a name\n0 passed, 1 failed\n", 1))
 
 
+# Leaves a process in another session, which writes its number to a file once its parent has ended.
+LEAVES = """import os, sys, time
+parent = os.getpid()
+if os.fork() == 0:
+    os.setsid()
+    while os.getppid() == parent:
+        time.sleep(0.01)
+    with open(sys.argv[1], "w") as file:
+        file.write(str(os.getpid()))
+    time.sleep(600)
+"""
+
+
 def leaves_a_child(path: str) -> None:
-    """A test that starts a process in another session, whose parent ends, and waits."""
-    start = "import os, sys, time\nif os.fork() == 0:\n  os.setsid()\n  open(sys.argv[1], 'w').write(str(os.getpid()))\n  time.sleep(600)"
-    subprocess.run([sys.executable, "-c", start, path], check=True)
+    """A test that starts a process whose parent ends, and waits."""
+    subprocess.run([sys.executable, "-c", LEAVES, path], check=True)
     time.sleep(600)
 
 
