@@ -552,7 +552,7 @@ def vscode() -> None:
 @test("VS Code: the extension, with the real vscode-languageclient and a stand-in for the editor, does the same")
 def vscode_client() -> None:
     # (`npm install` in editors/vscode gets the client, and `make editors RELEASE=trixie` makes it in its root)
-    want("Node", CLIENT)
+    want("Node", vsix.CLIENT)
     harness.need_program()
     in_vscode_by("real")
 
