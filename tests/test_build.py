@@ -42,15 +42,16 @@ def waits(seconds: float, holds_now: Any, what: str) -> None:
 def is_ended_by(number: int, *, ignored: bool = False) -> None:
     with temporary() as room:
         shutil.copytree(os.path.join(TOP, "tools"), os.path.join(room, "tools"), ignore=shutil.ignore_patterns("__pycache__"))
-        for path, text in {"crates.txt": "low:\nob0: low\n", "HANDLES": "\n", "crates/low/src/lib.rt": "", "crates/ob0/src/main.rt": ""}.items():
-            write(os.path.join(room, path), text)
+        write(os.path.join(room, "crates.txt"), "low:\nob0: low\n")
+        for it in ("HANDLES", "crates/low/src/lib.rt", "crates/ob0/src/main.rt"):
+            write(os.path.join(room, it), "")
         write(os.path.join(room, "path", "rt"), PROVER)
         os.chmod(os.path.join(room, "path", "rt"), 0o755)
         pids = os.path.join(room, "pids")
         own = {**os.environ, "PATH": f"{room}/path:{os.environ['PATH']}", "PIDS": pids}
         ignore = (lambda: signal.signal(number, signal.SIG_IGN)) if ignored else None
-        how: dict[str, Any] = {"cwd": room, "env": own, "stdin": subprocess.DEVNULL, "stdout": subprocess.DEVNULL, "start_new_session": True}
-        with subprocess.Popen([sys.executable, "-B", "tools/build.py"], preexec_fn=ignore, **how) as process:
+        how: dict[str, Any] = {"cwd": room, "env": own, "stdin": subprocess.DEVNULL, "stdout": subprocess.DEVNULL}
+        with subprocess.Popen([sys.executable, "-B", "tools/build.py"], preexec_fn=ignore, start_new_session=True, **how) as process:
             waits(300, lambda: os.path.exists(pids), "the start of a prover")
             running = [int(it) for it in text_of(pids).split()]
             try:
@@ -62,9 +63,9 @@ def is_ended_by(number: int, *, ignored: bool = False) -> None:
                 same(process.wait(300), 128 + (signal.SIGTERM if ignored else number), "the status")
                 waits(30, lambda: not any(map(is_running, running)), "the end of the provers")
             finally:
-                for it in running:
+                for process_id in running:
                     with contextlib.suppress(ProcessLookupError):
-                        os.kill(it, signal.SIGKILL)
+                        os.kill(process_id, signal.SIGKILL)
         holds(not os.path.exists(os.path.join(room, "bin", "rooms")), "rooms are left")
         same(text_of(room, "crates", "low", "out", "kept"), "kept\n", "what was proved")
 

@@ -413,6 +413,22 @@ def in_emacs() -> None:
         same(text_of(report), f"({' '.join(['ob0-mode'] * (1 + len(examples())))})")
 
 
+@test("package: package-lint and checkdoc accept Emacs's files, except for the address of a home page, which ob0 doesn't have")
+def linted() -> None:
+    want("Emacs", "package-lint")
+    with temporary() as room:
+        own_home = {**os.environ, "HOME": room, "LC_ALL": "C.UTF-8"}
+        mode = os.path.join(TOP, "editors", "emacs", "ob0-mode.el")
+        words = ["emacs", "--batch", "--eval", "(progn (require 'package) (package-initialize) (require 'package-lint))"]
+        _, said = run_plainly([*words, "-f", "package-lint-batch-and-exit", mode], own_home, room)
+        found = re.findall(r"^\S+\.el:\d+:\d+: (error|warning): (.*)$", said, re.M)
+        # (the code for eglot, lsp-mode and yasnippet is for packages that may be loaded later, or never)
+        same([it for it in found if "with-eval-after-load" not in it[1]], [("error", "Package should have a Homepage or URL header.")], said)
+        for path in (mode, os.path.join(TOP, "share", "emacs", "ob0-mode-autoloads.el")):
+            said = run_plainly(["emacs", "-Q", "--batch", "--eval", f'(checkdoc-file "{path}")'], own_home, room)[1]
+            same(said, "", f"what checkdoc says of {path}")
+
+
 @test("package: Kakoune, on a new file and each example, in an empty home")
 def in_kakoune() -> None:
     want("Kakoune")

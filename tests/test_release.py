@@ -39,7 +39,8 @@ NEEDED = [*package.COPIED, "tools", "share", "LICENSE", "Makefile", "crates.txt"
 STAND_IN = """import common, json, notices, sys
 common.keep(sys.argv[1])
 common.keep_verdict("1 passed, 0 failed")
-json.dump({**notices.head(), "crates": {"low": {}, "mid": {"LICENSE": "Copyright (c) 2001 A B\\n\\nDo as you like.\\n"}}}, open(notices.KEPT, "w"))
+crates = {"low": {}, "mid": {"LICENSE": "Copyright (c) 2001 A B\\n\\nDo as you like.\\n"}}
+json.dump({**notices.head(), "crates": crates}, open(notices.KEPT, "w"))
 """
 
 
@@ -111,7 +112,7 @@ def places() -> None:
         same(found - {number}, set(), f"other versions of ob0 on {path}")
 
 
-@test("release: each crate of the kit that the program is linked with has its notice in the package, and a crate without one is named there")
+@test("release: each crate of the kit that the program is linked with has its notice in the package, or is named there")
 def linked() -> None:
     if not shutil.which("rt"):
         leave_out("it wants the toolchain")
@@ -231,7 +232,8 @@ CHANGES = """# Changes
 def entries() -> None:
     with repository() as made:
         number, page = package.version(), os.path.join(made.room, "CHANGELOG.md")
-        changelog: Callable[[], tuple[int, str]] = lambda: made.call("print(package.changelog().decode(), end='')", SOURCE_DATE_EPOCH="1800000000", DEBEMAIL="y@z")
+        named = {"SOURCE_DATE_EPOCH": "1800000000", "DEBEMAIL": "y@z"}
+        changelog: Callable[[], tuple[int, str]] = lambda: made.call("print(package.changelog().decode(), end='')", **named)
         write(page, CHANGES.format(number, "2026-04-05"))
         made.commit()
         made.ran("git", "tag", f"v{number}")
@@ -242,7 +244,9 @@ def entries() -> None:
         )
         same(changelog(), (0, wanted), "the changelog")
         same(made.ran(sys.executable, "-B", "tools/package.py", "notes"), "- A new thing, on two\n  lines.\n", "the notes")
-        for heading, word in ((f"{number}, not released yet", "isn't released yet"), ("0.0.1, 2026-01-01", "which is the program's version"), (f"{number} (soon)", "has a heading")):
+        wrong = {f"{number}, not released yet": "isn't released yet", f"{number} (soon)": "has a heading"}
+        wrong["0.0.1, 2026-01-01"] = "the program's version"
+        for heading, word in wrong.items():
             write(page, CHANGES.replace("{}, {}", heading))
             made.commit()
             made.ran("git", "tag", "--force", f"v{number}")
@@ -290,6 +294,12 @@ def twice() -> None:
         in_prefix(made, os.path.join(room, "usr local"))
 
 
+def paths_in(room: str) -> Iterator[str]:
+    """All files and folders below a folder."""
+    for at, folders, files in os.walk(room):
+        yield from (os.path.join(at, it) for it in folders + files)
+
+
 def installed_in_turn(room: str, *debs: str) -> None:
     """Installs packages one over the other in a root of its own, and removes them."""
     admin = os.path.join(room, "var", "lib", "dpkg")
@@ -305,8 +315,8 @@ def installed_in_turn(room: str, *debs: str) -> None:
         with gzip.open(os.path.join(room, "usr", package.DOC, "changelog.gz"), "rt", encoding="utf-8") as file:
             same(file.readline(), f"ob0 ({os.path.basename(deb).split('_')[1]}) unstable; urgency=medium\n", "the installed changelog")
     status, said = run_plainly([*words, "--remove", "ob0"], dict(os.environ), room)
-    left = [os.path.join(at, it) for at, folders, files in os.walk(room) for it in folders + files if not at.startswith(os.path.join(room, "var"))]
-    same((status, left), (0, [os.path.join(room, "var")]), f"what is left: {said}")
+    shutil.rmtree(os.path.join(room, "var"))
+    same((status, list(paths_in(room))), (0, []), f"what is left: {said}")
 
 
 def in_prefix(made: Repository, prefix: str) -> None:
@@ -325,9 +335,9 @@ def for_everybody() -> None:
             words = ["sh", "-c", 'umask 077; make --silent "$@"', "sh", command, f"PREFIX={prefix.replace('$', '$$')}"]
             made.ran(*words)
             same(os.path.exists(prefix), there, f"{prefix} after `make {command}`")
-            modes = {os.path.join(at, it): os.lstat(os.path.join(at, it)) for at, folders, files in os.walk(prefix) for it in folders + files}
-            closed = [it for it, found in modes.items() if found.st_mode & 0o444 != 0o444 or stat.S_ISDIR(found.st_mode) and found.st_mode & 0o777 != 0o755]
-            same(closed, [], "what others can't read")
+            modes = {it: os.lstat(it).st_mode for it in paths_in(prefix)}
+            same([it for it, mode in modes.items() if mode & 0o444 != 0o444], [], "what others can't read")
+            same([it for it, mode in modes.items() if stat.S_ISDIR(mode) and mode & 0o777 != 0o755], [], "folders that others can't enter")
         made.ran("make", "--silent", "package")
         readme = text_of("README.md").partition("**From a package.**")[2]
         lines = [it[4:].partition("  #")[0] for it in readme.splitlines() if it.startswith(("    umask", "    sudo tar"))]
@@ -346,7 +356,8 @@ def without_pages() -> None:
         same(os.path.samefile(os.path.join(page, "mark.py"), os.path.join(folder, "mark.py")), True, "mark.py there")
         shutil.rmtree(os.path.join(room, "share", "doc"))
         os.mkdir(os.path.join(room, "answers"))
-        status, said = run_plainly([sys.executable, os.path.join(folder, "mark.py"), "--program", "/bin/true", "answers"], dict(os.environ), room)
+        words = [sys.executable, os.path.join(folder, "mark.py"), "--program", "/bin/true", "answers"]
+        status, said = run_plainly(words, dict(os.environ), room)
         holds("Traceback" not in said and "answers" in said, said)
 
 
@@ -357,5 +368,3 @@ def reuse() -> None:
     table = text_of("REUSE.toml")
     found = re.findall(r'^path = "(.*)"\nSPDX-FileCopyrightText = "(.*)"\nSPDX-License-Identifier = "MIT"$', table, re.M)
     same(found, [("**", package.licence_holder()), (package.PARSER, package.PARSER_HOLDER)], "the table")
-    if shutil.which("reuse") and "version 1" not in subprocess.run(["reuse", "--version"], stdout=subprocess.PIPE, check=True).stdout.decode():
-        same(run_plainly(["reuse", "lint", "--quiet"], dict(os.environ), TOP), (0, ""), "what `reuse lint` says")

@@ -147,7 +147,8 @@ def conventions() -> None:
     about = json.loads(text_of(FOLDER, "tree-sitter.json"))
     (grammar,) = about["grammars"]
     holds(os.path.isfile(os.path.join(FOLDER, grammar["highlights"])), "the query that it names")
-    holds(re.match(grammar["content-regex"], "(* a *)\n(* b *) MODULE M;") and not re.match(grammar["content-regex"], "module x"), "the first word")
+    begins = [bool(re.match(grammar["content-regex"], it)) for it in ("(* a *)\n(* b *) MODULE M;", "module x")]
+    same(begins, [True, False], "the first word")
     made = json.loads(text_of(FOLDER, "src", "grammar.json"))
     written = text_of(FOLDER, "grammar.js")
     same({made["name"], grammar["name"], match_of(r'name: "(\w+)"', written)[1]}, {"oberon0"}, "its name")

@@ -46,7 +46,8 @@ def conventions() -> None:
     same(shown, {"ob0.check", "ob0.run"}, "the commands that are offered in modules only")
     path = contributed["configuration"]["properties"]["ob0.path"]
     trusted = about["capabilities"]["untrustedWorkspaces"]
-    same((path["scope"], trusted["supported"], trusted["restrictedConfigurations"]), ("machine-overridable", "limited", ["ob0.path"]), "what a folder may set")
+    same((path["scope"], trusted["supported"]), ("machine-overridable", "limited"), "what a folder may set")
+    same(trusted["restrictedConfigurations"], ["ob0.path"], "what a folder that isn't trusted may not set")
     same(about["capabilities"]["virtualWorkspaces"]["supported"], "limited", "folders that aren't on a disk")
     matcher = contributed["problemMatchers"][0]
     same((matcher["applyTo"], matcher["severity"], matcher["source"]), ("closedDocuments", "error", "ob0"), "the problem matcher")
@@ -57,7 +58,8 @@ def conventions() -> None:
     rules = json.loads(text_of(FOLDER, "language-configuration.json"))
     holds(["(*", "*)"] in rules["surroundingPairs"], "a selection can be made a comment")
     (rule,) = rules["onEnterRules"]
-    same([bool(re.search(rule["beforeText"], it)) for it in ("  (* a", "(* a *)", "x := 1 (* a")], [True, False, False], "lines of a comment")
+    begins = [bool(re.search(rule["beforeText"], it)) for it in ("  (* a", "(* a *)", "x := 1 (* a")]
+    same(begins, [True, False, False], "lines that begin a comment")
 
 
 def stand_ins(room: str) -> vsix.Modules:
@@ -93,9 +95,11 @@ def packed() -> None:
             modes = {it.filename.rpartition(".")[2]: it.external_attr >> 16 & 0o777 for it in archive.infolist()}
         same((times, modes["sh"], modes["js"]), ({(2027, 1, 15, 8, 0, 0)}, 0o755, 0o644), "times and modes")
         nodes = sorted(it[len("extension/node_modules/") :] for it in names if "node_modules" in it)
-        same(nodes, sorted(["low/package.json", *(f"{vsix.CLIENT}/{it}" for it in ("lib/node/end.sh", "node.js", "package.json"))]), "the modules")
+        own_client = (f"{vsix.CLIENT}/{it}" for it in ("lib/node/end.sh", "node.js", "package.json"))
+        same(nodes, sorted(["low/package.json", *own_client]), "the modules")
         own = {it[len(FOLDER) + 1 :] for it in package.names_below(FOLDER)} | {"LICENSE.txt", "CHANGELOG.md", vsix.NOTICES}
-        same({it for it in names if "node_modules" not in it}, {f"extension/{it}" for it in own} | {"extension.vsixmanifest", "[Content_Types].xml"}, "the rest")
+        lists = {"extension.vsixmanifest", "[Content_Types].xml"}
+        same({it for it in names if "node_modules" not in it}, {f"extension/{it}" for it in own} | lists, "the rest")
         notices = held[f"extension/{vsix.NOTICES}"].decode()
         holds("License.txt" in notices and "low 1.2.3\n\nCopyright: 2001 A B\n" in notices, notices)
         holds(b"](../" not in held["extension/README.md"], "a link out of the extension")

@@ -40,7 +40,7 @@ def linked(folder: str) -> list[str]:
 
 def texts_in(folder: str) -> dict[str, str]:
     """The notices in the folder of a crate. If a crate may be used under the MIT licence or Apache's, it is used under the former."""
-    names = [it for it in sorted(os.listdir(folder)) if it.startswith(("LICENSE", "NOTICE", "COPYING")) and not os.path.isdir(os.path.join(folder, it))]
+    names = [it for it in sorted(os.listdir(folder)) if it.startswith(("LICENSE", "NOTICE", "COPYING"))]
     found = {}
     for name in names:
         if name != "LICENSE-APACHE" or "LICENSE-MIT" not in names:
@@ -80,7 +80,7 @@ def of_program() -> Notices:
     except (OSError, ValueError, KeyError):
         pass
     if not common.kit():
-        common.stop(f"the notices of the crates that bin/ob0 is linked with are missing ({KEPT}): `make build` with rt on PATH collects them")
+        common.stop(f"the notices of the linked crates are missing ({KEPT}): `make build` with rt on PATH collects them")
     return keep()
 
 

@@ -17,7 +17,8 @@ from common import TOP
 CLIENT = "vscode-languageclient"
 FOLDER = os.path.join(TOP, "editors", "vscode")
 NOTICES = "ThirdPartyNotices.txt"
-KINDS = {".js": "application/javascript", ".json": "application/json", ".md": "text/markdown", ".png": "image/png", ".sh": "application/x-sh", ".txt": "text/plain"}
+KINDS = {".js": "application/javascript", ".json": "application/json", ".md": "text/markdown", ".png": "image/png"}
+KINDS.update({".sh": "application/x-sh", ".txt": "text/plain"})
 Files = Dict[str, bytes]
 
 
@@ -109,14 +110,16 @@ def with_modules(found: Modules, files: Files) -> Files:
 
 def manifest(about: Any) -> bytes:
     """The list by which VS Code and its shops know an extension."""
-    named = {"Manifest": "package.json", "Content.Details": "README.md", "Content.Changelog": "CHANGELOG.md", "Content.License": "LICENSE.txt"}
+    named = {"Manifest": "package.json", "Content.Details": "README.md", "Content.Changelog": "CHANGELOG.md"}
+    named["Content.License"] = "LICENSE.txt"
     places = {f"Microsoft.VisualStudio.{'Code' if it == 'Manifest' else 'Services'}.{it}": path for it, path in named.items()}
     places["Microsoft.VisualStudio.Services.Icons.Default"] = about["icon"]
-    assets = "\n".join(f'    <Asset Type="{kind}" Path={quoteattr("extension/" + path)} Addressable="true"/>' for kind, path in places.items())
+    assets = "\n".join(f'    <Asset Type="{kind}" Path="extension/{path}" Addressable="true"/>' for kind, path in places.items())
+    name, version, publisher = (quoteattr(about[it]) for it in ("name", "version", "publisher"))
     return f"""<?xml version="1.0" encoding="utf-8"?>
 <PackageManifest Version="2.0.0" xmlns="http://schemas.microsoft.com/developer/vsx-schema/2011">
   <Metadata>
-    <Identity Language="en-US" Id={quoteattr(about["name"])} Version={quoteattr(about["version"])} Publisher={quoteattr(about["publisher"])}/>
+    <Identity Language="en-US" Id={name} Version={version} Publisher={publisher}/>
     <DisplayName>{escape(about["displayName"])}</DisplayName>
     <Description xml:space="preserve">{escape(about["description"])}</Description>
     <Tags>{escape(",".join(about["keywords"]))}</Tags>

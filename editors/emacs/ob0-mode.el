@@ -1,8 +1,10 @@
 ;;; ob0-mode.el --- Major mode for Oberon-0  -*- lexical-binding: t -*-
 
+;; Author: The ob0 authors
 ;; Version: 0.1.0
 ;; Package-Requires: ((emacs "26.1"))
 ;; Keywords: languages
+;; SPDX-License-Identifier: MIT
 
 ;;; Commentary:
 
@@ -89,7 +91,7 @@
   (add-hook 'compilation-filter-hook #'ob0--count-from-one nil t))
 
 (defun ob0--program ()
-  "The program, or an error that says how to name another."
+  "Return the program, or report an error that names the option for another."
   (or (executable-find ob0-program)
       (user-error "There is no program %s; the option `ob0-program' names another" ob0-program)))
 

@@ -1,5 +1,9 @@
 ;;; ob0-mode-autoloads.el --- What Emacs does at its start where ob0 is installed  -*- lexical-binding: t; no-byte-compile: t -*-
 
+;;; Commentary:
+
+;; `ob0-mode' for files that end in .ob0, and for modules that end in .mod.
+
 ;;; Code:
 
 (add-to-list 'load-path (file-name-directory (or load-file-name buffer-file-name)))
