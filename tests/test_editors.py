@@ -326,7 +326,7 @@ def neovim_without() -> None:
 
 @test("Neovim: a text that is typed after the buffer was empty has the end of its last line in the server too")
 def neovim_emptied() -> None:
-    same(in_neovim("emptied", GOOD), [("opened", []), ("left to do", []), ("left to do", []), ("ended", ENDED)])
+    same(in_neovim("emptied", CALLS), [("opened", []), *[("left to do", [])] * 3, ("ended", ENDED)])
 
 
 @test("Neovim: a refused rename is told with the line that Neovim shows, and a format of a module with an error says so")

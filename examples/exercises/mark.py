@@ -173,7 +173,9 @@ def call(marking: Marking, words: List[str], given: str = "") -> Ended:
         """Bounds what a run may write and take. (Its processor time is bounded too, in case this script is killed before it ends.)"""
         seconds = int(marking.seconds) + 2
         for which, most in ((resource.RLIMIT_FSIZE, MOST_PRINTED), (resource.RLIMIT_DATA, MOST_MEMORY), (resource.RLIMIT_CPU, seconds)):
-            resource.setrlimit(which, (most, most))
+            hard = resource.getrlimit(which)[1]
+            bound = most if hard == resource.RLIM_INFINITY else min(most, hard)
+            resource.setrlimit(which, (bound, bound))
 
     with tempfile.TemporaryFile() as out, tempfile.TemporaryFile() as err:
         how: Dict[str, Any] = {"stdout": out, "stderr": err, "preexec_fn": limit}

@@ -248,13 +248,11 @@ end
 -- What the server would still format in a formatted text that was typed after the buffer was empty, in one go and after a wait.
 function steps.emptied(client)
   say("opened", diagnosed(0))
-  for _, waits in ipairs({ false, true }) do
-    if waits then
-      after(keys("ggdG"))
+  for _, typed in ipairs({ { "ggdG", "iMODULE M;<Esc>oEND M.<Esc>" }, { "ggdG", "u" }, { "ggdGiMODULE M;<Esc>oEND M.<Esc>" } }) do
+    for _, it in ipairs(typed) do
+      after(keys(it))
       vim.wait(500)
     end
-    after(keys("ggdGiMODULE M;<Esc>oEND M.<Esc>"))
-    vim.wait(500)
     say("left to do", answer_of(client, "textDocument/formatting", 0, 0, vim.lsp.util.make_formatting_params()))
   end
 end
