@@ -136,6 +136,7 @@ def typed() -> None:
         talk.is_answered(edits, method)
         talk.changes([inserted(place(0, 0), "\n")])
     talk.is_answered(replacements("tot", ["2:4-2:5", "3:6-3:7", "3:20-3:21"]))
+    talk.sends({"id": 1, "result": None}, {"id": 1, "error": {}})
     for text in (RENAMED, TEXT, RENAMED, TEXT.replace("1", "2"), "", TEXT):
         talk.changes(text)
     same(talk.found(True), set())
@@ -247,6 +248,7 @@ NOTED: Dict[str, Tuple[str, Fault]] = {
     "params that can't be read": ("readable", told(request(1, RENAME, {"textDocument": {"uri": URI}}))),
     "an answer without a result": ("readable", told('{"id":1}')),
     "an end inside a message": ("readable", lambda talk: [talk.watcher.take("editor", it, 0.0) for it in (b"Content-L", b"")]),
+    "an end before a content": ("readable", lambda talk: [talk.watcher.take("editor", it, 0.0) for it in (b"Content-Length: 1\r\n\r\n", b"")]),
     "a reopen with the same text": ("reopened-edit", lambda talk: reopened(talk, TEXT, IN_TURN)),
     "a rename with a text as its id": ("numbers", told(request("a", RENAME, {**HOVER["params"], "newName": "x"}))),
     "ids that skip numbers": ("numbers", lambda talk: [(setattr(talk, "idents", at), talk.asks()) for at in (1, 5)]),
