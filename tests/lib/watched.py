@@ -40,7 +40,8 @@ def put_program(room: str, server: list[str]) -> str:
     os.makedirs(os.path.join(room, "watched"), exist_ok=True)
     words = f"{shlex.join([sys.executable, SCRIPT])} --report {report} -- {shlex.join(server)}"
     with open(program, "w", encoding="utf-8") as file:
-        file.write(f'#!/bin/sh\n[ "$1" = serve ] && : >{report} && exec {words} "$@"\nexec {shlex.quote(os.path.abspath(harness.BINARY))} "$@"\n')
+        file.write(f'#!/bin/sh\n[ "$1" = serve ] && : >{report} && exec {words} "$@"\n')
+        file.write(f'exec {shlex.quote(os.path.abspath(harness.BINARY))} "$@"\n')
     os.chmod(program, 0o755)
     return program
 
