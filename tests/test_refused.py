@@ -31,4 +31,4 @@ def make_of_crate(what: str, crate: str, *modules: str) -> None:
 
 
 make_of_crate("the tests of the framer, of documents and of texts", "ob0_tests_low", "frame")
-make_of_crate("the tests of sessions, and of worlds of an editor and a server", "ob0_tests_session", "session", "world")
+make_of_crate("the tests of sessions, and of worlds of an editor and a server", "ob0_tests_world", "session", "world")

@@ -292,7 +292,7 @@ PARTS: list[tuple[str, list[str], str, str]] = [
         ],
         "what parts 0 and 1 say of these names",
         "the laws `one_step`, `server_mirrors` and `versions_suffice` (part 9), and the test `worlds_play_as_written` "
-        "(crates/ob0_tests_session), which plays lists of events and has written down what each is to leave",
+        "(crates/ob0_tests_world), which plays lists of events and has written down what each is to leave",
     ),
     (
         "Part 5: texts in detail",
@@ -341,7 +341,7 @@ PARTS: list[tuple[str, list[str], str, str]] = [
         "that `World::step` promises of each event what `Plays` says of all, and what the other parts say in words of "
         "the laws and names",
         "the proofs of these contracts, and the test `a_refused_event_leaves_what_was_played_before` "
-        "(crates/ob0_tests_session)",
+        "(crates/ob0_tests_world)",
     ),
 ]
 SENTENCE = (

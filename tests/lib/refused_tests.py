@@ -11,7 +11,7 @@ from collections.abc import Callable, Iterator
 import failing
 from harness import TOP, holds, leave_out, need_program, same
 
-CRATES = ("ob0_tests_low", "ob0_tests_language", "ob0_tests_session")
+CRATES = ("ob0_tests_low", "ob0_tests_language", "ob0_tests_session", "ob0_tests_world")
 
 
 def program_of(crate: str) -> str:
