@@ -18,7 +18,8 @@ import long_conversation
 import several_documents
 import watched
 from first_conversation import INPUT, OUTPUT
-from harness import EXIT, Message, did_change, did_close, did_open, extent, frame, holds, need_program, notice, place, request, same, test, want
+from harness import EXIT, Message, did_change, did_close, did_open, extent, frame, holds, need_program, notice, place, request
+from harness import same, test, want
 from homes import temporary, write
 
 WATCH = watched.load()
@@ -199,7 +200,7 @@ TYPED = [inserted(place(0, 0), " ")]
 # what is done in a conversation, and the rule that is broken so
 BROKEN: Dict[str, Tuple[str, Fault]] = {
     "a version that falls": ("versions", lambda talk: [talk.changes(TYPED, it) for it in (5, 4)]),
-    "a version that comes again": ("versions", lambda talk: talk.changes(TYPED, 1)),
+    "a version that comes again once an edit of it was asked for": ("versions", lambda talk: (talk.asks(), talk.changes(TYPED, 1))),
     "a late edit at its old places": ("late-edit", lambda talk: late(talk, IN_TURN)),
     "a late edit that moves along": ("late-edit", lambda talk: late(talk, lower(IN_TURN))),
     "a late edit that moves along, one change at a time": ("late-edit", lambda talk: late(talk, [[it] for it in lower(TAKEN_OUT)])),
@@ -244,11 +245,19 @@ NOTED: Dict[str, Tuple[str, Fault]] = {
     "a document that is opened twice": ("open", told(did_open(TEXT))),
     "a close of what isn't open": ("open", told(did_close("file:///other"))),
     "a question about what isn't open": ("open", told(did_close(), HOVER)),
+    "a version that comes again": ("versions", lambda talk: talk.changes(TYPED, 1)),
+    "a version that an edit was asked for in another opening": (
+        "versions",
+        lambda talk: (talk.asks(), talk.sends(did_close(), did_open(TEXT)), talk.changes(TYPED, 1)),
+    ),
     "a version below zero": ("versions", told(did_open("", "file:///other", -1))),
     "params that can't be read": ("readable", told(request(1, RENAME, {"textDocument": {"uri": URI}}))),
     "an answer without a result": ("readable", told('{"id":1}')),
     "an end inside a message": ("readable", lambda talk: [talk.watcher.take("editor", it, 0.0) for it in (b"Content-L", b"")]),
-    "an end before a content": ("readable", lambda talk: [talk.watcher.take("editor", it, 0.0) for it in (b"Content-Length: 1\r\n\r\n", b"")]),
+    "an end before a content": (
+        "readable",
+        lambda talk: [talk.watcher.take("editor", it, 0.0) for it in (b"Content-Length: 1\r\n\r\n", b"")],
+    ),
     "a reopen with the same text": ("reopened-edit", lambda talk: reopened(talk, TEXT, IN_TURN)),
     "a rename with a text as its id": ("numbers", told(request("a", RENAME, {**HOVER["params"], "newName": "x"}))),
     "ids that skip numbers": ("numbers", lambda talk: [(setattr(talk, "idents", at), talk.asks()) for at in (1, 5)]),
