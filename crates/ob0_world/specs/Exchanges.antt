@@ -81,7 +81,7 @@ IsQuestion (Ok (asked.code_action uri range only)) = ⊤
 IsQuestion (Ok (asked.formatting uri indent)) = ⊤
 IsQuestion (Err fault) = ⊤
 
--- if an id is a number, it is that of no ask; asks have the numbers from 1 on
+-- if an id is a number, no ask has it; the first ask has number 1
 abbrev pub IsOwnNumber : List SentAsk → Option ℕ → Type 0
 IsOwnNumber requested (Some zero) = ⊤
 IsOwnNumber requested (Some (suc k)) = request_numbered requested (suc k) ≡ Some no_ask
@@ -287,11 +287,11 @@ abbrev pub last_published : List ℕ → List Published → Option Published
 last_published uri published =
     fold (λ last p. if bytes_eq p.uri uri then Some p else last) None published
 
--- What these contents say about documents. (No ask is known here: so a request says nothing.)
+-- The messages about documents in these contents. (No ask is known here, so a request has none.)
 abbrev pub notes_in : List (List ℕ) → List ToServer
 notes_in contents = filter_map (heard []) contents
 
--- What holds of an editor that keeps ob0's rules and a session, whatever has passed between them.
+-- This holds of an editor that keeps ob0's rules and a session, whatever has passed between them.
 pub record HoldsOfExchange (begin now : Exchange) : Type 0 where
   -- each edit that the editor applied keeps the run
   pub applied : All KeepsTheRun now.applied
@@ -311,7 +311,7 @@ pub record HoldsOfExchange (begin now : Exchange) : Type 0 where
       → open_at now.editor uri ≡ Some d
       → MatchOption (last_published uri (published_in since)) ⊥
       (λ p. (p.version ≡ pos d.version) × IsEmptyIfCorrect d.text p.empty)
-  -- the session's documents, once it has taken what waits, are the editor's
+  -- the session's documents, once it has taken the waiting contents, are the editor's
   pub mirrors : (uri : List ℕ)
       → document_at (fold after_message now.wire.session.held (notes_in now.wire.to_server)) uri
       ≡ option_map as_open (open_at now.editor uri)

@@ -20,7 +20,7 @@ pub record ServedExchange (begin now : Exchange) : Type 0 where
       → (put : List ℕ) (result : Result ℕ ServeFault) → IsWritten result
       → MayServe result (flat_map frame now.wire.taken) put
       → put ≡ flat_map frame (now.wire.got ++ now.wire.to_editor)
-  -- if the input goes on, it writes these first, and then what it writes for the rest
+  -- for a longer input it writes the same frames first
   pub written_first : All (λ content. length content ≤ max_content) now.wire.taken
       → (more put : List ℕ) (result : Result ℕ ServeFault) → IsWritten result
       → MayServe result (flat_map frame now.wire.taken ++ more) put
