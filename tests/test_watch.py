@@ -151,6 +151,12 @@ def typed() -> None:
     for changes in (IN_TURN[-1:], TYPED, TYPED, TYPED):
         talk.changes(changes)
     same(talk.found(True), set(), "one of two answers")
+    talk = Talk()
+    talk.asks()
+    talk.is_answered(replacements("tot"))
+    talk.sends(did_close(), did_open(TEXT)).is_answered(replacements("tot"))
+    talk.changes(IN_TURN)
+    same((talk.found(True), talk.found(False)), (set(), set()), "an answer that was dropped in another opening, and one like it")
 
 
 def late(talk: Talk, changes: Any, method: str = RENAME, edits: Any = None) -> None:
@@ -253,6 +259,7 @@ NOTED: Dict[str, Tuple[str, Fault]] = {
     "a close of what isn't open": ("open", told(did_close("file:///other"))),
     "a question about what isn't open": ("open", told(did_close(), HOVER)),
     "a version that comes again": ("versions", lambda talk: talk.changes(TYPED, 1)),
+    "a version that comes again with the same text": ("versions", lambda talk: (talk.asks(), talk.changes([], 1))),
     "a version that an edit was asked for in another opening": (
         "versions",
         lambda talk: (talk.asks(), talk.sends(did_close(), did_open(TEXT)), talk.changes(TYPED, 1)),
