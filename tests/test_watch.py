@@ -58,18 +58,19 @@ class Talk:
         if text:
             self.sends(did_open(text, uri))
 
-    def sends(self, *contents: harness.Content) -> None:
+    def sends(self, *contents: harness.Content) -> Talk:
         for it in contents:
             self.now += 1
             self.watcher.take("editor", frame(it), self.now)
+        return self
 
-    def changes(self, changes: Any, version: Optional[int] = None) -> None:
+    def changes(self, changes: Any, version: Optional[int] = None) -> Talk:
         """A notification with these changes, at the next version."""
         self.version = self.version + 1 if version is None else version
-        self.sends(did_change(changes, self.uri, self.version))
+        return self.sends(did_change(changes, self.uri, self.version))
 
-    def asks(self, method: str = RENAME) -> int:
-        self.idents += 1
+    def asks(self, method: str = RENAME, ident: Optional[int] = None) -> int:
+        self.idents = self.idents + 1 if ident is None else ident
         document = {"uri": self.uri}
         params: Message = {"textDocument": document, "position": place(1, 4), "newName": "tot"}
         if method == FORMAT:
@@ -82,9 +83,10 @@ class Talk:
     def answers(self, ident: int, result: Any) -> None:
         self.watcher.take("server", frame({"id": ident, "jsonrpc": "2.0", "result": result}), self.now)
 
-    def is_answered(self, edits: Edits, method: str = RENAME) -> None:
+    def is_answered(self, edits: Any, method: str = RENAME) -> Talk:
         """A request, and an answer with edits or with an action for each list of edits."""
         self.answers(self.asks(method), self.result(edits, method))
+        return self
 
     def result(self, edits: Any, method: str = RENAME) -> Any:
         if method == ACTION:
@@ -117,13 +119,14 @@ HOVER = request("h", "textDocument/hover", {"textDocument": {"uri": URI}, "posit
 
 @test("watch: an edit that is made as it should be is no finding, however it is told, and it is counted")
 def clean() -> None:
+    other = notice("$/setTrace", {"value": "off"})
     for how, notifications in TOLD.items():
-        for between in ([], [notice("$/setTrace", {"value": "off"})]):
+        for count in (0, 1):
             talk = Talk()
             talk.is_answered(replacements("tot"))
             for changes in notifications:
                 talk.changes(changes)
-                talk.sends(*between)
+                talk.sends(*[other] * count)
             talk.changes([inserted(place(0, 0), " ")])
             counts = talk.watcher.watched
             same((talk.found(True), counts["half-edit"], counts["late-edit"]), (set(), 1, 0), f"a rename that is told {how}")
@@ -133,7 +136,8 @@ def clean() -> None:
 def typed() -> None:
     talk = Talk()
     actions = [replacements("7", PLACES[1:2]), replacements("7")]
-    for method, edits in ((RENAME, replacements("tot")), (FORMAT, [inserted(place(1, 0), "  ")]), (ACTION, actions)):
+    answers: Dict[str, Any] = {RENAME: replacements("tot"), FORMAT: [inserted(place(1, 0), "  ")], ACTION: actions}
+    for method, edits in answers.items():
         talk.is_answered(edits, method)
         talk.changes([inserted(place(0, 0), "\n")])
     talk.is_answered(replacements("tot", ["2:4-2:5", "3:6-3:7", "3:20-3:21"]))
@@ -147,6 +151,12 @@ def typed() -> None:
     for changes in (IN_TURN[-1:], TYPED, TYPED, TYPED):
         talk.changes(changes)
     same(talk.found(True), set(), "one of two answers")
+    talk = Talk()
+    talk.asks()
+    talk.is_answered(replacements("tot"))
+    talk.sends(did_close(), did_open(TEXT)).is_answered(replacements("tot"))
+    talk.changes(IN_TURN)
+    same((talk.found(True), talk.found(False)), (set(), set()), "an answer that was dropped in another opening, and one like it")
 
 
 def late(talk: Talk, changes: Any, method: str = RENAME, edits: Any = None) -> None:
@@ -160,8 +170,11 @@ def late(talk: Talk, changes: Any, method: str = RENAME, edits: Any = None) -> N
 
 def lower(edits: Edits) -> Edits:
     """The same edits, a line lower."""
-    moved = lambda at: place(at["line"] + 1, at["character"])  # noqa: E731
-    return [{**it, "range": {end: moved(it["range"][end]) for end in ("start", "end")}} for it in edits]
+    found = []
+    for it in edits:
+        places = {end: place(at["line"] + 1, at["character"]) for end, at in it["range"].items()}
+        found.append({**it, "range": places})
+    return found
 
 
 def reopened(talk: Talk, text: str, changes: Edits) -> None:
@@ -246,6 +259,7 @@ NOTED: Dict[str, Tuple[str, Fault]] = {
     "a close of what isn't open": ("open", told(did_close("file:///other"))),
     "a question about what isn't open": ("open", told(did_close(), HOVER)),
     "a version that comes again": ("versions", lambda talk: talk.changes(TYPED, 1)),
+    "a version that comes again with the same text": ("versions", lambda talk: (talk.asks(), talk.changes([], 1))),
     "a version that an edit was asked for in another opening": (
         "versions",
         lambda talk: (talk.asks(), talk.sends(did_close(), did_open(TEXT)), talk.changes(TYPED, 1)),
@@ -260,8 +274,8 @@ NOTED: Dict[str, Tuple[str, Fault]] = {
     ),
     "a reopen with the same text": ("reopened-edit", lambda talk: reopened(talk, TEXT, IN_TURN)),
     "a rename with a text as its id": ("numbers", told(request("a", RENAME, {**HOVER["params"], "newName": "x"}))),
-    "ids that skip numbers": ("numbers", lambda talk: [(setattr(talk, "idents", at), talk.asks()) for at in (1, 5)]),
-    "ids that fall": ("numbers", lambda talk: [(setattr(talk, "idents", at), talk.asks()) for at in (7, 5)]),
+    "ids that skip numbers": ("numbers", lambda talk: [talk.asks(ident=at) for at in (2, 6)]),
+    "ids that fall": ("numbers", lambda talk: [talk.asks(ident=at) for at in (8, 6)]),
 }
 
 
@@ -303,7 +317,9 @@ def units_and_ends() -> None:
 
 @test("watch: a file that is written has a text that was told, else a change was lost")
 def files() -> None:
-    for written, told_then, is_lost in ((TEXT, [], False), (RENAMED, [RENAMED], False), (RENAMED, [], True), ("x", [TEXT + " "], True)):
+    rows: List[Tuple[str, List[str], bool]] = [(TEXT, [], False), (RENAMED, [RENAMED], False)]
+    rows += [(RENAMED, [], True), ("x", [TEXT + " "], True)]
+    for written, told_then, is_lost in rows:
         for ends in ("\n", "\r\n"):
             with temporary() as room:
                 path = os.path.join(room, "m 1.mod")
@@ -372,7 +388,7 @@ def robust() -> None:
         os.remove(os.path.join(room, "report"))
         status, out, err, report = watch(room, "cat", given=INPUT)
         same((status, out, report), (0, INPUT, ""), "without a report")
-        holds(err.startswith(b"ob0-watch: the report can't be written: "), err)
+        holds(err.startswith(b"ob0-watch: the report can't be written: "), str(err))
 
 
 @test("watch: the command line, where the report is, and commands of ob0 that aren't watched")
@@ -389,7 +405,8 @@ def command_line() -> None:
             found = subprocess.run([sys.executable, watched.SCRIPT, *words], check=False, **how)
             return found.returncode, found.stdout
 
-        for words in ([], ["serve"], ["serve", "--stdio"], ["--", "ob0", "serve"]):
+        lines: List[List[str]] = [[], ["serve"], ["serve", "--stdio"], ["--", "ob0", "serve"]]
+        for words in lines:
             same(ran(*words, given=INPUT), (0, OUTPUT), f"ob0-watch {words}")
         same(len(os.listdir(os.path.join(room, ".local", "state", "ob0"))), 4, "the reports")
         same(ran(given=INPUT, XDG_STATE_HOME=os.path.join(room, "state")), (0, OUTPUT))
@@ -397,7 +414,7 @@ def command_line() -> None:
         same(ran("check", "m.mod"), (1, b"0:10: BadChar: bad character\n"), "ob0-watch check")
         same(ran("--help")[0], 0, "the status with --help")
         same([ran(*it) for it in (["--reprot"], ["--"], ["--report"])], [(2, b"")] * 3, "a wrong command line")
-        same([ran(*it, PATH="/nowhere") for it in ([], ["--", "no-such-program"])], [(4, b"")] * 2, "no program")
+        same([ran(PATH="/nowhere"), ran("--", "no-such-program", PATH="/nowhere")], [(4, b"")] * 2, "no program")
 
 
 def by_watched(room: str) -> None:
