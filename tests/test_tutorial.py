@@ -99,7 +99,7 @@ def numbers() -> None:
 def translated() -> None:
     found = [it[1] for it in rows("| C, Java, Python, Pascal | Oberon-0 |")]
     holds(len(found) >= 12, f"there are {len(found)}")
-    names = match_of(r"declares `([^`]*)`,\s+`([^`]*)`, `([^`]*)`, `([^`]*)` and procedures\s+`([^`]*)` and\s+`([^`]*)`", text_of(PAGE))
+    names = match_of(r"declares\s+`([^`]*)`,\s+`([^`]*)`,\s+`([^`]*)`,\s+`([^`]*)`\s+and\s+procedures\s+`([^`]*)`\s+and\s+`([^`]*)`", text_of(PAGE))
     *variables, largest, go = (" ".join(it.split()) for it in names.groups())
     head = f"MODULE M; VAR {'; '.join(variables)}; PROCEDURE {largest}; END Max; PROCEDURE {go}; END Go; BEGIN "
     for (statement,) in found:

@@ -70,7 +70,7 @@ class Whole(NamedTuple):
 
 
 def whole(
-    ci: str = "50 passed, 0 failed", first: str = "100 passed, 0 failed", rest: str = "400 passed, 0 failed, 2 skipped", status: int = 0,
+    ci: str = "200 passed, 0 failed", first: str = "100 passed, 0 failed", rest: str = "900 passed, 0 failed, 2 skipped", status: int = 0,
     program: str = "a program", others: int = 0, tried: Tuple[int, int] = (20, 0), flags: Tuple[str, ...] = (), known: str = "",
 ) -> Whole:  # fmt: skip
     """Runs tools/test.py where `rt ci` and the two parts of the tests end with these lines."""
@@ -97,7 +97,7 @@ def whole(
 @test("whole: what passes is counted over all parts, in order, and the stamp has the last line once all have ended")
 def passes() -> None:
     found = whole()
-    same((found.status, found.last), (0, "570 passed, 0 failed, 2 skipped"), found.said)
+    same((found.status, found.last), (0, "1220 passed, 0 failed, 2 skipped"), found.said)
     same(found.results, ["ok\t0.1 s\t--first", "ok\t0.1 s\t--rest", found.last], "bin/results")
     holds(found.stamp.endswith(f"\ngate {found.last}\n"), f"the stamp: {found.stamp}")
     same(found.stamp_before, found.stamp.replace(f"gate {found.last}\n", ""), "the stamp while the tests run")
@@ -110,15 +110,15 @@ def passes() -> None:
 @test("whole: each part that fails, ends badly, runs no test or has too few of them fails the run")
 def fails() -> None:
     kinds: Dict[str, Dict[str, Any]] = {
-        "a test of a crate": {"ci": "49 passed, 1 failed", "status": 1},
+        "a test of a crate": {"ci": "199 passed, 1 failed", "status": 1},
         "a gate that ends with 1": {"status": 1},
         "a gate of no test": {"ci": "0 passed, 0 failed"},
         "a gate that says nothing": {"ci": "done"},
         "too few tests of the gate": {"ci": "45 passed, 0 failed"},
         "an early test": {"first": "99 passed, 1 failed"},
         "no early test": {"first": "0 passed, 0 failed"},
-        "a later test": {"rest": "399 passed, 1 failed, 2 skipped"},
-        "no later test": {"first": "460 passed, 0 failed", "rest": "0 passed, 0 failed, 400 skipped"},
+        "a later test": {"rest": "899 passed, 1 failed, 2 skipped"},
+        "no later test": {"first": "1000 passed, 0 failed", "rest": "0 passed, 0 failed, 400 skipped"},
         "too few tests": {"rest": "300 passed, 0 failed"},
         "an edit refused otherwise": {"others": 1},
         "a mutant": {"tried": (19, 1)},
@@ -132,8 +132,8 @@ def fails() -> None:
 
 @test("whole: a gate that builds no program fails, and no test runs on an older one")
 def without_program() -> None:
-    found = whole(ci="49 passed, 1 failed", status=1, program="")
-    same((found.status, found.last), (1, "169 passed, 2 failed"), found.said)
+    found = whole(ci="199 passed, 1 failed", status=1, program="")
+    same((found.status, found.last), (1, "319 passed, 2 failed"), found.said)
     same([it for it in found.called if it.startswith("tests")], ["tests --first 1 None"], "the tests that are run")
     same(found.stamp, "", "the stamp")
 

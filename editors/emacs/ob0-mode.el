@@ -247,7 +247,7 @@ Return the state there: in a block for each level."
   "The words that indent their line when they are typed, as the first in it.")
 
 (defun ob0--ends-word (_)
-  "Whether the character before point ends a word that indents its line."
+  "Whether the character before point ends a word of `ob0--electric'."
   (let ((case-fold-search nil))
     (save-excursion (re-search-backward ob0--electric (line-beginning-position) t))))
 

@@ -281,10 +281,12 @@ def serve_in_pieces(pieces: Iterable[bytes]) -> Ended:
 
 
 def is_running(number: int) -> bool:
-    """Whether a process that ought to have ended still runs; it is killed."""
+    """Whether a process that ought to have ended still runs; it is then killed. One that nobody has waited for has ended."""
     try:
+        if text_of(f"/proc/{number}/stat").rpartition(")")[2].split()[0] == "Z":
+            return False
         os.kill(number, signal.SIGKILL)
-    except ProcessLookupError:
+    except (OSError, Failed):
         return False
     return True
 
