@@ -460,9 +460,11 @@ def random_talks() -> None:
 # ---- editors that break rules
 
 
-def breaks(room: str, *rules: str) -> None:
-    """Says which rules the editor in this room breaks."""
-    write(os.path.join(room, "breaks"), " ".join(rules))
+def breaks(editor: keyed.Keyed, rule: str) -> None:
+    """Waits until it is reported that this editor breaks a rule, and says that this rule and no other one is expected."""
+    folder = os.path.join(editor.folder, "watched")
+    editor.await_("the finding", lambda: any(f"BROKEN {rule}:" in harness.text_of(folder, it) for it in os.listdir(folder) if it.isdigit()))
+    write(os.path.join(editor.folder, "breaks"), rule)
 
 
 class PlainNeovim(keyed.Neovim):
@@ -493,7 +495,7 @@ def plain_neovim() -> None:
         editor.reports("(* new *)\n" + TEXT)
         editor.wire.release()
         editor.await_("the late edit", lambda: "tot" in (editor.wire.text() or ""))
-        breaks(room, "late-edit")
+        breaks(editor, "late-edit")
 
 
 BEHIND = "MODULE M;\nVAR n: INTEGER;\nBEGIN (* {} *) n := 1; Write(n)\nEND M.\n"
@@ -506,7 +508,7 @@ def ale_places() -> None:
     with temporary() as room, keyed.Ale(room, BEHIND.format("\u00e9")) as editor:
         editor.keys(editor.going(1, 4) + editor.asks["rename"][0])
         editor.await_("the edit", lambda: "tot" in (editor.wire.text() or ""))
-        breaks(room, "wrong-places")
+        breaks(editor, "wrong-places")
 
 
 @test("watch: Emacs by lsp-mode loses a change behind an emoji, and that is found once the file is written")
@@ -516,5 +518,4 @@ def lsp_mode_places() -> None:
     with temporary() as room, keyed.LspMode(room, BEHIND.format("\U0001f600")) as editor:
         editor.keys(editor.going(2, 9) + "\x1b:(progn (end-of-line) (insert \";\") (save-buffer))\r")
         editor.await_("the file", lambda: harness.text_of(editor.file) != BEHIND.format("\U0001f600"))
-        editor.text(comes_last=True)
-        breaks(room, "lost-change")
+        breaks(editor, "lost-change")
