@@ -22,7 +22,7 @@ REASONS = os.path.join(TOP, "tools", "surface_reasons.txt")
 HEAD = """# Public functions and types
 
 Made by `make surface`: the functions that each crate has for others with the mutants that change them, and its public types with
-their variants or public fields in order. `rt ci` tries the mutants of `must-fail/`; [mutants.txt](../tools/mutants.txt) says what
+their variants or public fields in order. `rt ci` tries the mutants of `must-fail/`; `tools/mutants.txt` says what
 refused those of `wrong-bodies/` when they were last tried. A function with neither a result nor an argument that it writes is a law:
 its contract is all there is of it.
 """
