@@ -103,7 +103,10 @@ class Running:
         self.told, telling = FORK.Pipe(duplex=False)
 
         def tell() -> None:
+            # (under `nohup`, or in the background of a shell, what a test starts would ignore signals too)
+            signal.signal(signal.SIGHUP, signal.SIG_DFL)
             signal.signal(signal.SIGTERM, signal.SIG_DFL)
+            signal.signal(signal.SIGINT, signal.default_int_handler)
             processes.adopt_orphans()
             tempfile.tempdir = os.environ["TMPDIR"] = self.room
             os.environ.update(LC_ALL="C.UTF-8", LANG="C.UTF-8")
