@@ -75,7 +75,10 @@ pub struct Analysis {
 // Written out, since a derived one is proved again in each crate that drops such a value.
 impl Drop for Analysis {
     fn drop(self) {
-        let Analysis { found: _found, room: _ } = self;
+        let Analysis {
+            found: _found,
+            room: _,
+        } = self;
     }
 }
 
