@@ -208,9 +208,10 @@ impl Analysis {
     pub fn bytes(&self) -> usize
         ensures { length self.now ≤ result }
     {
+        let own = self.text().len();
         match &self.found {
-            Findings::NoLexemes(ill) => ill.text.len().saturating_add(self.room),
-            Findings::Read(read) => read.text().len().max(self.room),
+            Findings::NoLexemes(_) => own.saturating_add(self.room),
+            Findings::Read(_) => own.max(self.room),
         }
     }
 

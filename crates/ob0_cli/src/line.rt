@@ -136,8 +136,8 @@ pub enum CommandLine<'a> {
 impl<'a> CommandLine<'a> {
     /// The file that the command reads. None for `serve`, which reads none.
     pub fn file(self) -> Option<&'a str>
-        ensures { MatchOption result (self ≡ Serve)
-            (λ file. (self ≢ Serve) × NamesFile self file.now) }
+        ensures { MatchOption result (self.entry ≡ Serve)
+            (λ file. (self.entry ≢ Serve) × NamesFile self.entry file.now) }
     {
         match self {
             CommandLine::Serve => None,

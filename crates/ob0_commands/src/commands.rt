@@ -26,7 +26,7 @@ pub fn perform<R: Input, O: Output, E: Output>(
     requires { line ≢ Serve }
     ensures { Performs O.contents O.is_flushed O.has_failed out.old out.new
         (Says E.contents E.is_flushed E.has_failed err.old err.new) file.now
-        R.remaining R.has_failed input.old input.new line result }
+        R.remaining R.has_failed input.old input.new line.entry result }
 {
     match line {
         CommandLine::Serve => unreachable!(),
