@@ -70,7 +70,7 @@ RenamesInFile contents is_flushed has_failed before after Said file position new
     ⊎ EndsByFault has_failed before after file (StopsPrintingFaults file) Said status
 
 -- a command line does what its command says, with its own values; only `run` takes anything of the input
-abbrev pub Performs : {O I : Type 0}
+abbrev pub PerformsOnFile : {O I : Type 0}
     → (contents : O → Option (List ℕ))
     → (is_flushed has_failed : O → Bool)
     → (before after : O)
@@ -82,14 +82,14 @@ abbrev pub Performs : {O I : Type 0}
     → CommandLine
     → ℕ
     → Type 0
-Performs contents is_flushed has_failed before after Said file remaining input_failed input left Serve status =
+PerformsOnFile contents is_flushed has_failed before after Said file remaining input_failed input left Serve status =
     ⊥
-Performs contents is_flushed has_failed before after Said file remaining input_failed input left (Check path) status =
+PerformsOnFile contents is_flushed has_failed before after Said file remaining input_failed input left (Check path) status =
     ChecksFile contents is_flushed has_failed before after Said file status × (left ≡ input)
-Performs contents is_flushed has_failed before after Said file remaining input_failed input left (Run path c t) status =
+PerformsOnFile contents is_flushed has_failed before after Said file remaining input_failed input left (Run path c t) status =
     RunsFile contents is_flushed has_failed before after Said file remaining input_failed input left c t status
     × TakesAtMost (suc max_input) (remaining input) (remaining left)
     × (¬ IsWellTypedModule file → left ≡ input)
-Performs contents is_flushed has_failed before after Said file remaining input_failed input left (Rename path position new) status =
+PerformsOnFile contents is_flushed has_failed before after Said file remaining input_failed input left (Rename path position new) status =
     RenamesInFile contents is_flushed has_failed before after Said file position new.now status
     × (left ≡ input)

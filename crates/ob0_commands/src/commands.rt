@@ -2,7 +2,7 @@
 
 ghost use Rattle.std.specs.Prelude.{◌≢◌};
 ghost use Rattle.ob0_cli.specs.declared.line.CommandLine.TheVariants.{Serve};
-ghost use Rattle.ob0_commands.specs.Performed.{Performs};
+ghost use Rattle.ob0_commands.specs.Performed.{PerformsOnFile};
 ghost use Rattle.ob0_commands.specs.Said.{Says};
 
 use crate::checking::check_text;
@@ -24,7 +24,7 @@ pub fn perform<R: Input, O: Output, E: Output>(
     err: &mut E,
 ) -> u8
     requires { line ≢ Serve }
-    ensures { Performs O.contents O.is_flushed O.has_failed out.old out.new
+    ensures { PerformsOnFile O.contents O.is_flushed O.has_failed out.old out.new
         (Says E.contents E.is_flushed E.has_failed err.old err.new) file.now
         R.remaining R.has_failed input.old input.new line.entry result }
 {
