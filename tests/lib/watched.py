@@ -39,8 +39,10 @@ def put_program(room: str, server: list[str]) -> str:
     report = f"{shlex.quote(os.path.join(room, 'watched'))}/$$"
     os.makedirs(os.path.join(room, "watched"), exist_ok=True)
     words = f"{shlex.join([sys.executable, SCRIPT])} --report {report} -- {shlex.join(server)}"
+    # (without the program nothing is watched: a report would never be complete)
+    watches = f'[ "$1" = serve ] && : >{report} && exec {words} "$@"\n' if os.path.exists(harness.BINARY) else ""
     with open(program, "w", encoding="utf-8") as file:
-        file.write(f'#!/bin/sh\n[ "$1" = serve ] && : >{report} && exec {words} "$@"\n')
+        file.write(f"#!/bin/sh\n{watches}")
         file.write(f'exec {shlex.quote(os.path.abspath(harness.BINARY))} "$@"\n')
     os.chmod(program, 0o755)
     return program
