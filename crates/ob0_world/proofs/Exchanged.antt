@@ -1,4 +1,4 @@
--- What passes in a course of the model's editor with a session is an exchange of an editor that keeps ob0's rules.
+-- Proves that the model's editor and a session exchange messages as an editor that keeps ob0's rules does.
 use Rattle.std.proofs.Common.{◌≡◌, ◌∙◌, ℕ, arith, List, [], ◌∷◌, ◌++◌, map, append-nil, get_or, refl, sym, ap, subst, inl, inr}
 use Rattle.std.specs.Prelude.{◌⊎◌, Some, None, Ok, codes}
 use Rattle.std.specs.Option.{option_to_list}

@@ -1,4 +1,4 @@
--- What an editor that keeps ob0's rules and a session exchange is of the model, turn by turn.
+-- Proves that an exchange of a session and an editor that keeps ob0's rules follows the model, turn by turn.
 use Rattle.std.proofs.Common.{◌≡◌, ◌∙◌, ℕ, zero, suc, Bool, true, false, cond, List, [], ◌∷◌, ◌++◌, map, replicate, refl, sym, ap, subst, inl, inr}
 use Rattle.std.specs.Prelude.{⊤, pos, fold, All, Option, Some, None, MatchOption, Result, Ok, Err, is_some, filter_map, option_map, option_and_then, unwrap_or, codes}
 use Rattle.std.specs.List.{cons_option}

@@ -224,9 +224,9 @@ EachMeans requested [] (content ∷ contents) = ⊥
 EachMeans requested (Some m ∷ messages) [] = ⊥
 EachMeans requested (None ∷ messages) [] = ⊥
 
--- What has passed so is of the model, turn by turn: the editor's documents and answers are the
--- model's editor's, the session's documents are the model's server's, and the contents that wait say
--- the messages that wait. So what holds with every editor holds of it.
+-- States that an exchange follows the model of every editor, turn by turn: its editor has the documents
+-- and answers of the model's editor, its session has the documents of the model's server, and its unread
+-- contents say the model's unread messages. Each promise about every editor therefore holds here.
 pub record IsOfTheModel (unit : Unit) (turns : List Turn) (x : Exchange) : Type 0 where
   pub model : EditorAndServer
   pub leads : MayLead (nothing_yet unit) turns model
@@ -329,8 +329,8 @@ EveryExchangeHolds =
 
 -- ---- what a world plays
 
--- What passes in a course of the model's editor with a session is such an exchange: so what is said
--- of every exchange is said of all that `play` plays.
+-- States that each course of the model's editor with a session is such an exchange. Each promise about
+-- exchanges therefore holds for every list of events that `play` plays.
 abbrev pub ACourseIsAnExchange : Type 0
 ACourseIsAnExchange =
     (unit : Unit) (begin end : Connection) (events : List Event)

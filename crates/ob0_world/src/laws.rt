@@ -14,8 +14,8 @@ pub fn versions_suffice()
     ensures { VersionsSuffice }
 {}
 
-/// What an editor that keeps ob0's rules and a session of the server exchange is of the model of every editor, turn by
-/// turn: so every edit that the editor applies keeps the run, and what the session publishes is right.
+/// States that a session and an editor that keeps ob0's rules follow the model of every editor, turn by turn.
+/// Each edit that the editor applies therefore keeps the run, and each publication of the session is right.
 pub fn every_exchange_is_of_the_model()
     ensures { EveryExchangeIsOfTheModel }
 {}
@@ -27,7 +27,7 @@ pub fn every_exchange_holds()
     ensures { EveryExchangeHolds }
 {}
 
-/// What passes in a course of the model's editor with a session, as `play` plays it, is such an exchange.
+/// States that each course of the model's editor with a session, as `play` plays it, is such an exchange.
 pub fn a_course_is_an_exchange()
     ensures { ACourseIsAnExchange }
 {}

@@ -1,4 +1,4 @@
--- What `serve` writes to an editor that keeps ob0's rules: the headline, as bytes.
+-- States the headline in bytes, for `serve` and an editor that keeps ob0's rules.
 -- Rule: docs/PROMISES.md, Client and server.
 use Rattle.std.specs.Prelude.{◌≡◌, ◌≤◌, ◌++◌, ℕ, List, length, All, Result}
 use Rattle.std.specs.List.{flat_map}
@@ -11,7 +11,7 @@ use Rattle.ob0_world_rules.specs.EveryEditor.{Turn}
 use Rattle.ob0_world.specs.Exchanges.{Exchange, BeginsExchange, ExchangeLeads, HoldsOfExchange}
 use Rattle.ob0_world_determined.specs.Determined.{MayServe, IsWritten}
 
--- What an editor that keeps ob0's rules and a session have exchanged, and what `serve` writes of it.
+-- Relates the exchange of a session and an editor that keeps ob0's rules to the bytes that `serve` writes.
 pub record ServedExchange (begin now : Exchange) : Type 0 where
   pub holds : HoldsOfExchange begin now
   -- for the frames of the contents that the session took it writes the frames of those that the
