@@ -17,6 +17,7 @@ URI = "file:///m"
 LITERALS: Message = {"textDocument": {"codeAction": {"codeActionLiteralSupport": {}}}}
 MIB = 1 << 20
 SIZES = [10000, 100000, MIB - 1000]
+LINES_LEFT = (131058, 65100, 32100, 15600, 7350, 3250, 1200, 300, 12)
 TYPED = "\n  IF 1 > (0 + 12) * 3 THEN Write(7); WriteLn END;"
 
 
@@ -75,6 +76,29 @@ def shrinking(count: int, seed: int = 0) -> list[Message]:
     uri: Callable[[int], str] = lambda it: f"file:///{it}"
     talk = [did_open(texts[0], uri(it)) for it in range(8)]
     return talk + [did_change(chance.choice(texts), uri(chance.randrange(8)), version) for version in range(2, 2 + count)]
+
+
+def emptied(uri: str) -> list[Message]:
+    """A document of 1 MiB of line ends, and a change of one range that leaves 16 bytes."""
+    lines = MIB - 576
+    whole = {"range": extent(f"1:0-{lines}:0"), "text": ""}
+    return [did_open("MODULE M;" + "\n" * lines + "END M.", uri), did_change([whole], uri)]
+
+
+def made_smaller(uri: str, first: str = "", last: str = "") -> list[Message]:
+    """A document of 1 MiB, and changes that leave 12 of its lines, each less than half as many as the change before. The
+    text `first` is put before all lines at the start, and `last` at the end."""
+    top = "MODULE M; VAR x:INTEGER; BEGIN\n"
+    left = LINES_LEFT[0]
+    talk = [did_open(top + "x:=x+1;\n" * left + "END M.", uri)]
+    changes = [(extent("1:0-1:0"), first)] if first else []
+    kept = 1 + first.count("\n")
+    for fewer in LINES_LEFT[1:]:
+        changes.append((extent(f"{kept}:0-{kept + left - fewer}:0"), ""))
+        left = fewer
+    if last:
+        changes.append((extent("1:0-1:0"), last))
+    return talk + [did_change([{"range": where, "text": text}], uri, number) for number, (where, text) in enumerate(changes, 2)]
 
 
 def rows() -> Iterator[tuple[str, Longer]]:

@@ -26,6 +26,7 @@ sys.dont_write_bytecode = True
 sys.path[:0] = [HERE, os.path.join(os.path.dirname(HERE), "tests", "lib")]
 
 import corpus  # noqa: E402
+import keys  # noqa: E402
 from harness import BINARY, EXIT, SHUTDOWN, did_change, did_open, extent, frame, frames, initialize, place, request  # noqa: E402
 from common import match_of  # noqa: E402
 from framing import Incoming, Message  # noqa: E402
@@ -53,14 +54,24 @@ def megabytes(count: float) -> str:
     return f"{count / MIB:.1f} MiB"
 
 
-def peak_until_now(pid: int) -> int:
-    """The peak memory of a process, 0 where it has none any more."""
+def memory_of(pid: int, kind: str) -> int:
+    """The memory of a process of this kind, as /proc names it. 0 if it has none any more."""
     try:
         with open(f"/proc/{pid}/status", encoding="ascii", errors="replace") as file:
-            found = re.search(r"VmHWM:\s+(\d+)", file.read())
+            found = re.search(kind + r":\s+(\d+)", file.read())
     except OSError:
         return 0
     return int(found[1]) * 1024 if found else 0
+
+
+def memory_now(pid: int) -> int:
+    """The resident memory of a process."""
+    return memory_of(pid, "VmRSS")
+
+
+def peak_until_now(pid: int) -> int:
+    """The peak memory of a process."""
+    return memory_of(pid, "VmHWM")
 
 
 def watch(pid: int, peak: list[int]) -> None:
@@ -557,6 +568,24 @@ def one_character() -> None:
                     said(f"{number + 1} of them, now {letter}: peak memory", megabytes(peak_until_now(talk.process.pid)))
 
 
+@measure("serve: documents of 1 MB that are made smaller")
+def made_smaller() -> None:
+    """Each list gives its room back or counts with it: 64 documents hold about as much as 8, whatever they were before."""
+    kinds: dict[str, Callable[[str], list[Message]]] = {
+        "modules in all steps": keys.made_smaller,
+        "refused by the parser in all steps": lambda uri: keys.made_smaller(uri, first="x:=;\n"),
+        "a bad character at the end": lambda uri: keys.made_smaller(uri, last="$\n"),
+        "lines that go by one range": keys.emptied,
+    }
+    for name, talk_of in kinds.items():
+        with Talk("MODULE M; END M.") as talk:
+            for number in range(64):
+                for message in talk_of(f"file:///{number}"):
+                    talk.after(message)
+                if number + 1 in (8, 64):
+                    said(f"{name}, {number + 1} of them: memory", megabytes(memory_now(talk.process.pid)))
+
+
 @measure("questions: references of one name, on 100 KB and 1 MB")
 def referred() -> None:
     ask = {"context": {"includeDeclaration": True}, "position": place(0, 18)}
@@ -733,7 +762,6 @@ def instructions_of_conversation(program: str, given: bytes) -> int:
 @measure("keys: what an editor does while one types: instructions, and time on a processor")
 def keys_typed() -> None:
     """Where BESIDE names another program, its instructions come after."""
-    import keys
 
     programs = [it for it in (BINARY, os.environ.get("BESIDE")) if it]
     counts = lacks("valgrind") is None
@@ -751,7 +779,6 @@ def keys_typed() -> None:
 
 @measure("keys: eight documents that grow and shrink between 100 bytes and 1 MB: peak memory")
 def grown_and_shrunk() -> None:
-    import keys
 
     for count in (20, 200, 400):
         found = Timed([BINARY, "serve"], frames(keys.conversation(keys.shrinking(count))))

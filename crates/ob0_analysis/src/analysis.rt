@@ -27,7 +27,8 @@
 //!
 //! A text with faults of lexemes keeps all that was known of the last text that had lexemes: the scan gives the tokens
 //! back (`IsRightRefusalOver`). The next scan that succeeds is over them, over however many such texts; so a bad
-//! character that comes and goes loses nothing. Nothing is kept of a text that was much longer (`SPARED`).
+//! character that comes and goes loses nothing. Nothing is kept of a text that was much longer (`SPARED`), whether it lies
+//! one change back or many (`room`).
 
 ghost use Rattle.std.specs.Prelude.{◌≡◌, ◌≤◌, IfErr, IfOk, MatchOption, length, map};
 ghost use Rattle.std.specs.Str.{IsUtf8};
@@ -43,7 +44,8 @@ use ob0_scan::{Fault, ScanRefusal, scan};
 use std::alloc::{AllocError, Global};
 use std::marker::Model;
 
-/// An analysis is gone on from unless its text is more than twice as long as the next one and this together.
+/// The previous analysis is reused unless half of the room of its lists is more than the new text's length by more than
+/// this.
 const SPARED: usize = 4096;
 
 /// A text without lexemes, with its faults, and what is kept of the last text before it that had lexemes.
@@ -65,12 +67,18 @@ pub(crate) enum Findings {
 /// finds, so more can be kept without a change of any of them.
 pub struct Analysis {
     found: Findings,
+    /// The length of the longest of the texts before, back to the last analysis from nothing. Lists keep their capacity,
+    /// so what was taken over may have room for that one.
+    room: usize,
 }
 
 // Written out, since a derived one is proved again in each crate that drops such a value.
 impl Drop for Analysis {
     fn drop(self) {
-        let Analysis { found: _found } = self;
+        let Analysis {
+            found: _found,
+            room: _,
+        } = self;
     }
 }
 
@@ -96,10 +104,11 @@ impl Analysis {
                 let read = ReadText::of_tokens(alloc, tokens, Kept::none(alloc), None)?;
                 Ok(Analysis {
                     found: Findings::Read(read),
+                    room: 0,
                 })
             }
             Err(refusal) => match refusal {
-                ScanRefusal::Faults(faults) => Analysis::ill_lexed(alloc, text, faults, None),
+                ScanRefusal::Faults(faults) => Analysis::ill_lexed(alloc, text, faults, None, 0),
                 ScanRefusal::Memory => Err(AllocError),
             },
         }
@@ -110,14 +119,22 @@ impl Analysis {
     pub fn after(self, alloc: Global, text: &str) -> Result<Analysis, AllocError>
         ensures { IfOk result (λ a. a ≡ text.now) }
     {
-        let Analysis { found } = self;
+        let Analysis { found, room } = self;
         match found {
-            Findings::NoLexemes(ill) => Analysis::after_faults(alloc, ill, text),
-            Findings::Read(read) => Analysis::after_read(alloc, read, text),
+            Findings::NoLexemes(ill) => Analysis::after_faults(alloc, ill, room, text),
+            Findings::Read(read) => {
+                let room = read.text().len().max(room);
+                Analysis::after_read(alloc, read, room, text)
+            }
         }
     }
 
-    fn after_faults(alloc: Global, ill: IllLexed, text: &str) -> Result<Analysis, AllocError>
+    fn after_faults(
+        alloc: Global,
+        ill: IllLexed,
+        room: usize,
+        text: &str,
+    ) -> Result<Analysis, AllocError>
         ensures { IfOk result (λ a. a ≡ text.now) }
     {
         let IllLexed {
@@ -127,25 +144,31 @@ impl Analysis {
         } = ill;
         match last {
             None => Analysis::of(alloc, text),
-            Some(last) => Analysis::after_read(alloc, last, text),
+            Some(last) => Analysis::after_read(alloc, last, room, text),
         }
     }
 
-    /// The analysis of a text by another one that has lexemes. Of one that is much longer nothing is taken over, since
-    /// its lists would keep their capacity.
-    fn after_read(alloc: Global, read: ReadText, text: &str) -> Result<Analysis, AllocError>
+    /// The analysis of a text by another one that has lexemes, and room for this many bytes. Nothing is taken over if
+    /// that is much more than the text needs, since lists keep their capacity.
+    fn after_read(
+        alloc: Global,
+        read: ReadText,
+        room: usize,
+        text: &str,
+    ) -> Result<Analysis, AllocError>
         ensures { IfOk result (λ a. a ≡ text.now) }
     {
-        if read.text().len() / 2 > text.len().saturating_add(SPARED) {
+        if room / 2 > text.len().saturating_add(SPARED) {
             return Analysis::of(alloc, text);
         }
         match read.after(alloc, text) {
             Ok(read) => Ok(Analysis {
                 found: Findings::Read(read),
+                room,
             }),
             Err(refusal) => match refusal {
                 NotRead::Faults(faults, last) => {
-                    Analysis::ill_lexed(alloc, text, faults, Some(last))
+                    Analysis::ill_lexed(alloc, text, faults, Some(last), room)
                 }
                 NotRead::Memory => Err(AllocError),
             },
@@ -157,6 +180,7 @@ impl Analysis {
         text: &str,
         faults: Vec<Fault>,
         last: Option<ReadText>,
+        room: usize,
     ) -> Result<Analysis, AllocError>
         requires faults { AreFaults text.now faults.items }
         requires unscannable { IsScannable text.now → ⊥ }
@@ -165,6 +189,7 @@ impl Analysis {
         let text = String::from_str(alloc, text)?;
         Ok(Analysis {
             found: Findings::NoLexemes(IllLexed { text, faults, last }),
+            room,
         })
     }
 
@@ -178,22 +203,15 @@ impl Analysis {
         }
     }
 
-    /// How many bytes of text it keeps something of: those of its own text, and those of the text before it of which it
-    /// keeps something for the next one.
+    /// How many bytes of text its lists have room for: its own text's, or those of a longer one that it was made of. A
+    /// text with faults of lexemes counts in addition to the last text that had lexemes.
     pub fn bytes(&self) -> usize
         ensures { length self.now ≤ result }
     {
-        self.text().len().saturating_add(self.last_bytes())
-    }
-
-    /// How many bytes the text has that is kept beside the own text.
-    fn last_bytes(&self) -> usize {
+        let own = self.text().len();
         match &self.found {
-            Findings::NoLexemes(ill) => match &ill.last {
-                Some(last) => last.text().len(),
-                None => 0,
-            },
-            Findings::Read(_) => 0,
+            Findings::NoLexemes(_) => own.saturating_add(self.room),
+            Findings::Read(_) => own.max(self.room),
         }
     }
 

@@ -18,4 +18,4 @@ mod read_text;
 pub use analysis::Analysis;
 pub use asking::{Question, ask};
 pub use diagnoses::Diagnosis;
-pub use ob0_types::{WellTyped, declaring_field, field_at, field_tokens};
+pub use ob0_types::WellTyped;

@@ -42,6 +42,13 @@ HoldsValues name rows (Rename file position new) =
     × IsNumber (codes "column") rows position.character
     × (first_of (codes "name") rows ≡ Some new.now)
 
+-- a command reads the file of this name
+abbrev pub NamesFile : CommandLine → Text → Type 0
+NamesFile Serve path = ⊥
+NamesFile (Check file) path = file.now ≡ path
+NamesFile (Run file calls turns) path = file.now ≡ path
+NamesFile (Rename file position new) path = file.now ≡ path
+
 -- the command that was found, with its values, is this command line
 abbrev pub IsReadFrom : FoundCommand → CommandLine → Type 0
 IsReadFrom found line =

@@ -10,9 +10,10 @@
 //! its name (`most_of`); a local named `run` is `run'` in the answers; `where` blocks want every `_` written out. Help
 //! texts are constants of at most 80 columns, one for each command: a test counts.
 
-ghost use Rattle.std.specs.Prelude.{◌≡◌, ◌≤◌, Some, false, true, IfOk, IfErr, map};
+ghost use Rattle.std.specs.Prelude.{◌≡◌, ◌≢◌, ◌≤◌, Some, false, true, IfOk, IfErr, MatchOption, map};
 ghost use Rattle.clap.specs.Words.{App, Rule, app_of, first_of, found_of, new_app, rows_of, rule_of, subcommand_rows_of, with_rule, with_subcommand};
-ghost use Rattle.ob0_cli.specs.Given.{Gives, HasNeeded, HasBounded, HasPlace, HasText, HoldsValues, IsNumber, IsReadFrom, NeedsAt, RefusesWords, most_of};
+ghost use Rattle.ob0_cli.specs.Given.{Gives, HasNeeded, HasBounded, HasPlace, HasText, HoldsValues, IsNumber, IsReadFrom, NamesFile, NeedsAt, RefusesWords, most_of};
+ghost use Rattle.ob0_cli.specs.declared.line.CommandLine.TheVariants.{Serve};
 ghost use Rattle.ob0_cli.specs.Lines.{client_rule, ob0_alone, ob0_app, calls_rule, check as check_lines, number_rule, rename as rename_lines, run as run_lines, serve as serve_lines, serve_alone as serve_lines_alone, stdio_rule, turns_rule, word_rule};
 
 use clap::error::ErrorKind;
@@ -130,6 +131,29 @@ pub enum CommandLine<'a> {
         position: Position,
         name: &'a str,
     },
+}
+
+impl<'a> CommandLine<'a> {
+    /// The file that the command reads. None for `serve`, which reads none.
+    pub fn file(self) -> Option<&'a str>
+        ensures { MatchOption result (self.entry ≡ Serve)
+            (λ file. (self.entry ≢ Serve) × NamesFile self.entry file.now) }
+    {
+        match self {
+            CommandLine::Serve => None,
+            CommandLine::Check { file } => Some(file),
+            CommandLine::Run {
+                file,
+                calls: _,
+                turns: _,
+            } => Some(file),
+            CommandLine::Rename {
+                file,
+                position: _,
+                name: _,
+            } => Some(file),
+        }
+    }
 }
 
 /// Why a command line requests nothing.

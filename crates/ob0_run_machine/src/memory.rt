@@ -1,9 +1,11 @@
 //! Memory of a run: its lists grow here alone, so that it is known whether an allocation has failed.
 //!
-//! A step is out of memory only where an allocation has failed (`MachineSteps`, `Passes`): so a bound or a rule that is
-//! broken can't be reported as out of memory. More cells than there are addresses count as a failed allocation.
+//! A step is out of memory only if an allocation has failed (`MachineSteps`, `Passes`), so a bound or a rule that is
+//! broken can't be reported as out of memory. That the run needed the memory isn't stated. Each function that grows a
+//! list fails only if the list had too little capacity (`full`). More cells than there are addresses count as a failed
+//! allocation.
 
-ghost use Rattle.std.specs.Prelude.{◌≡◌, ◌++◌, ◌∷◌, ◌≤◌, [], OnErr, OnOk, false, true, vec_capacity, vec_len};
+ghost use Rattle.std.specs.Prelude.{◌≡◌, ◌+◌, ◌++◌, ◌∷◌, ◌<◌, ◌≤◌, [], OnErr, OnOk, false, true, vec_capacity, vec_len};
 ghost use Rattle.ob0_run_machine.specs.Execution.{block_at, zeros};
 ghost use Rattle.ob0_run_machine.specs.Allocations.{has_failed};
 
@@ -44,6 +46,7 @@ impl Memory {
         ensures items { OnOk result (list.new.items ≡ list.old.items ++ item ∷ []) }
         ensures failed { OnErr result (has_failed self.new ≡ true) }
         ensures full { OnErr result (vec_capacity list.old ≤ vec_len list.old) }
+        ensures capacity { vec_capacity list.old ≤ vec_capacity list.new }
     {
         match list.push(item) {
             Ok(()) => Ok(()),
@@ -60,6 +63,7 @@ impl Memory {
     ) -> Result<(), AllocError>
         ensures items { OnOk result (cells.new.items ≡ cells.old.items ++ zeros count) }
         ensures failed { OnErr result (has_failed self.new ≡ true) }
+        ensures full { OnErr result (vec_capacity cells.old < vec_len cells.old + count) }
     {
         if count > FEW_CELLS {
             return self.push_row_of_zeros(cells, count);
@@ -74,6 +78,7 @@ impl Memory {
     fn push_row_of_zeros(&mut self, cells: &mut Vec<i32>, count: usize) -> Result<(), AllocError>
         ensures items { OnOk result (cells.new.items ≡ cells.old.items ++ zeros count) }
         ensures failed { OnErr result (has_failed self.new ≡ true) }
+        ensures full { OnErr result (vec_capacity cells.old < vec_len cells.old + count) }
     {
         match cells.len().checked_add(count) {
             None => Err(self.fail()),
@@ -94,6 +99,7 @@ impl Memory {
         ensures items { OnOk result
             (cells.new.items ≡ cells.old.items ++ block_at cells.old.items from count) }
         ensures failed { OnErr result (has_failed self.new ≡ true) }
+        ensures full { OnErr result (vec_capacity cells.old < vec_len cells.old + count) }
     {
         let length = cells.len();
         if count > length {

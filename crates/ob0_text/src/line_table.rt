@@ -5,15 +5,17 @@
 //! that it adds or drops and those between it and the change before (`move_left`, `move_right`, whose clauses say that
 //! no start changes). Changes far apart in turn move all that lies between them each time.
 //!
-//! `replace` allocates all memory first: the starts of the new text, capacity in both parts, then the text. After that
-//! no allocation can fail, which the contracts of `reserve` and `extend_from_slice` say. Where an allocation fails
-//! while starts are moved, the table is cut elsewhere and is still the text's.
+//! `put` allocates all memory first: the starts of the new text, capacity in both parts, then the text. After that no
+//! allocation can fail, which the contracts of `reserve` and `extend_from_slice` say. Where an allocation fails while
+//! starts are moved, the table is cut elsewhere and is still the text's. `replace` then gives memory back
+//! (`spare_room.rt`).
 
 ghost use Rattle.std.specs.Prelude.{◌≡◌, ◌+◌, ◌<◌, ◌≤◌, ◌++◌, IfOk, OnOk, OnErr, drop, length, min, slice_index, string_bytes, take};
 ghost use Rattle.std.specs.Str.{IsCharBoundary};
 ghost use Rattle.ob0_text.specs.LineStarts.{AllUnder, HasLines, IsCountBefore, starts_in};
 
 use crate::line_starts::{starts_in_change, starts_of};
+use crate::spare_room::{trim_list, trim_text};
 use std::alloc::{AllocError, Global};
 use std::marker::Model;
 
@@ -89,9 +91,40 @@ impl LineTable {
         low
     }
 
-    /// Puts `new` in place of the bytes `from..to` of the text of which this is the table. Where an
-    /// allocation fails the text stays.
+    /// Puts `new` in place of the bytes `from..to` of the text of which this is the table, and gives memory back that a
+    /// shorter text doesn't need. If an allocation fails, the text is unchanged.
     pub fn replace(
+        &mut self,
+        text: &mut String,
+        from: usize,
+        to: usize,
+        new: &str,
+    ) -> Result<(), AllocError>
+        requires table { HasLines (string_bytes text.old) self.old }
+        requires order { from ≤ to }
+        requires start { IsCharBoundary (string_bytes text.old) from }
+        requires end { IsCharBoundary (string_bytes text.old) to }
+        ensures table { HasLines (string_bytes text.new) self.new }
+        ensures ok { OnOk result (string_bytes text.new
+            ≡ (take from (string_bytes text.old) ++ new.now) ++ drop to (string_bytes text.old)) }
+        ensures err { OnErr result (string_bytes text.new ≡ string_bytes text.old) }
+    {
+        self.put(text, from, to, new)?;
+        trim_text(text);
+        self.trim();
+        Ok(())
+    }
+
+    /// Gives memory back that the lines don't need.
+    fn trim(&mut self)
+        ensures { self.new ≡ self.old }
+    {
+        trim_list(&mut self.front);
+        trim_list(&mut self.back);
+    }
+
+    /// Puts `new` in place of the bytes `from..to`. If an allocation fails, the text is unchanged.
+    fn put(
         &mut self,
         text: &mut String,
         from: usize,

@@ -24,8 +24,8 @@ use ob0_scan::{Code, Fault, MAX_FAULTS, SameTokens};
 use ob0_scope_table::{PREDECLARED, Resolved, place_in_module};
 use ob0_types_check::laws::{modules_fit, no_fault_in_modules};
 use ob0_types_check::{Report, report_bodies, report_body, report_faults};
-use ob0_types_fields::{FieldList, FieldName, typed_field};
-use ob0_types_table::{DeclarationTable, FieldOf, Parts, TypeId};
+use ob0_types_fields::FieldList;
+use ob0_types_table::{DeclarationTable, Parts, TypeId};
 use std::alloc::{AllocError, Global};
 use std::borrow::Cow;
 use std::marker::Model;
@@ -95,14 +95,6 @@ impl<'t> Model for WellTyped<'t> {
 pub struct Shape<'t> {
     pub known: &'t DeclarationTable,
     pub of: TypeId,
-}
-
-/// An identifier of a field: its token, the field, and the field's type.
-#[derive(Clone, Copy)]
-pub struct FieldRow<'t> {
-    pub token: usize,
-    pub field: FieldOf,
-    pub shape: Shape<'t>,
 }
 
 /// Checks the types of a module. Its faults are those of its scopes and its types.
@@ -412,7 +404,6 @@ impl<'t> WellTyped<'t> {
     ghost use Rattle.ob0_language_types.specs.ConstantValues.{value_of_constant};
     ghost use Rattle.ob0_language_types.specs.Bindings.{declared_object};
     ghost use Rattle.ob0_types.specs.DeclaredShapes.{shape_of};
-    ghost use Rattle.ob0_types.specs.RowsOfFields.{row_in, field_row_of};
     ghost use Rattle.ob0_language_types.specs.Typing.{type_declared};
     ghost use Rattle.ob0_language_values.specs.Scalars.{scalar_value};
 
@@ -431,7 +422,7 @@ impl<'t> WellTyped<'t> {
         self.checked.resolved()
     }
 
-    /// What is known of the module: what each declaration is, by its ordinal (`Known::object`), and the parts of types.
+    /// What is known of the module: what each declaration is, by its ordinal (`DeclarationTable::object`), and the parts of types.
     pub fn declarations(&self) -> &'t DeclarationTable
         ensures { HasDeclarations (named_tree_of self.now.module_read) result.now }
     {
@@ -443,24 +434,6 @@ impl<'t> WellTyped<'t> {
         ensures { AreFields self.now result.now }
     {
         self.fields
-    }
-
-    /// What an identifier of a field is.
-    pub(crate) fn field_row(&self, identifier: FieldName) -> Option<FieldRow<'t>>
-        ensures { option_map row_in result ≡ field_row_of self.now identifier }
-    {
-        let known = self.declarations();
-        match typed_field(known, self.resolved(), identifier) {
-            None => None,
-            Some(found) => Some(FieldRow {
-                token: identifier.token,
-                field: found.field,
-                shape: Shape {
-                    known,
-                    of: found.of,
-                },
-            }),
-        }
     }
 
     /// The value of a constant that a CONST section declares, by its ordinal. None for every other declaration, TRUE

@@ -1,11 +1,10 @@
 //! The fields of a well-typed module: which one a place is on, its identifiers, and where its record declares it.
 
-ghost use Rattle.std.specs.Prelude.{◌≡◌, IfOk, IfSome, length, option_map};
+ghost use Rattle.std.specs.Prelude.{◌≡◌, IfOk, IfSome, length};
 ghost use Rattle.ob0_tree.specs.Order.{AreIdentifiers, Ascending, IsIdentifierToken};
 ghost use Rattle.ob0_types_fields.specs.Identifiers.{declaring_field, field_at, field_place, field_tokens};
-ghost use Rattle.ob0_types.specs.RowsOfFields.{field_row_at, row_in};
 
-use crate::checked::{FieldRow, WellTyped};
+use crate::checked::WellTyped;
 use ob0_types_fields::FieldName;
 use std::alloc::{AllocError, Global};
 
@@ -17,16 +16,6 @@ pub fn field_at(well_typed: &WellTyped<'_>, offset: usize) -> Option<FieldName>
 {
     let names = well_typed.resolved();
     well_typed.fields().at(names.tokens(), offset)
-}
-
-/// The field that a place is on, with its type: found as `field_at` finds it.
-pub fn field_row_at<'t>(well_typed: &WellTyped<'t>, offset: usize) -> Option<FieldRow<'t>>
-    ensures { option_map row_in result ≡ field_row_at well_typed.now offset }
-{
-    match field_at(well_typed, offset) {
-        None => None,
-        Some(field) => well_typed.field_row(field),
-    }
 }
 
 /// The tokens of the field of this name of a record: the one that declares it and all that select it, in text order.

@@ -6,7 +6,7 @@ use Rattle.std.proofs.lemmas.Str.{IsUtf8-string_bytes}
 use Rattle.ob0_text.specs.Texts.{LF}
 use Rattle.ob0_text.specs.LineStarts.{AllUnder, Table, line_starts, starts_after, starts_in}
 use Rattle.ob0_text.proofs.LineTables.{all_within, table_replaced}
-use Rattle.ob0_text.proofs.line_table.LineTable.replace.Goals as goal
+use Rattle.ob0_text.proofs.line_table.LineTable.put.Goals as goal
 
 pub move_left-requires : goal.move_left-requires
 move_left-requires c =
