@@ -5,7 +5,7 @@ use Rattle.ob0_tree.specs.Tree.{Sort, Tree, adds, array_type, assigns, begins, b
 use Rattle.ob0_language_names.specs.Names.{Name}
 use Rattle.ob0_language_names.specs.Occurrences.{binds}
 use Rattle.ob0_language_names.specs.Parts.{formal_names, formal_sections}
-use Rattle.ob0_language_names.specs.Scopes.{after_names, after_procedure, first_procedure, same_ordinal}
+use Rattle.ob0_language_names.specs.Scopes.{after_names, after_procedure, first_procedure, predeclared_count, same_ordinal}
 
 -- which of a tree's occurrences, counted in text order, give way to a factor
 abbrev pub Uses : Type 0
@@ -137,7 +137,7 @@ abbrev mutual
 
 -- a module without the declaration of this ordinal
 abbrev pub module_without : ℕ → Tree Name module_text → Tree Name module_text
-module_without d (is_module x b closing) = is_module x (block_without d 7 b) closing
+module_without d (is_module x b closing) = is_module x (block_without d predeclared_count b) closing
 
 -- the occurrence with this number alone
 abbrev pub only : ℕ → Uses

@@ -4,7 +4,7 @@ use Rattle.std.specs.Prelude.{◌≡◌, ℕ, suc, Bool, false, not, ◌&&◌, L
 use Rattle.ob0_tree.specs.Tree.{Tree, block, declares, declares_procedure, end, has_body, item, items, module_text, more, occurrences, procedure}
 use Rattle.ob0_language_names.specs.Names.{Label, Name, as_written, declared, same_label, same_name}
 use Rattle.ob0_language_names.specs.Parts.{formal_names, formal_sections, module_block}
-use Rattle.ob0_language_names.specs.Scopes.{Scope, after_names, after_procedure, body_scope, declare_names, first_procedure, numbered, renamed}
+use Rattle.ob0_language_names.specs.Scopes.{Scope, after_names, after_procedure, body_scope, declare_names, first_procedure, numbered, predeclared_count, renamed}
 use Rattle.std.specs.List.{list_any}
 
 -- for each occurrence, in text order, what its name is bound to
@@ -53,7 +53,7 @@ names_another own d new = list_any (λ b. same_name b.0 new && not (b.1 == d)) o
 abbrev pub is_duplicate : Tree Name module_text → ℕ → Name → Bool
 is_duplicate m d new =
     list_any (λ own. declares_ordinal own d && names_another own d new)
-    (blocks_in 7 [] (module_block m))
+    (blocks_in predeclared_count [] (module_block m))
 
 -- a new name is free: no other declaration of d's block has it,
 -- and each occurrence stays bound to its declaration

@@ -23,6 +23,10 @@ abbrev pub declare_names : {N : Type 0} → ℕ → List N → Scope N → Scope
 declare_names k [] scope = scope
 declare_names k (x ∷ xs) scope = declare_names (suc k) xs ((x, k) ∷ scope)
 
+-- how many names are predeclared: the ordinals of declarations begin with this number
+abbrev pub predeclared_count : ℕ
+predeclared_count = 7
+
 -- the outermost block
 abbrev pub predeclared_scope : {N : Type 0} → Naming N → Scope N
 predeclared_scope naming =
@@ -309,7 +313,7 @@ abbrev pub relabelled : {N M : Type 0}
     → Tree N module_text
     → Tree M module_text
 relabelled naming label (is_module x b closing) =
-    is_module (label None x) (relabel_block naming label (predeclared_scope naming) 7 b)
+    is_module (label None x) (relabel_block naming label (predeclared_scope naming) predeclared_count b)
     (label None closing)
 
 -- a name by its declaration's ordinal, or as written where no declaration binds it

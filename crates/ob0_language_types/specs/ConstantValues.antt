@@ -5,7 +5,7 @@ use Rattle.std.specs.Prelude.{None, Option, Some, if◌then◌else◌, map, nat_
 use Rattle.ob0_tree.specs.Tree.{Tree, block, constant, declares, declares_constant, declares_procedure, end, has_body, item, items, module_text, more, procedure}
 use Rattle.ob0_language_names.specs.Names.{Name, as_names}
 use Rattle.ob0_language_names.specs.Parts.{formal_names, formal_sections, module_block, named_types, procedure_name, section_constants, section_types, section_variables, variable_names}
-use Rattle.ob0_language_names.specs.Scopes.{after_names, after_procedure, first_procedure, first_type}
+use Rattle.ob0_language_names.specs.Scopes.{after_names, after_procedure, first_procedure, first_type, predeclared_count}
 use Rattle.ob0_language_values.specs.Values.{Value}
 use Rattle.ob0_language_types.specs.Declarations.{declare_constants}
 use Rattle.ob0_language_types.specs.Environments.{Environment, meanings, outermost}
@@ -78,4 +78,6 @@ unfoldable mutual
 unfoldable pub value_of_constant : Tree Name module_text → ℕ → Option Value
 unfolding value_in_block
 value_of_constant m d =
-    if nat_lt d 7 then None else value_in_block predeclared_known d 7 (module_block m)
+    if nat_lt d predeclared_count
+    then None
+    else value_in_block predeclared_known d predeclared_count (module_block m)

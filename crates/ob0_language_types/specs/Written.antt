@@ -4,6 +4,7 @@ use Rattle.std.specs.Prelude.{suc, true, false, ℤ, pos, negsuc, if◌then◌el
 use Rattle.ob0_tree.specs.declared.tree.Sign.TheVariants as sign
 use Rattle.ob0_tree.specs.declared.tree.AddOperator.TheVariants as add_operator
 use Rattle.ob0_tree.specs.Tree.{Tree, adds, compares, designator, end, factor, integer, more, none, parenthesised, product, sum}
+use Rattle.ob0_scan.specs.Classes.{max_integer}
 use Rattle.ob0_language_names.specs.Names.{Name}
 use Rattle.ob0_language_values.specs.Values.{Value, number, truth}
 
@@ -12,10 +13,10 @@ use Rattle.ob0_language_values.specs.Values.{Value, number, truth}
 abbrev pub written_number : ℤ → Tree Name factor
 written_number (pos n) = integer n
 written_number (negsuc n) =
-    if nat_lt n 2147483647
+    if nat_lt n max_integer
     then parenthesised
     (compares (sum (Some sign.Minus) (product (integer (suc n)) end) end) none)
-    else parenthesised (compares (sum (Some sign.Minus) (product (integer 2147483647) end)
+    else parenthesised (compares (sum (Some sign.Minus) (product (integer max_integer) end)
     (more (adds add_operator.Subtract (product (integer 1) end)) end)) none)
 
 -- a value of a constant as a factor

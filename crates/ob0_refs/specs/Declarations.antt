@@ -6,6 +6,7 @@ use Rattle.ob0_tree.specs.Parsed.{Parsed, tree_of}
 use Rattle.ob0_tree.specs.Places.{text_at}
 use Rattle.ob0_tree.specs.Tree.{identifiers}
 use Rattle.ob0_language_names.specs.Names.{Name}
+use Rattle.ob0_language_names.specs.Scopes.{predeclared_count}
 use Rattle.ob0_scope_table.specs.Resolution.{declaring_only}
 use Rattle.ob0_scope.specs.declared.naming.Named as named
 use Rattle.ob0_refs.specs.Hovers.{HoverParameter, constant_text, named_type_text, predeclared_text, procedure_text, type_text, variable_text}
@@ -50,7 +51,7 @@ object_hover name following (a_standard s) = Some (predeclared_text name)
 abbrev pub names_after : Parsed → ℕ → List Name
 names_after m ordinal =
     map (text_at m.source)
-    (drop (ordinal + 1 - 7) (declaring_only (identifiers role.Declaring (tree_of m))))
+    (drop (ordinal + 1 - predeclared_count) (declaring_only (identifiers role.Declaring (tree_of m))))
 
 -- the name of a declaration of the text, by what this is bound to
 abbrev pub declaration_hover : Parsed
@@ -63,6 +64,6 @@ declaration_hover m n object =
 -- the predeclared names come before the declarations of the text
 abbrev pub name_hover : Parsed → named.Named → Option (Object Shape Signature) → Option (List ℕ)
 name_hover m n object =
-    if nat_lt n.ordinal 7
+    if nat_lt n.ordinal predeclared_count
     then Some (predeclared_text (text_at m.source n.token))
     else declaration_hover m n object

@@ -5,6 +5,7 @@ use Rattle.std.specs.List.{filter}
 use Rattle.ob0_scan.specs.declared.lexeme.Span.{Span}
 use Rattle.ob0_tree.specs.Parsed.{Parsed}
 use Rattle.ob0_tree.specs.Places.{text_at}
+use Rattle.ob0_language_names.specs.Scopes.{predeclared_count}
 use Rattle.ob0_language_values.specs.Values.{Shape}
 use Rattle.ob0_scope_table.specs.Resolution.{Resolution, span_at}
 use Rattle.ob0_types_fields.specs.FieldTypes.{typed_field}
@@ -47,7 +48,7 @@ identified_at r offset =
 -- predeclared names keep their names
 abbrev pub renamable_meant : Parsed → ℕ → Meant → Option Span
 renamable_meant m token (Name ordinal) =
-    if nat_lt ordinal 7 then None else Some (span_at m.source token)
+    if nat_lt ordinal predeclared_count then None else Some (span_at m.source token)
 renamable_meant m token (Field k) = Some (span_at m.source token)
 
 -- the name or field itself that is at a place, where it can be renamed

@@ -15,6 +15,7 @@ ghost use Rattle.ob0_refs.specs.Hovers.{field_text, named_type_text, procedure_t
 ghost use Rattle.ob0_refs.specs.Parameters.{parameter_in};
 ghost use Rattle.ob0_types_table.specs.KnownTables.{declared_in, shapes_of};
 ghost use Rattle.ob0_types_table.specs.Tables.{formal_in, type_shape};
+ghost use Rattle.ob0_language_names.specs.Scopes.{predeclared_count};
 
 use crate::hovers::{
     Parameter, constant_text, named_type_text, predeclared_text, procedure_text, variable_text,
@@ -136,7 +137,7 @@ fn procedure_line(
 /// The tokens of the declarations after that with an ordinal.
 fn declared_after<'r>(names: &'r Resolved<'_>, ordinal: usize) -> &'r [usize]
     ensures { result.now
-        ≡ drop (ordinal + 1 - 7)
+        ≡ drop (ordinal + 1 - predeclared_count)
         (declaring_only (identifiers role.Declaring (tree_of names.now.module_read))) }
 {
     // For the proof: what the contract of this call says.

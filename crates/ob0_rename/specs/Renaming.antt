@@ -13,6 +13,7 @@ use Rattle.ob0_tree.specs.Places.{text_at}
 use Rattle.ob0_tree.specs.Tree.{Tree, identifiers, module_text, occurrences}
 use Rattle.ob0_tree.specs.declared.tree.Role.TheVariants as role
 use Rattle.ob0_language_names.specs.Names.{Name, same_name}
+use Rattle.ob0_language_names.specs.Scopes.{predeclared_count}
 use Rattle.ob0_scope.specs.Renames.{namesake}
 use Rattle.ob0_scope_table.specs.Resolution.{Resolution, declaring_only, span_at, token_declaring}
 use Rattle.ob0_edits_tokens.specs.Replaced.{with_text_at}
@@ -50,9 +51,9 @@ pub data Target : Type 0 where
   -- the field of this name of the record with this ordinal
   field_of : ℕ → Name → Target
 
--- a name by its ordinal: predeclared below 7, else a declaration
+-- a name by its ordinal: predeclared below `predeclared_count`, else a declaration
 abbrev pub by_ordinal : ℕ → Target
-by_ordinal ordinal = if nat_lt ordinal 7 then predeclared else declaration ordinal
+by_ordinal ordinal = if nat_lt ordinal predeclared_count then predeclared else declaration ordinal
 
 -- a field, by an identifier of it
 abbrev pub by_token : Scanned → Option FieldName → Target
