@@ -3,7 +3,7 @@ use Rattle.std.proofs.Common.{◌≡◌, ◌⊎◌, ℕ, List, Option, Some, Non
 use Rattle.std.specs.Str.{chars, IsUtf8}
 use Rattle.ob0_language_fields.specs.Renaming.{field_renamed}
 use Rattle.ob0_rename.specs.Answers.{AreEdits, IsRefused, RenameAnswers, WritesName}
-use Rattle.ob0_rename.specs.Renaming.{Renaming, field_tokens_to_rename, tokens_to_rename}
+use Rattle.ob0_rename.specs.Renaming.{Renaming, field_tokens_to_rename, renaming_of, tokens_to_rename}
 use Rattle.ob0_language_names.specs.Names.{Name}
 use Rattle.ob0_scope_table.specs.Resolution.{Resolution}
 use Rattle.ob0_language_names.specs.Scopes.{renamed}
@@ -17,7 +17,7 @@ use Rattle.ob0_tree.specs.Tree.{Tree, module_text}
 use Rattle.ob0_analysis.specs.Analysed.{Finds, IsModuleIn}
 use Rattle.ob0_analysis.specs.Diagnosed.{IsTextOf, IsWellTypedModule}
 use Rattle.ob0_analysis.specs.Texts.{utf8}
-use Rattle.ob0_edits.specs.Renamings.{FindsNewName, RenamesIn, Settles, renaming_of}
+use Rattle.ob0_edits.specs.Renamings.{FindsNewName, RenamesIn, Settles}
 use Rattle.ob0_analysis.proofs.Scanning.{is_module, utf8_of}
 
 -- a refusal that isn't out of memory

@@ -14,12 +14,7 @@ use Rattle.ob0_analysis.specs.Diagnosed.{IsWellTypedModule}
 use Rattle.ob0_analysis.specs.RunsKept.{RunsAsBefore}
 use Rattle.ob0_analysis.specs.Texts.{utf8}
 use Rattle.ob0_rename.specs.Answers.{AreEdits, IsRefused}
-use Rattle.ob0_rename.specs.Renaming.{Renaming}
-
--- another name for what is named at a place of a text that is this module
-abbrev pub renaming_of : Unit → List ℕ → Resolution → Position → List ℕ → Renaming
-renaming_of unit text names place new =
-    record { unit = unit; text = text; names = names; place = place; new = new }
+use Rattle.ob0_rename.specs.Renaming.{Renaming, renaming_of}
 
 -- edits, or why there are none
 abbrev pub Settles : Renaming → Result (Vec Edit Global) EditRefusal → Type 0

@@ -7,7 +7,8 @@
 
 ghost use Rattle.std.specs.Prelude.{◌≡◌, IfOk};
 ghost use Rattle.std.specs.Str.{chars};
-ghost use Rattle.ob0_edits.specs.Renamings.{FindsNewName, Settles, renaming_of};
+ghost use Rattle.ob0_rename.specs.Renaming.{renaming_of};
+ghost use Rattle.ob0_edits.specs.Renamings.{FindsNewName, Settles};
 
 use crate::refusals::without_memory;
 use ob0_analysis::{Analysis, Question, WellTyped, ask};

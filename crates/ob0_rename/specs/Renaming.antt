@@ -32,6 +32,11 @@ pub record Renaming : Type 0 where
   pub place : Position
   pub new : Name
 
+-- another name at a place of a text that is this module
+abbrev pub renaming_of : counting.Unit → List ℕ → Resolution → Position → List ℕ → Renaming
+renaming_of unit text names place new =
+    record { unit = unit; text = text; names = names; place = place; new = new }
+
 -- the module of the text
 abbrev pub module_of : Renaming → read.Parsed
 module_of r = r.names.module_read

@@ -12,7 +12,7 @@ ghost use Rattle.ob0_scope.specs.declared.capturing.FirstCapture.TheVariants.{Du
 ghost use Rattle.ob0_text.specs.declared.refusals.EditRefusal.TheVariants as refused;
 ghost use Rattle.ob0_edits_tokens.specs.Ranges.{range_of};
 ghost use Rattle.ob0_rename.specs.Answers.{RenameAnswers, AnswersDeclaration, AllocatesOnly, OnlyMemory, TakesOwnName};
-ghost use Rattle.ob0_rename.specs.Renaming.{declaring_token, is_declared_as};
+ghost use Rattle.ob0_rename.specs.Renaming.{declaring_token, is_declared_as, renaming_of};
 
 use crate::fields::rename_field;
 use crate::places::{identified, token_range, tokens_to_rename};
@@ -40,28 +40,10 @@ pub fn rename<T: TextStore>(
     new: &str,
 ) -> Result<Vec<Edit>, EditRefusal>
     requires { T.content store.now ≡ chars well_typed.now.module_read.source.text }
-    ensures answers { RenameAnswers (record {
-      unit = T.unit_of store.now;
-      text = T.content store.now;
-      names = well_typed.now;
-      place = place;
-      new = new.now;
-    }) result }
+    ensures answers { RenameAnswers (renaming_of (T.unit_of store.now) (T.content store.now) well_typed.now place new.now) result }
     ensures memory { result ≡ Err refused.Memory
-        → AllocatesOnly (record {
-          unit = T.unit_of store.now;
-          text = T.content store.now;
-          names = well_typed.now;
-          place = place;
-          new = new.now;
-        }) }
-    ensures own_name { TakesOwnName (record {
-      unit = T.unit_of store.now;
-      text = T.content store.now;
-      names = well_typed.now;
-      place = place;
-      new = new.now;
-    }) result }
+        → AllocatesOnly (renaming_of (T.unit_of store.now) (T.content store.now) well_typed.now place new.now) }
+    ensures own_name { TakesOwnName (renaming_of (T.unit_of store.now) (T.content store.now) well_typed.now place new.now) result }
 {
     let offset = store.offset(place);
     match identified(well_typed, offset) {
@@ -92,13 +74,7 @@ fn rename_declaration<T: TextStore>(
 ) -> Result<Vec<Edit>, EditRefusal>
     requires { T.content store.now ≡ chars well_typed.now.module_read.source.text }
     ensures answers { (place : positions.Position)
-        → AnswersDeclaration (record {
-          unit = T.unit_of store.now;
-          text = T.content store.now;
-          names = well_typed.now;
-          place = place;
-          new = new.now;
-        }) declaration result }
+        → AnswersDeclaration (renaming_of (T.unit_of store.now) (T.content store.now) well_typed.now place new.now) declaration result }
     ensures memory { result ≡ Err refused.Memory → IsIdentifier new.now }
     ensures own_name { is_declared_as well_typed.now.module_read declaration new.now ≡ true
         → OnlyMemory result }
