@@ -316,7 +316,7 @@ pub data Descends : List Part → ℕ → List (Terminal ℕ) → Stop → Type 
   absent : {s : Sort} {room : ℕ} {ps : List Part} {i : ℕ} {tokens : List (Terminal ℕ)}
       {e : Expected}
       → chosen s room tokens ≡ missing e → Descends (node s room ∷ ps) i tokens (Expects i e)
-  -- the construct opens a level of nesting, and none is left
+  -- the construct opens a level of nesting, but no level is left
   deep : {s : Sort} {room : ℕ} {ps : List Part} {i : ℕ} {tokens : List (Terminal ℕ)}
       → chosen s room tokens ≡ too_deep → Descends (node s room ∷ ps) i tokens (Deep i)
 

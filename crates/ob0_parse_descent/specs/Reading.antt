@@ -33,8 +33,8 @@ lexeme_at i (Some k) = lexeme_of i k
 unfoldable pub rest : List Token → ℕ → List (Terminal ℕ)
 rest ts i = drop i (lexemes ts)
 
--- states that the tokens begin with these parts, and that each tree among the parts ends where it
--- must
+-- states that the tokens begin with these parts, and that each tree among the parts ends before a
+-- token that can't continue it
 abbrev pub Begins : List Part → List (Terminal ℕ) → Type 0
 Begins [] w = Unit {0}
 Begins (token k ∷ ps) w = (z : List (Terminal ℕ)) × (w ≡ Mark k ∷ z) × Begins ps z
@@ -143,22 +143,22 @@ abbrev pub NameIs : List Token → ℕ → Bool → Type 0
 NameIs ts at true = (rest ts at ≡ Name at ∷ rest ts (at + 1)) × (at < length ts)
 NameIs ts at false = NoName ts at
 
--- States that the result is the index after this reserved word or symbol. If another token is
--- there, the refusal says that this one is expected.
+-- States that the result is the index after this reserved word or symbol. If the token is another
+-- one, the refusal says that this one is expected.
 abbrev pub ReadsToken : TokenKind → List Token → ℕ → Result ℕ ParseRefusal → Type 0
 ReadsToken k ts at (Ok next) =
     (rest ts at ≡ Mark k ∷ rest ts next) × (at < length ts) × (next ≡ at + 1)
 ReadsToken k ts at (Err e) =
     Other (Mark k) ts at × (Some e ≡ option_map (Syntax at) (expected_token k))
 
--- States that the result is the identifier at this index and the index after it. If another token
--- is there, the refusal says that an identifier is expected.
+-- States that the result is the identifier at this index and the index after it. If the token isn't
+-- an identifier, the refusal says that one is expected.
 abbrev pub ReadsName : List Token → ℕ → Result (ℕ × ℕ) ParseRefusal → Type 0
 ReadsName ts at (Ok x) =
     (rest ts at ≡ Name at ∷ rest ts x.1) × (at < length ts) × (x.0 ≡ at) × (x.1 ≡ at + 1)
 ReadsName ts at (Err e) = NoName ts at × (e ≡ Syntax at expected.Identifier)
 
--- states that the result is one level less, or `TooDeep` if none is left
+-- states that the result is one level less, or `TooDeep` if no level is left
 abbrev pub Opens : ℕ → ℕ → Result ℕ ParseRefusal → Type 0
 Opens at room (Ok inner) = room ≡ inner + 1
 Opens at room (Err e) = (room ≡ 0) × (e ≡ TooDeep at)

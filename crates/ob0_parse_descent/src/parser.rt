@@ -22,7 +22,7 @@ use ob0_tree::{
 };
 use std::alloc::{AllocError, Global};
 
-/// How strongly the token after an operand binds the operand (see `binding`); a smaller number
+/// The strengths with which a token binds the operand before it (see `binding`). A smaller number
 /// binds more strongly.
 const BY_SELECTOR: u8 = 1;
 
@@ -460,7 +460,7 @@ impl<'t> Parser<'t> {
     }
 }
 
-/// Returns how strongly the token after an operand binds the operand.
+/// Returns the strength with which a token binds the operand before it.
 #[inline(always)]
 fn binding(next: Option<TokenKind>) -> u8
     ensures { result ≡ binding next }
