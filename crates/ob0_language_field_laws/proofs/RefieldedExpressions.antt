@@ -23,7 +23,7 @@ abbrev pub scalar_value : Scalar → Value
 scalar_value (whole n) = number n
 scalar_value (logical b) = truth b
 
--- what a name means in both runs
+-- the meaning of a name in both runs
 pub data Thing (P : Type 0) : Type 0 where
   type_thing : Shape → Thing P
   constant_thing : Scalar → Thing P
@@ -59,7 +59,7 @@ object_value-follows l apart store _ = inl refl
 abbrev pub PathsFollow : FieldNames → Outcome (List Step) → Outcome (List Step) → Type 0
 PathsFollow l = Follows (map (step_by tagged)) (map (step_by l))
 
--- a step, and what follows it from the part that it reaches
+-- a step, then the path that continues from the selected part
 abbrev pub follow_on : (Value → Outcome (List Step)) → Value → Step → Outcome (List Step)
 follow_on next v s = or_stuck (part v s) >>= (λ w. next w >>= (λ steps. gives (s ∷ steps)))
 

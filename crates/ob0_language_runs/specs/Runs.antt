@@ -118,8 +118,8 @@ perform (Some (a_standard writes)) enter (value_argument (number n) ∷ []) s =
 perform (Some (a_standard writes_line)) enter [] s = running (append_output s line_out)
 perform _ enter args s = stopped Stuck s.output
 
--- WHILE evaluates its condition. If it is TRUE and none of the t iterations is left, the run ends
--- with TurnBound; otherwise one more iteration is made
+-- WHILE evaluates its condition: FALSE ends the statement. If it is TRUE, one more iteration is made,
+-- or the run ends with TurnBound if t is 0
 abbrev pub turns : ℕ → (State → Outcome Value) → (State → Progress) → State → Progress
 turns zero condition statements s =
     use_in s (condition s) (λ v. choose s v (λ s'. stopped TurnBound s'.output) running)
@@ -131,9 +131,9 @@ turns (suc t) condition statements s =
 abbrev pub Calls : Type 0 → Type 0
 Calls N = N → List Argument → State → Progress
 
--- REPEAT makes an iteration and then evaluates its condition. If it is TRUE, the statement ends. If
--- it is FALSE, the run ends with TurnBound if none of the t iterations after the first one is left;
--- otherwise one more iteration is made
+-- REPEAT makes an iteration and then evaluates its condition: TRUE ends the statement. If it is
+-- FALSE, one more iteration is made, or the run ends with TurnBound if t is 0. So t bounds the
+-- iterations after the first one
 abbrev pub turns_until : ℕ → (State → Outcome Value) → (State → Progress) → State → Progress
 turns_until zero condition turn s =
     continue_with (turn s) (λ s'. use_in s' (condition s')

@@ -17,7 +17,7 @@ abbrev pub IsOnField : Resolution → ℕ → Span → ℕ → ℕ → Type 0
 IsOnField r offset span k index =
     identified_at r offset ≡ Some record { span = span; of = answer_of.Field k index }
 
--- A field of a valid module has a definition, both where it is declared and where it is selected.
+-- A field of a valid module has a definition, both at its declaration and at each selector.
 abbrev pub FieldsAreDefined : Type 0
 FieldsAreDefined =
     (r : Resolution) (offset k index : ℕ) (span : Span)
@@ -25,8 +25,8 @@ FieldsAreDefined =
     → IsOnField r offset span k index
     → is_some (definition_at r offset) ≡ true
 
--- States that renaming at a place finds the same field: no name is there, and the references, with
--- the declaration, are the identifiers that renaming changes.
+-- States that renaming at a place finds the same field: the place isn't on a name, and the
+-- references, with the declaration, are the identifiers that renaming changes.
 pub record IsRenamedThere (r : Resolution) (offset : ℕ) (span : Span) (k : ℕ) : Type 0 where
   pub token : ℕ
   pub no_name : name_on r.module_read offset ≡ None

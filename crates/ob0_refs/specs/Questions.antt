@@ -120,7 +120,7 @@ typed_hover r token s =
       text = field_text (text_at r.module_read.source token) (type_text s);
     }
 
--- the hover of a field: its type, both where it is declared and where it is selected
+-- the hover of a field: its type, both at its declaration and at each selector
 abbrev pub field_hover : Resolution → FieldName → Option HoverText
 field_hover r x = option_map (λ f. typed_hover r x.token f.shape) (typed_field r x)
 

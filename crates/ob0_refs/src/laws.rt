@@ -2,8 +2,8 @@
 
 ghost use Rattle.ob0_refs.specs.Laws.{FieldsAreDefined, FieldsAreRenamedThere, FieldsHaveHovers};
 
-/// States that a field of a valid module has a definition, both where it is declared and where it
-/// is selected.
+/// States that a field of a valid module has a definition, both at its declaration and at each
+/// selector.
 pub fn fields_are_defined()
     ensures { FieldsAreDefined }
 {}
@@ -14,8 +14,8 @@ pub fn fields_are_renamed_there()
     ensures { FieldsAreRenamedThere }
 {}
 
-/// States that a field of a valid module has a hover text, both where it is declared and where it
-/// is selected.
+/// States that a field of a valid module has a hover text, both at its declaration and at each
+/// selector.
 pub fn fields_have_hovers()
     ensures { FieldsHaveHovers }
 {}

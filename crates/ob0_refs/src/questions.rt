@@ -1,7 +1,7 @@
 //! Questions about a place: about the name there, or otherwise about the field.
 //!
-//! Each question is a match on the meaning of the identifier at the place (`meant_at` of
-//! `ob0_types`), and so is the hover text (`place_hovers`). Renaming asks the same, so the name or
+//! Each question, and also the hover text (`place_hovers`), is a match on the meaning of the
+//! identifier at the place (`meant_at` of `ob0_types`). Renaming asks the same, so the name or
 //! field that can be renamed at a place is the one of these answers, and the references to a field
 //! are the identifiers that its renaming changes. References to a name take one pass over the table
 //! of ordinals, starting at the declaring token; references to a field take one pass over the
