@@ -1,7 +1,8 @@
 -- Renaming a field to a free name gives the same module as exchanging the two names.
 -- Renaming isn't injective: both the field and the new name become the new name. The exchange keeps
 -- all names different. If the new name is free, it agrees with the renaming on every field that a
--- record of the module declares. Two namings that agree on these fields give the same valid module.
+-- record of the module declares. A module that is well-typed is the same under two namings that
+-- agree on these fields.
 use Rattle.std.proofs.Common.{◌≡◌, ℕ, Bool, true, false, not, ◌&&◌, ◌||◌, List, [], ◌∷◌, if◌then◌else◌, ◌==◌, sym, refl, ap, ◌∙◌, subst}
 use Rattle.std.specs.List.{list_any}
 use Rattle.std.proofs.lemmas.Slice.Eq.{bytes_eq-Decides}
@@ -67,7 +68,8 @@ pub exchanged-apart : (r : ℕ) (f new : Name) → KeepsApart (exchanged r f new
 exchanged-apart r f new k x y =
     elim (k == r) as (λ b. same_name (if b then exchange f new x else x) (if b then exchange f new y else y) ≡ same_name x y) [ true ↦ exchange-apart f new x y | false ↦ refl ]
 
--- both give a field the same name, unless it has the new name and belongs to the same record
+-- both give a field the same name, unless it is another field of the record that has the new name
+-- already
 
 agree-cases : (f new x : Name) (c a b : Bool) → (c && (b && not a)) ≡ false → (if c && a then new else x) ≡ (if c then (if a then new else if b then f else x) else x)
 agree-cases f new x true false true h = absurd (cc)

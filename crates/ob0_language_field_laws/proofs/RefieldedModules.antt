@@ -1,4 +1,5 @@
--- A module is well-typed exactly if it is well-typed with its fields under other names.
+-- A module's declarations and statements are well-typed exactly if they are with its fields under
+-- other names.
 use Rattle.std.proofs.Common.{◌≡◌, ℕ, ◌+◌, true, false, ◌&&◌, List, [], ◌∷◌, ◌++◌, map, Some, None, Option, option_map, option_and_then, unwrap_or, refl, ap, ◌∙◌}
 use Rattle.ob0_tree.specs.Tree.{Tree, begins, block, body, constant, declares, declares_constant, declares_procedure, declares_type, declares_types, declares_variable, declares_variables, end, formals, further_section, has_body, is_module, item, items, maybe, more, no_formals, none, one, procedure, section, then_section, type_name, type_names, value_section, variable, variable_section, variables, written_type}
 use Rattle.ob0_language_names.specs.Names.{Name, as_names, same_name}

@@ -1,10 +1,10 @@
--- Values, places and the stores of two runs: in the first run, the ordinal of its record precedes
--- each field's name; in the second, fields have other names.
--- In the first run, with tagged fields, a selector finds a field only in a value of its own record.
--- Whatever it finds, the second run finds too. So each step of the first run is stuck, or the
--- second run makes the same step. The tagged module is well-typed, so its run never gets stuck.
--- Both the original module and the module with other names are compared with the tagged one, so no
--- typing of the store is needed. The contents of both runs are functions of one thing (`value_by`,
+-- Values, places and the stores of two runs. In the first run, the ordinal of its record precedes
+-- each field's name; in the second one, fields have other names.
+-- In the first run a selector finds a field only in a value of the same record. The second run also
+-- finds whatever the first one finds. So each step of the first run is stuck, or the second run
+-- makes the same step. The tagged module is well-typed, so its run never gets stuck. Both the
+-- original module and the module with other names are compared with the tagged one, so no typing of
+-- the store is needed. The contents of both runs are functions of one thing (`value_by`,
 -- `place_by`, `state_by`).
 use Rattle.std.proofs.Common.{◌≡◌, ℕ, suc, Bool, true, false, ◌&&◌, List, [], ◌∷◌, map, ◌⊎◌, inl, inr, if◌then◌else◌, ◌==◌, slice_get, slice_set, Some, None, Option, option_map, option_and_then, sym, refl, ap, ◌∙◌, subst, subst₂, eq-eqb}
 use Rattle.std.proofs.Math.Dec.{eqb-suc-suc, eqb-zero-suc}

@@ -13,16 +13,16 @@ use Rattle.ob0_language_fields.specs.Renaming.{FieldFree, field_renamed}
 abbrev pub KeepsApart : FieldNames → Type 0
 KeepsApart l = (k : ℕ) (x y : Name) → same_name (l (Some k) x) (l (Some k) y) ≡ same_name x y
 
--- renaming fields doesn't change whether a module is well-typed, if different fields of a record
--- keep different names
+-- renaming fields doesn't change whether a module's declarations and statements are well-typed, if
+-- different fields of a record keep different names
 abbrev pub RefieldingKeepsFitting : Type 0
 RefieldingKeepsFitting =
     (l : FieldNames) (m : Tree Name module_text)
     → KeepsApart l
     → fits_over as_names (refielded l m) ≡ fits_over as_names m
 
--- a valid module remains valid and has the same runs after its fields are renamed, if different
--- fields of a record keep different names
+-- a well-typed module remains well-typed and has the same runs after its fields are renamed, if
+-- different fields of a record keep different names
 abbrev pub RefieldingKeepsModules : Type 0
 RefieldingKeepsModules =
     (l : FieldNames) (m : Tree Name module_text)
@@ -30,7 +30,8 @@ RefieldingKeepsModules =
     → WellTyped m
     → WellTyped (refielded l m) × SameRuns (refielded l m) m
 
--- a valid module remains valid and has the same runs after a field is renamed to a free name
+-- a well-typed module remains well-typed and has the same runs after a field is renamed to a free
+-- name
 abbrev pub FreeFieldKeepsModules : Type 0
 FreeFieldKeepsModules =
     (m : Tree Name module_text) (r : ℕ) (f new : Name)

@@ -4,7 +4,7 @@ use Rattle.std.proofs.Common.{◌≡◌, List, [], ◌∷◌, ◌++◌, sym, ref
 use Rattle.ob0_tree.specs.Tree.{Sort, Tree, adds, array_type, assigns, begins, branches, calls, compares, declares, declares_constant, declares_constants, declares_procedure, declares_type, declares_types, declares_variable, declares_variables, designator, else_branch, elsif_branch, empty, end, field, further_name, has_body, index, integer, is_module, items, listed, more, multiplies, named_type, names, negation, no_arguments, no_fields, no_formals, none, occurrences, one, parenthesised, product, record_type, relates, repeat_loop, runs, some_arguments, some_fields, some_formals, sum, then_argument, then_fields, then_name, then_section, then_statement, value_section, variable_section, while_loop}
 use Rattle.ob0_language_names.specs.Mapping.{with_names}
 
--- from two equal lists that begin with a and with b: P holds, and the rests are equal
+-- states that, if two equal lists begin with a and with b, then P holds and the rests are equal
 pub record Peel (K : Type 0) (a b : List K) (P : Type 0) : Type 0 where
   pub peeled : (r s : List K) → a ++ r ≡ b ++ s → P × (r ≡ s)
 

@@ -1,4 +1,5 @@
--- Calls and whole modules preserve the typing of the store, so no run of a valid module gets stuck.
+-- Calls and whole modules preserve the typing of the store, so no run of a well-typed module gets
+-- stuck.
 use Rattle.std.proofs.Common.{◌≡◌, ℕ, zero, suc, ◌+◌, Bool, true, false, ◌&&◌, ◌≢◌, List, [], ◌∷◌, ◌++◌, map, length, ℤ, slice_get, Some, None, Option, option_map, option_and_then, unwrap_or, sym, refl, ap, ◌∙◌, subst, append_assoc, append-nil}
 use Rattle.ob0_tree.specs.Tree.{Tree, begins, block, body, constant, declares, declares_constant, declares_procedure, declares_type, declares_variable, end, expression, further_section, has_body, is_module, item, items, maybe, module_text, more, none, one, procedure, then_section, type_name, variable, written_type}
 use Rattle.ob0_language_names.specs.Names.{Naming, as_names}

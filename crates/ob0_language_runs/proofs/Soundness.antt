@@ -1,4 +1,4 @@
--- The invariant in the proof that no run of a valid module gets stuck.
+-- The invariant in the proof that no run of a well-typed module gets stuck.
 use Rattle.std.proofs.Common.{◌≡◌, ◌≢◌, List, ◌++◌, Some, Fits}
 use Rattle.ob0_language_types.specs.Expressions.{a_procedure}
 use Rattle.ob0_language_values.specs.Values.{Outcome, Stuck, ends, gives}

@@ -43,7 +43,7 @@ FreeingKeepsRuns =
     × ((naming : Naming Label) (m : Tree Label module_text) (input : List ℤ) (c t : ℕ)
     → run_freeing naming m input c t ≡ run_over naming m input c t)
 
--- no run of a valid module gets stuck
+-- no run of a well-typed module gets stuck
 abbrev pub NeverStuck : Type 0
 NeverStuck =
     (m : Tree Name module_text)

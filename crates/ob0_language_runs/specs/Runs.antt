@@ -118,8 +118,8 @@ perform (Some (a_standard writes)) enter (value_argument (number n) ∷ []) s =
 perform (Some (a_standard writes_line)) enter [] s = running (append_output s line_out)
 perform _ enter args s = stopped Stuck s.output
 
--- WHILE evaluates its condition: FALSE ends the statement. If it is TRUE, one more iteration is made,
--- or the run ends with TurnBound if t is 0
+-- WHILE evaluates its condition: FALSE ends the statement. If it is TRUE, one more iteration is
+-- made, or the run ends with TurnBound if t is 0
 abbrev pub turns : ℕ → (State → Outcome Value) → (State → Progress) → State → Progress
 turns zero condition statements s =
     use_in s (condition s) (λ v. choose s v (λ s'. stopped TurnBound s'.output) running)

@@ -28,7 +28,7 @@ pub fn freeing_keeps_runs()
     ensures { FreeingKeepsRuns }
 {}
 
-/// States that no run of a valid module gets stuck.
+/// States that no run of a well-typed module gets stuck.
 pub fn never_stuck()
     ensures { NeverStuck }
 {}
@@ -39,26 +39,27 @@ pub fn inlining_keeps_execution()
     ensures { InliningKeepsExecution }
 {}
 
-/// States that a valid module remains valid and has the same runs after a declaration is renamed to
-/// a free name.
+/// States that a well-typed module remains well-typed and has the same runs after a declaration is
+/// renamed to a free name.
 pub fn free_keeps_modules()
     ensures { FreeKeepsModules }
 {}
 
-/// States that a valid module remains valid and has the same runs if a constant's literal replaces
-/// uses of the constant.
+/// States that a well-typed module remains well-typed and has the same runs if a constant's literal
+/// replaces uses at which it has the constant's value.
 pub fn inlining_keeps_modules()
     ensures { InliningKeepsModules }
 {}
 
-/// States that a valid module remains valid and has the same runs without the declaration of a
-/// constant that no occurrence is bound to.
+/// States that a well-typed module remains well-typed and has the same runs without the declaration
+/// of a constant that no occurrence is bound to.
 pub fn leaving_out_keeps_modules()
     ensures { LeavingOutKeepsModules }
 {}
 
-/// States that a valid module remains valid and has the same runs if a constant's literal replaces
-/// all its uses and its declaration is removed.
+/// States that a well-typed module remains well-typed and has the same runs if a constant's literal
+/// replaces all its uses and its declaration is removed. The literal must have the constant's value
+/// at each use.
 pub fn inlining_everywhere_keeps_modules()
     ensures { InliningEverywhereKeepsModules }
 {}

@@ -20,7 +20,7 @@ both_true true true e = (refl, refl)
 both_true true false e = absurd (cc)
 both_true false b e = absurd (cc)
 
--- the tests of names and of types decide equality
+-- if the test of two names or types succeeds, they are equal
 pub same_name-true : (x y : Name) → same_name x y ≡ true → x ≡ y
 same_name-true [] [] e = refl
 same_name-true [] (b ∷ y) e = absurd (cc)

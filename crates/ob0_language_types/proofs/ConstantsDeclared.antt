@@ -578,7 +578,7 @@ module-evaluates (is_module x b closing) h d l =
     let w = block-evaluates predeclared_known (typed_outermost as_names) 0 7 (knows-all (typed_outermost as_names)) predeclared-below b h in
     w.has_value_is d l ∙ sym (ap constant_of (bound-first 0 7 d (block_bindings as_labels (outermost as_labels) 0 (relabel_block as_names (as_label as_names) (typed_scope (typed_outermost as_names)) 7 b)) (outermost as_labels) outermost-binds (λ a z. omega (arith, l, z))))
 
--- in a valid module a constant's value is the value in the binding of its declaration
+-- in a well-typed module a constant's value is the value in the binding of its declaration
 pub predeclared-none : (m : Tree Name module_text) (d : ℕ) → d < 7 → None ≡ value_of_constant m d
 unfolding value_of_constant
 predeclared-none m d l = sym (ap (λ t. if t then None else value_in_block predeclared_known d 7 (module_block m)) (lt-ltb d 7 l))

@@ -1,5 +1,5 @@
 -- Edited modules: the facts that the maker of an edit has suffice for each part of a module, so the
--- edited module is valid.
+-- edited module is well-typed.
 use Rattle.std.proofs.Common.{IsTrue, List, None, Option, Some, [], add-zero, ap, arith, codes, false, if◌then◌else◌, le_refl, lit<, ltb-false, nat_lt, option_and_then, refl, slice_get, subst, suc, sym, true, true≢false, zero-add, ℕ, ◌+◌, ◌<◌, ◌∙◌, ◌∷◌, ◌≡◌, ◌≢◌, ◌≤◌}
 use Rattle.ob0_tree.specs.Tree.{Tree, factor, is_module, module_text, occurrences}
 use Rattle.ob0_language_names.specs.Inlining.{Uses, inline_in}
@@ -73,7 +73,7 @@ read_edited-below edit w X q n (b ∷ marks) s h =
     (not-left edit b.ordinal (λ g e. let d : b.ordinal ≡ edit.constant = some_inverse e in omega (arith, d, s.0, h)))
     ∙ ap (λ env. (b.name, object_as (q b.ordinal) b.object) ∷ env) (read_edited-below edit w X q b.ordinal marks s.3 (omega (arith, s.0, h)))
 
--- the facts that make an edited module valid
+-- the facts that make an edited module well-typed
 pub record IsFitted (edit : Edit) (w : Value) (m : Tree Name module_text) : Type 0 where
   pub literal : Literal edit w
   pub here : EachBlock (Here edit w) 0 (predeclared_scope as_names) 7 (module_block m)

@@ -1,4 +1,4 @@
--- A module remains valid if a constant is inlined everywhere.
+-- A well-typed module remains well-typed if a constant is inlined everywhere.
 use Rattle.std.proofs.Common.{List, Some, [], ap, arith, codes, eq-eqb, false, if◌then◌else◌, le_refl, nat_lt, negsuc, option_and_then, pos, refl, slice_get, subst, suc, sym, true, true≢false, zero-add, ℕ, ⊎_elim, ◌∙◌, ◌∷◌, ◌≡◌, ◌≤◌}
 use Rattle.ob0_tree.specs.Tree.{Sort, Tree, adds, compares, end, factor, integer, is_module, module_text, more, none, occurrences, parenthesised, product, sum}
 use Rattle.ob0_language_names.specs.Inlining.{Uses, all_bound_to}
@@ -96,7 +96,7 @@ bound-exactly m d i l e =
     let bound : binds m i ≡ label_ordinal l = ap (option_and_then label_ordinal) e in
     (λ u. sym bound ∙ same_ordinal-true (binds m i) d u, λ k. ap (λ o. same_ordinal o d) (bound ∙ k) ∙ eq-eqb d d refl)
 
--- in a valid module each use of the constant is a whole factor
+-- in a well-typed module each use of the constant is a whole factor
 pub alone-module : (m : Tree Name module_text) (d : ℕ) (w : Value) (v : Tree Name factor) → IsConstantWritten m d w v → WellTyped m → EachBlock (IsAlone d) 0 (predeclared_scope as_names) 7 (module_block m)
 unfolding WellTyped fits_over
 alone-module (is_module x b closing) d w v c well =

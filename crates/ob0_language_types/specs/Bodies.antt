@@ -102,7 +102,8 @@ abbrev mutual
   ProcedureHas Q env k (declares_procedure x fs b closing) =
       BlockHas Q env (k + formals_constructors (formal_sections fs)) b
 
--- if the statements of a valid module bind a name, they bind it to the object of its declaration
+-- if the statements of a well-typed module bind a name, they bind it to the object of its
+-- declaration
 abbrev pub NamesAreDeclared : Type 0
 NamesAreDeclared =
     (m : Tree Name module_text) → WellTyped m

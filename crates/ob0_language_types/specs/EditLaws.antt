@@ -1,4 +1,4 @@
--- Laws of edits: which edits leave a module valid.
+-- Laws of edits: which edits leave a module well-typed.
 -- Rule: none; laws of edits and types.
 use Rattle.std.specs.Prelude.{All, IsTrue, Some, codes, false, true, ℕ, ◌≡◌, ◌≢◌}
 use Rattle.ob0_tree.specs.Tree.{Tree, factor, module_text}
@@ -13,7 +13,7 @@ use Rattle.ob0_language_types.specs.ConstantValues.{value_of_constant}
 use Rattle.ob0_language_types.specs.WellTyped.{WellTyped}
 use Rattle.ob0_language_types.specs.Written.{written_value}
 
--- a module remains valid if a declaration is renamed to a free name
+-- a well-typed module remains well-typed if a declaration is renamed to a free name
 abbrev pub FreeKeepsWellTyped : Type 0
 FreeKeepsWellTyped =
     (m : Tree Name module_text) (d : ℕ) (new : Name)
@@ -48,13 +48,15 @@ pub record AreUsesOf (m : Tree Name module_text) (d : ℕ) (w : Value) (uses : U
   pub bound : (k : ℕ) → uses k ≡ true → binds m k ≡ Some d
   pub seen : (k : ℕ) → uses k ≡ true → IsPredeclaredTruth m k w
 
--- a module remains valid if a constant's literal replaces uses of the constant
+-- a well-typed module remains well-typed if a constant's literal replaces uses at which it has the
+-- constant's value
 abbrev pub InliningKeepsWellTyped : Type 0
 InliningKeepsWellTyped =
     (m : Tree Name module_text) (d : ℕ) (w : Value) (v : Tree Name factor) (uses : Uses)
     → IsConstantWritten m d w v → AreUsesOf m d w uses → WellTyped m → WellTyped (inlined m uses v)
 
--- a module remains valid without the declaration of a constant that no occurrence is bound to
+-- a well-typed module remains well-typed without the declaration of a constant that no occurrence
+-- is bound to
 abbrev pub LeavingOutKeepsWellTyped : Type 0
 LeavingOutKeepsWellTyped =
     (m : Tree Name module_text) (d : ℕ) (w : Value) (v : Tree Name factor)
@@ -63,8 +65,8 @@ LeavingOutKeepsWellTyped =
     → WellTyped m
     → WellTyped (module_without d m)
 
--- a module remains valid if a constant's literal replaces all its uses and its declaration is
--- removed
+-- a well-typed module remains well-typed if a constant's literal replaces all its uses and its
+-- declaration is removed; the literal must have the constant's value at each use
 abbrev pub InliningEverywhereKeepsWellTyped : Type 0
 InliningEverywhereKeepsWellTyped =
     (m : Tree Name module_text) (d : ℕ) (w : Value) (v : Tree Name factor)
@@ -73,8 +75,8 @@ InliningEverywhereKeepsWellTyped =
     → WellTyped m
     → WellTyped (inlined_everywhere m d v)
 
--- in a valid module each use of a constant is a whole factor: it is no type, called procedure or
--- target of an assignment, and has no selectors
+-- in a well-typed module each use of a constant is a whole factor: it is no type, called procedure
+-- or target of an assignment, and has no selectors
 abbrev pub ConstantsAreAlone : Type 0
 ConstantsAreAlone =
     (m : Tree Name module_text) (d : ℕ) (w : Value) (v : Tree Name factor)

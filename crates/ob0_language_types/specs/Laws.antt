@@ -17,7 +17,7 @@ abbrev pub FitsByOrdinal : Type 0
 FitsByOrdinal =
     (m : Tree Name module_text) → fits_over as_names m ≡ fits_over as_labels (numbered m)
 
--- two modules with the same numbered tree are both valid or both invalid, if each declares every
+-- two modules with the same numbered tree are both well-typed or neither is, if each declares every
 -- name once and its closing names are right
 abbrev pub WellTypedByShape : Type 0
 WellTypedByShape =

@@ -277,7 +277,7 @@ unfoldable pub fits_over : {N : Type 0} → Naming N → Tree N module_text → 
 unfolding block_fits
 fits_over naming m = block_fits naming (outermost naming) 0 (module_block m)
 
--- states that a module is valid
+-- states that a module is well-typed
 unfoldable pub WellTyped : Tree Name module_text → Type 0
 unfolding fits_over
 WellTyped m = IsTrue (declared_once m) × IsTrue (fits_over as_names m)

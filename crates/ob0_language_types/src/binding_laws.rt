@@ -2,8 +2,8 @@
 
 ghost use Rattle.ob0_language_types.specs.Bodies.{NamesAreDeclared};
 
-/// States that, if the statements of a valid module bind a name, they bind it to the object of its
-/// declaration.
+/// States that, if the statements of a well-typed module bind a name, they bind it to the object of
+/// its declaration.
 pub fn names_are_declared()
     ensures { NamesAreDeclared }
 {}

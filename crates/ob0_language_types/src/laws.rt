@@ -9,7 +9,7 @@ pub fn fits_by_ordinal()
     ensures { FitsByOrdinal }
 {}
 
-/// States that two modules with the same numbered tree are both valid or both invalid, if each
+/// States that two modules with the same numbered tree are both well-typed or neither is, if each
 /// declares every name once and its closing names are right.
 pub fn well_typed_by_shape()
     ensures { WellTypedByShape }
@@ -32,29 +32,30 @@ pub fn inlining_keeps_types()
     ensures { InliningKeepsTypes }
 {}
 
-/// States that a module remains valid if a declaration is renamed to a free name.
+/// States that a well-typed module remains well-typed if a declaration is renamed to a free name.
 pub fn free_keeps_well_typed()
     ensures { FreeKeepsWellTyped }
 {}
 
-/// States that a module remains valid if a constant's literal replaces uses of the constant.
+/// States that a well-typed module remains well-typed if a constant's literal replaces uses at
+/// which it has the constant's value.
 pub fn inlining_keeps_well_typed()
     ensures { InliningKeepsWellTyped }
 {}
 
-/// States that a module remains valid without the declaration of a constant that no occurrence is
-/// bound to.
+/// States that a well-typed module remains well-typed without the declaration of a constant that no
+/// occurrence is bound to.
 pub fn leaving_out_keeps_well_typed()
     ensures { LeavingOutKeepsWellTyped }
 {}
 
-/// States that a module remains valid if a constant's literal replaces all its uses and its
-/// declaration is removed.
+/// States that a well-typed module remains well-typed if a constant's literal replaces all its uses
+/// and its declaration is removed. The literal must have the constant's value at each use.
 pub fn inlining_everywhere_keeps_well_typed()
     ensures { InliningEverywhereKeepsWellTyped }
 {}
 
-/// States that each use of a constant in a valid module is a whole factor.
+/// States that each use of a constant in a well-typed module is a whole factor.
 pub fn constants_are_alone()
     ensures { ConstantsAreAlone }
 {}

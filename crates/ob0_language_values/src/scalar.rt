@@ -23,7 +23,7 @@ pub enum OperatorFault {
     Overflow,
     /// The divisor of a DIV or MOD is below 1.
     Divisor,
-    /// The operator isn't defined for an operand's type. A valid module has no such operation.
+    /// The operator isn't defined for an operand's type. A well-typed module has no such operation.
     Operand,
 }
 

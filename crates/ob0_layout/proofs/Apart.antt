@@ -1,4 +1,4 @@
--- Each lexeme of a formatted text ends where the next one begins.
+-- Each lexeme of a formatted text ends at the start of the next one.
 use Rattle.std.proofs.Common.{◌≡◌, ℕ, ◌+◌, Bool, true, false, ◌||◌, ◌==◌, ◌*◌, cond, List, [], ◌∷◌, ◌++◌, get_or, drop, length, map, refl, sym, ap, ◌∙◌, subst, arith, ◌⊎◌, inl, inr, ⊎_elim, eqb-true}
 use Rattle.std.specs.List.{AllPass}
 use Rattle.std.specs.Char.{is_ascii_alphanumeric}

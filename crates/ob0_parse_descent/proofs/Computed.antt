@@ -1,4 +1,4 @@
--- The descent as a computation: where it stops, with a bound on its steps.
+-- The descent as a computation of its stop, with a bound on its steps.
 use Rattle.std.proofs.Common.{◌≡◌, ◌==◌, ℕ, zero, suc, ◌+◌, Bool, true, false, Option, Some, None, List, [], ◌∷◌, ◌++◌, refl, sym, ◌∙◌, ap, subst, eqb-true, eq-eqb, true≢false, if◌then◌else◌}
 use Rattle.ob0_scan.specs.declared.lexeme.TokenKind.TheVariants as kind
 use Rattle.ob0_scan.specs.declared.lexeme.Reserved.{Reserved}

@@ -306,7 +306,7 @@ module_begins w (is_module x b y, z, e, n, s, q) =
 pub module_fails : {ts : List Token} {e : ParseRefusal} → FailsToRead module_parts ts 0 e → FailsToRead (node module_text 100 ∷ finish ∷ []) ts 0 e
 module_fails q = fails_weaken {qs = module_parts} (record { on = λ o more r. made _ refl r }) (λ w h b. module_begins w b) q
 
--- another token comes where the text must end
+-- a token isn't the end of the text
 not_end : (i : ℕ) (k : TokenKind) → lexeme_of i k ≡ EndOfText → ⊥
 not_end i kind.Identifier e = cc
 not_end i (kind.Integer _) e = cc

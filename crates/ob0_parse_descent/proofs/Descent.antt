@@ -130,7 +130,7 @@ read_one {i = i} {room = room} {ts = ts} {at = at} s = read_made (ap (λ b. if b
 pub read_none : {i : Item} {room : ℕ} {ts : List Token} {at : ℕ} → ¬ Starts (item_rank i) (rest ts at) → ReadAs (node (maybe i) room ∷ []) [] ts at at
 read_none {i = i} {room = room} {ts = ts} {at = at} lacks = read_made (ap (λ b. if b then parts (node (item i) room ∷ []) else parts []) (no_next i (rest ts at) lacks _ refl))
 
--- the parts of a construct are read where the construct is
+-- if the descent reads a construct, it reads the parts of the construct there
 pub unmade : {s : Sort} {room : ℕ} {qs ps : List Part} {i : ℕ} {tokens : List (Terminal ℕ)} {o : Stop} → chosen s room tokens ≡ parts qs → Descends (node s room ∷ ps) i tokens o → Descends (qs ++ ps) i tokens o
 unmade c (taken is r) = absurd is
 unmade c (other differs e) = absurd (none_some e)

@@ -35,7 +35,7 @@ use Rattle.ob0_parse_descent.proofs.Apart.{name_not_mark, name_not_number, numbe
 pub joined : {A : Type 0} {x y : List A} (z a b : List A) → x ≡ a ++ y → y ≡ b ++ z → x ≡ (a ++ b) ++ z
 joined z a b p q = p ∙ (ap (λ w. a ++ w) q ∙ sym (append_assoc a b z))
 
--- an item begins where its first token is
+-- an item begins at its first token
 starts_at : (at : ℕ) (k : TokenKind) {r : ℕ} {xs : List (Terminal ℕ)} (z : List (Terminal ℕ)) → xs ≡ lexeme_of at k ∷ z → kind_rank k ≡ r → Starts r xs
 starts_at at k {r = r} z here is = subst (λ y. Starts r y) (sym here) (rank_of at k ∙ is)
 
@@ -368,7 +368,7 @@ negation_parts room inner d w (negation t, z, e, l, s, b) = (t, z, tail_of e, om
 pub factor_fails_negated : {room inner : ℕ} {ts : List Token} {at : ℕ} {e : ParseRefusal} → room ≡ inner + 1 → rest ts at ≡ Mark (kind.Symbol symbol.Not) ∷ rest ts (at + 1) → FailsToRead (node factor inner ∷ []) ts (at + 1) e → FailsToRead (node factor room ∷ []) ts at e
 factor_fails_negated {room = room} {inner = inner} d here q = fails_following {qs = node factor inner ∷ []} (negation_read d here) here (negation_parts room inner d) q
 
--- if two lists begin with the same token, so do the rests of both with that token put before them
+-- two lists that begin with the same token: their first tokens may be exchanged
 heads : {xs w : List (Terminal ℕ)} {x y : Terminal ℕ} {a b : List (Terminal ℕ)} → xs ≡ x ∷ a → SameHead xs w → w ≡ y ∷ b → x ∷ b ≡ y ∷ b
 heads {b = b} p h q = ap (λ c. c ∷ b) (head_of (sym p ∙ h.is) ∙ head_of (sym h.alike ∙ q))
 

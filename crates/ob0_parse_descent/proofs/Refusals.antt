@@ -133,7 +133,7 @@ following x e f r = record {
 pub fails_following : {ps qs : List Part} {x : Terminal ℕ} {ts : List Token} {at next : ℕ} {e : ParseRefusal} → ReadAs ps qs ts at next → rest ts at ≡ x ∷ rest ts next → ((w : List (Terminal ℕ)) → Begins ps (x ∷ w) → Begins qs w) → FailsToRead qs ts next e → FailsToRead ps ts at e
 fails_following {x = x} g h f q = fails_by (λ o r more. g.on o more (r more)) (λ after r. following x h f r) q
 
--- the next item is refused, where an optional one may be
+-- an optional item is refused if the next token begins an item that is refused
 maybe_only : {i : Item} (room : ℕ) (ps : List Part) (w : List (Terminal ℕ)) → Starts (item_rank i) w → Begins (node (maybe i) room ∷ ps) w → Begins (node (item i) room ∷ []) w
 maybe_only {i = i} room ps w h (none, z, e, n, p, b) = absurd (no_end (item_rank i) w h (subst (λ y. Stops (item_rank i) y) (sym e) p))
 maybe_only {i = i} room ps w h (one t, z, e, n, p, b) =

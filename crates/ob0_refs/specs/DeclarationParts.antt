@@ -1,4 +1,4 @@
--- The meaning of the code's values.
+-- The values of the definitions that represent the code's declarations.
 -- Rule: none; for contracts: what values of the code mean.
 use Rattle.std.specs.Prelude.{List, map, Option}
 use Rattle.ob0_types_table.specs.declared.known.Formal as formal

@@ -1,4 +1,4 @@
--- The meaning of the code's parameters.
+-- The values of the definitions that represent the code's parameters.
 -- Rule: none; for contracts: what values of the code mean.
 use Rattle.std.specs.Prelude.{string_bytes}
 use Rattle.ob0_refs.specs.Hovers as hovers
