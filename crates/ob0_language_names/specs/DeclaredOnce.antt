@@ -72,8 +72,8 @@ abbrev pub formals_once : Tree Name (items further_section) → Bool
 formals_once end = true
 formals_once (more (then_section s) fs) = fields_once (section_type s) && formals_once fs
 
--- true if each block declares a name once (a procedure's parameters and locals are one block), each
--- record declares a field once, and each closing name is its procedure's name
+-- true if each block declares a name once, each record declares a field once, and each closing name
+-- is its procedure's name; a procedure's parameters and locals are one block
 abbrev mutual
   -- a block; `own` are the names of its procedure's parameters, which count as the block's names
   pub block_once : List Name → Tree Name block → Bool

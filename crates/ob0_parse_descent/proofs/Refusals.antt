@@ -36,8 +36,8 @@ head_following (c ∷ a) x w h = record { head = c; following = a ++ x; other = 
 pub refused_head : (ps : List Part) (xs after unseen : List (Terminal ℕ)) → (r : Refused ps xs after) → SameHead xs (r.passed ++ (r.fault ∷ unseen))
 refused_head ps xs after unseen r = subst (λ z. SameHead z (r.passed ++ (r.fault ∷ unseen))) (sym r.here) (passed_head r.passed after unseen r.fault)
 
--- If every list that begins with the parts ps, and with the same token, begins with the parts qs,
--- then a refusal of qs is a refusal of ps.
+-- A refusal of the parts qs is a refusal of the parts ps if each list with the same first token
+-- that begins with ps also begins with qs.
 pub select : {ps qs : List Part} {xs after : List (Terminal ℕ)} → ((w : List (Terminal ℕ)) → SameHead xs w → Begins ps w → Begins qs w) → Refused qs xs after → Refused ps xs after
 select {ps = ps} {qs = qs} {xs = xs} {after = after} f r = record {
   passed = r.passed;

@@ -72,8 +72,8 @@ pub record ReadAs (ps following : List Part) (ts : List Token) (at next : ℕ) :
       → Descends (following ++ more) next (rest ts next) o
       → Descends (ps ++ more) at (rest ts at) o
 
--- States that the tokens from one index to another are the tokens of this tree, and that together
--- with the next token they allow no other tree here.
+-- States that the tokens from one index to another are the tokens of this tree. Together with the
+-- next token they allow no other tree here.
 pub record Taken {s : Sort} (t : Tree ℕ s) (room : ℕ) (ts : List Token) (at next : ℕ) : Type 0 where
   pub spelled : rest ts at ≡ spell t ++ rest ts next
   pub shallow : nesting t ≤ room

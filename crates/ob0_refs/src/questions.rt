@@ -1,11 +1,10 @@
 //! Questions about a place: about the name there, or otherwise about the field.
 //!
 //! Each question, and also the hover text (`place_hovers`), is a match on the meaning of the
-//! identifier at the place (`meant_at` of `ob0_types`). Renaming asks the same, so the name or
-//! field that can be renamed at a place is the one of these answers, and the references to a field
-//! are the identifiers that its renaming changes. References to a name take one pass over the table
-//! of ordinals, starting at the declaring token; references to a field take one pass over the
-//! module's fields.
+//! identifier at the place (`meant_at` of `ob0_types`). Renaming asks the same, so it renames the
+//! name or field of these answers. The references to a field are the identifiers that its renaming
+//! changes. References to a name take one pass over the table of ordinals, starting at the
+//! declaring token; references to a field take one pass over the module's fields.
 
 ghost use Rattle.std.specs.Prelude.{◌≡◌, IfOk, Some};
 ghost use Rattle.ob0_refs.specs.Questions.{AreReferencesAt, at_field, at_meant, declared_meant, definition_at, field_declared, field_named, field_references, index_of, identified_at, named_meant, other_tokens, renamable_at, renamable_meant};
