@@ -9,7 +9,7 @@ use Rattle.ob0_language_runs.specs.EditLaws.{SameRuns}
 use Rattle.ob0_language_fields.specs.Fields.{FieldNames, refielded}
 use Rattle.ob0_language_fields.specs.Renaming.{FieldFree, field_renamed}
 
--- states that, in each record, two fields have the same new name exactly if they had the same name
+-- states that, in each record, two names become the same name exactly if they were the same
 abbrev pub KeepsApart : FieldNames → Type 0
 KeepsApart l = (k : ℕ) (x y : Name) → same_name (l (Some k) x) (l (Some k) y) ≡ same_name x y
 

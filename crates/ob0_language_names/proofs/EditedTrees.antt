@@ -1,6 +1,6 @@
--- Three facts: a tree without uses isn't changed by inlining; two namings that agree at a tree's
--- occurrences give the same tree; and a module edited by a literal in place of uses of a constant,
--- by removing its declaration, by both or by neither.
+-- A tree without uses isn't changed by inlining. Two namings that agree at a tree's occurrences
+-- give the same tree. An edit of a module writes a literal in place of uses of a constant, removes
+-- the constant's declaration, or does both or neither.
 use Rattle.std.proofs.Common.{Bool, List, [], add-zero, ap, arith, eqb-true, false, if◌then◌else◌, length, ne_eqb, refl, subst, suc, sym, true, ℕ, ◌&&◌, ◌++◌, ◌+◌, ◌<◌, ◌==◌, ◌∙◌, ◌∷◌, ◌≡◌}
 use Rattle.ob0_tree.specs.Tree.{Sort, Tree, adds, array_type, assigns, begins, block, branches, calls, compares, constant, constants, declares, declares_constant, declares_constants, declares_procedure, declares_type, declares_types, declares_variable, declares_variables, designator, else_branch, elsif_branch, empty, end, factor, field, further_name, has_body, index, integer, is_module, item, items, listed, maybe, module_text, more, multiplies, named_type, names, negation, no_arguments, no_fields, no_formals, none, occurrences, one, parenthesised, procedure, product, record_type, relates, repeat_loop, runs, some_arguments, some_fields, some_formals, sum, then_argument, then_fields, then_name, then_section, then_statement, value_section, variable_section, while_loop}
 use Rattle.ob0_language_names.specs.Inlining.{Uses, block_without, inline_in, inlined, module_without, procedure_without, procedures_without, section_without, without}

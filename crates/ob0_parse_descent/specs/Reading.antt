@@ -65,8 +65,8 @@ pub record SameHead (xs w : List (Terminal ℕ)) : Type 0 where
   pub is : xs ≡ head ∷ following
   pub alike : w ≡ head ∷ other
 
--- States that reading the parts `ps` from one index is the same as reading the parts `following`
--- from the next index, whatever comes after them.
+-- States that the descent reads the parts `ps` from index `at` if it reads the parts `following`
+-- from index `next`. The stop is the same, whatever parts come after them.
 pub record ReadAs (ps following : List Part) (ts : List Token) (at next : ℕ) : Type 0 where
   pub on : (o : Stop) (more : List Part)
       → Descends (following ++ more) next (rest ts next) o
