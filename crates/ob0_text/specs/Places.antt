@@ -2,7 +2,7 @@
 -- There are two such facts. `IsCounted`: the positions of later offsets can be counted from here.
 -- `IsSought`: the text before the sought position, and before each later one, can be found in the
 -- rest. One lemma for each case shows that a step of a loop keeps the fact (`PositionSteps`,
--- `PlaceSteps`). So stopping and resuming needs no case of its own. A pass towards a position knows
+-- `PlaceSteps`). So stopping and resuming needs no separate case. A pass towards a position knows
 -- nothing about positions between CR and LF, so `IsSought` covers only positions that don't precede
 -- the sought one.
 -- Rule: none; for private contracts of passes over a text.
@@ -16,7 +16,7 @@ use Rattle.ob0_text.specs.Texts.{before, byte_len, position_of}
 abbrev pub at : ℕ → ℕ → Position
 at line character = record { line = line; character = character }
 
--- the position p, if it was counted from this line and character
+-- the position that p means if it is counted from this line and character
 abbrev pub counted_from : ℕ → ℕ → Position → Position
 counted_from line character p =
     if p.line == 0 then at line (character + p.character) else at (line + p.line) p.character

@@ -1,4 +1,4 @@
-//! The byte offsets where the lines of a text start.
+//! The byte offsets at which the lines of a text start.
 
 ghost use Rattle.std.specs.Prelude.{◌≡◌, ◌+◌, ◌^◌, ◌<◌, ◌≤◌, ◌∷◌, ◌++◌, IfOk, OnOk, drop, length, option_to_list, slice_index};
 ghost use Rattle.std.specs.Str.{chars};

@@ -1,4 +1,4 @@
-//! The store `Lines`: one `String`, and a table of the offsets where its lines start.
+//! The store `Lines`: one `String`, and a table of the offsets of its lines.
 //!
 //! Its model is the text and the unit. Its invariant says that the table is the text's
 //! (`HasLines`). Functions over a text and its table implement all of `TextStore`

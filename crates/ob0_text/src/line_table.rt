@@ -21,8 +21,8 @@ use crate::spare_room::{trim_list, trim_text};
 use std::alloc::{AllocError, Global};
 use std::marker::Model;
 
-/// The byte offsets at which a text's lines start, in order. Those before the last change are kept as
-/// offsets, those after it as distances from the text's end, last line first. So a change moves
+/// The byte offsets at which a text's lines start, in order. Those before the last change are kept
+/// as offsets, those after it as distances from the text's end, last line first. So a change moves
 /// only the starts between it and the change before.
 #[derive(Drop)]
 pub struct LineTable {
