@@ -68,7 +68,7 @@ fn write_range(out: &mut Vec<u8>, start: Position, end: Position) -> Result<(), 
     write_piece(out, &buffer[at..])
 }
 
-/// Puts a range's text before a place in the buffer, and returns the place at which the text begins.
+/// Puts a range's text before a place in the buffer, and returns the place at which it begins.
 pub fn range_before(buffer: &mut [u8], at: usize, start: Position, end: Position) -> usize
     requires { (160 ≤ at) × (at ≤ length buffer.old) }
     ensures within { (at ≤ result + 160) × (result ≤ at) }
@@ -83,8 +83,7 @@ pub fn range_before(buffer: &mut [u8], at: usize, start: Position, end: Position
     piece_before(buffer, at_end, b"{\"end\":")
 }
 
-/// Puts a position's text before a place in the buffer, and returns the place where the text
-/// begins.
+/// Puts a position's text before a place in the buffer, and returns the place at which it begins.
 fn position_before(buffer: &mut [u8], at: usize, position: Position) -> usize
     requires { (62 ≤ at) × (at ≤ length buffer.old) }
     ensures within { (at ≤ result + 62) × (result ≤ at) }
@@ -99,7 +98,7 @@ fn position_before(buffer: &mut [u8], at: usize, position: Position) -> usize
     piece_before(buffer, at_character, b"{\"character\":")
 }
 
-/// Puts a whole number's digits before a place in the buffer, and returns the place where they
+/// Puts a whole number's digits before a place in the buffer, and returns the place at which they
 /// begin.
 #[inline(always)]
 fn count_before(buffer: &mut [u8], at: usize, count: u64) -> usize
