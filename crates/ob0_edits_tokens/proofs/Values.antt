@@ -104,7 +104,7 @@ the_least = record {
     unit : IsInteger 1 (codes "1")
     unit = record { digits = record { nonempty = omega arith; all = AllPass-from_list_all is_ascii_digit (codes "1") refl }; value_of_digits = refl; fits = omega arith }
 
--- the value of a constant: any number of 32 bits
+-- the value of a constant: any 32-bit number
 pub a_value : (z : ℤ) → IsInt32 z → ReplacesName (number_text z) (number_words z)
 a_value (pos n) h = a_number n h
 a_value (negsuc n) h = by_test (nat_lt n 2147483647) refl

@@ -32,8 +32,8 @@ number_at ws k = value_of (word_at ws k).kind
 abbrev pub renamed_at : List Word → List ℕ → List ℕ → ℕ → List ℕ
 renamed_at ws places new k = if is_among k places then new else text_of_word ws k
 
--- States: if a tree has the words' indexes as its names, the words with a new name at some places
--- are spelled by the tree with that name in the same places.
+-- States: if a tree has the words' indexes as its names, it still spells the words after both get a
+-- new name at the same places.
 abbrev pub RenamedWordsSpell : Type 0
 RenamedWordsSpell =
     (s : Scanned) (sort : Sort) (t : Tree ℕ sort) (places new : List ℕ)

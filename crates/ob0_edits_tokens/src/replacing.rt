@@ -49,8 +49,8 @@ pub fn edits_for<T: TextStore>(
     Ok(edits)
 }
 
-/// Returns an edit that removes a declaration, from its first token to its last, followed by the
-/// edits that replace the tokens at some places by a text.
+/// Returns an edit that removes a declaration, from its first token to its last. Edits that replace
+/// the tokens at some later places by a text follow it.
 pub fn edits_without<T: TextStore>(
     alloc: Global,
     store: &T,

@@ -118,8 +118,8 @@ word_number : (text : List ℕ) (ts : List Token) (k : ℕ) → number_at (map (
 word_number text (t ∷ ts) (suc k) = word_number text ts k
 word_number text _ _ = refl
 
--- If words replace the uses of a constant, which are factors by themselves, the tokens are the
--- tokens of the tree in which these words' factor replaces the uses.
+-- If words replace the uses of a constant, and the uses are factors by themselves, the tokens are a
+-- tree's. It is the tree in which these words' factor replaces the uses.
 module _ (r : Resolution) (is : IsResolution r) (d : ℕ) (v : Tree Name factor) (places : List ℕ) (bound : AreBound r d places) (uses : Uses) (agree : (j i : ℕ) → slice_get r.uses j ≡ Some i → is_among i places ≡ uses j)
     (alone : IsAlone r.module_read d) (vs : List Word) (same : map word_lexeme vs ≡ spell v) where
   abbrev gives : ℕ → Bool

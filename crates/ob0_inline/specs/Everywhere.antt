@@ -91,8 +91,8 @@ refusal_everywhere m c =
     (if any_hidden (named_tree_of m) c then Some Shadowed
     else if has_comment m c then Some CommentInside else None)
 
--- States that these edits remove the declaration, from its name to its `;`, write the value in
--- place of each use, and change no other character. They leave the text of the inlined module,
+-- States that these edits remove the declaration, from its name to its `;`, and write the value in
+-- place of each use. They change no other character, and leave the text of the inlined module,
 -- which is well-typed and has the same runs.
 pub record InlinesEverywhere (unit : counting.Unit) (text : List ℕ) (m : Parsed)
     (c : NamedConstant) (edits : List Edit) : Type 0 where

@@ -14,7 +14,8 @@ use ob0_scope::name_at;
 use ob0_scope_table::Resolved;
 use ob0_types::WellTyped;
 
-/// A constant of a CONST section: its ordinal and value, and the tokens of its declaration's name and `;`.
+/// A constant of a CONST section: its ordinal and value, and the tokens of its declaration's name
+/// and `;`.
 #[derive(Clone, Copy)]
 pub struct NamedConstant {
     pub ordinal: usize,

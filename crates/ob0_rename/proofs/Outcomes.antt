@@ -82,8 +82,8 @@ module _ (unit : counting.Unit) (text : List ℕ) (place : Position) (new : Name
       let is_there = occurrence_is_there r bound k is found in
       subst (IsRefusedTo (requested r) d) (sym (occurrence k is_there.0 refl is_there.1)) (id, (k, sym first, ap (option_map (token_range (requested r))) is_there.1))
 
-  -- edits at places leave a text of the tree with the new name in the same places, if that tree is
-  -- well-typed and runs like the module
+  -- if a well-typed tree has the new name at some places and runs like the module, edits at these
+  -- places leave a text of the tree
   pub written : (r : Resolution) (tree : Tree Name module_text) (places : List ℕ) → IsIdentifier new → ((name : List ℕ) → IsIdentifier name → ReplacesName name (name_word name ∷ []))
       → ((after : Scanned) → IsScan after → words_of after ≡ changed_words (at_each places (name_word new ∷ [])) 0 (words_of r.module_read.source) → ModuleOf after tree)
       → WellTyped tree × SameRuns tree (named_tree_of r.module_read)

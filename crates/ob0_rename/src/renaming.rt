@@ -30,10 +30,10 @@ use std::alloc::Global;
 /// is one for each identifier that declares, closes or is bound to the declaration, or that
 /// declares or selects the field. There are none if it already has that name. The place may be in
 /// the name or at its end. If several refusals apply, the first in this order is returned: `NoName`
-/// if there is no name, or for the module's name; `Predeclared`; `BadName`; `Duplicate` with the
-/// range of the other declaration, or of the other field of the record; `Captures` with the range
-/// of the first occurrence that would be bound to another declaration, never for a field;
-/// `TooLong`.
+/// (no name, or the module's name), `Predeclared`, `BadName`, `Duplicate`, `Captures`, `TooLong`.
+/// `Duplicate` has the range of the other declaration, or of the other field of the record.
+/// `Captures` has the range of the first occurrence that would be bound to another declaration; it
+/// is never returned for a field.
 pub fn rename<T: TextStore>(
     alloc: Global,
     store: &T,

@@ -11,7 +11,7 @@ use Rattle.std.proofs.KnownBytes.{Appends-trans}
 use Rattle.std.specs.Io.KnownBytes.{Appends}
 use Rattle.ob0_session.specs.Sending.{AppendsPrefix}
 
--- a prefix of the first bytes, and none of the bytes after them
+-- a prefix of the first bytes, and nothing of the bytes after them
 pub front_of_first : (old new : Option (List ℕ)) (head content : List ℕ) → (n : ℕ) × Appends old new (take n head) → AppendsPrefix old new (head ++ content)
 front_of_first old new head content f = (
   take f.0 head,

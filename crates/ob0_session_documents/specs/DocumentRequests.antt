@@ -7,8 +7,9 @@ use Rattle.ob0_text.specs.declared.position_types.Unit.{Unit}
 use Rattle.ob0_session_documents.specs.declared.document_requests.RequestOutcome.{RequestOutcome}
 use Rattle.ob0_session_documents.specs.declared.document_requests.RequestOutcome.TheVariants.{Answered, OutOfStep, Unopened}
 
--- states that an outcome is right: if the document is in step, a message that answers the request
--- for its version and text; otherwise that it is out of step or isn't open
+-- States that an outcome is right. If the document is in step, it is a message that answers the
+-- request for its version and text. Otherwise it says that the document is out of step or isn't
+-- open
 abbrev pub ComesOfRequest : (ℤ → Unit → List ℕ → List ℕ → Type 0)
     → OpenDocuments
     → List ℕ

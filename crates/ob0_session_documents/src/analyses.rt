@@ -1,7 +1,7 @@
 //! The analyses of the most recently reported or queried documents.
 //!
-//! The contracts state only one direction: an analysis that is kept after a call was kept before it
-//! (`KeepsOnly`), was kept for another document (`KeepsOthers`), or was added by it (`KeepsAlso`).
+//! The contracts state only one direction. An analysis that is kept after a call was kept before it
+//! (`KeepsOnly`), belongs to another document (`KeepsOthers`), or is the added one (`KeepsAlso`).
 //! So code that drops more analyses meets them as well. `put` drops the least recently used
 //! analyses if the total is too large.
 

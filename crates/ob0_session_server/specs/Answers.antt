@@ -275,7 +275,7 @@ pub record AnswersFirst (before : ServerState) (content : List ℕ) (sent : List
   pub all : sent ≡ first ++ later
 
 -- States that a server in the first state replies to these contents, one after another, with these
--- messages in this order, and is then in the second state.
+-- messages in this order. It is then in the second state.
 abbrev pub Conversation : ServerState → List (List ℕ) → List (List ℕ) → ServerState → Type 0
 Conversation before [] sent after = (sent ≡ []) × (after ≡ before)
 Conversation before (content ∷ contents) sent after =

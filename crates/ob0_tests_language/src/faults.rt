@@ -113,16 +113,16 @@ static CHANGES: &[(&str, u64, u64, &str)] = changes![
     "MODULE M; VAR x: INTEGER; PROCEDURE P; BEGIN x := 1 END P; PROCEDURE Q; BEGIN P; y := 1 END Q; BEGIN Q END M.",
         51, 51, "; x := TRUE";
     "MODULE M; VAR x: INTEGER; PROCEDURE P; BEGIN x := z END P; PROCEDURE Q; BEGIN P; y := 1 END Q; BEGIN Q END M.", 86, 88, "";
-    // One more statement in a body of a module without faults: one that is well-typed, one that
-    // isn't, one with an undeclared name, and one that selects fields before others do.
+    // One more statement in a body of a valid module: a well-typed one, one with an error, one with
+    // an undeclared name, and one that selects fields before others do.
     TWO_VARIABLES, 41, 41, "; y := x + 1";
     TWO_VARIABLES, 41, 41, "; y := TRUE";
     TWO_VARIABLES, 41, 41, "; z := 1";
     "MODULE M; TYPE T = RECORD f, g: INTEGER END; VAR t: T; PROCEDURE P(a, b: T); BEGIN a := b; a.f := t.g END P; \
         BEGIN P(t, t); t := t END M.", 101, 101, "; a.g := b.f";
     // A name in the body of a nested procedure: a local one, a parameter, one of an enclosing
-    // block, one that is declared later, its own name, and an undeclared one. There are undeclared
-    // names before it, in it and after it.
+    // block, a later one, its own name, and an undeclared one. There are undeclared names before
+    // it, in it and after it.
     "MODULE M; VAR x, u: INTEGER; PROCEDURE P(a: INTEGER); VAR y: BOOLEAN; PROCEDURE Q(x: BOOLEAN); BEGIN x := y \
         END Q; PROCEDURE R; BEGIN q := 1 END R; BEGIN x := a END P; BEGIN P(x); v := u END M.", 106, 107, "R";
     "MODULE M; VAR x, u: INTEGER; PROCEDURE P(a: INTEGER); VAR y: BOOLEAN; PROCEDURE Q(x: BOOLEAN); BEGIN x := y \

@@ -1,4 +1,4 @@
-//! The forms in which the parser represents expressions, which no contract distinguishes; and the
+//! The forms in which the parser represents expressions, which no contract distinguishes. Also the
 //! sizes of nodes and of the entries for the bindings of tokens.
 
 use ob0_parse::parse;

@@ -8,7 +8,7 @@ use std::alloc::{AllocError, Global};
 use std::process::Abort;
 
 enum Row {
-    /// A short text in which changes are made.
+    /// A short text, to which changes are applied.
     Changed(&'static str),
     /// A text of long lines: with only ASCII, with other characters far to the right, or with a
     /// tab.
@@ -123,8 +123,8 @@ fn agree(
     Ok(is_as_new(alloc, &stores.lines, unit)? && stores.are_alike(10, 8))
 }
 
-/// Returns whether the stores agree after a change that ends some lines after its start, in one
-/// unit, and after a change within a line, in the other unit.
+/// Returns whether the stores agree after a change over several lines, in one unit, and after a
+/// change within a line, in the other unit.
 fn agree_from(
     alloc: Global,
     text: &str,

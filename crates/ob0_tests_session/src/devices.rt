@@ -23,7 +23,7 @@ impl<'a> Read for Source<'a> {
 }
 
 /// The number of bytes that were written, how many of them are passed on, how many more can be
-/// written, and how many flushes are left.
+/// written, and the number of flushes left.
 #[derive(Clone, Copy)]
 pub struct Count {
     pub written: usize,

@@ -85,8 +85,8 @@ fn is_reported(found: Found) -> bool {
         && found.flushed
 }
 
-/// Returns whether a conversation ends as expected if this many flushes succeed: with a failed
-/// write if a flush is missing, otherwise with all written bytes passed on.
+/// Returns whether a conversation ends as expected if this many flushes succeed. If a flush is
+/// missing, a write has failed; otherwise all written bytes are passed on.
 fn ends_flushed(alloc: Global, end: &ServeEnd, flushes: u32) -> bool {
     let mut count = Count::new(end.capacity, flushes);
     let found = converse(alloc, end, &mut count);

@@ -1,9 +1,9 @@
 -- The byte offsets at which the lines of a text start.
--- Whether a line starts at an offset depends only on the bytes on both sides: it starts after LF,
--- and after a CR that no LF follows. `starts_after` gives the starts in a run of bytes, if the
--- bytes after the run are known. The text's start counts as an offset after an LF, so the whole
--- table is `starts_after 0 (LF ∷ bytes) []`. `StartLaws.table` proves this, by the starts after
--- each character (`following_ends`). The function can be split at any place (`following-append`),
+-- Only the bytes on both sides decide whether a line starts at an offset: it starts after LF, and
+-- after a CR that no LF follows. `starts_after` gives the starts in a run of bytes, if the bytes
+-- after the run are known. The text's start counts as an offset after an LF, so the whole table is
+-- `starts_after 0 (LF ∷ bytes) []`. `StartLaws.table` proves this, by the starts after each
+-- character (`following_ends`). The function can be split at any place (`following-append`),
 -- depends only on the first byte after the run (`following-next`), and shifts with its offset
 -- (`following-moved`). So a change keeps the starts before it, tests its own bytes and one on
 -- either side, and shifts the starts after it (`table-mended`). A CR and an LF that a change joins

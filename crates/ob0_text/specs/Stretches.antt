@@ -10,8 +10,8 @@ use Rattle.ob0_text.specs.Texts.{LF, CR}
 abbrev pub EndsNoLine : ℕ → Type 0
 EndsNoLine c = (c == LF || c == CR) ≡ false
 
--- the number of UTF-16 units that are counted at a byte: 1 at the first byte of a character, 2 if
--- that character has four bytes, 0 at other bytes
+-- the UTF-16 units that are counted at a byte: 1 at the first byte of a character, or 2 if the
+-- character has four bytes; 0 at other bytes
 abbrev pub utf16_units_at : ℕ → ℕ
 utf16_units_at b =
     (if nat_lt b 0x80 || nat_le 0xC0 b then 1 else 0) + (if nat_le 0xF0 b then 1 else 0)

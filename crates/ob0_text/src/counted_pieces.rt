@@ -5,10 +5,10 @@
 //! 64 bytes before the change. The search for the start of the next change begins there: stretches
 //! are removed from the part's end or added to it (`take_off`, `count_on`). So replacing all
 //! occurrences in one long line costs only the text between the changes, in either order. The part
-//! contains only text before the change (`up_to`), so it is still valid after the change, whatever
-//! lines that makes. `place_after_counted` tests whether a line still starts at the part's start.
-//! Changes that alternate between two places of one long line pass over the text between them each
-//! time.
+//! contains only text before the change (`up_to`). Therefore it is valid after the change as well,
+//! whatever lines that makes. `place_after_counted` tests whether a line still starts at the part's
+//! start. Changes that alternate between two places of one long line pass over the text between
+//! them each time.
 
 ghost use Rattle.std.specs.Prelude.{◌≡◌, ◌+◌, ◌-◌, ◌<◌, ◌≤◌, ◌++◌, ℕ, List, IfSome, length, take};
 ghost use Rattle.ob0_text.specs.Units.{width_of};

@@ -1,16 +1,17 @@
 //! Look-ups in the table of a text's lines.
 //!
-//! `starts_before` is a binary search. Its contract says: if the table is split into offsets below
-//! a bound and offsets not below it, the result is the length of the first part. The loop keeps
-//! this length between its two ends (`in_front`, `not_in_front` in `Halving`). A pass may begin at
-//! the start of any line (`line_counted`, `line_sought` in `LinePlaces`). So correctness doesn't
-//! depend on finding the nearest line; that only saves time.
+//! `starts_before` is a binary search. Its contract covers each split of the table into offsets
+//! below a bound and offsets not below it: the result is the length of the first part. The loop
+//! keeps this length between its two ends (`in_front`, `not_in_front` in `Halving`). A pass may
+//! begin at the start of any line (`line_counted`, `line_sought` in `LinePlaces`). So correctness
+//! doesn't depend on finding the nearest line; that only saves time.
 //!
-//! For a list, each look-up continues from the previous place if the next one is less than 32 bytes
-//! after it or in the same line. Otherwise it starts at the beginning of the line, which the table
-//! gives (`nearest_before`, `place_after`). So places in one line cost only the text between them,
-//! and each other place costs a binary search. In one long line this is a single pass, as in the
-//! plain store. If both ends of a changed range are in one line, one pass finds them (`bounds_in`).
+//! For a list, each look-up continues from the previous place if the next one follows in the same
+//! line or less than 32 bytes later. Otherwise it starts at the beginning of the line, which the
+//! table gives (`nearest_before`, `place_after`). So places in one line cost only the text between
+//! them, and each other place costs a binary search. In one long line this is a single pass, as in
+//! the plain store. If both ends of a changed range are in one line, one pass finds them
+//! (`bounds_in`).
 
 ghost use Rattle.std.specs.Prelude.{◌≡◌, ◌+◌, ◌-◌, ◌<◌, ◌≤◌, IfOk, length, map, min, slice_get, slice_index};
 ghost use Rattle.std.specs.Option.{option_map};

@@ -16,8 +16,8 @@ pub fn starts_of(alloc: Global, text: &str) -> Result<Vec<usize>, AllocError>
     Ok(starts)
 }
 
-/// Returns the offsets at which a line starts, from the start of `new` to its end, after `new` has
-/// replaced the bytes `from..to` of the text. The bytes on either side of the change also decide.
+/// Returns the offsets at which a line starts, from the start of `new` to its end, if `new`
+/// replaces the bytes `from..to` of the text. The bytes on either side of the change also decide.
 pub fn starts_in_change(
     alloc: Global,
     text: &str,

@@ -1,11 +1,11 @@
 //! Stretches of a line: consecutive characters that are counted together.
 //!
-//! A stretch has up to 64 bytes of whole characters, none of which ends a line. They aren't
-//! decoded. One loop counts the bytes that end a line. In UTF-16 another one counts the first byte
-//! of each character, and counts it twice if the character has four bytes (`utf16_units_at`;
-//! `StretchBytes` proves that the sum is the width of the characters). Both are loops over an 8-bit
-//! number without an early exit, which the compiler vectorizes. It doesn't vectorize a loop that
-//! sets a flag.
+//! A stretch has at most 64 bytes of whole characters, and no character in it ends a line. They
+//! aren't decoded. One loop counts the bytes that end a line. In UTF-16 another one counts the
+//! first byte of each character, and counts it twice if the character has four bytes
+//! (`utf16_units_at`). `StretchBytes` proves that the sum is the width of the characters. Both are
+//! loops over an 8-bit number without an early exit, which the compiler vectorizes. It doesn't
+//! vectorize a loop that sets a flag.
 
 ghost use Rattle.std.specs.Prelude.{◌≡◌, ◌==◌, ◌||◌, ◌+◌, ◌<◌, ◌≤◌, false, IfSome, length, sum_by};
 ghost use Rattle.std.specs.List.{All};
