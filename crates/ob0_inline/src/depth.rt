@@ -61,8 +61,8 @@ fn is_parsed_too_deep<T: TextStore>(
     }
 }
 
-/// Returns whether a text that has the tokens of a tree is a module. It is if the tree isn't nested
-/// deeper than a module may be.
+/// Returns whether a text that has the tokens of a tree is a module. It is exactly if the tree
+/// isn't nested deeper than a module may be.
 fn is_module(alloc: Global, text: &str) -> Result<bool, EditRefusal>
     ensures shallow { (s : Scanned) (t : Tree (List ℕ) module_text) → IsScan s → s.text ≡ text.now
         → text_lexemes s ≡ spell t
@@ -78,8 +78,8 @@ fn is_module(alloc: Global, text: &str) -> Result<bool, EditRefusal>
     }
 }
 
-/// Returns whether the tokens of a text that a tree spells are a module. They are if the tree isn't
-/// nested deeper than a module may be.
+/// Returns whether the tokens of a text that a tree spells are a module. They are exactly if the
+/// tree isn't nested deeper than a module may be.
 fn is_parsed(alloc: Global, tokens: &Tokens) -> Result<bool, EditRefusal>
     ensures shallow { (t : Tree (List ℕ) module_text)
         → text_lexemes tokens.now ≡ spell t

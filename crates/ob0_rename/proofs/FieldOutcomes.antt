@@ -112,7 +112,7 @@ module _ (unit : counting.Unit) (text : List ℕ) (place : Position) (new : Name
         | inr e ↦ inl e
       ]
 
-  -- renaming to the present name makes the text no longer
+  -- renaming to the present name doesn't make the text too long
   pub own_field_answered : (r : Resolution) → IsScan r.module_read.source → new ≡ f
       → (result : Result (Vec Edit Global) EditRefusal) → Edited unit text new r.module_read.source (field_tokens_to_rename r k f new) result → OnlyMemory result
   own_field_answered r scan own (Ok edits) made = tt

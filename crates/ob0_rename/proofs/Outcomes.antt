@@ -124,7 +124,7 @@ pub whole : (text : List ℕ) → length (pieced text 0 []) ≡ length text
 unfolding pieced
 whole text = refl
 
--- renaming to the present name makes the text no longer
+-- renaming to the present name doesn't make the text too long
 pub own_answered : (unit : counting.Unit) (text : List ℕ) (new : Name) (d : ℕ) (m : Parsed) → IsScan m.source → is_declared_as m d new ≡ true
     → (result : Result (Vec Edit Global) EditRefusal) → Edited unit text new m.source (tokens_to_rename m d new) result → IfErr result (λ why. why ≡ refusal.Memory)
 own_answered unit text new d m scan own (Ok edits) made = tt

@@ -29,7 +29,7 @@ truth_member name d = option_and_then as_bool (get name d)
 abbrev pub count_member : List ℕ → Data → Option ℕ
 count_member name d = option_and_then as_u64 (option_and_then as_number (get name d))
 
--- a member of the member `textDocument`
+-- a member of the object `textDocument` in params
 abbrev pub of_document : List ℕ → Data → Option Data
 of_document name params = option_and_then (get name) (get (codes "textDocument") params)
 

@@ -62,7 +62,7 @@ change_of (Some uri) (Some version) (Some all) = changes uri version all
 change_of (Some uri) (Some version) None = unreadable (Some uri)
 change_of (Some uri) None all = unreadable (Some uri)
 
--- `textDocument/didClose`
+-- `textDocument/didClose`, if its uri can be read
 abbrev pub close_of : Option (List ℕ) → Notification
 close_of None = unreadable None
 close_of (Some uri) = closes uri

@@ -107,7 +107,7 @@ references_by (Some at) (Some include) = Some (references at include)
 references_by (Some at) None = None
 references_by None include = None
 
--- `textDocument/references`
+-- reads the params of `textDocument/references`
 abbrev pub references_of : Data → Option ClientRequest
 references_of params =
     references_by (at_of params)
@@ -119,7 +119,7 @@ rename_by (Some at) (Some name) = Some (rename at name)
 rename_by (Some at) None = None
 rename_by None name = None
 
--- `textDocument/rename`
+-- reads the params of `textDocument/rename`
 abbrev pub rename_of : Data → Option ClientRequest
 rename_of params = rename_by (at_of params) (text_member (codes "newName") params)
 
@@ -150,7 +150,7 @@ code_action_by (Some uri) (Some range) None = None
 code_action_by (Some uri) None only = None
 code_action_by None range only = None
 
--- `textDocument/codeAction`
+-- reads the params of `textDocument/codeAction`
 abbrev pub code_action_of : Data → Option ClientRequest
 code_action_of params =
     code_action_by (document_uri params) (range_member (codes "range") params)
@@ -173,7 +173,7 @@ formatting_by (Some uri) (Some indent) = Some (formatting uri indent)
 formatting_by (Some uri) None = None
 formatting_by None indent = None
 
--- `textDocument/formatting`
+-- reads the params of `textDocument/formatting`
 abbrev pub formatting_of : Data → Option ClientRequest
 formatting_of params =
     formatting_by (document_uri params) (option_and_then indent_of (get (codes "options") params))

@@ -38,7 +38,7 @@ pub enum Asked {
     LayOut(Indent),
 }
 
-/// A text, a question about it, and the answer or the faults of the text.
+/// A text, a question about it, and the answer, or the text's faults instead.
 pub type Row = (&'static str, Asked, &'static str);
 
 /// A table: `TEXT, ASKED => ANSWER;` for each row, or `TEXT => FAULTS;`.

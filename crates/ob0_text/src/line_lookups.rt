@@ -221,8 +221,8 @@ fn place_after(
     }
 }
 
-/// Returns a place shortly before an offset: the last place of a pass, or the start of the offset's
-/// line.
+/// Returns the place from which an offset is counted: the last place of a pass if it is near or in
+/// the same line, otherwise the start of the offset's line.
 fn nearest_before(text: &str, table: &LineTable, place: PassState, offset: usize) -> PassState
     requires { HasLines text.now table.now }
     ensures place { (unit : Unit) → IsPlace (width_of unit) text.now place
