@@ -147,8 +147,7 @@ impl<'t> Supposed<'t> {
         text_at(self.resolved.tokens(), token)
     }
 
-    /// Returns the token after another. The end of the text has no next token, so it is returned
-    /// itself.
+    /// Returns the token after another. The end of the text is returned unchanged.
     pub(crate) fn token_after(&self, token: usize) -> usize
         ensures { result ≡ token_after self.now.resolved.now.module_read.source token }
     {
