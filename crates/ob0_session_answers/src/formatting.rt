@@ -1,4 +1,4 @@
-//! Laying out a text on request.
+//! Answers requests for formatting.
 ghost use Rattle.ob0_rpc.specs.Seen.{id_data};
 ghost use Rattle.ob0_session_answers.specs.Formatted.{RepliesToFormatting};
 
@@ -10,7 +10,7 @@ use ob0_session_json::refusals::{refuse_because, refuse_ill_typed};
 use ob0_text::{Indent, TextStore};
 use std::alloc::{AllocError, Global};
 
-/// The edits that lay out the text of a document.
+/// A request for the edits that format a document.
 #[derive(Drop)]
 pub struct LayoutRequest<'a> {
     pub id: &'a Id,

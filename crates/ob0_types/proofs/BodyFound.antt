@@ -1,4 +1,4 @@
--- The tokens of a module's names and numbers but for those in one body, part by part.
+-- The tokens of a module's names and numbers except those in one body, part by part.
 use Rattle.std.proofs.Common.{◌≡◌, ℕ, zero, Bool, true, false, nat_lt, if◌then◌else◌, [], ◌∷◌, sym, subst}
 use Rattle.ob0_tree.specs.Tree.{Tree, block, body, constants, declares, declares_procedure, end, has_body, is_module, item, items, maybe, module_text, more, procedure, type_names, variables}
 use Rattle.ob0_scope_table.specs.BodyAlone.{EachToken}
@@ -8,7 +8,7 @@ use Rattle.ob0_scope_table.proofs.BodyOutside.{Among}
 use Rattle.ob0_types_check.specs.AlikeBut.{BlockBut, ModuleBut, ProcedureBut, ProceduresBut, Unless}
 use Rattle.ob0_types.specs.OneBody.{body_among, body_in_block, body_in_module, body_in_procedure}
 
--- ---- where all tokens are so
+-- ---- if all tokens have the property
 
 module _ (P : ℕ → Type 0) (wanted : ℕ → Bool) where
   unless_any : {A : Type 0} (b : Bool) → A → Unless b A
@@ -30,14 +30,15 @@ module _ (P : ℕ → Type 0) (wanted : ℕ → Bool) where
 pub module_any : (P : ℕ → Type 0) (wanted : ℕ → Bool) (m : Tree ℕ module_text) → EachToken P m → ModuleBut P wanted m
 module_any P wanted (is_module x b closing) h = (h.0, block_any P wanted closing b h.1, h.2)
 
--- ---- all tokens but those in one body
+-- ---- all tokens except those in one body
 
--- the one or the other
+-- one of two requirements
 abbrev pub Chosen : Bool → Type 0 → Type 0 → Type 0
 Chosen true A B = A
 Chosen false A B = B
 
--- of each token but those in the body in which a range of tokens lies, from `low` on
+-- requires something of each token except in the body that contains the range of tokens from `low`
+-- upwards
 abbrev mutual
   -- a block
   pub BlockOutside : (ℕ → Type 0) → ℕ → Tree ℕ block → Type 0

@@ -1,6 +1,7 @@
--- The order of codes goes by the numbers that they are declared with.
--- The derived order spells the numbers as `declared_number` does; a `_` in its place isn't found. The order of the key
--- of `faults_of` has a generated name, which may differ once `faults_of` is changed: the message of the check shows it.
+-- The order of codes is the order of the numbers that they are declared with. The derived order
+-- writes the numbers as `declared_number` does; a `_` in its place isn't found. The order of the
+-- key of `faults_of` has a generated name, which may differ once `faults_of` is changed: the
+-- message of the check shows it.
 use denote.Enum.Declared.{tag_of}
 use Rattle.std.proofs.Common.{◌≡◌, ℕ, ◌+◌, ℤ, pos, Bool, true, false, cond, ◌==◌, nat_lt, List, [], ◌∷◌, refl, sym, ap, ◌∙◌, arith, true≢false, eqb-true, eq-eqb, ltb-true, ltb-false}
 use Rattle.std.specs.List.Sorted.{IsSorted, IsSortedByKey}

@@ -1,4 +1,4 @@
--- The fields that are kept with a module that has no fault are its fields.
+-- The fields that are kept with a valid module are its fields.
 use Rattle.std.proofs.Common.{◌≡◌, IfSome, is_some, Option, Some, None, sym, subst, ap, ◌∙◌, true≢false}
 use Rattle.ob0_language_types.specs.WellTyped.{WellTyped}
 use Rattle.ob0_scope_table.specs.Resolution.{IsResolution, Resolution}
@@ -10,7 +10,7 @@ use Rattle.ob0_types_fields.proofs.ListedFields.{listed_fields}
 use Rattle.ob0_types_table.specs.KnownTables.{Tables}
 
 module _ (r : Resolution) (known : Option Tables) (is : IsResolution r) (h : IsKnownWhereTyped r known) where
-  -- nothing is known of a module that isn't well-typed
+  -- a module that isn't well-typed has no table
   pub none_typed : {A : Type 0} → known ≡ None → WellTyped (named_tree_of r.module_read) → A
   none_typed e typed = absurd (true≢false (sym (h.kept typed) ∙ ap is_some e))
 

@@ -1,5 +1,5 @@
--- The fields of a module before and after the tokens of one body changed: those before the body and those after it are the
--- same, and between them are those of its statements.
+-- The fields of a module before and after the tokens of one body changed: the fields before the
+-- body and after it are the same, and between them are the fields of its statements.
 use Rattle.std.proofs.Common.{◌≡◌, ℕ, ◌+◌, true, false, if◌then◌else◌, nat_lt, List, [], ◌++◌, sym, ap, ◌∙◌, append_assoc, append-nil}
 use Rattle.ob0_tree.specs.Tree.{Tree, block, body, declares, declares_procedure, end, has_body, is_module, item, items, maybe, module_text, more, procedure}
 use Rattle.ob0_language_names.specs.Parts.{formal_sections, section_types, section_variables}
@@ -25,7 +25,7 @@ module _ {Q : Type 0} (m n : Meanings ℕ Shape Q) where
   alone : (statements : Tree ℕ (maybe body)) → AreAround (marked_tree m statements) (marked_tree n statements) statements
   alone statements = record { before = []; after = []; first = sym (append-nil (marked_tree m statements)); second = sym (append-nil (marked_tree n statements)) }
 
-  -- with the same in front of both
+  -- the same fields in front of both
   in_front : (xs ys front : List FieldName) (statements : Tree ℕ (maybe body)) → AreAround xs ys statements → AreAround (front ++ xs) (front ++ ys) statements
   in_front xs ys front statements h = record {
     before = front ++ h.before;
@@ -38,7 +38,7 @@ module _ {Q : Type 0} (m n : Meanings ℕ Shape Q) where
   followed_by_one zs before inner after back e =
       ap (λ l. l ++ back) e ∙ (append_assoc before (inner ++ after) back ∙ ap (λ l. before ++ l) (append_assoc inner after back))
 
-  -- with the same after both
+  -- the same fields after both
   followed_by : (xs ys back : List FieldName) (statements : Tree ℕ (maybe body)) → AreAround xs ys statements → AreAround (xs ++ back) (ys ++ back) statements
   followed_by xs ys back statements h = record {
     before = h.before;

@@ -1,5 +1,6 @@
--- A module of which the statements of one body were replaced fits without them, where it was well-typed before: what fits
--- does so without the statements of a body, and all else is written as it was.
+-- If a module was well-typed before the statements of one body were replaced, it fits without these
+-- statements. A module that fits also fits without the statements of a body, and everything else
+-- has the same spelling.
 use Rattle.std.proofs.Common.{◌≡◌, ℕ, zero, suc, ◌+◌, Bool, true, false, ◌&&◌, nat_lt, if◌then◌else◌, List, [], ◌∷◌, ◌++◌, Option, Some, None, refl, sym, ap, ◌∙◌, subst}
 use Rattle.ob0_language_names.specs.DeclaredOnce.{are_distinct, block_names, block_once, declared_once, formals_once, procedure_names, procedure_once, procedures_once, types_once, variables_once}
 use Rattle.ob0_language_names.specs.Names.{Name, Naming, as_names, same_name}
@@ -19,7 +20,8 @@ use Rattle.ob0_types.specs.NewBody.{WereTypesElsewhere}
 use Rattle.ob0_types.specs.OneBody.{OneBody, body_among, body_in_block, body_in_module, body_in_procedure}
 use Rattle.ob0_types.specs.declared.checked.ModuleTypes.{ModuleTypes}
 
--- ---- what a block has without the statements of one body: as many ARRAY and RECORD, and the same names
+-- ---- a block without the statements of one body has the same number of words ARRAY and RECORD,
+-- and the same names
 
 mutual
   block_count : {N : Type 0} (way : Way) (b : Tree N block) → block_constructors (block_without way b) ≡ block_constructors b
@@ -48,7 +50,7 @@ same_names (suc k) way end = refl
 same_names zero way (more p rest) = ap (λ x. x ∷ procedure_names rest) (same_heading way p)
 same_names (suc k) way (more p rest) = ap (λ xs. procedure_name p ∷ xs) (same_names k way rest)
 
--- ---- what fits does so without the statements of a body
+-- ---- a part that fits also fits without the statements of a body
 
 some_and_weaker : {A : Type 0} (o : Option A) (f g : A → Bool) → ((a : A) → f a ≡ true → g a ≡ true) → some_and o f ≡ true → some_and o g ≡ true
 some_and_weaker None f g weaker h = h
@@ -59,7 +61,7 @@ both_weaker true b c d first second h = ap (λ x. x && d) (first refl) ∙ secon
 both_weaker false b c d first second h = absurd (cc)
 
 module _ {N : Type 0} (naming : Naming N) where
-  -- procedures, where the block's own statements are left out
+  -- procedures, if the block's own statements are left out
   own_left_out : (env : TypeEnvironment N) (k : ℕ) (statements : Tree N (maybe body)) (ps : Tree N (items procedure)) → procedures_fit naming env k statements ps ≡ true → procedures_fit naming env k none ps ≡ true
   unfolding procedures_fit
   own_left_out env k statements end h = refl
@@ -109,7 +111,7 @@ module _ {N : Type 0} (naming : Naming N) where
   unfolding fits_over
   fits_left_out way (is_module x b closing) h = block_left_out way _ 0 b h
 
--- ---- each name is declared once without the statements of a body too
+-- ---- each name is also declared once without the statements of a body
 
 mutual
   block_once_alike : (way : Way) (own : List Name) (b : Tree Name block) → block_once own (block_without way b) ≡ block_once own b
@@ -132,12 +134,12 @@ mutual
 pub once_left_out : (way : Way) (m : Tree Name module_text) → declared_once (without way m) ≡ declared_once m
 once_left_out way (is_module x b closing) = ap (λ o. same_name x closing && o) (block_once_alike way [] b)
 
--- ---- the body in which a range of tokens lies is that to which the way leads
+-- ---- the body that contains a range of tokens is the one to which the way leads
 
 abbrev Leads : OneBody → ℕ → Tree ℕ (maybe body) → Type 0
 Leads found closing statements = (found.closing ≡ closing) × (found.statements ≡ statements)
 
--- past one more procedure
+-- the same after one more procedure
 later_leads : (way : Way) (own : ℕ) (cs : Tree ℕ (maybe constants)) (ts : Tree ℕ (maybe type_names)) (vs : Tree ℕ (maybe variables)) (p : Tree ℕ (item procedure)) (rest : Tree ℕ (items procedure)) (statements : Tree ℕ (maybe body)) (found : OneBody)
     → Leads found (closing_in way own (has_body (declares cs ts vs rest) statements)) (body_in way (has_body (declares cs ts vs rest) statements))
     → Leads found (closing_in (later way) own (has_body (declares cs ts vs (more p rest)) statements)) (body_in (later way) (has_body (declares cs ts vs (more p rest)) statements))
@@ -173,7 +175,7 @@ module _ (r : Resolution) (types : ModuleTypes) (s : SameTokens) (w : WereTypesE
   pub found_there : Leads (body_in_module s.prefix (tree_of r.module_read)) (closing_at w.way (tree_of r.module_read)) (body_at w.way (tree_of r.module_read))
   found_there = subst (λ way. Leads (body_in_module s.prefix (tree_of r.module_read)) (closing_at way (tree_of r.module_read)) (body_at way (tree_of r.module_read))) w.replaced.new_way (body_leads s.prefix (tree_of r.module_read))
 
-  -- without it the module is written as it was
+  -- the module without it has the same spelling
   named_alike : named r.module_read.source (without w.way (tree_of r.module_read)) ≡ without w.way (named_tree_of w.old.module_read)
   named_alike =
       let before = w.old.module_read in

@@ -1,5 +1,6 @@
--- Where the tokens of a text are written as they were, what was found of a module's types is found of it again: its tree has
--- the same names and numbers, and its faults are at the same tokens, which are in the same order.
+-- If the tokens of a text have the same spellings as before, the result of checking its module is
+-- the same. The module's tree has the same names and numbers, and its faults are at the same
+-- tokens, which are in the same order.
 use Rattle.std.proofs.Common.{◌≡◌, ◌<◌, ◌≤◌, ℕ, ◌+◌, List, [], ◌∷◌, Option, IfSome, is_some, length, map, take, get_or, option_and_then, sym, refl, ap, ◌∙◌, subst, arith}
 use Rattle.std.proofs.Math.ListN.{get_or-map}
 use Rattle.std.proofs.lemmas.List.{get_or_default, length-map, map-set, nil_from_length, take-map}
@@ -36,7 +37,7 @@ use Rattle.ob0_types.proofs.BodyFound.{module_any}
 use Rattle.ob0_types.specs.FaultOrder.{AreFirstOf, code_number, fault_cmp, faults_in}
 use Rattle.ob0_types.specs.Respelled.{TypesKeepTokens}
 
--- ---- lists of what is made of others
+-- ---- lists with a function applied to each element
 
 swap_mapped : {A B : Type 0} (f : A → B) (xs : List A) (i j : ℕ) → swap (map f xs) i j ≡ map f (swap xs i j)
 swap_mapped f [] i j = refl
@@ -45,7 +46,7 @@ swap_mapped f (x ∷ xs) i j =
     sym (map-set f (set l i (get_or l j x)) j (get_or l i x)
     ∙ (λ t. set ((map-set f l i (get_or l j x) ∙ ap (set (map f l) i) (sym (get_or-map f l j x))) t) j (sym (get_or-map f l i x) t)))
 
--- a list in another order is made of those in that order
+-- a permutation of a mapped list is the image of a permutation
 record IsMadeOf {A B : Type 0} (f : A → B) (xs : List A) (all : List B) : Type 0 where
   pub others : List A
   pub is : all ≡ map f others

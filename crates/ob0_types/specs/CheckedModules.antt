@@ -1,4 +1,4 @@
--- A checked module: its names, and what was reported of it.
+-- A checked module: its names and its faults.
 -- Rule: docs/LANGUAGE.md, Types 8, Faults of scopes and types 1.
 use Rattle.std.specs.Prelude.{◌≡◌, ◌≤◌, true, List, [], length, ◌↔◌, IfSome, is_some, Option}
 use Rattle.ob0_scan.specs.Scanned.{max_faults}
@@ -13,14 +13,14 @@ use Rattle.ob0_types.specs.FaultOrder.{AreFirstFaults}
 use Rattle.ob0_types.specs.declared.checked.ModuleTypes.{ModuleTypes}
 use Rattle.ob0_types_fields.specs.Listed.{AreFields, Listed}
 
--- a checked module: its names, its faults, and the table of what it declares
+-- a checked module: its names, its faults, and the table of its declarations
 pub record CheckedModule : Type 0 where
   pub names : Resolution
   pub faults : List Fault
   pub known : Option Tables
 
--- No fault is reported exactly where the module is well-typed; then what its declarations are is
--- kept. Faults are reported in order, the first 100.
+-- States that a module is checked. It has no fault exactly if it is well-typed, and then the table
+-- of its declarations is present. The faults are the first 100, in order.
 pub record IsChecked (c : CheckedModule) : Type 0 where
   pub resolved : IsResolution c.names
   pub reported : (c.faults ≡ []) ↔ WellTyped (named_tree_of c.names.module_read)
@@ -29,28 +29,28 @@ pub record IsChecked (c : CheckedModule) : Type 0 where
   pub few : length c.faults ≤ max_faults
   pub first : AreFirstFaults c.names c.faults
 
--- these are the faults of a module that was checked, whatever is known of it
+-- states that these are the faults of a checked module, with some table
 abbrev pub AreCheckedFaults : Resolution → List Fault → Type 0
 AreCheckedFaults names faults =
     (known : Option Tables) × IsChecked (record { names = names; faults = faults; known = known })
 
--- a module with what was found of its types
+-- a module with the result of checking its types
 abbrev pub checked_by : Resolution → ModuleTypes → CheckedModule
 checked_by names types = record { names = names; faults = types.faults.items; known = types.known }
 
--- This was found of a module's types: the module is checked by it, where it has no fault its fields
--- are these, and each body of which something is reported is among the faulty ones.
+-- States that this is the result of checking a module's types. If it has no fault, the fields are
+-- the module's fields, and each body with a fault is among the faulty ones.
 pub record AreTypesOf (names : Resolution) (types : ModuleTypes) : Type 0 where
   pub checked : IsChecked (checked_by names types)
   pub fields : types.faults.items ≡ [] → AreFields names types.fields
   pub faulty : AllPass (is_among types.faulty.items) (faulty_bodies names)
 
--- what is known of a module's declarations, which is something where it is well-typed
+-- a table of a module's declarations, which is present if the module is well-typed
 pub record IsKnownWhereTyped (names : Resolution) (known : Option Tables) : Type 0 where
   pub holds : IfSome known (HasDeclarations (named_tree_of names.module_read))
   pub kept : WellTyped (named_tree_of names.module_read) → is_some known ≡ true
 
--- they are the fields of a module, where it is well-typed
+-- states that these are the fields of a module if it is well-typed
 abbrev pub AreFieldsWhereTyped : Resolution → Listed → Type 0
 AreFieldsWhereTyped names fields =
     WellTyped (named_tree_of names.module_read) → AreFields names fields
@@ -60,7 +60,7 @@ pub record IsWellTyped (names : Resolution) : Type 0 where
   pub resolved : IsResolution names
   pub well_typed : WellTyped (named_tree_of names.module_read)
 
--- what is known of a module that is well-typed: its declarations and its fields
+-- the declarations and the fields of a well-typed module
 pub record IsKnownOf (names : Resolution) (known : Tables) (fields : Listed) : Type 0 where
   pub well_typed : IsWellTyped names
   pub declarations : HasDeclarations (named_tree_of names.module_read) known

@@ -34,27 +34,26 @@ code_number code.NoField = 21
 code_number code.NotArray = 22
 code_number code.NotRecord = 23
 
--- by where they begin and where they end
+-- the order by start and end
 abbrev pub place_cmp : Fault → Fault → Ordering
 place_cmp x y = ordering_then (nat_cmp x.span.start y.span.start) (nat_cmp x.span.end y.span.end)
 
--- at one place by the numbers of their codes
+-- the order of faults at one place, by the numbers of their codes
 abbrev pub fault_cmp : Fault → Fault → Ordering
 fault_cmp x y = ordering_then (place_cmp x y) (nat_cmp (code_number x.code) (code_number y.code))
 
--- the first 100, in that order, of all that were found
+-- states that these are the first 100 faults of a list, in that order
 pub record AreFirstOf (found faults : List Fault) : Type 0 where
   pub all : List Fault
   pub joined : IsPermutation found all
   pub in_order : IsSorted fault_cmp all
   pub first : faults ≡ take max_faults all
 
--- The faults of a module, by LANGUAGE.md, Faults of scopes and types: names that nothing binds and
--- faults of types, and names that are declared twice or close what another name opened.
--- The first 100 are reported.
+-- All faults of a module, by LANGUAGE.md, Faults of scopes and types: undeclared names and faults
+-- of types, and duplicate declarations and wrong closing names. The first 100 are reported.
 abbrev pub faults_in : Resolution → List Fault
 faults_in r = reported_module r ++ filter is_of_declarations r.faults
 
--- these are the first of the module's faults
+-- states that these are the first of the module's faults
 abbrev pub AreFirstFaults : Resolution → List Fault → Type 0
 AreFirstFaults r faults = AreFirstOf (faults_in r) faults

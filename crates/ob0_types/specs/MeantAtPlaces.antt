@@ -1,4 +1,4 @@
--- What the identifiers at the places of a module's text mean: names, or else fields.
+-- The meanings of the identifiers in a module's text: names, or else fields.
 -- Rule: docs/PROTOCOL.md, Requests on documents 3 to 6.
 use Rattle.std.specs.Prelude.{⊤, ℕ, Option, Some, None, option_map}
 use Rattle.ob0_scope_table.specs.Resolution.{Resolution}
@@ -10,11 +10,11 @@ use Rattle.ob0_types.specs.declared.meant.Identified.{Identified}
 use Rattle.ob0_types.specs.declared.meant.Meant.{Meant}
 use Rattle.ob0_types.specs.declared.meant.Meant.TheVariants.{Name, Field}
 
--- an identifier that is bound to a declaration means it
+-- an identifier that is bound to a declaration
 abbrev pub name_meant : named.Named → Identified
 name_meant n = record { token = n.token; means = Name n.ordinal }
 
--- an identifier of a field means the field
+-- an identifier of a field
 abbrev pub field_meant : FieldName → Identified
 field_meant x = record { token = x.token; means = Field x.owner }
 
@@ -23,11 +23,11 @@ abbrev pub meant_by : Option named.Named → Option FieldName → Option Identif
 meant_by (Some n) f = Some (name_meant n)
 meant_by None f = option_map field_meant f
 
--- what the identifier means that a place is on
+-- the meaning of the identifier at a place
 abbrev pub meant_at : Resolution → ℕ → Option Identified
 meant_at r offset = meant_by (name_on r.module_read offset) (field_at r offset)
 
--- it is a field
+-- states that the meaning is a field
 abbrev pub IsField : Meant → Type 0
 IsField (Name ordinal) = ⊥
 IsField (Field k) = ⊤

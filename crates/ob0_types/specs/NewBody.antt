@@ -1,5 +1,5 @@
--- What was found of a module's types before the statements of one body were replaced by others, of another number of
--- tokens.
+-- The result of checking a module before the statements of one body were replaced, perhaps with a
+-- different number of tokens.
 -- Rule: docs/LANGUAGE.md, Types 8, Faults of scopes and types 1.
 use Rattle.ob0_scan.specs.declared.tokens.SameTokens.{SameTokens}
 use Rattle.ob0_scope_table.specs.BodyReplaced.{IsBodyReplaced, Way}
@@ -7,8 +7,8 @@ use Rattle.ob0_scope_table.specs.Resolution.{Resolution}
 use Rattle.ob0_types.specs.CheckedModules.{AreTypesOf}
 use Rattle.ob0_types.specs.declared.checked.ModuleTypes.{ModuleTypes}
 
--- These are the types of a module before the statements of one body were replaced by others: all else of it is moved,
--- and written as it was.
+-- States that this is the result of checking a module before the statements of one body were
+-- replaced. Everything else was moved, with the same spelling.
 pub record WereTypesElsewhere (r : Resolution) (types : ModuleTypes) (s : SameTokens) : Type 0 where
   pub old : Resolution
   pub way : Way

@@ -1,4 +1,4 @@
--- What was found of a module's types before its tokens changed in the statements of one body.
+-- The result of checking a module before its tokens changed in the statements of one body.
 -- Rule: docs/LANGUAGE.md, Types 8, Faults of scopes and types 1.
 use Rattle.std.specs.Prelude.{◌≡◌, ℕ, true, nat_lt, if◌then◌else◌}
 use Rattle.ob0_tree.specs.Tree.{Tree, block, body, declares, declares_procedure, end, has_body, is_module, item, items, maybe, module_text, more, procedure}
@@ -18,19 +18,19 @@ pub record OneBody : Type 0 where
   pub closing : ℕ
   pub statements : Tree ℕ (maybe body)
 
--- as the code has it
+-- a body of the code
 abbrev pub body_seen : Body → OneBody
 body_seen b = record { closing = b.closing; statements = body_of b.statements.now }
 
--- the body in which a range of tokens lies, from `low` on
+-- the body that contains the range of tokens from `low` upwards
 abbrev mutual
-  -- of a block with this closing name, or of one in it
+  -- the body of a block with this closing name, or one in it
   pub body_in_block : ℕ → ℕ → Tree ℕ block → OneBody
   body_in_block low own (has_body (declares cs ts vs ps) statements) =
       body_among low own ps statements
 
-  -- of the first procedure that doesn't close before it, or of one in that; where all close before
-  -- it, of the block
+  -- the body of the first procedure that doesn't close before the range, or one in it; if all close
+  -- before it, the body of the block
   pub body_among : ℕ → ℕ → Tree ℕ (items procedure) → Tree ℕ (maybe body) → OneBody
   body_among low own end statements = record { closing = own; statements = statements }
   body_among low own (more p ps) statements =
@@ -38,11 +38,11 @@ abbrev mutual
       then body_among low own ps statements
       else body_in_procedure low p
 
-  -- of a procedure, or of one in it
+  -- the body of a procedure, or one in it
   pub body_in_procedure : ℕ → Tree ℕ (item procedure) → OneBody
   body_in_procedure low (declares_procedure x fs b closing) = body_in_block low closing b
 
--- of a module, or of a procedure in it
+-- the body of a module, or of a procedure in it
 abbrev pub body_in_module : ℕ → Tree ℕ module_text → OneBody
 body_in_module low (is_module x b closing) = body_in_block low closing b
 
@@ -51,8 +51,9 @@ abbrev pub over_text : Scanned → Parsed → Parsed
 over_text source m =
     record { source = source; name = m.name; block = m.block; closing = m.closing }
 
--- These are the types of a module before some of its tokens changed, from `low` on, which lie in one
--- body: all others are written as they were, and bound as they were.
+-- States that this is the result of checking a module before some of its tokens, from `low`
+-- upwards, changed. They are in one body; all other tokens have the same spellings and bindings as
+-- before.
 pub record WereTypes (r : Resolution) (types : ModuleTypes) (low : ℕ) : Type 0 where
   pub high : ℕ
   pub old : Scanned

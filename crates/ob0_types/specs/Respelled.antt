@@ -1,4 +1,4 @@
--- What is found of a module's types where the tokens of its text are written as they were.
+-- The result of checking a module if all tokens of its text have the same spellings as before.
 -- Rule: docs/LANGUAGE.md, Types 8, Faults of scopes and types 1.
 use Rattle.std.specs.Prelude.{◌≡◌}
 use Rattle.ob0_scan.specs.Scanned.{Scanned}
@@ -11,15 +11,15 @@ use Rattle.ob0_scope_table.specs.declared.resolved.Bindings.{Bindings}
 use Rattle.ob0_types.specs.CheckedModules.{AreTypesOf}
 use Rattle.ob0_types.specs.declared.checked.ModuleTypes.{ModuleTypes}
 
--- the same findings, with the faults at the same tokens of another text
+-- the same result, with the faults at the same tokens of another text
 pub record AreTypesMoved (old new : Scanned) (types moved : ModuleTypes) : Type 0 where
   pub known : moved.known ≡ types.known
   pub fields : moved.fields ≡ types.fields
   pub faulty : moved.faulty ≡ types.faulty
   pub faults : moved.faults.items ≡ moved_faults old new types.faults.items
 
--- what was found of a module's types is found of the same tree over tokens that are written alike,
--- with its faults at the same tokens
+-- states that a tree over tokens with the same spellings has the same result, with the faults at
+-- the same tokens
 abbrev pub TypesKeepTokens : Type 0
 TypesKeepTokens =
     (old new : Scanned) (tree : ModuleTree) (b c : Bindings) (types moved : ModuleTypes)

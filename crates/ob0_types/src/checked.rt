@@ -1,12 +1,13 @@
-//! Checking a module, and what is known of a well-typed one.
+//! Checks a module, and gives the types, values and fields of a well-typed one.
 //!
-//! `ModuleTypes` is all that checking finds. It borrows nothing, so it can be kept beside the module's bindings.
-//! `Checked` joins it to them: `check` makes one that owns its part, `Checked::from_parts` one of a part that is kept
-//! elsewhere, which takes no memory.
+//! `ModuleTypes` is the complete result of checking. It borrows nothing, so it can be kept next to
+//! the module's bindings. `Checked` joins it to them: `check` makes a `Checked` that owns its part;
+//! `Checked::from_parts` makes one from a part that is kept elsewhere, without allocating.
 //!
-//! Faults are sorted by (start, end, code). The lists of fields are made for a module that fits (`known_fields`), or by
-//! those of the text before where one body changed (`fields_again`); in `Checked`'s invariant is that they are the
-//! module's fields where it has no fault, so that the value of a `Checked` doesn't have them.
+//! Faults are sorted by (start, end, code). The lists of fields are made for a module that fits
+//! (`known_fields`), or from the lists of the previous text if one body changed (`fields_again`).
+//! The invariant of `Checked` states that they are the module's fields if it has no fault. So the
+//! value of a `Checked` doesn't contain them.
 
 ghost use Rattle.ob0_scope_table.specs.Resolution.{is_of_declarations};
 ghost use Rattle.ob0_types.specs.CheckedModules.{AreFieldsWhereTyped, AreTypesOf, IsChecked, IsKnownWhereTyped, checked_by};
@@ -30,11 +31,13 @@ use std::alloc::{AllocError, Global};
 use std::borrow::Cow;
 use std::marker::Model;
 
-/// Where more bodies than these had a fault, all are checked again: to look for a body among them takes as many steps.
+/// If more bodies than this had faults, all are checked again, because searching the list of bodies
+/// would take as many steps.
 const MOST_FAULTY: usize = 32;
 
-/// What checking a module finds: what its declarations are and its fields, where it is well-typed; the faults of its
-/// scopes and types; and its bodies of which a fault of types is reported, by their closing names. It borrows nothing.
+/// The result of checking a module. `known` has its declarations, and `fields` has its fields if it
+/// is well-typed. `faults` has the faults of its scopes and types. `faulty` has the bodies with a
+/// fault of types, by their closing names. It borrows nothing.
 #[derive(Drop)]
 pub struct ModuleTypes {
     pub known: Option<DeclarationTable>,
@@ -66,7 +69,7 @@ impl<'t> Model for Checked<'t> {
     ghost invariant = { λ c. AreTypesOf c.resolved.now (cow_value c.types) };
 }
 
-/// A module without faults, and what is known of its declarations.
+/// A valid module with its table of declarations and its fields.
 #[derive(Drop)]
 pub struct WellTyped<'t> {
     checked: &'t Checked<'t>,
@@ -90,14 +93,14 @@ impl<'t> Model for WellTyped<'t> {
     ghost invariant = { λ w. IsKnownOf w.checked.now.names w.known.now w.fields.now };
 }
 
-/// A type of a module, with the table that knows its parts.
+/// A type of a module, with the table of its parts.
 #[derive(Clone, Copy)]
 pub struct Shape<'t> {
     pub known: &'t DeclarationTable,
     pub of: TypeId,
 }
 
-/// Checks the types of a module. Its faults are those of its scopes and its types.
+/// Checks the types of a module. The result has the faults of its scopes and its types.
 pub fn check<'t>(alloc: Global, resolved: &'t Resolved<'t>) -> Result<Checked<'t>, AllocError>
     ensures names { IfOk result (λ c. c.names ≡ resolved.now) }
     ensures checked { IfOk result IsChecked }
@@ -106,21 +109,22 @@ pub fn check<'t>(alloc: Global, resolved: &'t Resolved<'t>) -> Result<Checked<'t
     Ok(Checked::new(resolved, types))
 }
 
-/// What checking a module finds. It borrows nothing, so that it can be kept beside the module's bindings.
+/// Returns the result of checking a module. It borrows nothing, so that it can be kept next to the
+/// module's bindings.
 pub fn types_of<'t>(alloc: Global, resolved: &'t Resolved<'t>) -> Result<ModuleTypes, AllocError>
     ensures { IfOk result (AreTypesOf resolved.now) }
 {
     no_fault_in_modules();
-    // For the proof: what the contract of this call says.
+    // The proof needs the contract of this call.
     let _module = resolved.module();
     let report = report_faults(alloc, resolved)?;
     let fields = known_fields(alloc, resolved, &report.known)?;
     types_reported(resolved, report, fields)
 }
 
-/// What checking a module finds, by what was found before some of its tokens changed, which lie in one body; `low` is
-/// the first. Of the other bodies those alone are checked again that had a fault, and the fields of that body alone are
-/// looked for again.
+/// Returns the result of checking a module after some of its tokens, all within one body, changed.
+/// `low` is the first of them, and `before` the result before the change. Other bodies are checked
+/// again only if they had faults, and only the fields of that body are searched for again.
 pub fn types_again<'t>(
     alloc: Global,
     resolved: &'t Resolved<'t>,
@@ -142,9 +146,9 @@ pub fn types_again<'t>(
     types_reported(resolved, report, fields)
 }
 
-/// What checking a module finds, by what was found before the statements of one body were replaced by others, of
-/// another number of tokens. Where the module was well-typed, its declarations and that body alone are checked again,
-/// and the fields of that body alone are looked for again.
+/// Returns the result of checking a module after the statements of one body were replaced, perhaps
+/// with a different number of tokens. If the module was valid, only its declarations and that body
+/// are checked again, and only the fields of that body are searched for again.
 pub fn types_with_new_body<'t>(
     alloc: Global,
     resolved: &'t Resolved<'t>,
@@ -160,7 +164,8 @@ pub fn types_with_new_body<'t>(
     types_of(alloc, resolved)
 }
 
-/// What checking a module finds that was well-typed before the statements of one body were replaced.
+/// Returns the result of checking a module that was valid before the statements of one body were
+/// replaced.
 fn types_by_body<'t>(
     alloc: Global,
     resolved: &'t Resolved<'t>,
@@ -178,7 +183,7 @@ fn types_by_body<'t>(
     types_reported(resolved, report, fields)
 }
 
-/// What checking a module finds, by what is reported of it and by its fields, where it is well-typed.
+/// Makes the result of checking a module from its report and, if it is well-typed, its fields.
 fn types_reported<'t>(
     resolved: &'t Resolved<'t>,
     report: Report,
@@ -190,7 +195,7 @@ fn types_reported<'t>(
 {
     modules_fit();
     no_fault_in_modules();
-    // For the proof: what the contract of this call says.
+    // The proof needs the contract of this call.
     let _module = resolved.module();
     let Report {
         faults,
@@ -206,7 +211,7 @@ fn types_reported<'t>(
     })
 }
 
-/// The fields of a well-typed module.
+/// Returns the fields of a well-typed module.
 fn known_fields<'t>(
     alloc: Global,
     resolved: &'t Resolved<'t>,
@@ -215,7 +220,7 @@ fn known_fields<'t>(
     requires { IsKnownWhereTyped resolved.now known.now }
     ensures { IfOk result (AreFieldsWhereTyped resolved.now) }
 {
-    // For the proof: what the contract of this call says.
+    // The proof needs the contract of this call.
     let _module = resolved.module();
     match known {
         None => Ok(FieldList::none(alloc)),
@@ -226,7 +231,8 @@ fn known_fields<'t>(
     }
 }
 
-/// The fields of a well-typed module, by those that it had before some of its tokens changed, which lie in one body.
+/// Returns the fields of a well-typed module, from its fields before some of its tokens changed,
+/// all within one body.
 fn fields_again<'t>(
     alloc: Global,
     resolved: &'t Resolved<'t>,
@@ -256,7 +262,8 @@ fn fields_again<'t>(
     known_fields(alloc, resolved, known)
 }
 
-/// The fields of a well-typed module, by those that it had before the statements of one body were replaced.
+/// Returns the fields of a well-typed module, from its fields before the statements of one body
+/// were replaced.
 fn fields_with_new_body<'t>(
     alloc: Global,
     resolved: &'t Resolved<'t>,
@@ -287,8 +294,8 @@ fn fields_with_new_body<'t>(
     Ok(fields)
 }
 
-/// The faults of scopes and types, sorted by start, end and number, the first 100. Names that nothing binds are
-/// reported with the types, which were looked for before.
+/// Returns the first 100 faults of scopes and types, sorted by start, end and code. `of_types`
+/// already has the undeclared names.
 fn faults_of<'t>(resolved: &'t Resolved<'t>, of_types: Vec<Fault>) -> Result<Vec<Fault>, AllocError>
     ensures none { IfOk result (λ faults. (faults.items ≡ [])
         ↔ (of_types.items ++ filter is_of_declarations resolved.now.faults ≡ [])) }
@@ -303,7 +310,7 @@ fn faults_of<'t>(resolved: &'t Resolved<'t>, of_types: Vec<Fault>) -> Result<Vec
     Ok(faults)
 }
 
-/// Adds names that are declared twice, and closing names that differ.
+/// Appends duplicate declarations and wrong closing names.
 fn add_declarations(faults: &mut Vec<Fault>, scopes: &[Fault]) -> Result<(), AllocError>
     ensures { OnOk result
         (faults.new.items ≡ faults.old.items ++ filter is_of_declarations scopes.now) }
@@ -325,7 +332,7 @@ fn is_of_declarations(fault: &Fault) -> bool
 impl<'t> Checked<'t> {
     ghost use Rattle.ob0_types.specs.CheckedModules.{AreTypesOf, IsChecked, checked_by};
 
-    /// Joins what was found of a module's types to the module.
+    /// Joins the result of checking a module to the module.
     fn new(resolved: &'t Resolved<'t>, types: ModuleTypes) -> Checked<'t>
         requires { AreTypesOf resolved.now types }
         ensures { result ≡ checked_by resolved.now types }
@@ -336,7 +343,7 @@ impl<'t> Checked<'t> {
         }
     }
 
-    /// Joins what was found of a module's types, which is kept elsewhere, to the module.
+    /// Joins the result of checking a module, which is kept elsewhere, to the module.
     pub fn from_parts(resolved: &'t Resolved<'t>, types: &'t ModuleTypes) -> Checked<'t>
         requires { AreTypesOf resolved.now types.now }
         ensures { result ≡ checked_by resolved.now types.now }
@@ -347,7 +354,7 @@ impl<'t> Checked<'t> {
         }
     }
 
-    /// What was found, without the module.
+    /// Returns the result of checking, without the module.
     fn types(&self) -> &ModuleTypes
         ensures found { checked_by self.now.names result.now ≡ self.now }
         ensures types { AreTypesOf self.now.names result.now }
@@ -358,14 +365,14 @@ impl<'t> Checked<'t> {
         }
     }
 
-    /// The module with its names bound.
+    /// Returns the module with its names bound.
     pub fn resolved(&self) -> &'t Resolved<'t>
         ensures { result.now ≡ self.now.names }
     {
         self.resolved
     }
 
-    /// The faults of scopes and types, sorted by start, end and number, the first 100.
+    /// Returns the first 100 faults of scopes and types, sorted by start, end and code.
     pub fn faults(&self) -> &[Fault]
         ensures value { result.now ≡ self.now.faults }
         ensures checked { IsChecked self.now }
@@ -373,7 +380,7 @@ impl<'t> Checked<'t> {
         self.types().faults.as_slice()
     }
 
-    /// The module, where it has no fault.
+    /// Returns the module if it has no fault.
     pub fn well_typed(&self) -> Option<WellTyped<'_>>
         ensures { MatchOption result (self.now.faults ≡ [] → ⊥) (λ w. w ≡ self.now.names) }
     {
@@ -407,14 +414,14 @@ impl<'t> WellTyped<'t> {
     ghost use Rattle.ob0_language_types.specs.Typing.{type_declared};
     ghost use Rattle.ob0_language_values.specs.Scalars.{scalar_value};
 
-    /// The module with its faults: there are none.
+    /// Returns the checked module, which has no faults.
     pub fn checked(&self) -> &'t Checked<'t>
         ensures { result.now.names ≡ self.now }
     {
         self.checked
     }
 
-    /// The module with its names bound.
+    /// Returns the module with its names bound.
     pub fn resolved(&self) -> &'t Resolved<'t>
         ensures value { result.now ≡ self.now }
         ensures well_typed { IsWellTyped self.now }
@@ -422,27 +429,28 @@ impl<'t> WellTyped<'t> {
         self.checked.resolved()
     }
 
-    /// What is known of the module: what each declaration is, by its ordinal (`DeclarationTable::object`), and the parts of types.
+    /// Returns the table of the module: the object of each declaration, by its ordinal
+    /// (`DeclarationTable::object`), and the parts of types.
     pub fn declarations(&self) -> &'t DeclarationTable
         ensures { HasDeclarations (named_tree_of self.now.module_read) result.now }
     {
         self.known
     }
 
-    /// The fields of the module.
+    /// Returns the fields of the module.
     pub fn fields(&self) -> &'t FieldList
         ensures { AreFields self.now result.now }
     {
         self.fields
     }
 
-    /// The value of a constant that a CONST section declares, by its ordinal. None for every other declaration, TRUE
-    /// and FALSE among them.
+    /// Returns the value of a constant from a CONST section, by its ordinal. Returns None for any
+    /// other declaration, including TRUE and FALSE.
     pub fn constant(&self, declaration: usize) -> Option<Scalar>
         ensures { option_map scalar_value result
             ≡ value_of_constant (named_tree_of self.now.module_read) declaration }
     {
-        // For the proof: what the contract of this call says.
+        // The proof needs the contract of this call.
         let _module = self.resolved();
         let value = self.declarations().constant(declaration);
         if declaration < PREDECLARED {
@@ -452,8 +460,9 @@ impl<'t> WellTyped<'t> {
         }
     }
 
-    /// The type of a declaration, by its ordinal: of a type, of a variable or parameter, and of a constant. None for a
-    /// procedure, and for a number that no declaration has.
+    /// Returns the type of a declaration by its ordinal, if it is a type, a variable, a parameter
+    /// or a constant. Returns None for a procedure, and for a number that isn't the ordinal of a
+    /// declaration.
     pub fn shape(&self, declaration: usize) -> Option<Shape<'t>>
         ensures { option_map shape_of result
             ≡ type_declared (declared_object (named_tree_of self.now.module_read) declaration) }
@@ -469,8 +478,8 @@ impl<'t> Shape<'t> {
     ghost use Rattle.ob0_types_table.specs.Parts.{PartsAreCounted, has_parts, is_known_type, parts_shape};
     ghost use Rattle.ob0_types.specs.DeclaredShapes.{shape_of};
 
-    /// What the type is made of; the types of its parts are in the same table. Nothing exactly where it isn't a type of
-    /// the module.
+    /// Returns the parts of the type; the types of the parts are in the same table. The result is
+    /// `Faulty` exactly if this isn't a type of the module.
     pub fn parts(&self) -> Parts<'t>
         ensures shape { parts_shape (shapes_of self.now.known.now) result ≡ shape_of self.now }
         ensures counted { PartsAreCounted (shapes_of self.now.known.now) result }

@@ -1,4 +1,5 @@
-//! The fields of a well-typed module: which one a place is on, its identifiers, and where its record declares it.
+//! The fields of a well-typed module: the field at a place, its identifiers, and where its record
+//! declares it.
 
 ghost use Rattle.std.specs.Prelude.{◌≡◌, IfOk, IfSome, length};
 ghost use Rattle.ob0_tree.specs.Order.{AreIdentifiers, Ascending, IsIdentifierToken};
@@ -8,7 +9,7 @@ use crate::checked::WellTyped;
 use ob0_types_fields::FieldName;
 use std::alloc::{AllocError, Global};
 
-/// The field that a place is on, where it lies in an identifier of the field or at its end: that identifier.
+/// Returns the field identifier at a place, which is in the identifier or at its end.
 pub fn field_at(well_typed: &WellTyped<'_>, offset: usize) -> Option<FieldName>
     ensures value { result ≡ field_at well_typed.now offset }
     ensures are_identifiers { IfSome result
@@ -18,7 +19,8 @@ pub fn field_at(well_typed: &WellTyped<'_>, offset: usize) -> Option<FieldName>
     well_typed.fields().at(names.tokens(), offset)
 }
 
-/// The tokens of the field of this name of a record: the one that declares it and all that select it, in text order.
+/// Returns the tokens of the field with this name in a record, in text order: the declaring one and
+/// all selecting ones.
 pub fn field_tokens(
     alloc: Global,
     well_typed: &WellTyped<'_>,
@@ -39,7 +41,7 @@ pub fn field_tokens(
     Ok(tokens)
 }
 
-/// The token that declares the field of this name of a record.
+/// Returns the token that declares the field with this name in a record.
 pub fn declaring_field(well_typed: &WellTyped<'_>, owner: usize, name: &str) -> Option<usize>
     ensures { result ≡ declaring_field well_typed.now.module_read owner name.now }
 {
@@ -47,8 +49,8 @@ pub fn declaring_field(well_typed: &WellTyped<'_>, owner: usize, name: &str) -> 
     well_typed.fields().declaring(names.tokens(), owner, name)
 }
 
-/// The place of the field of this name among the fields of a record, counted from 0. None where the record has no such
-/// field.
+/// Returns the position of the field with this name among the fields of a record, counted from 0.
+/// Returns None if the record has no such field.
 pub fn field_place(well_typed: &WellTyped<'_>, owner: usize, name: &str) -> Option<usize>
     ensures { result ≡ field_place well_typed.now.module_read owner name.now }
 {

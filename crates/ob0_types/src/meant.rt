@@ -1,6 +1,6 @@
-//! What the identifier at a place means: a name of the module, or else a field.
+//! Finds the meaning of the identifier at a place: a name of the module, or else a field.
 //!
-//! What is at a place, where it is declared and named, and its renaming are matches on what `meant_at` returns.
+//! Hover, declarations, occurrences and renaming match on the result of `meant_at`.
 
 ghost use Rattle.std.specs.Prelude.{◌≡◌, IfSome};
 ghost use Rattle.ob0_tree.specs.Order.{IsIdentifierToken};
@@ -10,24 +10,24 @@ use crate::checked::WellTyped;
 use crate::fields::field_at;
 use ob0_scope::name_at;
 
-/// What an identifier means.
+/// The meaning of an identifier.
 #[derive(Clone, Copy, PartialEq, Eq)]
 pub enum Meant {
-    /// A declaration, predeclared ones too, by its ordinal.
+    /// A declaration, which may be predeclared, by its ordinal.
     Name(usize),
     /// A field, by the ordinal of its record.
     Field(usize),
 }
 
-/// An identifier, by its token, and what it means.
+/// An identifier's token and meaning.
 #[derive(Clone, Copy, PartialEq, Eq)]
 pub struct Identified {
     pub token: usize,
     pub means: Meant,
 }
 
-/// The identifier that a place is on, where it lies in the identifier or at its end, and what that means. A closing
-/// name of a procedure means the procedure. None at the module's name.
+/// Returns the identifier at a place, which is in the identifier or at its end, and its meaning.
+/// The closing name of a procedure means the procedure. Returns None at the module's name.
 pub fn meant_at(well_typed: &WellTyped<'_>, offset: usize) -> Option<Identified>
     ensures value { result ≡ meant_at well_typed.now offset }
     ensures are_identifiers { IfSome result (λ x. IsField x.means

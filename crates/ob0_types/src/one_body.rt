@@ -1,4 +1,4 @@
-//! The body in which a range of tokens lies.
+//! Finds the body that contains a range of tokens.
 
 ghost use Rattle.std.specs.Prelude.{◌≡◌};
 ghost use Rattle.ob0_tree.specs.Parsed.{tree_of};
@@ -14,7 +14,7 @@ pub(crate) struct Body<'t> {
     pub(crate) statements: &'t Option<Vec<Statement>>,
 }
 
-/// The body of a module in which a range of tokens from `low` on lies, if it lies in one.
+/// Returns the body that contains the range of tokens starting at `low`, if one body does.
 pub(crate) fn body_from<'t>(read: &'t Module<'t>, low: usize) -> Body<'t>
     ensures { body_seen result ≡ body_in_module low (tree_of read.now) }
 {

@@ -1,5 +1,5 @@
--- Blocks, procedures and modules of which nothing is reported fit.
--- The walk is over names as they are written (`as_names`), not over ordinals, so that fields need nothing.
+-- Blocks, procedures and modules fit if nothing is reported for them. The walk uses the names as
+-- they are spelled (`as_names`) instead of ordinals, so fields need no extra facts.
 use Rattle.std.proofs.Common.{◌≡◌, ◌≢◌, ℕ, suc, ◌+◌, ◌<◌, ◌≤◌, Bool, true, false, ◌&&◌, List, [], ◌∷◌, ◌++◌, length, map, Option, Some, None, option_and_then, refl, sym, ap, ◌∙◌, subst, le_refl, le_trans, arith, length-append, lit<}
 use Rattle.std.proofs.lemmas.List.{length-map}
 use Rattle.std.specs.List.{filter}
@@ -33,8 +33,8 @@ use Rattle.ob0_types_check.proofs.BlocksBound.{BindingsKnown, as_long, bindings_
 use Rattle.ob0_types_check.proofs.MadeOnce.{Apart, apart_same, apart_then, apart_to}
 use Rattle.ob0_types_check.proofs.BlocksParameters.{formals_of, parameters_kept, parameters_over, sections_declare}
 
--- it fits, and what is known after it, with the constructors from k on, up to l, and the bindings of the ordinals from n on,
--- up to m
+-- a part that fits and the state after it; it has the constructors from k up to l and the bindings
+-- with ordinals from n up to m
 pub record FitsLater (n m k l : ℕ) (p q : SoFar) (before : List Shape) (fits : Bool) (bindings : TypeEnvironment Name) : Type 0 where
   pub right : fits ≡ true
   pub after : List Shape
@@ -42,7 +42,7 @@ pub record FitsLater (n m k l : ℕ) (p q : SoFar) (before : List Shape) (fits :
   pub later : Later n p q before after
   pub bound : BindingsKnown after q.declared n m bindings
 
--- a procedure that fits, and what is known after it
+-- a procedure that fits, and the state after it
 pub record ProcedureFits (w : Numbering) (n : ℕ) (p q : SoFar) (before : List Shape) (scope : Scope Name) (env : TypeEnvironment Name) (k : ℕ) (d : Tree ℕ (item procedure)) : Type 0 where
   pub parameters : List (TypedParameter Name)
   pub typed : typed_parameters as_names env k (procedure_formals (named w.source d)) ≡ Some parameters
@@ -53,7 +53,7 @@ pub record ProcedureFits (w : Numbering) (n : ℕ) (p q : SoFar) (before : List 
   pub holds : IsKnownAt w q after (after_procedure (suc n) d) (following_procedure w scope n d) (heading (procedure_name (named w.source d)) parameters env)
   pub bound : BindingsKnown after q.declared n (after_procedure (suc n) d) (procedure_bindings as_names env k (named w.source d))
 
--- what is known after a procedure's heading, where its parameters and it are known
+-- the state after a procedure's heading, in which its name and parameters are known
 abbrev pub heading_known : SoFar → ℕ → Tree ℕ (maybe formals) → SoFar
 heading_known p x fs = after_heading x (reported_sections (record { formals = []; following = p }) (formal_sections fs)).known
 
@@ -86,7 +86,7 @@ module _ (w : Numbering) (fit : PartsFit) where
       ap (λ z. sequence_fits (meanings as_names env) (mapped (text_at w.source) (value_at z) s)) (sym st.source)
       ∙ fit.statements p before (text_at w.source) (meanings as_names env) s (agrees_where_seen w p false before n scope env st fit s seen) h
 
-  -- a block's constants, types and variables
+  -- the constants, types and variables of a block
   pub declarations_reported : (cs : Tree ℕ (maybe constants)) (ts : Tree ℕ (maybe type_names)) (vs : Tree ℕ (maybe variables)) (ps : Tree ℕ (items procedure)) (statements : Tree ℕ (maybe body)) (k n : ℕ) (p : SoFar) (before : List Shape) (scope : Scope Name) (env : TypeEnvironment Name) → length before ≡ k → IsKnownAt w p before n scope env
       → ConstantsPlaced w scope n (section_constants cs)
       → TypesPlaced w (following_constants w scope n (has_body (declares cs ts vs ps) statements)) (first_type n (has_body (declares cs ts vs ps) statements)) (section_types ts)
@@ -131,7 +131,7 @@ module _ (w : Numbering) (fit : PartsFit) where
             (bindings_both f.after q.declared n m i (bindings d.env) (since env d.env) f.bound (bindings_later d.after f.after v.declared q.declared n m m f.later.longer f.later.kept (le_refl m) (since env d.env) own));
       })
 
-  -- a procedure's heading, and what is known after it
+  -- a procedure's heading, and the state after it
   pub heading_reported : (x : ℕ) (fs : Tree ℕ (maybe formals)) (k n : ℕ) (p : SoFar) (before : List Shape) (scope : Scope Name) (env : TypeEnvironment Name) → length before ≡ k → IsKnownAt w p before n scope env → IsPlaced w n x → SectionsPlaced w scope (suc n) (formal_sections fs)
       → (reported_sections (record { formals = []; following = p }) (formal_sections fs)).faults ≡ [] → HeadingKnown w n p before scope env k x fs
   heading_reported x fs k n p before scope env at st placed sections unreported =
@@ -165,7 +165,7 @@ module _ (w : Numbering) (fit : PartsFit) where
         };
       }
 
-  -- a procedure's name and parameters
+  -- the bindings of a procedure's name and parameters
   heading_bound : (x : ℕ) (fs : Tree ℕ (maybe formals)) (n : ℕ) (scope : Scope Name) (env : TypeEnvironment Name) (p : SoFar) (before : List Shape) {k : ℕ} → NamesKnown before p.declared n scope env → (e : HeadingKnown w n p before scope env k x fs)
       → BindingsKnown e.after (heading_known p x fs).declared n (after_names (suc n) (formal_names (formal_sections fs))) (bind_typed e.parameters (heading (text_at w.source x) e.parameters []))
   heading_bound x fs n scope env p before names e =
@@ -175,7 +175,7 @@ module _ (w : Numbering) (fit : PartsFit) where
       subst (BindingsKnown e.after (heading_known p x fs).declared n m) (heading_since e.parameters (text x, meant.a_procedure (formals_of e.parameters)) env)
       (names_bind e.after (heading_known p x fs).declared m n m (text x ∷ map text xs) scope env (bind_typed e.parameters (heading (text x) e.parameters env)) (after_names-map text (suc n) xs) (as_long before p.declared n scope env names) e.inside.names)
 
-  -- the bindings of a procedure and those after it
+  -- the bindings of a procedure and of the procedures after it
   procedures_bound : (d : Tree ℕ (item procedure)) (rest : Tree ℕ (items procedure)) (k : ℕ) (env : TypeEnvironment Name) (parameters : List (TypedParameter Name)) → typed_parameters as_names env k (procedure_formals (named w.source d)) ≡ Some parameters
       → procedure_fits as_names (bind_typed parameters (heading (procedure_name (named w.source d)) parameters env)) k (named w.source d) ≡ true
       → procedures_bindings as_names env k (named w.source (more d rest)) ≡ procedures_bindings as_names (heading (procedure_name (named w.source d)) parameters env) (k + procedure_constructors (named w.source d)) (named w.source rest) ++ procedure_bindings as_names env k (named w.source d)
@@ -268,7 +268,7 @@ room_first xs =
     let count : length later ≡ length xs = length-map {B = Option (Meaning TypeId)} xs (λ token. None) in
     omega (arith, length-append predeclared_meanings later, count)
 
--- where a module begins
+-- the state at the beginning of a module
 pub first_holds : (r : Resolution) → IsKnownAt (numbering_of r) (at_first r) [] 7 (predeclared_scope as_names) (outermost as_names)
 first_holds r = record {
   source = refl;

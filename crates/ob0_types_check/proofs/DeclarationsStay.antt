@@ -1,5 +1,6 @@
--- What a module declares is what it declared before its tokens changed in some bodies, where nothing is reported of either:
--- the same is known of both, and what is known says what a declaration is.
+-- A module declares the same objects as before its tokens changed in some bodies, if nothing is
+-- reported for either version. Both versions have the same final state, and the state determines
+-- the object of a declaration.
 use Rattle.std.proofs.Common.{◌≡◌, ℕ, Bool, true, false, nat_lt, List, [], ◌∷◌, ◌++◌, slice_index_or, Option, Some, None, refl, sym, ap, ◌∙◌, subst, ltb-true, ltb-false}
 use Rattle.ob0_language_names.specs.Names.{Name}
 use Rattle.ob0_language_names.specs.Parts.{module_block}
@@ -26,7 +27,7 @@ use Rattle.ob0_types_check.proofs.Unreported.{some-same}
 one_value : {A : Type 0} (o : Option A) (x y : A) → o ≡ Some x → o ≡ Some y → x ≡ y
 one_value o x y p q = some-same x y (sym p ∙ q)
 
--- ---- types of which the same is known are the same
+-- ---- types with the same description are the same
 
 fields_once : (known : List Shape) (fs : List FieldSoFar) (gs hs : FieldShapes) → FieldsAgree (shape_in known) fs gs → FieldsAgree (shape_in known) fs hs → gs ≡ hs
 fields_once known [] no_field_shape no_field_shape g h = refl
@@ -52,7 +53,7 @@ made_once known (m ∷ ms) (s ∷ ss) (t ∷ ts) g h =
     let rest : ss ≡ ts = made_once (known ++ s ∷ []) ms ss ts g.1 (subst (λ z. EachMade (known ++ z ∷ []) ms ts) (sym first) h.1) in
     λ i. first i ∷ rest i
 
--- ---- declarations of which the same is known are the same
+-- ---- declarations with the same meaning are the same
 
 formals_once : (shapes : List Shape) (fs : List (KnownFormal TypeId)) (gs hs : Signature) → FormalsAgree (shape_in shapes) fs gs → FormalsAgree (shape_in shapes) fs hs → gs ≡ hs
 formals_once shapes [] [] [] g h = refl
@@ -90,7 +91,7 @@ module _ (p q : SoFar) (m n : Tree Name module_text) (h : KnowsDeclarations p m)
           let high = ltb-false k 7 e in
           agrees_once g.shapes (slice_index_or q.declared k None) (declared_object m k) (declared_object n k) (known_in_both k) (g.declared k) (h.standards k high) (g.standards k high)
 
--- what is known at the end of a module
+-- the state at the end of a module
 abbrev last_known : Resolution → SoFar
 last_known r = (reported_block (at_first r) (module_block (tree_of r.module_read))).known
 

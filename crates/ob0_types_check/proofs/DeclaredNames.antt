@@ -1,7 +1,8 @@
--- Each name of a module has its ordinal: one that is looked up that of the scope there, and one that declares that of its place.
--- `BlockPlaced` says so by recursion on the tree of tokens. It comes from `IsBinding`, an equation of trees, by taking
--- both sides apart with the same projections, and from counting declaring tokens. What rests on it knows nothing of
--- relabelled trees.
+-- Each name of a module has the right ordinal: a looked-up name the one from the scope at its
+-- place, a declaring name the one of its position. `BlockPlaced` states this by recursion on the
+-- tree of tokens. It is derived from `IsBinding`, an equation between trees, by applying the same
+-- projections to both sides and by counting the declaring tokens. So the proofs that use it don't
+-- mention relabelled trees.
 use Rattle.std.proofs.Common.{◌≡◌, ℕ, suc, ◌<◌, ◌≤◌, Option, Some, None, List, [], ◌∷◌, ◌++◌, map, refl, sym, ap, ◌∙◌, subst, le_trans}
 use Rattle.std.proofs.lemmas.List.{map-append}
 use Rattle.ob0_scan.specs.Scanned.{Scanned}
@@ -17,7 +18,7 @@ use Rattle.ob0_language_names.proofs.Ordinals.{after_names-append, le-after_bloc
 use Rattle.ob0_language_names.proofs.Peeling.{heads}
 use Rattle.ob0_language_names.proofs.Relabelled.{constants-section, formals-section, names-relabel, section_names-relabel, section_type-relabel, types-section, variables-section}
 
--- of each element
+-- states that each element of a list has a property
 abbrev pub Each : {A : Type 0} → (A → Type 0) → List A → Type 0
 Each P [] = Unit {0}
 Each P (x ∷ xs) = P x × Each P xs
@@ -38,7 +39,7 @@ map-twice : {A B C : Type 0} (f : B → C) (g : A → B) (xs : List A) → map f
 map-twice f g [] = refl
 map-twice f g (x ∷ xs) = λ i. f (g x) ∷ map-twice f g xs i
 
--- the parts of lists and of declarations
+-- the parts of lists and declarations
 abbrev first_of : {N : Type 0} {i : Item} → Tree N (item i) → Tree N (items i) → Tree N (item i)
 first_of d end = d
 first_of d (more t ts) = t
@@ -68,7 +69,7 @@ variables_side (declares_variable ns t) = t
 abbrev section_in : {N : Type 0} → Tree N (item further_section) → Tree N section
 section_in (then_section f) = f
 
--- names are numbered whatever they are
+-- names get the same ordinals whatever they are
 pub after_names-map : {A B : Type 0} (f : A → B) (k : ℕ) (xs : List A) → after_names k (map f xs) ≡ after_names k xs
 after_names-map f k [] = refl
 after_names-map f k (x ∷ xs) = after_names-map f (suc k) xs
@@ -126,7 +127,7 @@ formal_names-mapped f g end = refl
 formal_names-mapped f g (more (then_section s) fs) =
     joined f (section_names s) (formal_names fs) (section_names (mapped f g s)) (formal_names (mapped f g fs)) (section_names-mapped f g s) (formal_names-mapped f g fs)
 
--- the names of sections that may be left out
+-- the names of optional sections
 constants-names : {N M : Type 0} (f : N → M) (g : ℕ → ℕ) (cs : Tree N (maybe constants)) → constant_names (section_constants (mapped f g cs)) ≡ map f (constant_names (section_constants cs))
 constants-names f g cs = ap constant_names (constants-mapped f g cs) ∙ constant_names-mapped f g (section_constants cs)
 
@@ -161,13 +162,13 @@ mutual
   after_procedure-mapped f g j k e (declares_procedure x fs b closing) =
       after_block-mapped f g (after_names j (formal_names (formal_sections (mapped f g fs)))) (after_names k (formal_names (formal_sections fs))) (after-mapped f j k (formal_names (formal_sections fs)) (formal_names (formal_sections (mapped f g fs))) (formals-names f g fs) e) b
 
--- The names of a module by token: as they are written, their ordinals, and how many ordinals there are.
+-- The names of a module by token: their spellings, their ordinals, and the number of ordinals.
 pub record Numbering : Type 0 where
   pub source : Scanned
   pub ordinals : List (Option ℕ)
   pub room : ℕ
 
--- a token that declares, and names that do, from an ordinal on
+-- a declaring token at an ordinal, and declaring names from an ordinal upwards
 abbrev pub IsPlaced : Numbering → ℕ → ℕ → Type 0
 IsPlaced n k x = (ordinal_in n.ordinals x ≡ Some k) × (k < n.room)
 
@@ -175,7 +176,8 @@ abbrev pub NamesPlaced : Numbering → ℕ → List ℕ → Type 0
 NamesPlaced n k [] = Unit {0}
 NamesPlaced n k (x ∷ xs) = IsPlaced n k x × NamesPlaced n (suc k) xs
 
--- a token that is looked up, and those of a part: the scope there has them
+-- states that a looked-up token is bound, or that the scope has it, or that the scope has all the
+-- looked-up tokens of a part
 abbrev pub IsBound : Numbering → ℕ → Type 0
 IsBound n x = (k : ℕ) × (ordinal_in n.ordinals x ≡ Some k)
 
@@ -185,11 +187,11 @@ IsSeen n scope x = (k : ℕ) × (ordinal_in n.ordinals x ≡ Some k) × (ordinal
 abbrev pub AreSeen : {s : Sort} → Numbering → Scope Name → Tree ℕ s → Type 0
 AreSeen n scope t = Each (IsSeen n scope) (occurrences t)
 
--- the scope after names
+-- the scope after some names
 abbrev pub scope_following : Numbering → ℕ → List ℕ → Scope Name → Scope Name
 scope_following n k xs scope = declare_names k (map (text_at n.source) xs) scope
 
--- declarations from an ordinal on, in a scope
+-- declarations from an ordinal upwards, in a scope
 abbrev pub ConstantsPlaced : Numbering → Scope Name → ℕ → Tree ℕ (items constant) → Type 0
 ConstantsPlaced n scope k end = Unit {0}
 ConstantsPlaced n scope k (more (declares_constant x e) cs) = IsPlaced n k x × AreSeen n scope e × ConstantsPlaced n ((text_at n.source x, k) ∷ scope) (suc k) cs
@@ -208,7 +210,7 @@ SectionsPlaced n scope k end = Unit {0}
 SectionsPlaced n scope k (more (then_section f) fs) =
     NamesPlaced n k (section_names f) × AreSeen n scope (section_type f) × SectionsPlaced n (scope_following n k (section_names f) scope) (after_names k (section_names f)) fs
 
--- the scopes of a block and their first ordinals, by the tokens
+-- the scopes of a block and their first ordinals, by tokens
 abbrev pub following_constants : Numbering → Scope Name → ℕ → Tree ℕ block → Scope Name
 following_constants n scope k b = scope_following n k (constant_names (block_constants b)) scope
 
@@ -242,7 +244,7 @@ abbrev mutual
       IsPlaced n k x × SectionsPlaced n scope (suc k) (formal_sections fs) × BlockPlaced n (inside_procedure n scope k (declares_procedure x fs b closing)) (after_names (suc k) (formal_names (formal_sections fs))) b
 
 module _ (n : Numbering) where
-  -- a tree under the names that are written, and under ordinals and names by token
+  -- the tree with names as they are spelled, and the tree with ordinals and names by token
   abbrev bound_by : {s : Sort} → Tree ℕ s → Tree (Option ℕ × Name) s
   bound_by t = mapped (bound_at n.source n.ordinals) (value_at n.source) t
 

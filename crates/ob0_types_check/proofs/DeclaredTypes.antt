@@ -1,6 +1,7 @@
--- Types as they are written, of which nothing is reported, denote the shapes of what is known of them.
--- Fields go from the left, their shapes from the right: a group gives its own fields with any that follow
--- (`GroupGathers`). Two sums of one definition are nested otherwise in the other: `grouped`.
+-- Written types for which nothing is reported denote the shapes of their types in the state. Fields
+-- are gathered from the left, but their shapes are built from the right: so a group gives its own
+-- fields before any that follow (`GroupGathers`). Two sums of one definition are nested differently
+-- in the other: see `grouped`.
 use Rattle.std.proofs.Common.{◌≡◌, ℕ, suc, ◌+◌, Bool, true, false, List, [], ◌∷◌, ◌++◌, length, map, Option, Some, None, option_and_then, if◌then◌else◌, refl, sym, ap, ◌∙◌, subst, subst₂, le_refl, arith}
 use Rattle.ob0_scan.specs.declared.fault.Fault.{Fault}
 use Rattle.ob0_tree.specs.Places.{named, text_at, value_at}
@@ -28,12 +29,13 @@ use Rattle.ob0_types_check.proofs.DeclaredNames.{AreSeen, IsSeen, Numbering, eac
 use Rattle.ob0_types_check.proofs.DeclaredShapes.{GatheredAgrees, SizeAgrees, array_sized, followed, followed-assoc, followed-nothing, gathered_kept, is_limited, last_array, last_record, longer_more, longer_then, names_put, record_sized, size_agrees, table_long, table_more, with_fields-followed}
 use Rattle.ob0_types_check.proofs.DeclaredKnown.{Later, IsKnownAt, agrees_where_seen, later_same, later_then, seen_holds, holds_later}
 
--- where nothing is reported of both, nothing is reported of either
+-- if two lists of faults together are empty, so is each of them
 pub none_both : (xs ys : List Fault) → xs ++ ys ≡ [] → (xs ≡ []) × (ys ≡ [])
 none_both [] ys e = (refl, e)
 none_both (x ∷ xs) ys e = absurd (cc)
 
--- a type, and what is known after it; k is the ordinal of its first constructor, and l that of the next one
+-- a type, and the state after it; k is the ordinal of its first constructor, l the next ordinal
+-- after its last
 pub record Denotes (n : ℕ) (p : SoFar) (before : List Shape) (k l : ℕ) (given : Option Shape) (u : TypedAfter) : Type 0 where
   pub shape : Shape
   pub given_is : given ≡ Some shape
@@ -82,7 +84,7 @@ made_denotes n p q before mid k l word ordinal parts size s here number own late
       };
     }
 
--- an array, of a length and after the type of its elements
+-- an array, from its length and the type of its elements
 array_denotes : (n : ℕ) (p : SoFar) (before : List Shape) (k l ordinal count : ℕ) (o : Operand TypeId) (given : Option Shape) (u : TypedAfter) → ordinal ≡ k → Denotes n p before (suc k) l given u → (array_made ordinal o (Some count) u).faults ≡ []
     → Denotes n p before k l (option_and_then (λ s. within_limits (array_shape k count s)) given) (array_made ordinal o (Some count) u).known
 array_denotes n p before k l ordinal count o given u here d none =
@@ -103,7 +105,7 @@ sized_array : (n : ℕ) (p : SoFar) (before : List Shape) (k l ordinal : ℕ) (o
 sized_array n p before k l ordinal o reported count given u e here d none =
     subst (λ z. (array_made ordinal o z u).faults ≡ [] → Denotes n p before k l (option_and_then (λ s. within_limits (array_shape k count s)) given) (array_made ordinal o z u).known) (sym e) (array_denotes n p before k l ordinal count o given u here d) none
 
--- fields that are gathered, after those before
+-- the gathered fields, after the earlier ones
 pub record Gathers (n : ℕ) (p : SoFar) (before : List Shape) (k l : ℕ) (first : FieldShapes) (own : FieldShapes) (g : Gathered) : Type 0 where
   pub after : List Shape
   pub apart : Apart k l before after
@@ -124,7 +126,7 @@ names_following : (t : TypeId) (g : Gathered) (xs : List ℕ) → (with_field_na
 names_following t g [] = refl
 names_following t g (x ∷ xs) = names_following t (with_name t g x) xs
 
--- names of one type
+-- fields of one type
 names_gather : (n : ℕ) (w : Numbering) (g : Gathered) (before : List Shape) (k l : ℕ) (first : FieldShapes) (xs : List ℕ) (ys : List Name) (given : Option Shape) (u : TypedAfter) → g.following.source ≡ w.source → ys ≡ map (text_at w.source) xs → GatheredAgrees before g first → Denotes n g.following before k l given u
     → GroupGathers n g.following before k l first (λ later. option_and_then (λ s. Some (with_fields ys s later)) given) (gathered_after g xs u)
 names_gather n w g before k l first xs ys given u source texts h d =
@@ -154,7 +156,7 @@ nothing_agrees shapes p = record { fields = tt; scalars_are = refl; depth_is = r
 nothing_more : (n : ℕ) (g : Gathered) (before : List Shape) (k l : ℕ) → l ≡ k → (first : FieldShapes) → TableAgrees g.following.made before → GatheredAgrees before g first → Gathers n g.following before k l first no_field_shape g
 nothing_more n g before k l last first table h = record { after = before; apart = apart_same k l before last; later = later_same n g.following before table; agrees = subst (GatheredAgrees before g) (sym (followed-nothing first)) h }
 
--- one group and those after it
+-- a group of fields, and the groups after it
 pub both_gather : (n : ℕ) (p : SoFar) (before : List Shape) (k m l : ℕ) (first : FieldShapes) (given : FieldShapes → Option FieldShapes) (g h : Gathered) (others : Option FieldShapes) (one : GroupGathers n p before k m first given g)
     → GroupsGather n g.following one.gathers.after m l (followed first one.own) others h → GroupsGather n p before k l first (option_and_then given others) h
 both_gather n p before k m l first given g h others one other = record {
@@ -168,7 +170,7 @@ both_gather n p before k m l first given g h others one other = record {
   };
 }
 
--- a record of all its fields
+-- a record with all its fields
 record_denotes : (n : ℕ) (p : SoFar) (before : List Shape) (k l word ordinal : ℕ) (given : Option FieldShapes) (g : Gathered) → ordinal ≡ k → GroupsGather n p before (suc k) l no_field_shape given g → (record_made word ordinal g).faults ≡ []
     → Denotes n p before k l (option_and_then (λ fs. within_limits (record_shape k fs)) given) (record_made word ordinal g).known
 record_denotes n p before k l word ordinal given g here h none =

@@ -1,4 +1,4 @@
--- Types that are the same are equal.
+-- Shapes that `same_shape` accepts as the same type are equal.
 use Rattle.std.proofs.Common.{◌≡◌, Bool, true, false, ◌&&◌, ◌==◌, Option, Some, None, refl, sym, ap, eqb-true}
 use Rattle.std.proofs.lemmas.Slice.Eq.{bytes_eq-Decides}
 use Rattle.ob0_language_names.specs.Names.{same_name}

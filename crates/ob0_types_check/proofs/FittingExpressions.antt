@@ -1,8 +1,9 @@
--- Expressions of which nothing is reported: what is known of them is their type and their value.
--- The walk is over any meanings with `TokenFits`, and is taken once with what names mean and once with constants alone:
--- over these a variable is stuck and its operand has no value, so the value that is known is the one over constants in
--- both. A production's lemma isn't recursive (`addend-whole`); the recursion only splits lists of tokens and of faults,
--- and cites these lemmas.
+-- If nothing is reported for an expression, its operand has the right type and value.
+-- The walk works over any meanings with `TokenFits`. It is used twice: with the full meanings, and
+-- with the constants only. Over constants a variable is stuck, and its operand has no value. So the
+-- operand's value is the one over constants in both cases. The lemma of a production isn't
+-- recursive (`addend-whole`); the recursion only splits lists of tokens and of faults, and cites
+-- these lemmas.
 use Rattle.std.proofs.Common.{◌≡◌, ℕ, true, false, List, [], ◌∷◌, ◌++◌, Option, Some, None, option_and_then, is_some, pos, refl, sym, ap, ◌∙◌}
 use Rattle.ob0_tree.specs.declared.tree.AddOperator.{AddOperator}
 use Rattle.ob0_tree.specs.declared.tree.MultiplyOperator.{MultiplyOperator}
@@ -26,7 +27,7 @@ use Rattle.ob0_types_check.proofs.Operands.{IsOf, added-fits, complement-of, com
 use Rattle.ob0_types_check.proofs.Unreported.{goes-on, none-reported, then-assoc, then-itself}
 use Rattle.ob0_types_check.proofs.Valued.{addend-valued, multiplier-valued, name-valued, negation-valued, parts-valued, related-valued, simple-valued, term-valued}
 
--- an operand, its type and its value
+-- an operand with its type and value
 pub record Fits {T : Type 0} (shape : T → Option Shape) (o : Operand T) (type : Option Shape) (value : Option Value) : Type 0 where
   pub of : Shape
   pub known : shape o.of ≡ Some of
@@ -34,7 +35,7 @@ pub record Fits {T : Type 0} (shape : T → Option Shape) (o : Operand T) (type 
   pub valued : o.value ≡ value
   pub scalar : IsOf of o.value
 
--- a name, which may be for a place where it is a variable's
+-- a name, which may be a place if it is a variable's
 pub record NameFits {T N P : Type 0} (facts : Facts T) (shape : T → Option Shape) (label : ℕ → N) (meaning : Meanings N Shape P) (x : ℕ) : Type 0 where
   pub fits : Fits shape (name_operand facts x).known (object_type (meaning.object_for (label x))) (constant_of (meaning.object_for (label x)))
   pub placed : (name_operand facts x).known.is_place ≡ true → meaning.object_for (label x) ≡ Some (a_variable fits.of)
@@ -55,7 +56,7 @@ pub split-tokens : {T N P : Type 0} (facts : Facts T) (shape : T → Option Shap
 split-tokens facts shape label meaning [] ys h = (tt, h)
 split-tokens facts shape label meaning (x ∷ xs) ys h = let rest = split-tokens facts shape label meaning xs ys h.1 in ((h.0, rest.0), rest.1)
 
--- parts of a designator have no value, and are places where the whole is
+-- a part of a designator has no value, and is a place if the whole is
 module _ {T : Type 0} (facts : Facts T) where
   pub parts-none : (x : Operand T) (path : Tree ℕ (items selector)) → x.value ≡ None → (reported_selectors facts x path).known.value ≡ None
   unfolding reported_expression
@@ -94,7 +95,7 @@ module _ {T N P : Type 0} (facts : Facts T) (shape : T → Option Shape) (types 
   abbrev pub among : Meanings N Place (Unit {0})
   among = constants_only meaning
 
-  -- what is known of a part of an expression is so
+  -- states that the operand of a part of an expression is right
   abbrev pub FitsExpression : Tree ℕ expression → Type 0
   FitsExpression e = Fits shape (reported_expression facts e).known (type_of meaning (tree e)) (given_value (evaluate among [] (tree e)))
 
@@ -107,7 +108,7 @@ module _ {T N P : Type 0} (facts : Facts T) (shape : T → Option Shape) (types 
   abbrev pub FitsFactor : Tree ℕ factor → Type 0
   FitsFactor f = Fits shape (reported_factor facts f).known (type_of_factor meaning (tree f)) (given_value (evaluate_factor among [] (tree f)))
 
-  -- the same after operands that were before
+  -- the same for a chain after earlier operands
   abbrev pub FitsAddends : Operand T → Shape → Tree ℕ (items addend) → Type 0
   FitsAddends x s rest = Fits shape (reported_addends facts x rest).known (type_of_addends meaning s (tree rest)) (option_and_then (λ v. given_value (evaluate_addends among [] v (tree rest))) x.value)
 
@@ -115,13 +116,13 @@ module _ {T N P : Type 0} (facts : Facts T) (shape : T → Option Shape) (types 
   FitsMultipliers x s rest =
       Fits shape (reported_multipliers facts x rest).known (type_of_multipliers meaning s (tree rest)) (option_and_then (λ v. given_value (evaluate_multipliers among [] v (tree rest))) x.value)
 
-  -- the type at the end of selectors
+  -- the type after selectors
   pub record FitsSelectors (o : Operand T) (s : Shape) (path : Tree ℕ (items selector)) : Type 0 where
     pub of : Shape
     pub known : shape (reported_selectors facts o path).known.of ≡ Some of
     pub typed : type_at meaning s (tree path) ≡ Some of
 
-  -- each production over its parts
+  -- each production, from its parts
 
   related-whole : (r : Relation) (a b : Tree ℕ simple) → FitsSimple a → FitsSimple b → (relate_operands facts r (reported_simple facts a).known (reported_simple facts b).known).faults ≡ [] → FitsExpression (compares a (one (relates r b)))
   unfolding reported_expression type_of evaluate

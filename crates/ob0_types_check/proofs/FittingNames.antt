@@ -1,7 +1,7 @@
--- Names: what is known of one that means something is so.
--- Names are looked at by the tree's own tokens, not by all: a declaration stays known after its scope, where it means
--- nothing any more. A field's token has to be written as it is in the text, by the same list; so fields need nothing
--- more than names, whatever the labels are.
+-- The meaning of a name agrees with its object. Only the tokens of the tree itself are considered,
+-- because a declaration remains in the state after its scope has ended, when its name has no
+-- meaning any more. The same list requires that a field's token is spelled as in the text. So
+-- fields need no more than names, whatever the labels are.
 use Rattle.std.proofs.Common.{◌≡◌, ℕ, Bool, true, false, true≢false, List, [], ◌∷◌, Option, Some, None, option_map, is_some, if◌then◌else◌, refl, sym, subst, subst₂}
 use Rattle.ob0_tree.specs.declared.tree.Role.{Role}
 use Rattle.ob0_tree.specs.declared.tree.Role.TheVariants as role
@@ -17,7 +17,7 @@ use Rattle.ob0_types_check.proofs.FittingExpressions.{Fits, TokenFits, TokensFit
 use Rattle.ob0_types_check.proofs.Operands.{none-of, some-of}
 use Rattle.ob0_scan.specs.declared.fault.Code.TheVariants as code
 
--- a name by itself, and what it means
+-- the operand of a name, and the name's object
 pub record ObjectFits {T P : Type 0} (shape : T → Option Shape) (k : Operand T) (o : Option (Object Shape P)) : Type 0 where
   pub fits : Fits shape k (object_type o) (constant_of o)
   pub placed : k.is_place ≡ true → o ≡ Some (meant.a_variable fits.of)
@@ -50,7 +50,7 @@ module _ {T : Type 0} (facts : Facts T) (shape : T → Option Shape) (types : Ty
   holds-fits x (Some (a_variable t)) o (s, known, holds) h =
       subst (λ o. ObjectFits shape (named_value facts x (Some (a_variable t))).known o) (sym holds) (variable-fits x t s known facts.only_constants h)
 
-  -- where names mean constants alone
+  -- the same in constant expressions, in which names may only refer to constants
   no-variable : (x : ℕ) (t : T) (b : Bool) → b ≡ true → (if b then record { known = a_name facts.types.unknown x; faults = at_token facts code.NotConstant x } else right (a_name t x)).faults ≡ [] → ⊥
   no-variable x t true only h = cc
   no-variable x t false only h = true≢false (sym only)

@@ -1,4 +1,4 @@
--- Statements of which nothing is reported fit.
+-- Statements for which nothing is reported fit.
 use Rattle.std.proofs.Common.{◌≡◌, ℕ, Bool, true, false, ◌&&◌, not, nat_eq, List, [], ◌∷◌, ◌++◌, length, map, Option, Some, None, if◌then◌else◌, refl, sym, ap, ◌∙◌, arith, eqb-true}
 use Rattle.ob0_scan.specs.declared.fault.Code.TheVariants as code
 use Rattle.ob0_types_table.specs.Tables.{mode_of}
@@ -34,7 +34,7 @@ not-false : (b : Bool) → not b ≡ false → b ≡ true
 not-false true h = refl
 not-false false h = sym h
 
--- as many as there are, and nothing reported of them
+-- if a count or its fault isn't reported, the count is right and the rest has no fault
 counted : {A : Type 0} (b : Bool) (xs : List A) (x : A) → (if b then xs else x ∷ []) ≡ [] → (b ≡ true) × (xs ≡ [])
 counted true xs x h = (refl, h)
 counted false xs x h = absurd (cc)
@@ -56,7 +56,7 @@ module _ {T N : Type 0} (facts : Facts T) (shape : T → Option Shape) (types : 
   pub known-operand : (e : Tree ℕ expression) → Agreed e → (reported_expression facts e).faults ≡ [] → OperandFits shape meaning (reported_expression facts e).known (here e)
   known-operand e k h = operand-fits facts shape types label meaning e (tokens-fit facts shape types label meaning (ids e) k) h
 
-  -- an expression of which a type is required
+  -- an expression that must have a type
   requested-typed : (wanted : T) (w : Shape) (e : Tree ℕ expression) → shape wanted ≡ Some w → Agreed e → reported_required facts wanted e ≡ [] → type_of meaning (here e) ≡ Some w
   unfolding reported_required
   requested-typed wanted w e hw k h =

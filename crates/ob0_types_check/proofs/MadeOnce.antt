@@ -1,18 +1,19 @@
--- Each ARRAY and RECORD of the text makes one type: from one place to a later one, types are made by those between them alone.
--- So one type is at one place of the table, which statements need where an assignment or an argument compares two types
--- (`Fresh`). `Apart k l before after` says which constructors made what is new, as a relation between two tables:
--- constructors outside of these are as before. It composes without a premise, so it is a field of each record of the
--- walk over declarations.
+-- Each ARRAY and RECORD of the text makes one type: between two places, types are made only by the
+-- words between them. So a type is at only one place of the table. Statements need this because
+-- assignments and arguments compare two types (`Fresh`). `Apart k l before after`, a relation
+-- between two tables, says which constructors made the new types: constructors outside this range
+-- made nothing new. It composes without a premise, so it is a field of each record of the walk over
+-- declarations.
 use Rattle.std.proofs.Common.{◌≡◌, ℕ, zero, suc, ◌+◌, ◌<◌, ◌≤◌, List, [], ◌∷◌, ◌++◌, length, slice_get, Some, refl, sym, ap, ◌∙◌, subst, arith, le_refl, le_trans, length-append}
 use Rattle.ob0_language_values.specs.Values.{Shape}
 use Rattle.ob0_types_check.specs.WellTypedLaws.{EachOnce, constructor_of}
 use Rattle.ob0_types_check.proofs.Unreported.{some-same}
 
--- no type is made by the constructor of this ordinal
+-- no type is made by the constructor with this ordinal
 abbrev pub Lacks : ℕ → List Shape → Type 0
 Lacks j shapes = (i : ℕ) (s : Shape) → slice_get shapes i ≡ Some s → constructor_of s ≡ Some j → ⊥
 
--- the types made from the constructor k on, up to l
+-- the types made by the constructors from k up to l
 pub record Apart (k l : ℕ) (before after : List Shape) : Type 0 where
   pub le : k ≤ l
   pub counted : length after + k ≡ length before + l
@@ -36,7 +37,7 @@ apart_then k m l a b c f g = record {
   once = λ fresh h. g.once (λ j from to. f.outside j (λ _ below. not_below m j from below) (fresh j (le_trans f.le from) to)) (f.once (λ j from to. fresh j from (le_trans to g.le)) h);
 }
 
--- what is at a place of a list with one more
+-- the element at a position of a list after appending another
 pushed : {A : Type 0} (xs : List Shape) (x : Shape) (i : ℕ) (s : Shape) → slice_get (xs ++ x ∷ []) i ≡ Some s → (slice_get xs i ≡ Some s → A) → (i ≡ length xs → x ≡ s → A) → A
 pushed [] x zero s h old new = new refl (some-same x s h)
 pushed [] x (suc i) s h old new = absurd (cc)
@@ -63,7 +64,7 @@ apart_made k l before mid s number f = record {
   once = λ fresh h. pushed_once mid s k number (f.outside k (λ from to. absurd (omega (arith, from))) (fresh k (le_refl k) f.le)) (f.once (λ j from to. fresh j (omega (arith, from)) to) h);
 }
 
--- where the constructors from k on are still to come
+-- the constructors from k upwards haven't made a type yet
 pub record Fresh (k : ℕ) (shapes : List Shape) : Type 0 where
   pub counted : length shapes ≡ k
   pub lacks : (j : ℕ) → k ≤ j → Lacks j shapes

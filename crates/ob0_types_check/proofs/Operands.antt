@@ -1,6 +1,6 @@
--- Operations of which nothing is reported: the types of their operands are those that are required, and so is their own.
--- What has a shape isn't the same as the unknown type (`is-known`), so "known" needs no fact of its own, and by this
--- the definitions' guards against the unknown go away.
+-- Operations for which nothing is reported have operands of the required types and a result of the
+-- right type. A type with a shape isn't the same as the unknown type (`is-known`). So "known" needs
+-- no separate fact, and the definitions' tests for the unknown type disappear.
 use Rattle.std.proofs.Common.{◌≡◌, ℕ, Bool, true, false, ◌||◌, cond, [], if◌then◌else◌, Option, Some, None, option_and_then, option_map, ℤ, ◌+ℤ◌, ◌-ℤ◌, ◌*ℤ◌, neg_ℤ, refl, sym, ap, ◌∙◌, subst}
 use Rattle.ob0_scan.specs.declared.fault.Code.TheVariants as code
 use Rattle.ob0_types_table.specs.Operators.{product_value, sum_value}
@@ -22,7 +22,7 @@ use Rattle.ob0_types_check.specs.Operations.{add_operands, required, required_bo
 use Rattle.ob0_types_check.specs.Agreement.{FormAgrees, TypesAgree}
 use Rattle.ob0_types_check.proofs.Unreported.{first-of, first-reported, none-if, none-reported, not-true, some-none, some-same}
 
--- a value that is known is of this type
+-- states that a value, if there is one, has this type
 abbrev pub IsOf : Shape → Option Value → Type 0
 IsOf s c = (v : Value) → c ≡ Some v → value_type v ≡ Some s
 
@@ -32,7 +32,7 @@ none-of s v e = absurd (cc)
 pub some-of : (s : Shape) (w : Value) → value_type w ≡ Some s → IsOf s (Some w)
 some-of s w h v e = subst (λ u. value_type u ≡ Some s) (some-same w v e) h
 
--- what operators give
+-- the results of operators
 abbrev shape_added : AddOperator → Shape
 shape_added add_operator.Add = integer_shape
 shape_added add_operator.Subtract = integer_shape
@@ -152,7 +152,7 @@ module _ {T : Type 0} (facts : Facts T) (shape : T → Option Shape) (types : Ty
       let (known, right) = requested-fits wanted b t w ht hw none in
       (ap (λ c. (if c then left else wrong).known) fit ∙ (ap (λ c. if c then (required facts wanted b).known else facts.types.unknown) same ∙ known), same-shape a.of wanted s w hs hw same, right)
 
-  -- what operators require has a shape
+  -- the types that operators require have shapes
 
   add-wanted : (o : AddOperator) → shape (required_by_add facts.types o) ≡ Some (shape_added o)
   add-wanted add_operator.Add = types.integer

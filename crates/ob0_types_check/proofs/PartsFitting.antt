@@ -1,4 +1,5 @@
--- What declarations use of expressions and statements: where nothing is reported of them, they fit.
+-- The facts about expressions and statements that declarations use: they fit if nothing is reported
+-- for them.
 use Rattle.ob0_language_names.specs.Names.{Name}
 use Rattle.ob0_types_check.specs.ReportLaws.{ConstantsFit, LengthsFit, StatementsFit, TypesOfTables}
 use Rattle.ob0_types_check.proofs.FittingStatements.{statements_fit-holds}

@@ -1,4 +1,4 @@
--- The laws of what is reported of expressions.
+-- The laws of reported expressions.
 use Rattle.std.proofs.Common.{◌≡◌, ℕ, Bool, true, false, [], Option, Some, None, option_map, is_some, if◌then◌else◌, refl, sym, ap, ◌∙◌}
 use Rattle.ob0_tree.specs.declared.tree.Role.TheVariants as role
 use Rattle.ob0_tree.specs.Places.{value_at}
@@ -51,7 +51,7 @@ module _ {T N : Type 0} (facts : Facts T) (shape : T → Option Shape) (label : 
         scalar = fe.scalar;
       }
 
--- a value that is reported of nothing is there
+-- if nothing is reported for a value, there is one
 pub record HasReportedValue {T : Type 0} (o : Operand T) (reported : Option Value) : Type 0 where
   pub value : Value
   pub known : reported ≡ Some value
@@ -79,7 +79,7 @@ constants_fit-holds p shapes label meaning e agrees h =
 pub expressions_fit-holds : {N : Type 0} → ExpressionsFit N
 expressions_fit-holds p only shapes label meaning e agrees h = here-fits (facts_at p only) (shape_in shapes) label meaning e agrees only refl h
 
--- a length that is reported of nothing is there
+-- if nothing is reported for a length, there is one
 pub record IsLong {T : Type 0} (o : Operand T) (reported : Option ℕ) : Type 0 where
   pub value : Value
   pub length : ℕ

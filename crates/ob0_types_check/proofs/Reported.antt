@@ -1,4 +1,5 @@
--- What the reporting walk has at the end of a module: its faults, and where there is none the table of its declarations.
+-- The result of the reporting walk at the end of a module: its faults and, if there are none, the
+-- table of its declarations.
 use Rattle.std.proofs.Common.{◌≡◌, ◌==◌, ℕ, Bool, true, false, List, [], ◌++◌, length, eq-eqb, eqb-true, true≢false, sym, ap, ◌∙◌, subst}
 use Rattle.std.specs.List.{filter}
 use Rattle.ob0_scan.specs.declared.fault.Fault.{Fault}
@@ -18,14 +19,14 @@ use Rattle.ob0_types_check.proofs.TableKnown.{table_declares, table_in_order}
 use Rattle.ob0_types_check.proofs.ReportedDeclarations.{module_reported}
 use Rattle.ob0_types_check.proofs.ReportedWith.{module_forgets}
 
--- whether a list is empty, by its length
+-- a list is empty if its length is 0, and not empty otherwise
 pub is_nothing : (xs : List Fault) (n : ℕ) (b : Bool) → n ≡ length xs → b ≡ (n == 0) → b ≡ true → xs ≡ []
 is_nothing xs n b long e h = nothing_left xs (sym long ∙ eqb-true n 0 (sym e ∙ h))
 
 pub is_something : (xs : List Fault) (n : ℕ) (b : Bool) → n ≡ length xs → b ≡ (n == 0) → b ≡ false → xs ≡ [] → ⊥
 is_something xs n b long e h none = true≢false (sym (eq-eqb n 0 (long ∙ ap length none)) ∙ (sym e ∙ h))
 
--- what a walk has that reports what is reported of all
+-- the result of a walk that reports the same as the walk over everything
 pub walked : (r : Resolution) (before after : List Fault) (s : Supposed) (faulty : List ℕ) (t : Reported Walked) → before ≡ filter is_of_occurrences r.faults → module_with every r ≡ t → ReportsAfter before after (walked_in s faulty) t → HasWalked r after s faulty
 walked r before after s faulty t first is reported =
     let all = sym (module_forgets r) in

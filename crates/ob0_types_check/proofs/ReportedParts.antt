@@ -1,6 +1,6 @@
--- What is reported of expressions, part by part.
--- An expression of one factor is reported as the factor is (`factor_reported`), with no step for the parts that it
--- hasn't, and a name without selectors as the name (`nothing_selected`).
+-- The faults of expressions, part by part. An expression with only one factor has the report of
+-- that factor (`factor_reported`), with no steps for the missing parts. A name without selectors
+-- has the report of the name (`nothing_selected`).
 use Rattle.std.proofs.Common.{◌≡◌, ℕ, List, [], ◌∷◌, ◌++◌, length, None, Option, refl, ◌∙◌, append-nil, arith}
 use Rattle.ob0_tree.specs.declared.tree.Relation.{Relation}
 use Rattle.ob0_tree.specs.declared.tree.Selector.{Selector}
@@ -13,7 +13,7 @@ use Rattle.ob0_types_check.specs.Operations.{a_number, add_operands, complement_
 use Rattle.ob0_types_check.specs.TypeFaults.{operand_value, reported_constant}
 use Rattle.ob0_types_check.proofs.Chains.{IsChain, reported_equal, then_assoc}
 
--- one more operand
+-- adds an operand
 abbrev pub reported_added : {T : Type 0} → Facts T → Operand T → Tree ℕ (item addend) → Reported (Operand T)
 reported_added facts x (adds o t) = reported_term facts t >>= add_operands facts o x
 
@@ -25,7 +25,7 @@ module _ {T : Type 0} (facts : Facts T) where
   unfolding reported_expression
   alone_reported a = refl
 
-  -- one factor, with no sign and no operator
+  -- a factor without sign and operator
   pub factor_reported : (f : Tree ℕ factor) → reported_expression facts (compares (sum None (product f end) end) none) ≡ reported_factor facts f
   unfolding reported_expression
   factor_reported f =

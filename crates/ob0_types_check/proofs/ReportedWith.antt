@@ -1,4 +1,5 @@
--- What is reported of declarations and of some bodies, part by part; and of all bodies, which is what is reported of a module.
+-- The faults of declarations and of some bodies, part by part; with all bodies they are the faults
+-- of the module.
 use Rattle.std.proofs.Common.{◌≡◌, ◌<◌, ◌≤◌, ℕ, ◌+◌, Bool, true, List, [], ◌∷◌, ◌++◌, length, refl, sym, ap, ◌∙◌, subst, arith, length-append}
 use Rattle.ob0_scan.specs.declared.fault.Fault.{Fault}
 use Rattle.ob0_language_names.specs.Parts.{formal_sections, module_block, section_constants, section_types, section_variables}
@@ -16,7 +17,7 @@ use Rattle.ob0_types_check.specs.SomeBodies.{Walked, block_with, body_if, every,
 use Rattle.ob0_types_check.proofs.BlocksFit.{body_known}
 use Rattle.ob0_types_check.proofs.Chains.{IsChain, reported_equal}
 
--- the same with other bodies of which something was reported
+-- the same list of faulty bodies with another state
 abbrev pub further : Walked → SoFar → Walked
 further w p = record { so_far = p; faulty = w.faulty }
 
@@ -50,7 +51,7 @@ module _ (wanted : ℕ → Bool) where
       let x = out-Procedure d in
       ap (procedure_with wanted w) (sym (ap procedure_of (roll-out-Procedure d)) ∙ procedure_made x) ∙ parts_with w x.name (formals_of x.formals) (block_of x.block) x.closing
 
--- ---- of one body
+-- ---- one body
 
 with_some : (faults : List Fault) (own : ℕ) (xs : List ℕ) → 0 < length faults → with_faulty faults own xs ≡ xs ++ own ∷ []
 with_some [] own xs less = absurd (omega (arith, less))
@@ -74,16 +75,16 @@ module _ (wanted : Bool) (own : ℕ) (w : Walked) (a : Tree ℕ (maybe body)) (b
   count : length after ≡ length before + length of_body
   count = ap length r.reported ∙ length-append before of_body
 
-  -- where something is reported of it, and where nothing is
+  -- a body with a fault, and a body with none
   pub body_faulty : (faulty : List ℕ) → length before < length after → faulty ≡ w.faulty ++ own ∷ [] → ReportsAfter before after (record { so_far = p; faulty = faulty }) (body_if wanted own w a)
   body_faulty faulty less e = body_if_with faulty (e ∙ sym (with_some of_body own w.faulty (omega (arith, less, count))))
 
   pub body_faultless : length after ≤ length before → ReportsAfter before after (record { so_far = p; faulty = w.faulty }) (body_if wanted own w a)
   body_faultless le = body_if_with w.faulty (sym (with_none of_body own w.faulty (omega (arith, le, count))))
 
--- ---- of all bodies
+-- ---- all bodies
 
--- without the bodies of which something was reported
+-- leaves out the list of bodies with faults
 abbrev pub forget : Reported Walked → Reported SoFar
 forget t = record { known = t.known.so_far; faults = t.faults }
 

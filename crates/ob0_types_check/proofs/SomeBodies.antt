@@ -1,4 +1,4 @@
--- Nothing is reported of a body of which nothing was reported before the tokens of the module changed in others.
+-- A body without any fault still has none after the tokens of the module changed in other bodies.
 use Rattle.std.proofs.Common.{◌≡◌, ℕ, Bool, true, false, List, [], ◌∷◌, ◌++◌, map, Option, None, length, refl, sym, ap, ◌∙◌, subst, arith, true≢false}
 use Rattle.std.proofs.lemmas.List.{length-map, nil_from_length}
 use Rattle.ob0_scan.specs.Scanned.{Scanned}
@@ -21,7 +21,7 @@ use Rattle.ob0_types_check.proofs.ReportedWith.{further}
 use Rattle.ob0_types_check.proofs.SameFaults.{Alike, Alikeness}
 use Rattle.ob0_types_check.proofs.SameModules.{body_same, constants_each, constants_same, formals_each, heading_after, heading_new, heading_old, sections_same, so_over, types_each, types_same, variables_each, variables_same}
 
--- ---- the bodies of which something is reported
+-- ---- the bodies with faults
 
 module _ (test : ℕ → Bool) where
   all_before : (xs ys : List ℕ) → AllPass test (xs ++ ys) → AllPass test xs
@@ -36,7 +36,7 @@ module _ (test : ℕ → Bool) where
   all_and [] y h q = (q, tt)
   all_and (x ∷ xs) y h q = (h.0, all_and xs y h.1 q)
 
-  -- they only become more
+  -- the list only grows
   faulty_before : (faults : List Fault) (own : ℕ) (xs : List ℕ) → AllPass test (with_faulty faults own xs) → AllPass test xs
   faulty_before [] own xs h = h
   faulty_before (fault ∷ faults) own xs h = all_before xs (own ∷ []) h
@@ -61,7 +61,7 @@ module _ (test : ℕ → Bool) where
         let g = (reported_sections (record { formals = []; following = w.so_far }) (formal_sections fs)).known in
         before_block closing (further w (after_heading x g)) b h
 
--- those of which something is reported among the wanted ones are wanted
+-- bodies with faults among the wanted ones are wanted
 module _ (wanted : ℕ → Bool) where
   abbrev Wants : List ℕ → Type 0
   Wants bodies = AllPass wanted bodies
@@ -96,9 +96,9 @@ module _ (wanted : ℕ → Bool) where
         let g = (reported_sections (record { formals = []; following = w.so_far }) (formal_sections fs)).known in
         block_wanted closing (further w (after_heading x g)) b h
 
--- ---- in two texts
+-- ---- two texts
 
--- what is known comes of one value; and the second is reported as the third is
+-- states that both results come from one value, and that the second report equals the third
 pub record One {Z A : Type 0} (f g : Z → A) (r s d : Reported A) : Type 0 where
   pub value : Z
   pub before : r.known ≡ f value
@@ -108,7 +108,7 @@ pub record One {Z A : Type 0} (f g : Z → A) (r s d : Reported A) : Type 0 wher
 of_alike : {Z A : Type 0} {old new : Scanned} {f g : Z → A} {r s : Reported A} → Alike old new f g r s → One f g r s s
 of_alike p = record { value = p.value; before = p.before; after = p.after; same = refl }
 
--- steps, where something is known of the end in the old text, and so of each
+-- joins two steps if the final state in the old text has a property that holds for each earlier one
 one_then : {Z A Y B : Type 0} {f g : Z → A} {h k : Y → B} {t u v : Reported A} (J : A → Type 0) (K : B → Type 0) (next other another : A → Reported B) → ((x : A) → K (next x).known → J x) → (J t.known → One f g t u v)
     → ((z : Z) → K (next (f z)).known → One h k (next (f z)) (other (g z)) (another (g z)))
     → K (t >>= next).known → One h k (t >>= next) (u >>= other) (v >>= another)
@@ -124,14 +124,14 @@ one_then {Z} {A} {Y} {B} {f} {g} {h} {k} {t} {u} {v} J K next other another down
       same = reported_equal (ap (λ (x : Reported B). x.known) last) (λ i. (a.same i).faults ++ (last i).faults);
     }
 
--- faults at the same tokens as none are none
+-- if there are no faults, there are none at the same tokens
 none_same_tokens : (old new : Scanned) (before after : List Fault) → AreAtSameTokens old new before after → before ≡ [] → after ≡ []
 none_same_tokens old new before after h none =
     let count : length before ≡ length h.tokens = ap length h.in_old ∙ length-map h.tokens (fault_at old) in
     let nothing : length before ≡ 0 = ap length none in
     h.in_new ∙ ap (map (fault_at new)) (nil_from_length h.tokens (omega (arith, count, nothing)))
 
--- what goes along in both texts: what is known, and the bodies of which something was reported in the one and in the other
+-- the state in both texts, and the bodies with faults in each of them
 record Both : Type 0 where
   so : SoFar
   in_old : List ℕ
@@ -156,7 +156,7 @@ module _ (old new : Scanned) (os ns : List (Option ℕ)) (P : ℕ → Type 0) (w
   abbrev With : Reported Walked → Reported Walked → Reported Walked → Type 0
   With r s d = One walked_before walked_now r s d
 
-  -- all are wanted of which something was reported in the old text
+  -- states that all bodies with faults in the old text are wanted
   abbrev Were : Walked → Type 0
   Were v = Wants wanted v.faulty
 
@@ -249,7 +249,7 @@ module _ (old new : Scanned) (os ns : List (Option ℕ)) (P : ℕ → Type 0) (w
 abbrev closing_of : Tree ℕ module_text → ℕ
 closing_of (is_module x b closing) = closing
 
--- what is known at the end of a module comes of one value in both texts
+-- the final states in both texts come from one value
 pub record IsKnownAlike (old new : Resolution) : Type 0 where
   pub value : SoFar
   pub before : (module_with every old).known.so_far ≡ so_over old.module_read.source old.ordinals value
@@ -293,7 +293,7 @@ module _ (wanted : ℕ → Bool) (r : Resolution) (is : IsResolution r) (w : Wer
 pub some_bodies_reported : SomeBodiesReported
 some_bodies_reported wanted r is w = as_read wanted r is w wanted ∙ (sym (one wanted r is w).same ∙ sym (as_read wanted r is w every))
 
--- which bodies something is reported of is known by going through the wanted ones
+-- the bodies with faults are found by walking only the wanted ones
 pub faulty_stay : (wanted : ℕ → Bool) (r : Resolution) → IsResolution r → WereFaulty wanted r → AllPass wanted (faulty_bodies r)
 faulty_stay wanted r is w =
     subst (λ (t : Reported Walked). Wants wanted t.known.faulty) (some_bodies_reported wanted r is w)

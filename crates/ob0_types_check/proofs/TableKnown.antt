@@ -1,7 +1,7 @@
--- The table that the reporting walk has after a module without faults holds what the module's declarations are.
--- Each entry is made over those before it, so the shapes of the table are those of the law. That the ordinals of shapes
--- are right needs how many were made before: from one place to a later one the table grows by as many as constructors
--- are between.
+-- For a valid module, the table that the reporting walk makes has each of its declarations. Each
+-- entry is made from earlier ones, so the law's shapes are the shapes of the table. The ordinals of
+-- shapes are right because, between two places, the table grows by the number of constructors
+-- between them.
 use Rattle.std.proofs.Common.{◌≡◌, ℕ, zero, suc, ◌<◌, ◌≤◌, false, All, List, [], ◌∷◌, ◌++◌, length, map, set, slice_get, slice_index_or, Option, Some, None, option_map, option_and_then, refl, sym, ap, ◌∙◌, subst, arith, append_assoc, append-nil, get_or-set_other, get_or-set_same}
 use Rattle.std.proofs.Math.ListN.{get_or-map}
 use Rattle.std.proofs.lemmas.List.{length-map, length-set}
@@ -100,7 +100,7 @@ entries_there known (m ∷ ms) (s ∷ ss) h =
       ap (λ z. shapes_from (known ++ z ∷ []) ms) one.0 ∙ (rest.1 ∙ append_assoc known (s ∷ []) ss),
     )
 
--- what a declaration is
+-- the object of a declaration
 formals_there : (shapes : List Shape) (fs : List formal.Formal) (signature : Signature) → FormalsAgree (shape_in shapes) (map formal_of fs) signature → map (formal_in shapes) fs ≡ signature
 formals_there shapes [] [] h = refl
 formals_there shapes [] (g ∷ gs) h = absurd h
@@ -146,7 +146,7 @@ module _ (s : Supposed) (m : Tree Name module_text) (h : KnowsDeclarations (so_f
   shapes_are : shapes_of (table_in s) ≡ h.shapes
   shapes_are = (entries_there [] s.composites.items h.shapes h.table).1
 
-  -- an ordinal of no standard procedure
+  -- an ordinal that isn't a standard procedure's
   plain_there : (k : ℕ) → is_standard (declared_object m k) ≡ false → option_and_then (object_in h.shapes) (slice_index_or objects k None) ≡ declared_object m k
   plain_there k own =
       ap (option_and_then (object_in h.shapes)) (get_or-map (option_map table_object) s.meanings.items k None)

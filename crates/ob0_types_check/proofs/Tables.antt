@@ -1,6 +1,6 @@
--- What is known of types by what was made is so of their shapes.
--- Only one direction is asked of types (`TypesAgree`): one that has a shape is formed as its shape says. What forms
--- without a shape may be anything, so a table with odd entries does no harm.
+-- If the arrays and records of the table agree with their shapes, so do all types. `TypesAgree`
+-- requires only one direction: a type that has a shape has its form. The form of a type without a
+-- shape may be anything, so a table with odd entries does no harm.
 use Rattle.std.proofs.Common.{◌≡◌, ℕ, zero, suc, true, false, List, [], ◌∷◌, ◌++◌, slice_get, if◌then◌else◌, Option, Some, option_map, option_and_then, append_assoc, refl, sym, ap, ◌∙◌, subst, eqb-true}
 use Rattle.std.proofs.lemmas.Option.{option_and_then_some}
 use Rattle.ob0_types_table.specs.declared.types.TypeId.{TypeId}
@@ -15,7 +15,7 @@ use Rattle.ob0_types_check.specs.Agreement.{EachMade, FieldsAgree, FormAgrees, M
 use Rattle.ob0_types_check.specs.ReportLaws.{TypesOfTables}
 use Rattle.ob0_types_check.proofs.Unreported.{some-none, some-same}
 
--- of each shape it is known how it was made
+-- the entry of a shape
 pub record Found (shape : TypeId → Option Shape) (made : List MadeType) (i : ℕ) (s : Shape) : Type 0 where
   pub entry : MadeType
   pub there : slice_get made i ≡ Some entry

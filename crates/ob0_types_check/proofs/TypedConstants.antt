@@ -1,4 +1,4 @@
--- Expressions that have a type, constants and lengths: no fault is reported of them.
+-- No fault is reported for expressions that have a type, for constants, or for lengths.
 use Rattle.std.proofs.Common.{◌≡◌, ℕ, Bool, true, false, zero, suc, pos, negsuc, [], Option, Some, None, option_and_then, if◌then◌else◌, is_some, refl, sym, ap, ◌∙◌}
 use Rattle.ob0_tree.specs.declared.tree.Role.TheVariants as role
 use Rattle.ob0_tree.specs.Places.{value_at}

@@ -1,4 +1,4 @@
--- Declarations that bind what they name: no fault is reported of them.
+-- No fault is reported for declarations that bind their names.
 use Rattle.std.proofs.Common.{length, arith, ◌≡◌, ℕ, suc, ◌+◌, true, false, List, [], ◌∷◌, ◌++◌, map, Option, Some, option_and_then, is_some, refl, sym, ap, ◌∙◌, le_refl}
 use Rattle.ob0_tree.specs.Places.{named, text_at, value_at}
 use Rattle.ob0_tree.specs.Tree.{Tree, begins, body, constant, declares_constant, declares_type, declares_variable, end, further_section, items, mapped, maybe, more, none, one, then_section, type_name, value_section, variable, variable_section}

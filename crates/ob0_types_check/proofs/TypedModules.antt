@@ -1,4 +1,4 @@
--- Blocks, procedures and modules that are well-typed: no fault is reported of them.
+-- No fault is reported for well-typed blocks, procedures and modules.
 use Rattle.std.proofs.Common.{◌≡◌, ℕ, suc, ◌+◌, Bool, true, ◌&&◌, List, [], ◌∷◌, ◌++◌, Option, Some, option_and_then, refl, sym, ap, ◌∙◌, subst, le_refl, arith}
 use Rattle.ob0_tree.specs.Parsed.{tree_of}
 use Rattle.ob0_tree.specs.Places.{named, text_at, value_at}
@@ -28,7 +28,7 @@ use Rattle.ob0_types_check.proofs.TypedOperands.{and-then, none-of-both}
 use Rattle.ob0_types_check.proofs.TypedTypes.{PartsRight, given-again, parts_right}
 use Rattle.ob0_types_check.proofs.Unreported.{some-same}
 
--- a test of what is there
+-- a test of an existing value
 held-again : {A : Type 0} (o : Option A) (test : A → Bool) (a : A) → o ≡ Some a → some_and o test ≡ true → test a ≡ true
 held-again o test a e h = sym (ap (λ o. some_and o test) e) ∙ h
 

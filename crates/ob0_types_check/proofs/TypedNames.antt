@@ -1,4 +1,4 @@
--- Names that have a type; and the types of a table, which what is known of them sets apart.
+-- Names that have a type; and the types of a table, which are distinguished by their shapes.
 use Rattle.std.proofs.Common.{◌≡◌, ℕ, Bool, true, false, true≢false, List, [], ◌∷◌, slice_get, Option, Some, None, option_map, option_and_then, if◌then◌else◌, refl, sym, ap, ◌∙◌}
 use Rattle.ob0_scan.specs.declared.fault.Code.TheVariants as code
 use Rattle.ob0_tree.specs.declared.tree.Role.{Role}
@@ -84,7 +84,7 @@ module _ {T : Type 0} (facts : Facts T) (shape : T → Option Shape) where
   holds-right x (Some (a_constant c)) o only a s h = refl
   holds-right x (Some (a_variable t)) o only a s h = variable-named x t facts.only_constants only
 
-  -- where names mean constants alone
+  -- the same in constant expressions, in which names may only refer to constants
 
   abbrev only : Option (Object Shape Signature) → Option (Object Shape (Unit {0}))
   only o = option_map meant.a_constant (constant_of o)

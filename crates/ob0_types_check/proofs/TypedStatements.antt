@@ -1,4 +1,4 @@
--- Statements that are well-typed: no fault is reported of them.
+-- No fault is reported for well-typed statements.
 use Rattle.std.proofs.Common.{◌≡◌, ℕ, Bool, true, false, true≢false, not, suc, List, [], ◌∷◌, ◌++◌, length, map, slice_get, Option, Some, None, option_and_then, if◌then◌else◌, refl, sym, ap, ◌∙◌, eq-eqb}
 use Rattle.ob0_scan.specs.declared.fault.Code.TheVariants as code
 use Rattle.ob0_types_table.specs.Tables.{mode_of}
@@ -43,7 +43,7 @@ module _ {T N : Type 0} (facts : Facts T) (shape : T → Option Shape) (types : 
   apart-in : (xs ys : List (Role × ℕ)) → TokensAgree facts shape label meaning (xs ++ ys) → TokensAgree facts shape label meaning xs × TokensAgree facts shape label meaning ys
   apart-in = split facts shape types label meaning
 
-  -- a type that is required of an expression of that type
+  -- an expression that has the required type
   required-typed : (wanted : T) (w : Shape) (e : Tree ℕ expression) → shape wanted ≡ Some w → Named e → type_of meaning (here e) ≡ Some w → reported_required facts wanted e ≡ []
   unfolding reported_required
   required-typed wanted w e hw k h =
@@ -77,7 +77,7 @@ module _ {T N : Type 0} (facts : Facts T) (shape : T → Option Shape) (types : 
   named-place x (Some (a_procedure fs)) o v (signature, holds, formals) e = no-signature facts shape types apart only label meaning o v signature e holds
   named-place x (Some (a_variable t)) o v a e = variable-place x t facts.only_constants
 
-  -- a variable with its selectors has their type, and is known as a place
+  -- a variable with its selectors has their type, and its operand is a place
   pub record IsPlace (e : Tree ℕ expression) (s : Shape) : Type 0 where
     pub typed : type_of meaning (here e) ≡ Some s
     pub placed : (reported_expression facts e).known.is_place ≡ true
@@ -209,7 +209,7 @@ module _ {T N : Type 0} (facts : Facts T) (shape : T → Option Shape) (types : 
     else-right none k h = refl
     else-right (one (else_branch statements)) k h = sequence-right statements k h
 
--- one type is at one place of a table
+-- a type is at only one place of a table
 
 array-equal : (r s : Shape) → as_array r ≡ Some s → r ≡ s
 array-equal (array_shape k n u) s e = some-same (array_shape k n u) s e

@@ -1,4 +1,5 @@
--- Expressions with all their names, and targets of assignments that are well-typed: no fault is reported of them.
+-- No fault is reported for well-typed targets of assignments. Expressions have all their names
+-- here.
 use Rattle.std.proofs.Common.{◌≡◌, ℕ, false, List, [], Option, Some, None, refl, sym, ap, ◌∙◌}
 use Rattle.ob0_tree.specs.declared.tree.Role.{Role}
 use Rattle.ob0_tree.specs.declared.tree.Role.TheVariants as role
@@ -26,7 +27,7 @@ use Rattle.ob0_types_check.proofs.TypedNames.{names-typed, types-apart}
 use Rattle.ob0_types_check.proofs.TypedOperands.{TypesApart, none-of-both}
 use Rattle.ob0_types_check.proofs.Unreported.{some-none}
 
--- a variable, by the type at the end of its selectors
+-- a variable, from the type after its selectors
 pub variable-of : {P : Type 0} (o : Option (Object Shape P)) (f : Shape → Option Shape) (s : Shape) → (elim o [ Some (meant.a_variable v) ↦ f v | _ ↦ None ]) ≡ Some s → (v : Shape) × (o ≡ Some (meant.a_variable v)) × (f v ≡ Some s)
 variable-of None f s h = absurd (some-none s (sym h))
 variable-of (Some (meant.a_type t)) f s h = absurd (some-none s (sym h))

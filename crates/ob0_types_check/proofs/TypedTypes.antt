@@ -1,6 +1,5 @@
--- Types as they are written that denote one: no fault is reported of them.
--- A hypothesis on what comes of two steps is carried over to the value that the other law gives by `given-again`,
--- without an equality of values.
+-- No fault is reported for written types that denote a type. `given-again` moves a hypothesis about
+-- the result of two steps to the value from another law, without an equality of values.
 use Rattle.std.proofs.Common.{◌≡◌, ℕ, suc, ◌+◌, Bool, true, false, ◌&&◌, List, [], map, Option, Some, None, option_and_then, if◌then◌else◌, is_some, nat_le, refl, sym, ap, ◌∙◌, le_refl, length, arith}
 use Rattle.ob0_tree.specs.Places.{named, text_at, value_at}
 use Rattle.ob0_tree.specs.Tree.{Tree, array_type, end, fields, further_fields, items, mapped, more, named_type, no_fields, occurrences, record_type, some_fields, then_fields, written_type}
@@ -32,7 +31,8 @@ use Rattle.ob0_types_check.proofs.TypedOperands.{and-then, none-of-both}
 use Rattle.ob0_types_check.proofs.TypedStatements.{no_fault_in_statements-holds}
 use Rattle.ob0_types_check.proofs.Unreported.{some-none}
 
--- what declarations use of expressions and statements: where they are well-typed, no fault is reported of them
+-- the facts about expressions and statements that declarations use: if they are well-typed, they
+-- have no fault
 pub record PartsRight : Type 0 where
   pub constants : NoFaultInConstants Name
   pub lengths : NoFaultInLengths Name
@@ -41,7 +41,7 @@ pub record PartsRight : Type 0 where
 pub parts_right : PartsRight
 parts_right = record { constants = no_fault_in_constants-holds; lengths = no_fault_in_lengths-holds; statements = no_fault_in_statements-holds }
 
--- what comes of two steps comes of the second, where the first one's result is known
+-- the result of two steps is the result of the second, from the first one's known result
 pub given-again : {A B : Type 0} (next : A → Option B) (o : Option A) (a : A) (r : Option B) → o ≡ Some a → option_and_then next o ≡ r → next a ≡ r
 given-again next o a r e h = sym (ap (option_and_then next) e) ∙ h
 
@@ -76,7 +76,7 @@ meant-right p before x (Some (a_constant c)) o (v, reported, holds, scalar) s h 
 meant-right p before x (Some (a_variable t)) o (u, reported, holds) s h = absurd (some-none s (sym h ∙ ap type_of_name holds))
 meant-right p before x (Some (a_procedure fs)) o (signature, holds, formals) s h = no-type o signature s holds h
 
--- an array of a length that is known
+-- an array with a known length
 array-right : (ordinal : ℕ) (o : Operand TypeId) (reported : Option ℕ) (count : ℕ) (u : so_far.TypedAfter) → reported ≡ Some count → is_within (array_size count (size_at u.following.made u.of)) ≡ true → (array_made ordinal o reported u).faults ≡ []
 array-right ordinal o reported count u e h = ap (λ c. (array_made ordinal o c u).faults) e ∙ make-right u.following _ ordinal (of_elements count u.of) (array_size count (size_at u.following.made u.of)) h
 

@@ -1,6 +1,5 @@
--- Where nothing is reported of a whole, nothing is reported of its parts.
--- Where a definition decides by a condition, there is a lemma over any Bool in its place (`first-reported`,
--- `second-reported`).
+-- If nothing is reported for a whole, nothing is reported for its parts. If a definition decides by
+-- a condition, the lemma is about any Bool in its place (`first-reported`, `second-reported`).
 use Rattle.std.proofs.Common.{◌≡◌, Bool, true, false, ◌||◌, ◌&&◌, List, [], ◌∷◌, ◌++◌, if◌then◌else◌, Option, Some, None, option_and_then, refl, ap, ◌∙◌}
 use Rattle.ob0_scan.specs.declared.fault.Fault.{Fault}
 use Rattle.ob0_types_check.specs.Known.{Reported}
@@ -13,12 +12,12 @@ pub none-if : {A : Type 0} (b : Bool) (x : A) → (if b then [] else x ∷ []) �
 none-if true x h = refl
 none-if false x h = absurd (cc)
 
--- the first of two, where of the second something is reported
+-- the first of two alternatives applies if the second has a fault
 pub first-reported : {A : Type 0} (b : Bool) (one other : Reported A) (x : Fault) → other.faults ≡ x ∷ [] → (if b then one else other).faults ≡ [] → (b ≡ true) × (one.faults ≡ [])
 first-reported true one other x e h = (refl, h)
 first-reported false one other x e h = absurd (cc)
 
--- and the second, where of the first something is reported
+-- the second applies if the first has a fault
 pub second-reported : {A : Type 0} (b : Bool) (one other : Reported A) (x : Fault) → one.faults ≡ x ∷ [] → (if b then one else other).faults ≡ [] → (b ≡ false) × (other.faults ≡ [])
 second-reported true one other x e h = absurd (cc)
 second-reported false one other x e h = (refl, h)
@@ -38,7 +37,7 @@ some-none a h = cc
 pub some-same : {A : Type 0} (a b : A) → Some a ≡ Some b → a ≡ b
 some-same a b h = ap (λ o. elim o [ Some x ↦ x | None ↦ a ]) h
 
--- one after the other
+-- one step after another
 pub goes-on : {A B : Type 0} (next : A → Option B) (o : Option A) (a : A) (r : Option B) → o ≡ Some a → next a ≡ r → option_and_then next o ≡ r
 goes-on next o a r e h = ap (option_and_then next) e ∙ h
 

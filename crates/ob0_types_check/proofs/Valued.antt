@@ -1,6 +1,7 @@
--- The values of expressions over constants, part by part, as operands have them.
--- What precedes a chain of operands is an operand as well, and the chain's value is that over an operand's value, an
--- Option. So for each operator what is known and the evaluation meet in one lemma, without a case on what is known.
+-- The values of expressions over constants, part by part, as operands have them. The part before a
+-- chain of operands is also an operand. The chain's value depends on that operand's value, an
+-- Option. So for each operator one lemma connects the operand with the evaluation, without a case
+-- distinction.
 use Rattle.std.proofs.Common.{◌≡◌, Bool, true, false, cond, [], ◌∷◌, Option, Some, None, option_and_then, option_map, is_some, refl, ap, ◌∙◌}
 use Rattle.ob0_tree.specs.declared.tree.AddOperator.{AddOperator}
 use Rattle.ob0_tree.specs.declared.tree.MultiplyOperator.{MultiplyOperator}
@@ -45,7 +46,7 @@ module _ {N : Type 0} (among : Meanings N Place (Unit {0})) where
   unfolding evaluate
   negation-valued f = given_step (evaluate_factor among [] f) negate
 
-  -- one operand more
+  -- adds an operand
   pub addend-valued : (o : AddOperator) (t : Tree N term) (ts : Tree N (items addend)) (x : Value)
       → given_value (evaluate_addends among [] x (more (adds o t) ts)) ≡ option_and_then (λ y. given_value (evaluate_addends among [] y ts)) (sum_value o (given_value (evaluate_term among [] t)) x)
   unfolding evaluate
@@ -60,7 +61,7 @@ module _ {N : Type 0} (among : Meanings N Place (Unit {0})) where
       given_step (elim (multiply_is_settled o x) [ true ↦ gives x | false ↦ evaluate_factor among [] f >>= multiply o x ]) (λ y. evaluate_multipliers among [] y fs)
       ∙ ap (option_and_then (λ y. given_value (evaluate_multipliers among [] y fs))) (given_settled (multiply_is_settled o x) x (evaluate_factor among [] f) (multiply o x))
 
-  -- a name alone has the value its constant
+  -- a name without selectors has the value of its constant
   whole-value : (v : Option Value) → given_value (object_value {P = Unit {0}} [] (option_map a_constant v) >>= (λ w. gives [] >>= (λ steps. or_stuck (at_path steps w)))) ≡ v
   whole-value None = refl
   whole-value (Some v) = refl

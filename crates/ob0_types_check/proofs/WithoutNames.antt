@@ -1,5 +1,6 @@
--- A body declares nothing: without the statements of one the same names are declared, with the same ordinals, and
--- the names that are left are bound to what they were. So where all fits but those statements, each other name is bound.
+-- A body declares nothing: without the statements of one body the same names are declared, with the
+-- same ordinals, and the remaining names have the same bindings. So if everything except those
+-- statements fits, each of the other names is bound.
 use Rattle.std.proofs.Common.{◌≡◌, ℕ, zero, suc, false, true≢false, Option, Some, None, List, [], ◌∷◌, map, refl, sym, ap, ◌∙◌, subst, arith}
 use Rattle.ob0_tree.specs.Parsed.{tree_of}
 use Rattle.ob0_tree.specs.Places.{named, text_at, value_at}
@@ -17,7 +18,7 @@ use Rattle.ob0_types_check.proofs.BoundModules.{labels-bound}
 use Rattle.ob0_types_check.proofs.DeclaredModules.{module_counted, numbering_of}
 use Rattle.ob0_types_check.proofs.DeclaredNames.{BlockPlaced, Each, IsBound, Numbering, block_placed}
 
--- ---- ordinals are what they were
+-- ---- ordinals are unchanged
 
 mutual
   pub after_block-without : {N : Type 0} (way : Way) (k : ℕ) (b : Tree N block) → after_block k (block_without way b) ≡ after_block k b
@@ -41,7 +42,7 @@ declared-without j way k end scope = refl
 declared-without zero way k (more p rest) scope = λ i. declare_procedure_names (after_procedure-without way (suc k) p i) rest ((procedure_name-without way p i, k) ∷ scope)
 declared-without (suc j) way k (more p rest) scope = declared-without j way (after_procedure (suc k) p) rest ((procedure_name p, k) ∷ scope)
 
--- ---- what names are bound to
+-- ---- the bindings of names
 
 module _ {N M : Type 0} (naming : Naming N) (label : Labels N M) where
   mutual
@@ -69,7 +70,7 @@ module _ {N M : Type 0} (naming : Naming N) (label : Labels N M) where
   relabelled-without : (way : Way) (t : Tree N module_text) → relabelled naming label (without way t) ≡ without way (relabelled naming label t)
   relabelled-without way (is_module x b closing) = ap (λ c. is_module (label None x) c (label None closing)) (relabel_block-without way (predeclared_scope naming) 7 b)
 
--- ---- each name that is left is bound
+-- ---- each remaining name is bound
 
 each_mapped : {A B : Type 0} (P : B → Type 0) (f : A → B) (xs : List A) → Each P (map f xs) → Each (λ x. P (f x)) xs
 each_mapped P f [] h = tt
@@ -86,7 +87,7 @@ module _ (r : Resolution) (closing : ℕ) (is : IsResolution r) (f : FitsWithout
   abbrev left_named : Tree Name module_text
   left_named = named r.module_read.source left
 
-  -- labels by token are those of the names that are left
+  -- the labels by token are the labels of the remaining names
   left_by : {M : Type 0} (label : Labels Name M) (at : ℕ → M) → relabelled as_names label (named r.module_read.source (tree_of r.module_read)) ≡ mapped at (value_at r.module_read.source) (tree_of r.module_read)
       → relabelled as_names label left_named ≡ mapped at (value_at r.module_read.source) left
   left_by label at e =

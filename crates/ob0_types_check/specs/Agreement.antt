@@ -1,5 +1,5 @@
--- What is known while faults are reported, and what names and types are by the definitions
--- of types: where they agree.
+-- Agreement between the checker's facts at a place and the names and types that the definitions
+-- give.
 -- Rule: none; for laws: what is known against what names and types are.
 use Rattle.std.specs.Prelude.{◌≡◌, ℕ, Bool, true, false, List, [], ◌∷◌, ◌++◌, Option, Some, None, option_map, option_and_then, is_some, slice_get}
 use Rattle.ob0_language_names.specs.Names.{Name}
@@ -18,8 +18,8 @@ use Rattle.ob0_language_values.specs.Values.{FieldShapes, Shape, Value, array_sh
 use Rattle.ob0_types_check.specs.Known.{Facts, Form, KnownFormal, Meaning, Types, a_constant, a_procedure, a_record, a_scalar, a_type, a_variable, an_array, unknown_form}
 use Rattle.ob0_types_check.specs.SoFar.{MadeType, PartTypes, FieldSoFar, of_elements, of_fields}
 
--- What is known of a type's parts is so of the parts of a shape. `shape` gives the shapes of types:
--- None where a type is unknown.
+-- States that a type's form has the same parts as a shape. `shape` gives the shapes of types: None
+-- if a type is unknown.
 abbrev pub FormAgrees : {T : Type 0} → (T → Option Shape) → Form T → Shape → Type 0
 FormAgrees shape a_scalar s = Unit {0}
 FormAgrees shape (an_array t) s =
@@ -31,8 +31,8 @@ FormAgrees shape (a_record fields) s =
     × ((x : Name) → option_map shape (fields x) ≡ option_map Some (shape_of_field fs x))
 FormAgrees shape unknown_form s = ⊥
 
--- types and their shapes: the same type has the same shape,
--- and a shape's parts are those that are known
+-- agreement of types with their shapes: equal types have the same shape, and a type's form has the
+-- parts of its shape
 pub record TypesAgree {T : Type 0} (types : Types T) (shape : T → Option Shape) : Type 0 where
   pub integer : shape types.integer ≡ Some integer_shape
   pub boolean : shape types.boolean ≡ Some boolean_shape
@@ -41,7 +41,7 @@ pub record TypesAgree {T : Type 0} (types : Types T) (shape : T → Option Shape
   pub same : (s t : T) → types.same s t ≡ true → shape s ≡ shape t
   pub formed : (t : T) (s : Shape) → shape t ≡ Some s → FormAgrees shape (types.form t) s
 
--- parameters are those of a signature, one by one
+-- states that parameters agree with the parameters of a signature, one by one
 abbrev pub FormalsAgree : {T : Type 0}
     → (T → Option Shape)
     → List (KnownFormal T)
@@ -53,8 +53,8 @@ FormalsAgree shape (f ∷ fs) [] = ⊥
 FormalsAgree shape (f ∷ fs) (g ∷ gs) =
     (g.mode ≡ mode_of f.by_place) × (shape f.of ≡ Some g.shape) × FormalsAgree shape fs gs
 
--- what a name means is known: a type and a variable by their shape, a constant by its value, which
--- is a scalar, and a procedure by its parameters
+-- states that the meaning of a name agrees with the object that it refers to: a type or variable by
+-- its shape, a constant by its value, which is a scalar, and a procedure by its parameters
 abbrev pub MeaningAgrees : {T : Type 0}
     → (T → Option Shape)
     → Meaning T
@@ -68,7 +68,7 @@ MeaningAgrees shape (a_variable t) o =
 MeaningAgrees shape (a_procedure fs) o =
     (signature : Signature) × (signature_of o ≡ Some signature) × FormalsAgree shape fs signature
 
--- a predeclared procedure
+-- true for a predeclared procedure
 abbrev pub is_standard : Option (meant.Object Shape Signature) → Bool
 is_standard None = false
 is_standard (Some (meant.a_type s)) = false
@@ -77,7 +77,7 @@ is_standard (Some (meant.a_variable s)) = false
 is_standard (Some (meant.a_procedure signature)) = false
 is_standard (Some (meant.a_standard p)) = true
 
--- what is known of a declaration is what it is; where there is none, nothing is known
+-- states that the meaning of a declaration agrees with its object, and that both or neither exist
 abbrev pub DeclarationAgrees : (TypeId → Option Shape)
     → Option (Meaning TypeId)
     → Option (meant.Object Shape Signature)
@@ -85,7 +85,7 @@ abbrev pub DeclarationAgrees : (TypeId → Option Shape)
 DeclarationAgrees shape None o = o ≡ None
 DeclarationAgrees shape (Some m) o = MeaningAgrees shape m o
 
--- a name means something, and that is known
+-- states that a name has a meaning and that it agrees with the object
 abbrev pub MeansAlike : {T : Type 0}
     → (T → Option Shape)
     → Option (Meaning T)
@@ -94,8 +94,8 @@ abbrev pub MeansAlike : {T : Type 0}
 MeansAlike shape None o = ⊥
 MeansAlike shape (Some m) o = MeaningAgrees shape m o
 
--- The identifier at a token, which means a name of a tree by its label: one that is looked up is
--- known, and a field is written as it is in the text.
+-- States that the identifier at a token agrees with the name that a tree has as its label. A name
+-- that is looked up has a meaning; a field is spelled as in the text.
 abbrev pub TokenAgrees : {T N : Type 0}
     → Facts T
     → (T → Option Shape)
@@ -112,7 +112,7 @@ TokenAgrees facts shape label meaning role.Declaring x = Unit {0}
 TokenAgrees facts shape label meaning role.ClosingName x = Unit {0}
 TokenAgrees facts shape label meaning role.ModuleName x = Unit {0}
 
--- what is known of each looked-up name is what it means, and fields are written as in the text
+-- states that each looked-up name has the right meaning, and that fields are spelled as in the text
 abbrev pub TokensAgree : {T N : Type 0}
     → Facts T
     → (T → Option Shape)
@@ -124,28 +124,28 @@ TokensAgree facts shape label meaning [] = Unit {0}
 TokensAgree facts shape label meaning (x ∷ xs) =
     TokenAgrees facts shape label meaning x.0 x.1 × TokensAgree facts shape label meaning xs
 
--- what is known at a place, for all that occurs in an expression or in statements there
+-- agreement of the facts at a place with all names in an expression or in statements there
 pub record Agrees
     {T N : Type 0} (facts : Facts T) (shape : T → Option Shape) (label : ℕ → N) (meaning : Typed N)
     {s : Sort} (t : Tree ℕ s) : Type 0 where
   pub types : TypesAgree facts.types shape
   pub tokens : TokensAgree facts shape label meaning (identifiers role.Declaring t)
 
--- a type that is an array
+-- a shape if it is an array's
 abbrev pub as_array : Shape → Option Shape
 as_array integer_shape = None
 as_array boolean_shape = None
 as_array (array_shape k n s) = Some (array_shape k n s)
 as_array (record_shape k fs) = None
 
--- a type that is a record
+-- a shape if it is a record's
 abbrev pub as_record : Shape → Option Shape
 as_record integer_shape = None
 as_record boolean_shape = None
 as_record (array_shape k n s) = None
 as_record (record_shape k fs) = Some (record_shape k fs)
 
--- the shape that a type means, by the shapes that were made, in order
+-- the shape of a type, from the shapes of the arrays and records so far, in order
 abbrev pub shape_in : List Shape → TypeId → Option Shape
 shape_in shapes type.Integer = Some integer_shape
 shape_in shapes type.Boolean = Some boolean_shape
@@ -153,7 +153,7 @@ shape_in shapes (type.Array i) = option_and_then as_array (slice_get shapes i)
 shape_in shapes (type.Record i) = option_and_then as_record (slice_get shapes i)
 shape_in shapes type.Unknown = None
 
--- fields are those of a record's shape, one by one
+-- states that fields are the fields of a record's shape, one by one
 abbrev pub FieldsAgree : (TypeId → Option Shape) → List FieldSoFar → FieldShapes → Type 0
 FieldsAgree shape [] no_field_shape = Unit {0}
 FieldsAgree shape [] (next_field_shape x s fs) = ⊥
@@ -161,19 +161,19 @@ FieldsAgree shape (f ∷ fields) no_field_shape = ⊥
 FieldsAgree shape (f ∷ fields) (next_field_shape x s fs) =
     (f.name ≡ x) × (shape f.of ≡ Some s) × FieldsAgree shape fields fs
 
--- the parts of an array or record that was made by the word of an ordinal are those of its shape
+-- states that an array or record made by the word with this ordinal has the parts of its shape
 abbrev pub PartsAgree : (TypeId → Option Shape) → ℕ → PartTypes → Shape → Type 0
 PartsAgree shape k (of_elements n t) s = (u : Shape) × (s ≡ array_shape k n u) × (shape t ≡ Some u)
 PartsAgree shape k (of_fields fields) s =
     (fs : FieldShapes) × (s ≡ record_shape k fs) × FieldsAgree shape fields fs
 
--- what is known of an array or record is as its type says, with its size
+-- agreement of an array or record, with its size, and its shape
 pub record MadeAgrees (shape : TypeId → Option Shape) (m : MadeType) (s : Shape) : Type 0 where
   pub parts : PartsAgree shape m.ordinal m.parts s
   pub scalars : m.size.scalars ≡ typing.scalars s
   pub depth : m.size.depth ≡ typing.depth s
 
--- each array and record that was made agrees with its type, made of those before it
+-- states that each array and record agrees with its shape, whose parts are among the earlier ones
 abbrev pub EachMade : List Shape → List MadeType → List Shape → Type 0
 EachMade known [] [] = Unit {0}
 EachMade known [] (s ∷ ss) = ⊥
@@ -181,6 +181,6 @@ EachMade known (m ∷ ms) [] = ⊥
 EachMade known (m ∷ ms) (s ∷ ss) =
     MadeAgrees (shape_in known) m s × EachMade (known ++ s ∷ []) ms ss
 
--- the arrays and records that were made, and their shapes, one by one
+-- states that the arrays and records agree with their shapes, one by one
 abbrev pub TableAgrees : List MadeType → List Shape → Type 0
 TableAgrees made shapes = EachMade [] made shapes

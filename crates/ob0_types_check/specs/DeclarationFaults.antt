@@ -1,5 +1,5 @@
--- The faults of a module's declarations and bodies in the order in which they are reported: in text
--- order, each declaration known after its text.
+-- The faults of a module's declarations and bodies in the order in which they are reported: text
+-- order. Each declaration is known after its text.
 -- Rule: docs/LANGUAGE.md, Faults of scopes and types 2 to 11.
 use Rattle.std.specs.Prelude.{ℕ, Bool, true, false, List, [], ◌++◌, map}
 use Rattle.std.specs.List.{filter}
@@ -16,7 +16,7 @@ use Rattle.ob0_types_check.specs.StatementFaults.{reported_sequence}
 use Rattle.ob0_types_check.specs.TypeFaults.{reported_constant}
 use Rattle.ob0_types_check.specs.WrittenTypeFaults.{reported_type}
 
--- a constant is known after its right side
+-- the faults of a constant, which is known after its right side
 unfoldable pub constant_declared : SoFar → Tree ℕ (item constant) → Reported SoFar
 unfolding reported_constant
 constant_declared p (declares_constant x e) = do
@@ -31,14 +31,14 @@ reported_constants p (more c rest) = do
   q ← constant_declared p c
   reported_constants q rest
 
--- a type is known after its text
+-- the faults of a type declaration, which is known after its text
 unfoldable pub type_declared : SoFar → Tree ℕ (item type_name) → Reported SoFar
 unfolding reported_type
 type_declared p (declares_type x t) = do
   u ← reported_type 0 p t
   right (define u.following (a_type u.of) x)
 
--- the faults of types, each known after its right side
+-- the faults of type declarations, each known after its right side
 unfoldable pub reported_types : SoFar → Tree ℕ (items type_name) → Reported SoFar
 unfolding type_declared
 reported_types p end = right p
@@ -46,7 +46,7 @@ reported_types p (more d rest) = do
   q ← type_declared p d
   reported_types q rest
 
--- variables of one type
+-- the faults of variables of one type
 unfoldable pub variables_declared : SoFar → Tree ℕ (item variable) → Reported SoFar
 unfolding reported_type
 variables_declared p (declares_variable ns t) = do
@@ -61,12 +61,12 @@ reported_variables p (more g rest) = do
   q ← variables_declared p g
   reported_variables q rest
 
--- the parameters of a heading so far, and what is known after them
+-- the parameters of a heading so far, and the state after them
 pub record KnownHeading : Type 0 where
   pub formals : List (KnownFormal TypeId)
   pub following : SoFar
 
--- parameters of one type, which are variables in their procedure
+-- adds parameters of one type, which are variables of their procedure
 abbrev pub with_parameters : KnownHeading → Bool → List ℕ → TypedAfter → KnownHeading
 with_parameters h by_place xs t =
     record {
@@ -103,7 +103,7 @@ reported_sections h (more s rest) = do
   g ← reported_section h s
   reported_sections g rest
 
--- a procedure is known after its heading, and so in its own block
+-- the state after a heading: the procedure is known, and so in its own block
 abbrev pub after_heading : ℕ → KnownHeading → SoFar
 after_heading x h = define h.following (a_procedure h.formals) x
 
@@ -117,7 +117,7 @@ reported_body p (one (begins statements)) =
 unfoldable mutual
   unfolding reported_constants reported_types reported_variables reported_sections reported_body
 
-  -- constants, types, variables, procedures, and then the statements
+  -- the faults of a block: constants, types, variables, procedures, and then the statements
   pub reported_block : SoFar → Tree ℕ block → Reported SoFar
   reported_block p (has_body (declares cs ts vs ps) statements) = do
     with_constants ← reported_constants p (section_constants cs)
@@ -126,7 +126,7 @@ unfoldable mutual
     with_procedures ← reported_procedures with_variables ps
     reported_body with_procedures statements
 
-  -- the faults of procedures; what is known after one is known to the next
+  -- the faults of procedures; each knows the ones before it
   pub reported_procedures : SoFar → Tree ℕ (items procedure) → Reported SoFar
   reported_procedures p end = right p
   reported_procedures p (more d rest) = do
@@ -139,7 +139,7 @@ unfoldable mutual
     h ← reported_sections (record { formals = []; following = p }) (formal_sections fs)
     reported_block (after_heading x h) b
 
--- the names that nothing binds, in text order, and then the faults of types
+-- the undeclared names, in text order, and then the faults of types
 unfoldable pub reported_module : Resolution → List Fault
 unfolding reported_block
 reported_module r =

@@ -1,5 +1,5 @@
--- The faults of an expression in the order in which they are reported: those of its parts from left
--- to right, and after the parts of an operation its own.
+-- The faults of an expression in the order in which they are reported: the faults of its parts from
+-- left to right; after the parts of an operation, its own.
 -- Rule: docs/LANGUAGE.md, Faults of scopes and types 2, 3, 5, 6.
 use Rattle.std.specs.Prelude.{ℕ}
 use Rattle.ob0_tree.specs.Tree.{Tree, addend, adds, compares, designator, end, expression, factor, field, index, integer, item, items, more, multiplier, multiplies, negation, none, one, parenthesised, product, relates, selector, simple, sum, term}
@@ -7,7 +7,7 @@ use Rattle.ob0_types_check.specs.Known.{Facts, Operand, Reported}
 use Rattle.ob0_types_check.specs.Operations.{a_number, add_operands, complement_operand, element_selected, enclosed, field_selected, multiply_operands, name_operand, relate_operands, right, sign_operand, ◌>>=◌}
 
 unfoldable mutual
-  -- an expression: its parts, and then the relation between them
+  -- the faults of an expression: its parts, and then the relation between them
   pub reported_expression : {T : Type 0} → Facts T → Tree ℕ expression → Reported (Operand T)
   reported_expression facts (compares a none) = reported_simple facts a
   reported_expression facts (compares a (one (relates r b))) = do
@@ -15,14 +15,14 @@ unfoldable mutual
     y ← reported_simple facts b
     relate_operands facts r x y
 
-  -- a simple expression: its first term, its sign, and the terms after it
+  -- the faults of a simple expression: its first term, its sign, and the other terms
   pub reported_simple : {T : Type 0} → Facts T → Tree ℕ simple → Reported (Operand T)
   reported_simple facts (sum s t rest) = do
     x ← reported_term facts t
     y ← sign_operand facts s x
     reported_addends facts y rest
 
-  -- operators of one level group to the left
+  -- the faults of terms added to an operand; operators of one level group to the left
   pub reported_addends : {T : Type 0}
       → Facts T
       → Operand T
@@ -34,13 +34,13 @@ unfoldable mutual
     z ← add_operands facts o x y
     reported_addends facts z rest
 
-  -- a term: its first factor, and the factors after it
+  -- the faults of a term: its first factor, and the other factors
   pub reported_term : {T : Type 0} → Facts T → Tree ℕ term → Reported (Operand T)
   reported_term facts (product f rest) = do
     x ← reported_factor facts f
     reported_multipliers facts x rest
 
-  -- an operand, and the factors after it
+  -- the faults of factors by which an operand is multiplied
   pub reported_multipliers : {T : Type 0}
       → Facts T
       → Operand T
@@ -52,7 +52,7 @@ unfoldable mutual
     z ← multiply_operands facts o x y
     reported_multipliers facts z rest
 
-  -- a factor: a designator, an integer, an expression in parentheses or a negation
+  -- the faults of a factor: a designator, an integer, an expression in parentheses or a negation
   pub reported_factor : {T : Type 0} → Facts T → Tree ℕ factor → Reported (Operand T)
   reported_factor facts (designator x path) = do
     base ← name_operand facts x
@@ -65,7 +65,7 @@ unfoldable mutual
     x ← reported_factor facts f
     complement_operand facts x
 
-  -- a designator up to here, and the selectors that follow
+  -- the faults of selectors applied to a designator so far
   pub reported_selectors : {T : Type 0}
       → Facts T
       → Operand T
@@ -80,7 +80,7 @@ unfoldable mutual
     y ← element_selected facts x i
     reported_selectors facts y rest
 
--- one selector
+-- the faults of one selector
 unfoldable pub reported_selector : {T : Type 0}
     → Facts T
     → Operand T

@@ -1,5 +1,5 @@
--- What is known of types, names and operands while faults are reported.
--- A type may be unknown, as a whole or in parts.
+-- Facts about types, names and operands while faults are reported. A type may be unknown, as a
+-- whole or in parts.
 -- Rule: docs/LANGUAGE.md, Faults of scopes and types 2.
 use Rattle.std.specs.Prelude.{ℕ, Bool, List, Option}
 use Rattle.ob0_scan.specs.declared.fault.Fault.{Fault}
@@ -7,14 +7,14 @@ use Rattle.ob0_scan.specs.Scanned.{Scanned}
 use Rattle.ob0_language_names.specs.Names.{Name}
 use Rattle.ob0_language_values.specs.Values.{Value}
 
--- what a type is made of, as far as that is known
+-- the parts of a type, as far as they are known
 pub data Form (T : Type 0) : Type 0 where
   a_scalar : Form T
   an_array : T → Form T
   a_record : (Name → Option T) → Form T
   unknown_form : Form T
 
--- types, whatever represents them; one means a type that is unknown
+-- any representation of types, in which one value means an unknown type
 pub record Types (T : Type 0) : Type 0 where
   pub integer : T
   pub boolean : T
@@ -27,25 +27,24 @@ pub record KnownFormal (T : Type 0) : Type 0 where
   pub by_place : Bool
   pub of : T
 
--- What a name means: of a type and a variable its type, of a constant its value. Where the
--- declaration has a fault, the type is unknown, or there is no value.
+-- The meaning of a name: the type of a type or variable, or the value of a constant. If the
+-- declaration has a fault, the type is unknown or there is no value.
 pub data Meaning (T : Type 0) : Type 0 where
   a_type : T → Meaning T
   a_constant : Option Value → Meaning T
   a_variable : T → Meaning T
   a_procedure : List (KnownFormal T) → Meaning T
 
--- What is known at a place of a text. A name goes by its token;
--- in a constant expression names mean constants alone.
+-- The facts at a place of a text. A name is identified by its token. In a constant expression names
+-- may only refer to constants.
 pub record Facts (T : Type 0) : Type 0 where
   pub source : Scanned
   pub types : Types T
   pub object_for : ℕ → Option (Meaning T)
   pub only_constants : Bool
 
--- An expression as an operand: its type, its value where that is known before any run and there is
--- no fault in it, whether it may be a variable with its selectors, alone,
--- and the tokens where it begins and ends.
+-- The facts about an expression: its type; its value, if it is constant and has no fault; whether
+-- it is a name with selectors and may be a variable; its first and last token.
 pub record Operand (T : Type 0) : Type 0 where
   pub of : T
   pub value : Option Value
@@ -53,7 +52,7 @@ pub record Operand (T : Type 0) : Type 0 where
   pub first : ℕ
   pub last : ℕ
 
--- what is known of something, and the faults that are reported of it
+-- a result, and the faults that are reported with it
 pub record Reported (A : Type 0) : Type 0 where
   pub known : A
   pub faults : List Fault

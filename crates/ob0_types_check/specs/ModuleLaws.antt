@@ -1,5 +1,4 @@
--- The laws of what is reported of a module: where nothing is reported, it fits,
--- and each declaration is known.
+-- Laws of reported modules: if nothing is reported, the module fits and each declaration is known.
 -- Rule: none; laws of reported faults.
 use Rattle.std.specs.Prelude.{◌≡◌, ℕ, ◌<◌, ◌≤◌, true, false, List, [], None, length, slice_index_or}
 use Rattle.ob0_language_names.specs.Names.{Name, as_labels, as_names}
@@ -17,7 +16,7 @@ use Rattle.ob0_types_check.specs.Agreement.{DeclarationAgrees, TableAgrees, is_s
 use Rattle.ob0_types_check.specs.DeclarationFaults.{reported_block, reported_module}
 use Rattle.ob0_types_check.specs.SoFar.{SoFar, at_first}
 
--- a module of which nothing is reported fits
+-- states that a module for which nothing is reported fits
 abbrev pub ModulesFit : Type 0
 ModulesFit =
     (r : Resolution)
@@ -25,9 +24,9 @@ ModulesFit =
     → reported_module r ≡ []
     → fits_over as_names (named_tree_of r.module_read) ≡ true
 
--- What is known at the end of a module, and what its declarations are: its arrays and records are
--- types, and of each ordinal that is known which it is declared as. The predeclared names, and so
--- the standard procedures, have ordinals below 7.
+-- Agreement of the state after a module with its declarations. Its arrays and records have shapes,
+-- and each ordinal has the meaning of its declaration. The predeclared names, including the
+-- standard procedures, have the ordinals below 7.
 pub record KnowsDeclarations (p : SoFar) (m : Tree Name module_text) : Type 0 where
   pub shapes : List Shape
   pub table : TableAgrees p.made shapes
@@ -37,11 +36,11 @@ pub record KnowsDeclarations (p : SoFar) (m : Tree Name module_text) : Type 0 wh
   pub predeclared : (k : ℕ) → k < predeclared_count → declared_object m k ≡ object_bound (outermost as_labels) k
   pub room : predeclared_count ≤ length p.declared
 
--- a table holds what each declaration of a module is
+-- states that a table holds what each declaration of a module is
 abbrev pub HasDeclarations : Tree Name module_text → Tables → Type 0
 HasDeclarations m t = (k : ℕ) → declared_in t k ≡ declared_object m k
 
--- after a module of which nothing is reported, each declaration is known
+-- states that after a module for which nothing is reported, each declaration is known
 abbrev pub DeclarationsKnown : Type 0
 DeclarationsKnown =
     (r : Resolution)

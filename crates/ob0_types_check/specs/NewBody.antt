@@ -1,4 +1,4 @@
--- A module whose declarations fit, and all of its bodies but one.
+-- A module that fits except for the statements of one body.
 -- Rule: docs/LANGUAGE.md, Types 8; what is reported where one body was replaced.
 use Rattle.std.specs.Prelude.{◌≡◌, ℕ, true}
 use Rattle.ob0_language_names.specs.Names.{as_names}
@@ -8,8 +8,8 @@ use Rattle.ob0_scope_table.specs.Resolution.{Resolution}
 use Rattle.ob0_tree.specs.Parsed.{tree_of}
 use Rattle.ob0_tree.specs.Places.{named}
 
--- A module of which all fits but the statements of one body, whatever those are; it is that of the
--- block with this closing name.
+-- A module in which everything fits without the statements of one body, whatever they are. The body
+-- is in the block with this closing name.
 pub record FitsWithout (r : Resolution) (closing : ℕ) : Type 0 where
   pub way : Way
   pub at : closing_at way (tree_of r.module_read) ≡ closing

@@ -1,5 +1,4 @@
--- What operations, names and selectors require:
--- the faults that are reported of them, and what is known of what they give.
+-- The requirements of operations, names and selectors: their faults and their results.
 -- Rule: docs/LANGUAGE.md, Types 2, 3, Faults of scopes and types 3, 5.
 use Rattle.std.specs.Prelude.{◌≡◌, ℕ, ◌+◌, ◌-◌, nat_lt, Bool, true, false, ◌||◌, List, [], ◌∷◌, ◌++◌, length, if◌then◌else◌, Option, Some, None, option_and_then, pos}
 use Rattle.ob0_scan.specs.declared.fault.Code.{Code}
@@ -22,30 +21,30 @@ use Rattle.ob0_language_values.specs.Values.{Value, elements, members, negate, n
 use Rattle.ob0_language_values.specs.Values.{apply_sign as with_sign}
 use Rattle.ob0_types_check.specs.Known.{Facts, Form, Meaning, Operand, Reported, Types, a_constant, a_procedure, a_record, a_scalar, a_type, a_variable, an_array, unknown_form}
 
--- the same after faults that were reported before
+-- the same result, after faults that were reported before
 abbrev pub preceded_by : {A : Type 0} → List Fault → Reported A → Reported A
 preceded_by before t = record { known = t.known; faults = before ++ t.faults }
 
--- what has no fault
+-- a result without any fault
 abbrev pub right : {A : Type 0} → A → Reported A
 right x = record { known = x; faults = [] }
 
 infixl 20 ◌>>=◌
--- one after the other: the faults of both, in order
+-- one step after another: the faults of both, in order
 abbrev pub ◌>>=◌ : {A B : Type 0} → Reported A → (A → Reported B) → Reported B
 t >>= next = preceded_by t.faults (next t.known)
 
--- x is what is known, and what is reported follows the faults from before
+-- states that x is the result, and that its faults are reported after those from before
 pub record ReportsAfter
     {A : Type 0} (before after : List Fault) (x : A) (t : Reported A) : Type 0 where
   pub known : x ≡ t.known
   pub reported : after ≡ before ++ t.faults
 
--- the token before this one; nothing precedes the first
+-- the token before this one, or 0 for the first
 abbrev pub token_before : ℕ → ℕ
 token_before token = token - 1
 
--- the token after this one; the end of the text is the last
+-- the token after this one; the end of the text gives itself
 abbrev pub token_after : Scanned → ℕ → ℕ
 token_after source token = if nat_lt token (length source.tokens) then token + 1 else token
 
@@ -57,7 +56,7 @@ fault_between source c first last =
       span = record { start = (span_at source first).start; end = (span_at source last).end };
     }
 
--- such a fault, as a list
+-- a list of one fault, from one token to another
 abbrev pub at_tokens : {T : Type 0} → Facts T → Code → ℕ → ℕ → List Fault
 at_tokens facts c first last = fault_between facts.source c first last ∷ []
 
@@ -69,19 +68,18 @@ at_token facts c token = at_tokens facts c token token
 abbrev pub at_operand : {T : Type 0} → Facts T → Code → Operand T → List Fault
 at_operand facts c o = at_tokens facts c o.first o.last
 
--- what is unknown fits everywhere
+-- true if two types are equal or one is unknown: an unknown type fits everywhere
 abbrev pub fits : {T : Type 0} → Types T → T → T → Bool
 fits types s t = types.same s t || (types.same s types.unknown || types.same t types.unknown)
 
--- a type is required of an operand: the operand is reported where it has another one
+-- requires a type of an operand: the operand is reported if its type is another, known one
 abbrev pub required : {T : Type 0} → Facts T → T → Operand T → Reported T
 required facts wanted o = record {
   known = if facts.types.same o.of wanted then wanted else facts.types.unknown;
   faults = if fits facts.types o.of wanted then [] else at_operand facts code.TypeMismatch o;
 }
 
--- a type is required of two operands: the left one is reported where it is wrong,
--- else the right one
+-- requires a type of two operands: the left one is reported if it is wrong, otherwise the right one
 abbrev pub required_both : {T : Type 0} → Facts T → T → Operand T → Operand T → Reported T
 required_both facts wanted a b =
     if fits facts.types a.of wanted
@@ -93,27 +91,27 @@ required_both facts wanted a b =
     }
     else record { known = facts.types.unknown; faults = at_operand facts code.TypeMismatch a }
 
--- INTEGER is required of both sides of `+` and `-`, BOOLEAN of those of OR
+-- the required type of both sides: INTEGER for `+` and `-`, BOOLEAN for OR
 abbrev pub required_by_add : {T : Type 0} → Types T → AddOperator → T
 required_by_add types add_operator.Add = types.integer
 required_by_add types add_operator.Subtract = types.integer
 required_by_add types add_operator.Or = types.boolean
 
--- INTEGER is required of both sides of `*`, DIV and MOD, BOOLEAN of those of `&`
+-- the required type of both sides: INTEGER for `*`, DIV and MOD, BOOLEAN for `&`
 abbrev pub required_by_multiply : {T : Type 0} → Types T → MultiplyOperator → T
 required_by_multiply types multiply_operator.Multiply = types.integer
 required_by_multiply types multiply_operator.Divide = types.integer
 required_by_multiply types multiply_operator.Modulo = types.integer
 required_by_multiply types multiply_operator.And = types.boolean
 
--- `=` and `#` compare two INTEGER or two BOOLEAN,
--- and require nothing where the left side is unknown
+-- the required type of both sides of `=` and `#`: INTEGER or BOOLEAN, or none if the left side's
+-- type is unknown
 abbrev pub required_by_equality : {T : Type 0} → Types T → T → T
 required_by_equality types left =
     if types.same left types.integer then types.integer
     else if types.same left types.unknown then types.unknown else types.boolean
 
--- the others compare two INTEGER
+-- the required type of both sides of a relation: INTEGER, except for `=` and `#`
 abbrev pub required_by_relation : {T : Type 0} → Types T → Relation → T → T
 required_by_relation types relation.Equal left = required_by_equality types left
 required_by_relation types relation.NotEqual left = required_by_equality types left
@@ -122,11 +120,11 @@ required_by_relation types relation.LessEqual left = types.integer
 required_by_relation types relation.Greater left = types.integer
 required_by_relation types relation.GreaterEqual left = types.integer
 
--- a comparison is BOOLEAN where its operands are known
+-- the type of a comparison: BOOLEAN, or unknown if the type of its operands is
 abbrev pub comparison_type : {T : Type 0} → Types T → T → T
 comparison_type types t = if types.same t types.unknown then types.unknown else types.boolean
 
--- an operation on two operands, of this type and value
+-- an operation on two operands, with this type and value
 abbrev pub joint_operand : {T : Type 0} → T → Option Value → Operand T → Operand T → Operand T
 joint_operand of value a b =
     record { of = of; value = value; is_place = false; first = a.first; last = b.last }
@@ -136,7 +134,7 @@ abbrev pub after_sign : {T : Type 0} → T → Option Value → Operand T → Op
 after_sign of value o =
     record { of = of; value = value; is_place = false; first = token_before o.first; last = o.last }
 
--- the faults of `+`, `-` and OR, and what they give
+-- the faults of `+`, `-` and OR, and the resulting operand
 abbrev pub add_operands : {T : Type 0}
     → Facts T
     → AddOperator
@@ -147,7 +145,7 @@ add_operands facts o a b = do
   t ← required_both facts (required_by_add facts.types o) a b
   right (joint_operand t (option_and_then (sum_value o b.value) a.value) a b)
 
--- the faults of `*`, DIV, MOD and `&`, and what they give
+-- the faults of `*`, DIV, MOD and `&`, and the resulting operand
 abbrev pub multiply_operands : {T : Type 0}
     → Facts T
     → MultiplyOperator
@@ -158,7 +156,7 @@ multiply_operands facts o a b = do
   t ← required_both facts (required_by_multiply facts.types o) a b
   right (joint_operand t (option_and_then (product_value o b.value) a.value) a b)
 
--- the faults of a relation, and what it gives
+-- the faults of a relation, and the resulting operand
 abbrev pub relate_operands : {T : Type 0}
     → Facts T
     → Relation
@@ -170,20 +168,20 @@ relate_operands facts r a b = do
   right (joint_operand (comparison_type facts.types t)
       (both (λ x y. given_value (relate r x y)) a.value b.value) a b)
 
--- a sign requires INTEGER
+-- the faults of a sign, which requires INTEGER
 abbrev pub sign_operand : {T : Type 0} → Facts T → Option Sign → Operand T → Reported (Operand T)
 sign_operand facts None o = right o
 sign_operand facts (Some s) o = do
   t ← required facts facts.types.integer o
   right (after_sign t (option_and_then (λ x. given_value (with_sign (Some s) x)) o.value) o)
 
--- `~` requires BOOLEAN
+-- the faults of `~`, which requires BOOLEAN
 abbrev pub complement_operand : {T : Type 0} → Facts T → Operand T → Reported (Operand T)
 complement_operand facts o = do
   t ← required facts facts.types.boolean o
   right (after_sign t (option_and_then (λ x. given_value (negate x)) o.value) o)
 
--- a number at this token
+-- the operand of a number at this token
 abbrev pub a_number : {T : Type 0} → Facts T → ℕ → Operand T
 a_number facts token =
     record {
@@ -194,7 +192,7 @@ a_number facts token =
       last = token;
     }
 
--- an expression in parentheses
+-- the operand of an expression in parentheses
 abbrev pub enclosed : {T : Type 0} → Facts T → Operand T → Operand T
 enclosed facts o =
     record {
@@ -205,11 +203,11 @@ enclosed facts o =
       last = token_after facts.source o.last;
     }
 
--- a name alone, of this type: a variable's, or one of which nothing is known
+-- the operand of a name with this type: a variable's, or a name with no known meaning
 abbrev pub a_name : {T : Type 0} → T → ℕ → Operand T
 a_name of token = record { of = of; value = None; is_place = true; first = token; last = token }
 
--- a constant is INTEGER or BOOLEAN, by its value
+-- the type of a constant according to its value: INTEGER or BOOLEAN
 abbrev pub value_type : {T : Type 0} → Types T → Option Value → T
 value_type types None = types.unknown
 value_type types (Some (number n)) = types.integer
@@ -217,13 +215,13 @@ value_type types (Some (truth b)) = types.boolean
 value_type types (Some (elements vs)) = types.unknown
 value_type types (Some (members k ms)) = types.unknown
 
--- the name of a constant
+-- the operand of a constant's name
 abbrev pub a_constant_name : {T : Type 0} → Types T → Option Value → ℕ → Operand T
 a_constant_name types v token =
     record { of = value_type types v; value = v; is_place = false; first = token; last = token }
 
--- A name where a value is required: no type and no procedure, and in a constant expression no
--- variable. Names that nothing binds are reported by themselves.
+-- A name that must refer to a value: not to a type or a procedure, and in a constant expression not
+-- to a variable. Undeclared names are reported elsewhere.
 abbrev pub named_value : {T : Type 0} → Facts T → ℕ → Option (Meaning T) → Reported (Operand T)
 named_value facts token None = right (a_name facts.types.unknown token)
 named_value facts token (Some (a_constant v)) = right (a_constant_name facts.types v token)
@@ -239,22 +237,22 @@ named_value facts token (Some (a_procedure fs)) =
     record
     { known = a_name facts.types.unknown token; faults = at_token facts code.WrongKind token }
 
--- a name where a value is required
+-- the operand of a name at a place that requires a value
 abbrev pub name_operand : {T : Type 0} → Facts T → ℕ → Reported (Operand T)
 name_operand facts token = named_value facts token (facts.object_for token)
 
--- the part of a designator up to this token, of this type; a constant has no parts
+-- the part of a designator up to this token, with this type; a part has no constant value
 abbrev pub part_of : {T : Type 0} → Operand T → T → ℕ → Operand T
 part_of o of last =
     record { of = of; value = None; is_place = o.is_place; first = o.first; last = last }
 
--- a field that a record has; where there is no record, the `.` is reported
+-- the type of a record's field, or `NoField`
 abbrev pub found_field : {T : Type 0} → Facts T → ℕ → Option T → Reported T
 found_field facts token None =
     record { known = facts.types.unknown; faults = at_token facts code.NoField token }
 found_field facts token (Some t) = right t
 
--- a field of a type, or the fault that it has none
+-- the type of a field selected from a type; if it isn't a record, the `.` is reported
 abbrev pub field_in : {T : Type 0} → Facts T → ℕ → Form T → Reported T
 field_in facts token (a_record fields) =
     found_field facts token (fields (text_at facts.source token))
@@ -266,13 +264,13 @@ field_in facts token (an_array t) =
     record
     { known = facts.types.unknown; faults = at_token facts code.NotRecord (token_before token) }
 
--- a designator after one more field
+-- the operand of a designator with one more field
 abbrev pub field_selected : {T : Type 0} → Facts T → Operand T → ℕ → Reported (Operand T)
 field_selected facts o token = do
   t ← field_in facts token (facts.types.form o.of)
   right (part_of o t token)
 
--- an element of an array; where there is no array, the `[` before the index is reported
+-- the type of an array's element; if the type isn't an array, the `[` before the index is reported
 abbrev pub element_in : {T : Type 0} → Facts T → Operand T → T → Form T → Reported T
 element_in facts i of (an_array t) =
     right (if facts.types.same of facts.types.integer then t else facts.types.unknown)
@@ -284,7 +282,7 @@ element_in facts i of (a_record fields) =
     record
     { known = facts.types.unknown; faults = at_token facts code.NotArray (token_before i.first) }
 
--- an index is required to be INTEGER also where there is no array
+-- the operand of a designator with one more index, which must be INTEGER even if there is no array
 abbrev pub element_selected : {T : Type 0} → Facts T → Operand T → Operand T → Reported (Operand T)
 element_selected facts o i = do
   n ← required facts facts.types.integer i

@@ -1,5 +1,5 @@
--- Laws of what is reported: expressions and statements of
--- which nothing is reported fit. N is for names.
+-- Laws of reported expressions and statements: they fit if nothing is reported. N is the type of
+-- names.
 -- Rule: none; laws of reported faults.
 use Rattle.std.specs.Prelude.{◌≡◌, ℕ, Bool, true, false, List, [], Option, Some, is_some}
 use Rattle.ob0_tree.specs.Places.{value_at}
@@ -16,14 +16,13 @@ use Rattle.ob0_types_check.specs.StatementFaults.{reported_sequence}
 use Rattle.ob0_types_check.specs.TypeFaults.{length_of, reported_constant}
 use Rattle.ob0_types_check.specs.Agreement.{Agrees, TableAgrees, TypesAgree, shape_in}
 
--- in a constant expression names mean constants alone
+-- the meanings at a place; in a constant expression names may only refer to constants
 abbrev pub meaning_here : {N : Type 0} → Bool → Typed N → Typed N
 meaning_here true meaning = constants_only meaning
 meaning_here false meaning = meaning
 
--- What is known of an operand is so of its expression: its type; its value, where it is made of
--- constants, which is of that type; and where it may be a place,
--- it is a variable or parameter with its selectors.
+-- Agreement of an operand with its expression: its type; its value, if it is constant, which has
+-- that type. If it may be a place, it is a variable or parameter with its selectors.
 pub record OperandFits
     {T N P : Type 0} (shape : T → Option Shape) (meaning : Meanings N Shape P) (o : Operand T)
     (e : Tree N expression) : Type 0 where
@@ -34,7 +33,7 @@ pub record OperandFits
   pub scalar : (v : Value) → o.value ≡ Some v → value_type v ≡ Some of
   pub placed : o.is_place ≡ true → variable_type meaning (lone_designator e) ≡ Some of
 
--- an expression of which nothing is reported
+-- states that the operand of an expression is right if nothing is reported
 abbrev pub ExpressionsFit : Type 0 → Type 0
 ExpressionsFit N =
     (p : SoFar) (only_constants : Bool) (shapes : List Shape) (label : ℕ → N) (meaning : Typed N)
@@ -44,7 +43,7 @@ ExpressionsFit N =
     → OperandFits (shape_in shapes) (meaning_here only_constants meaning)
     (reported_expression (facts_at p only_constants) e).known (mapped label (value_at p.source) e)
 
--- a constant's right side of which nothing is reported has the value that is known, a scalar
+-- agreement of the reported value of a constant's right side, a scalar, with its value
 pub record ConstantFits
     {N : Type 0} (meaning : Typed N) (reported : Option Value) (e : Tree N expression)
     : Type 0 where
@@ -53,7 +52,7 @@ pub record ConstantFits
   pub given : constant_value meaning e ≡ Some value
   pub scalar : is_some (value_type value) ≡ true
 
--- a constant's right side without a reported fault has the value that is known
+-- states that the value of a constant's right side is right if nothing is reported
 abbrev pub ConstantsFit : Type 0 → Type 0
 ConstantsFit N =
     (p : SoFar) (shapes : List Shape) (label : ℕ → N) (meaning : Typed N) (e : Tree ℕ expression)
@@ -62,7 +61,7 @@ ConstantsFit N =
     → ConstantFits meaning (reported_constant (facts_at p true) e).known
     (mapped label (value_at p.source) e)
 
--- an array's length of which nothing is reported is the one that is known
+-- agreement of the reported length of an array with its value
 pub record LengthFits
     {N : Type 0} (meaning : Typed N) (reported : Option ℕ) (e : Tree N expression) : Type 0 where
   pub value : Value
@@ -71,7 +70,7 @@ pub record LengthFits
   pub given : constant_value meaning e ≡ Some value
   pub counted : array_length value ≡ Some length
 
--- an array's length without a reported fault is the one that is known
+-- states that the length of an array is right if nothing is reported
 abbrev pub LengthsFit : Type 0 → Type 0
 LengthsFit N =
     (p : SoFar) (shapes : List Shape) (label : ℕ → N) (meaning : Typed N) (e : Tree ℕ expression)
@@ -81,7 +80,7 @@ LengthsFit N =
     (reported_expression (facts_at p true) e >>= length_of (facts_at p false)).known
     (mapped label (value_at p.source) e)
 
--- statements of which nothing is reported
+-- states that statements fit if nothing is reported
 abbrev pub StatementsFit : Type 0 → Type 0
 StatementsFit N =
     (p : SoFar) (shapes : List Shape) (label : ℕ → N) (meaning : Typed N)
@@ -90,7 +89,7 @@ StatementsFit N =
     → reported_sequence (facts_at p false) statements ≡ []
     → sequence_fits meaning (mapped label (value_at p.source) statements) ≡ true
 
--- what is known of types by what was made
+-- states that types agree with their shapes if the arrays and records do
 abbrev pub TypesOfTables : Type 0
 TypesOfTables =
     (made : List MadeType) (shapes : List Shape)

@@ -1,5 +1,5 @@
--- What is known at a place of a module while its faults are reported: of the declarations before
--- it, and of the arrays and records before it.
+-- The state at a place of a module while its faults are reported: the declarations before it, and
+-- the arrays and records before it.
 -- Rule: docs/LANGUAGE.md, Scopes 2, Faults of scopes and types 2.
 use Rattle.std.specs.Prelude.{ℕ, nat_le, Bool, true, false, ◌==◌, ◌&&◌, List, [], ◌∷◌, ◌++◌, length, map, slice_get, slice_index_or, slice_set, if◌then◌else◌, Option, Some, None, option_and_then}
 use Rattle.ob0_scan.specs.declared.fault.Code.TheVariants as code
@@ -13,7 +13,7 @@ use Rattle.ob0_language_values.specs.Values.{truth}
 use Rattle.ob0_types_check.specs.Known.{Facts, Form, Meaning, Reported, Types, a_constant, a_procedure, a_record, a_scalar, a_type, an_array, unknown_form}
 use Rattle.ob0_types_check.specs.Operations.{at_token, right}
 
--- how many scalars a type has, and how many arrays and records are inside one another
+-- the number of scalars in a type, and how many arrays and records are inside one another
 pub record Size : Type 0 where
   pub scalars : ℕ
   pub depth : ℕ
@@ -23,7 +23,7 @@ pub record FieldSoFar : Type 0 where
   pub name : Name
   pub of : TypeId
 
--- what an array or a record is made of: how many elements of a type, or its fields in order
+-- the parts of an array or a record: how many elements of which type, or its fields in order
 pub data PartTypes : Type 0 where
   of_elements : ℕ → TypeId → PartTypes
   of_fields : List FieldSoFar → PartTypes
@@ -34,15 +34,15 @@ pub record MadeType : Type 0 where
   pub parts : PartTypes
   pub size : Size
 
--- Declarations go by their ordinals, to which names are bound, and arrays and records by their
--- places in a type. Of a declaration that is still to come, nothing is known.
+-- The declarations by their ordinals, to which names are bound, and the arrays and records by their
+-- places in a type. A declaration later in the text has no meaning yet.
 pub record SoFar : Type 0 where
   pub source : Scanned
   pub ordinals : List (Option ℕ)
   pub declared : List (Option (Meaning TypeId))
   pub made : List MadeType
 
--- an array or record is the same as itself alone
+-- true if two types are the same; an array or record is only the same as itself
 abbrev pub same_type : TypeId → TypeId → Bool
 same_type type.Integer type.Integer = true
 same_type type.Boolean type.Boolean = true
@@ -51,22 +51,22 @@ same_type (type.Array i) (type.Array j) = i == j
 same_type (type.Record i) (type.Record j) = i == j
 same_type _ _ = false
 
--- the type of an array's elements
+-- the element type in an array's parts
 abbrev pub elements_in : PartTypes → TypeId
 elements_in (of_elements n t) = t
 elements_in (of_fields fields) = type.Unknown
 
--- the type of an array's elements; unknown where there is no array
+-- the type of an array's elements; unknown if there is no array
 abbrev pub elements_at : Option MadeType → TypeId
 elements_at None = type.Unknown
 elements_at (Some m) = elements_in m.parts
 
--- the type of the first field of a name
+-- the type of the first field with a name
 abbrev pub first_field : List FieldSoFar → Name → Option TypeId
 first_field [] x = None
 first_field (f ∷ fields) x = if same_name x f.name then Some f.of else first_field fields x
 
--- the type of a record's field
+-- the type of a field in a record's parts
 abbrev pub field_type_in : PartTypes → Name → Option TypeId
 field_type_in (of_elements n t) x = None
 field_type_in (of_fields fields) x = first_field fields x
@@ -76,7 +76,7 @@ abbrev pub made_field_type : Option MadeType → Name → Option TypeId
 made_field_type None x = None
 made_field_type (Some m) x = field_type_in m.parts x
 
--- what a type is: a scalar, an array, a record, or unknown
+-- the form of a type: a scalar, an array, a record, or unknown
 abbrev pub form_at : List MadeType → TypeId → Form TypeId
 form_at made type.Integer = a_scalar
 form_at made type.Boolean = a_scalar
@@ -84,7 +84,7 @@ form_at made (type.Array i) = an_array (elements_at (slice_get made i))
 form_at made (type.Record i) = a_record (made_field_type (slice_get made i))
 form_at made type.Unknown = unknown_form
 
--- the types that are known so far
+-- the types so far
 abbrev pub types_at : List MadeType → Types TypeId
 types_at made =
     record {
@@ -95,12 +95,12 @@ types_at made =
       form = form_at made;
     }
 
--- what the name at a token means: its declaration
+-- the meaning of the name at a token
 abbrev pub meaning_at : SoFar → ℕ → Option (Meaning TypeId)
 meaning_at p token =
     option_and_then (λ k. slice_index_or p.declared k None) (ordinal_in p.ordinals token)
 
--- what is known at a place, everywhere or in constant expressions alone
+-- the facts at a place, for any expression or for constant expressions only
 abbrev pub facts_at : SoFar → Bool → Facts TypeId
 facts_at p only_constants =
     record {
@@ -110,7 +110,7 @@ facts_at p only_constants =
       only_constants = only_constants;
     }
 
--- the same where the declaration of an ordinal, if there is one, is known
+-- the state with the declaration of an ordinal, if there is one
 abbrev pub with_declared : SoFar → Meaning TypeId → Option ℕ → SoFar
 with_declared p m None = p
 with_declared p m (Some k) =
@@ -121,11 +121,11 @@ with_declared p m (Some k) =
       made = p.made;
     }
 
--- a declaration becomes known
+-- the state after a declaration
 abbrev pub define : SoFar → Meaning TypeId → ℕ → SoFar
 define p m token = with_declared p m (ordinal_in p.ordinals token)
 
--- declarations of one type become known
+-- the state after several declarations with the same meaning
 abbrev pub define_all : SoFar → Meaning TypeId → List ℕ → SoFar
 define_all p m [] = p
 define_all p m (x ∷ xs) = define_all (define p m x) m xs
@@ -134,7 +134,7 @@ define_all p m (x ∷ xs) = define_all (define p m x) m xs
 abbrev pub one_scalar : Size
 one_scalar = record { scalars = 1; depth = 0 }
 
--- the size of nothing
+-- the size of an unknown type, or of no parts
 abbrev pub no_scalar : Size
 no_scalar = record { scalars = 0; depth = 0 }
 
@@ -143,7 +143,7 @@ abbrev pub size_made : Option MadeType → Size
 size_made None = one_scalar
 size_made (Some m) = m.size
 
--- the size of a type; what is unknown counts nothing
+-- the size of a type; an unknown type counts nothing
 abbrev pub size_at : List MadeType → TypeId → Size
 size_at made type.Integer = one_scalar
 size_at made type.Boolean = one_scalar
@@ -151,11 +151,11 @@ size_at made (type.Array i) = size_made (slice_get made i)
 size_at made (type.Record i) = size_made (slice_get made i)
 size_at made type.Unknown = no_scalar
 
--- a type has at most 65,536 scalars, and at most 100 arrays and records inside one another
+-- true if a type has at most 65,536 scalars, and at most 100 arrays and records inside one another
 abbrev pub is_within : Size → Bool
 is_within z = nat_le z.scalars max_scalars && nat_le z.depth max_depth
 
--- a type, and what is known after its text
+-- a type, and the state after its text
 pub record TypedAfter : Type 0 where
   pub of : TypeId
   pub following : SoFar
@@ -165,8 +165,7 @@ abbrev pub type_with : PartTypes → ℕ → TypeId
 type_with (of_elements n t) k = type.Array k
 type_with (of_fields fields) k = type.Record k
 
--- An array or record of its own, after the others.
--- One that is too large is reported at its word, and unknown.
+-- Adds a new array or record after the others.
 abbrev pub made : SoFar → ℕ → PartTypes → Size → TypedAfter
 made p ordinal parts size = record {
   of = type_with parts (length p.made);
@@ -187,7 +186,7 @@ too_large p word =
       faults = at_token (facts_at p false) code.TypeTooLarge word;
     }
 
--- an array or record of its own, or `TypeTooLarge`
+-- adds a new array or record, or reports `TypeTooLarge` at its word
 abbrev pub make : SoFar → ℕ → ℕ → PartTypes → Size → Reported TypedAfter
 make p word ordinal parts size =
     if is_within size then right (made p ordinal parts size) else too_large p word
@@ -201,7 +200,7 @@ predeclared_meanings =
     ∷ Some (a_procedure (record { by_place = false; of = type.Integer } ∷ []))
     ∷ Some (a_procedure []) ∷ []
 
--- what is known where a module begins
+-- the state at the beginning of a module
 abbrev pub at_first : Resolution → SoFar
 at_first r =
     record {

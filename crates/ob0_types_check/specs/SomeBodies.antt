@@ -1,5 +1,5 @@
--- What is reported of a module's declarations and of some of its bodies, and nothing of the others;
--- and which bodies something is reported of.
+-- The report of a module's declarations and of only some of its bodies, and the list of bodies with
+-- faults.
 -- Rule: docs/LANGUAGE.md, Faults of scopes and types 2 to 11; what is reported where one body changed.
 use Rattle.std.specs.Prelude.{◌≡◌, ℕ, Bool, true, false, ◌||◌, List, [], ◌∷◌, ◌++◌, MatchOption, nat_eq}
 use Rattle.std.specs.List.{list_any}
@@ -19,17 +19,17 @@ use Rattle.ob0_types_check.specs.declared.reporting.Report.{Report}
 use Rattle.ob0_types_check.specs.declared.reporting.Wanted.{Wanted}
 use Rattle.ob0_types_check.specs.declared.reporting.supposed.Supposed.{Supposed}
 
--- what is known so far, and the bodies of which something was reported, by their closing names
+-- the state so far, and the bodies with a reported fault, by their closing names
 pub record Walked : Type 0 where
   pub so_far : SoFar
   pub faulty : List ℕ
 
--- a body is one more of these where something is reported of it
+-- appends a body to the list if it has faults
 abbrev pub with_faulty : List Fault → ℕ → List ℕ → List ℕ
 with_faulty [] own faulty = faulty
 with_faulty (fault ∷ faults) own faulty = faulty ++ own ∷ []
 
--- a body, if it is wanted; its block is closed at this token
+-- the faults of a body, if it is wanted; its block is closed at this token
 abbrev pub body_if : Bool → ℕ → Walked → Tree ℕ (maybe body) → Reported Walked
 body_if false own w statements = right w
 body_if true own w statements =
@@ -45,8 +45,8 @@ body_if true own w statements =
 unfoldable mutual
   unfolding reported_constants reported_types reported_variables reported_sections reported_body
 
-  -- a block's declarations, and its statements where its closing name passes a test; that is at the
-  -- token of the second number
+  -- the faults of a block's declarations, and of its statements if its closing name passes a test;
+  -- the number is the token of the closing name
   pub block_with : (ℕ → Bool) → ℕ → Walked → Tree ℕ block → Reported Walked
   block_with wanted own w (has_body (declares cs ts vs ps) statements) = do
     with_constants ← reported_constants w.so_far (section_constants cs)
@@ -56,55 +56,55 @@ unfoldable mutual
         procedures_with wanted (record { so_far = with_variables; faulty = w.faulty }) ps
     body_if (wanted own) own with_procedures statements
 
-  -- procedures, one after the other
+  -- the faults of procedures, one after the other
   pub procedures_with : (ℕ → Bool) → Walked → Tree ℕ (items procedure) → Reported Walked
   procedures_with wanted w end = right w
   procedures_with wanted w (more d rest) = do
     v ← procedure_with wanted w d
     procedures_with wanted v rest
 
-  -- a procedure's parameters, and its block
+  -- the faults of a procedure's parameters, and of its block
   pub procedure_with : (ℕ → Bool) → Walked → Tree ℕ (item procedure) → Reported Walked
   procedure_with wanted w (declares_procedure x fs b closing) = do
     h ← reported_sections (record { formals = []; following = w.so_far }) (formal_sections fs)
     block_with wanted closing (record { so_far = after_heading x h; faulty = w.faulty }) b
 
--- a module, and those of its bodies that pass a test
+-- the faults of a module's declarations, and of the bodies that pass a test
 abbrev pub module_with : (ℕ → Bool) → Resolution → Reported Walked
 module_with wanted r =
     block_with wanted r.module_read.closing (record { so_far = at_first r; faulty = [] })
     (module_block (tree_of r.module_read))
 
--- each body passes
+-- the test that every body passes
 abbrev pub every : ℕ → Bool
 every closing = true
 
--- the bodies of a module of which something is reported, by their closing names, in text order
+-- the bodies of a module with a reported fault, by their closing names, in text order
 abbrev pub faulty_bodies : Resolution → List ℕ
 faulty_bodies r = (module_with every r).known.faulty
 
--- one of some closing names
+-- true for a closing name in a list
 abbrev pub is_among : List ℕ → ℕ → Bool
 is_among bodies closing = list_any (λ k. nat_eq k closing) bodies
 
--- each of some closing names passes a test
+-- states that each closing name in a list passes a test
 abbrev pub AllPass : (ℕ → Bool) → List ℕ → Type 0
 AllPass test [] = Unit {0}
 AllPass test (closing ∷ others) = (test closing ≡ true) × AllPass test others
 
--- a body is gone through
+-- true if a body is walked
 abbrev pub wants : Wanted → ℕ → Bool
 wants w closing = w.every || is_among w.these.now closing
 
--- All bodies of which something was reported are among these, before the tokens of the module
--- changed in some that are among them too.
+-- States that the wanted bodies include every body with a fault in an older version of the module.
+-- The versions are alike except in wanted bodies.
 pub record WereFaulty (wanted : ℕ → Bool) (r : Resolution) : Type 0 where
   pub old : Resolution
   pub resolved : IsResolution old
   pub faulty : AllPass wanted (faulty_bodies old)
   pub alike : AreAlikeBut wanted old r
 
--- then all that is reported of it is of names, of declarations and of these bodies
+-- states that then only names, declarations and wanted bodies have faults
 abbrev pub SomeBodiesReported : Type 0
 SomeBodiesReported =
     (wanted : ℕ → Bool) (r : Resolution)
@@ -112,20 +112,20 @@ SomeBodiesReported =
     → WereFaulty wanted r
     → module_with wanted r ≡ module_with every r
 
--- what is reported of a module, what its declarations are where that is nothing, and which bodies
--- something is reported of
+-- states that a report has the faults of a module, its declarations if there are no faults, and its
+-- bodies with faults
 pub record IsReportOf (r : Resolution) (report : Report) : Type 0 where
   pub faults : report.faults.items ≡ reported_module r
   pub known : MatchOption report.known (reported_module r ≡ [] → ⊥)
       (λ t. (reported_module r ≡ []) × HasDeclarations (named_tree_of r.module_read) t)
   pub faulty : report.faulty.items ≡ faulty_bodies r
 
--- what the code has so far
+-- the state of the code's walk, as a value of the definitions
 abbrev pub walked_in : Supposed → List ℕ → Walked
 walked_in s faulty = record { so_far = so_far_in s; faulty = faulty }
 
--- a walk has gone through a module: it has what is reported, what is known at the end, and which
--- bodies something is reported of
+-- states that a walk over a module has ended: it has the faults, the final state and the bodies
+-- with faults
 pub record HasWalked
     (r : Resolution) (found : List Fault) (s : Supposed) (faulty : List ℕ) : Type 0 where
   pub faults : found ≡ reported_module r

@@ -1,5 +1,5 @@
--- The faults of statements in the order in which they are reported:
--- those of each part from left to right, statement by statement.
+-- The faults of statements in the order in which they are reported: statement by statement, and in
+-- each the faults of its parts from left to right.
 -- Rule: docs/LANGUAGE.md, Types 2, 5, Faults of scopes and types 5, 7 to 9.
 use Rattle.std.specs.Prelude.{ℕ, nat_eq, ◌&&◌, not, List, [], ◌∷◌, ◌++◌, length, Option, Some, None, if◌then◌else◌}
 use Rattle.ob0_scan.specs.declared.fault.Code.TheVariants as code
@@ -10,17 +10,17 @@ use Rattle.ob0_types_check.specs.Known.{Facts, KnownFormal, Meaning, Operand, Re
 use Rattle.ob0_types_check.specs.ExpressionFaults.{reported_expression, reported_selectors}
 use Rattle.ob0_types_check.specs.Operations.{a_name, required, at_operand, at_token, right, ◌>>=◌}
 
--- a type is required of an expression
+-- the faults of an expression that must have a type
 unfoldable pub reported_required : {T : Type 0} → Facts T → T → Tree ℕ expression → List Fault
 unfolding reported_expression
 reported_required facts wanted e = (reported_expression facts e >>= required facts wanted).faults
 
--- BOOLEAN is required of a condition
+-- the faults of a condition, which must be BOOLEAN
 abbrev pub reported_condition : {T : Type 0} → Facts T → Tree ℕ expression → List Fault
 reported_condition facts e = reported_required facts facts.types.boolean e
 
--- What may be assigned to: variables and parameters. Of anything else the type is unknown, so
--- nothing more is required of its selectors and of the right side.
+-- The type of an assignment's target, which must be a variable or parameter. For any other name the
+-- type is unknown, so nothing more is required of its selectors and of the right side.
 abbrev pub target_by_meaning : {T : Type 0} → Facts T → ℕ → Option (Meaning T) → Reported T
 target_by_meaning facts token (Some (a_variable t)) = right t
 target_by_meaning facts token (Some (a_constant v)) =
@@ -31,11 +31,11 @@ target_by_meaning facts token (Some (a_procedure fs)) =
     record { known = facts.types.unknown; faults = at_token facts code.WrongKind token }
 target_by_meaning facts token None = right facts.types.unknown
 
--- what a name may be assigned, and its fault
+-- the type of the name that is assigned to, and its fault
 abbrev pub target_meaning : {T : Type 0} → Facts T → ℕ → Reported T
 target_meaning facts token = target_by_meaning facts token (facts.object_for token)
 
--- the target of an assignment
+-- the faults of an assignment's target
 unfoldable pub reported_target : {T : Type 0}
     → Facts T
     → ℕ
@@ -46,7 +46,7 @@ reported_target facts x path = do
   t ← target_meaning facts x
   reported_selectors facts (a_name t x) path
 
--- the right side is required to have the type of the target
+-- the faults of an assignment, whose right side must have the type of the target
 abbrev pub reported_assignment : {T : Type 0}
     → Facts T
     → Reported (Operand T)
@@ -54,7 +54,7 @@ abbrev pub reported_assignment : {T : Type 0}
     → List Fault
 reported_assignment facts target e = target.faults ++ reported_required facts target.known.of e
 
--- a VAR parameter requires a variable with its selectors, alone, and each parameter its type
+-- requires the type of a parameter, and for a VAR parameter a variable with its selectors
 abbrev pub passed : {T : Type 0} → Facts T → KnownFormal T → Operand T → Reported T
 passed facts f o =
     if f.by_place && not o.is_place
@@ -70,7 +70,7 @@ unfoldable pub reported_argument : {T : Type 0}
 unfolding reported_expression
 reported_argument facts f e = (reported_expression facts e >>= passed facts f).faults
 
--- arguments beside their parameters
+-- the faults of arguments, each with its parameter
 abbrev pub reported_arguments : {T : Type 0}
     → Facts T
     → List (KnownFormal T)
@@ -81,14 +81,14 @@ reported_arguments facts (f ∷ fs) [] = []
 reported_arguments facts (f ∷ fs) (e ∷ es) =
     reported_argument facts f e ++ reported_arguments facts fs es
 
--- arguments of any type
+-- the faults of arguments of any type
 abbrev pub reported_parts : {T : Type 0} → Facts T → List (Tree ℕ expression) → List Fault
 reported_parts facts [] = []
 reported_parts facts (e ∷ es) = (reported_expression facts e).faults ++ reported_parts facts es
 
--- A call of a procedure has as many arguments as the procedure has parameters, else nothing more is
--- reported of them. In a call of anything else the arguments are of any type;
--- a name that nothing binds is reported by itself.
+-- The faults of a call. A procedure needs as many arguments as it has parameters; otherwise nothing
+-- more is reported about them. If the name isn't a procedure's, the arguments may have any type. An
+-- undeclared name is reported elsewhere.
 abbrev pub call_by_meaning : {T : Type 0}
     → Facts T
     → ℕ

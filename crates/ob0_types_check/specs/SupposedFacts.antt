@@ -1,4 +1,4 @@
--- What the reporting walk supposes of types and declarations, as facts.
+-- The types and declarations of the reporting walk's code, as facts of the definitions.
 -- Rule: none; for contracts: what the reporting walk knows.
 use Rattle.std.specs.Prelude.{◌≡◌, ℕ, ◌-◌, ◌^◌, Bool, List, map, ◌++◌, min, slice_get, slice_index_or, slice_set, string_bytes, Option, Some, None, option_and_then, option_map}
 use Rattle.ob0_scan.specs.declared.fault.Fault.{Fault}
@@ -27,7 +27,7 @@ use Rattle.ob0_types_check.specs.DeclarationFaults.{KnownHeading}
 use Rattle.ob0_types_check.specs.SoFar.{MadeType, Size, SoFar, FieldSoFar, of_elements, of_fields, same_type}
 use Rattle.ob0_types_check.specs.WrittenTypeFaults.{Gathered}
 
--- the type of an array's elements; unknown where there is no array
+-- the type of an array's elements; unknown if there is no array
 abbrev pub elements_of : Option TypeEntry → TypeId
 elements_of None = type.Unknown
 elements_of (Some (made.Array a)) = a.element
@@ -39,7 +39,7 @@ field_of None x = None
 field_of (Some (made.Array a)) x = None
 field_of (Some (made.Record r)) x = first_field_type r.fields x
 
--- what a type of the code is
+-- the form of a type of the code
 abbrev pub form_in : List TypeEntry → TypeId → Form TypeId
 form_in composites type.Integer = a_scalar
 form_in composites type.Boolean = a_scalar
@@ -47,7 +47,7 @@ form_in composites (type.Array i) = an_array (elements_of (slice_get composites 
 form_in composites (type.Record i) = a_record (field_of (slice_get composites i))
 form_in composites type.Unknown = unknown_form
 
--- the types that the code knows
+-- the types of the code
 abbrev pub known_types : List TypeEntry → Types TypeId
 known_types composites =
     record {
@@ -62,20 +62,20 @@ known_types composites =
 abbrev pub formal_of : formal.Formal → KnownFormal TypeId
 formal_of f = record { by_place = f.by_place; of = f.of }
 
--- what a declaration of the code is
+-- the meaning of a declaration of the code
 abbrev pub known_meaning : meaning.Meaning → Meaning TypeId
 known_meaning (declared.Named t) = a_type t
 known_meaning (declared.Constant v) = a_constant (option_map scalar_value v)
 known_meaning (declared.Variable t) = a_variable t
 known_meaning (declared.Procedure fs) = a_procedure (map formal_of fs.items)
 
--- what the name at a token means
+-- the meaning of the name at a token
 abbrev pub supposed_meaning_at : Supposed → ℕ → Option meaning.Meaning
 supposed_meaning_at s token =
     option_and_then (λ k. slice_index_or s.meanings.items k None)
     (ordinal_in s.resolved.now.ordinals token)
 
--- what the code knows at a place
+-- the facts of the code at a place
 abbrev pub facts_in : Supposed → Bool → Facts TypeId
 facts_in s only_constants = record {
   source = s.resolved.now.module_read.source;
@@ -99,11 +99,11 @@ operand_of o =
 abbrev pub size_of : code_size.Size → Size
 size_of z = record { scalars = z.scalars; depth = z.depth }
 
--- fields of the code
+-- the fields of the code
 abbrev pub fields_in : List Field → List FieldSoFar
 fields_in fields = map (λ f. record { name = string_bytes f.name; of = f.of }) fields
 
--- What is supposed, as what is known so far: an array or record of the code.
+-- an array or record of the code
 abbrev pub made_type_of : TypeEntry → MadeType
 made_type_of (made.Array a) =
     record {
@@ -118,7 +118,7 @@ made_type_of (made.Record r) =
       size = record { scalars = r.scalars; depth = r.depth };
     }
 
--- what the code knows so far
+-- the state of the code
 abbrev pub so_far_in : Supposed → SoFar
 so_far_in s = record {
   source = s.resolved.now.module_read.source;
@@ -131,24 +131,25 @@ so_far_in s = record {
 abbrev pub heading_in : Supposed → List formal.Formal → KnownHeading
 heading_in s formals = record { formals = map formal_of formals; following = so_far_in s }
 
--- a size that is counted to the end of `usize`
+-- a size with both numbers cut to 64 bits, because the code's additions saturate
 abbrev pub counted : Size → Size
 counted z = record { scalars = min z.scalars (2 ^ 64 - 1); depth = min z.depth (2 ^ 64 - 1) }
 
--- the fields that are gathered so far
+-- states that the code has gathered these fields of a record
 pub record IsGathered (g : Gathered) (s : Supposed) (now : gathering.Gathered) : Type 0 where
   pub fields : fields_in now.fields.items ≡ g.fields
   pub size : size_of now.size ≡ counted g.size
   pub following : so_far_in s ≡ g.following
 
--- what is gathered of a record's fields, after the faults from before
+-- states that the code has gathered a record's fields, and reported their faults after those from
+-- before
 pub record Gathers
     (before after : List Fault) (s : Supposed) (gathered : gathering.Gathered)
     (t : Reported Gathered) : Type 0 where
   pub reported : after ≡ before ++ t.faults
   pub now : IsGathered t.known s gathered
 
--- what a declaration of the code is, in the table; where its constant has a fault, it has no value
+-- the object of a declaration, in the code's table; a faulty constant has no value
 abbrev pub table_object : meaning.Meaning → object.Object
 table_object (declared.Named t) = kind.Named t
 table_object (declared.Constant (Some v)) = kind.Constant v
@@ -156,7 +157,7 @@ table_object (declared.Constant None) = kind.FaultyConstant
 table_object (declared.Variable t) = kind.Variable t
 table_object (declared.Procedure fs) = kind.Procedure fs
 
--- the standard procedures at their ordinals
+-- enters the standard procedures at their ordinals
 abbrev pub with_standards : List (Option object.Object) → List (Option object.Object)
 with_standards objects =
     slice_set
@@ -164,7 +165,7 @@ with_standards objects =
     (Some (kind.Standard standards.Write)))
     6 (Some (kind.Standard standards.WriteLn))
 
--- the table that the code has
+-- the table that the code makes
 abbrev pub table_in : Supposed → Tables
 table_in s =
     record {

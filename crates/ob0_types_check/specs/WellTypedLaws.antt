@@ -1,5 +1,5 @@
--- Laws of what is well-typed, a module and each of its parts:
--- no fault of types is reported of it. N is for names.
+-- Laws of well-typed modules and well-typed parts of modules: no fault of types is reported. N is
+-- the type of names.
 -- Rule: docs/LANGUAGE.md, Types 8; laws of reported faults.
 use Rattle.std.specs.Prelude.{◌≡◌, ℕ, Bool, true, false, [], List, Option, Some, None, option_and_then, is_some, slice_get}
 use Rattle.std.specs.List.{filter}
@@ -20,7 +20,7 @@ use Rattle.ob0_types_check.specs.StatementFaults.{reported_sequence, reported_ta
 use Rattle.ob0_types_check.specs.TypeFaults.{length_of, reported_constant}
 use Rattle.ob0_types_check.specs.Agreement.{Agrees, shape_in}
 
--- no fault in an expression that has a type
+-- states that an expression with a type has no fault
 abbrev pub NoFaultInExpressions : Type 0 → Type 0
 NoFaultInExpressions N =
     (p : SoFar) (only_constants : Bool) (shapes : List Shape) (label : ℕ → N) (meaning : Typed N)
@@ -30,7 +30,7 @@ NoFaultInExpressions N =
     ≡ true
     → (reported_expression (facts_at p only_constants) e).faults ≡ []
 
--- no fault in a constant expression that has a value
+-- states that a constant expression with a value has no fault
 abbrev pub NoFaultInConstants : Type 0 → Type 0
 NoFaultInConstants N =
     (p : SoFar) (shapes : List Shape) (label : ℕ → N) (meaning : Typed N) (e : Tree ℕ expression)
@@ -38,7 +38,7 @@ NoFaultInConstants N =
     → is_some (constant_value meaning (mapped label (value_at p.source) e)) ≡ true
     → (reported_constant (facts_at p true) e).faults ≡ []
 
--- no fault in the length of an array, where it is one
+-- states that a valid array length has no fault
 abbrev pub NoFaultInLengths : Type 0 → Type 0
 NoFaultInLengths N =
     (p : SoFar) (shapes : List Shape) (label : ℕ → N) (meaning : Typed N) (e : Tree ℕ expression)
@@ -48,7 +48,8 @@ NoFaultInLengths N =
     ≡ true
     → (reported_expression (facts_at p true) e >>= length_of (facts_at p false)).faults ≡ []
 
--- no fault in the target of an assignment that is a variable or parameter with its selectors
+-- states that an assignment's target has no fault if it is a variable or parameter with its
+-- selectors
 abbrev pub NoFaultInTargets : Type 0 → Type 0
 NoFaultInTargets N =
     (p : SoFar) (shapes : List Shape) (label : ℕ → N) (meaning : Typed N) (x : ℕ)
@@ -64,13 +65,13 @@ constructor_of boolean_shape = None
 constructor_of (array_shape k n s) = Some k
 constructor_of (record_shape k fs) = Some k
 
--- each ARRAY and RECORD makes one type
+-- states that each ARRAY and RECORD makes one type
 abbrev pub EachOnce : List Shape → Type 0
 EachOnce shapes =
     (i j k : ℕ) (s t : Shape) → slice_get shapes i ≡ Some s → slice_get shapes j ≡ Some t
     → constructor_of s ≡ Some k → constructor_of t ≡ Some k → i ≡ j
 
--- no fault in statements that are well-typed
+-- states that well-typed statements have no fault
 abbrev pub NoFaultInStatements : Type 0 → Type 0
 NoFaultInStatements N =
     (p : SoFar) (shapes : List Shape) (label : ℕ → N) (meaning : Typed N)
@@ -80,7 +81,7 @@ NoFaultInStatements N =
     → sequence_fits meaning (mapped label (value_at p.source) statements) ≡ true
     → reported_sequence (facts_at p false) statements ≡ []
 
--- in a well-typed module each name is bound
+-- states that every name of a well-typed module is bound
 abbrev pub NamesBound : Type 0
 NamesBound =
     (r : Resolution)
@@ -88,7 +89,7 @@ NamesBound =
     → fits_over as_names (named_tree_of r.module_read) ≡ true
     → filter is_of_occurrences r.faults ≡ []
 
--- no fault of names that nothing binds or of types in a well-typed module
+-- states that a well-typed module has no undeclared name and no fault of types
 abbrev pub NoFaultInModules : Type 0
 NoFaultInModules =
     (r : Resolution)

@@ -1,5 +1,5 @@
--- The faults of types as they are written, in the order in which they are reported: those of the
--- parts from left to right, then that the whole is too large.
+-- The faults of written types, in the order in which they are reported: the faults of the parts
+-- from left to right, then `TypeTooLarge` for the whole.
 -- Rule: docs/LANGUAGE.md, Faults of scopes and types 2, 4, 10, `TypeTooLarge`.
 use Rattle.std.specs.Prelude.{ℕ, suc, ◌+◌, ◌*◌, max, true, false, List, [], ◌∷◌, ◌++◌, length, Option, Some, None}
 use Rattle.ob0_language_names.specs.Parts.{names_listed}
@@ -13,17 +13,18 @@ use Rattle.ob0_types_check.specs.Operations.{right, token_before, ◌>>=◌}
 use Rattle.ob0_types_check.specs.SoFar.{Size, SoFar, TypedAfter, FieldSoFar, facts_at, make, no_scalar, of_elements, of_fields, size_at}
 use Rattle.ob0_types_check.specs.TypeFaults.{length_of, type_named}
 
--- a number of the same beside one another, inside an array
+-- the size of an array, from the size of its elements
 abbrev pub array_size : ℕ → Size → Size
 array_size n z = record { scalars = z.scalars * n; depth = z.depth + 1 }
 
--- Each ARRAY and RECORD makes one type, those inside it before it. So where nothing is reported,
--- the ordinal of a word is how many were made before it and how many are around it.
+-- The ordinal of the next word ARRAY or RECORD. Each makes one type, and inner types are made
+-- first. So, if nothing is reported, it is the number of types made before plus the number of words
+-- around it.
 abbrev pub ordinal_here : ℕ → SoFar → ℕ
 ordinal_here around p = length p.made + around
 
--- An array of a faulty length is unknown as a whole; the type of its elements is looked at all the
--- same. The word ARRAY is before the length.
+-- The type of an array. If the length has a fault, the array is unknown as a whole, although the
+-- type of its elements has been checked. The word ARRAY is before the length.
 abbrev pub array_made : ℕ → Operand TypeId → Option ℕ → TypedAfter → Reported TypedAfter
 array_made ordinal o None element =
     right (record { of = type.Unknown; following = element.following })
@@ -31,13 +32,13 @@ array_made ordinal o (Some n) element =
     make element.following (token_before o.first) ordinal (of_elements n element.of)
     (array_size n (size_at element.following.made element.of))
 
--- the fields of a record so far, their size, and what is known after them
+-- the fields of a record so far, their size, and the state after them
 pub record Gathered : Type 0 where
   pub fields : List FieldSoFar
   pub size : Size
   pub following : SoFar
 
--- no field yet
+-- no fields yet
 abbrev pub nothing_gathered : SoFar → Gathered
 nothing_gathered p = record { fields = []; size = no_scalar; following = p }
 
@@ -45,7 +46,7 @@ nothing_gathered p = record { fields = []; size = no_scalar; following = p }
 abbrev pub beside : Size → Size → Size
 beside z w = record { scalars = z.scalars + w.scalars; depth = max z.depth w.depth }
 
--- one name more of a field's type
+-- adds a field with this type
 abbrev pub with_name : TypeId → Gathered → ℕ → Gathered
 with_name t g token =
     record {
@@ -54,22 +55,21 @@ with_name t g token =
       following = g.following;
     }
 
--- the names of one group
+-- adds the fields of one group
 abbrev pub with_field_names : TypeId → Gathered → List ℕ → Gathered
 with_field_names t g [] = g
 with_field_names t g (x ∷ xs) = with_field_names t (with_name t g x) xs
 
--- fields of one type, after its text
+-- adds the fields of one type, after its text
 abbrev pub gathered_after : Gathered → List ℕ → TypedAfter → Gathered
 gathered_after g xs t =
     with_field_names t.of (record { fields = g.fields; size = g.size; following = t.following }) xs
 
--- a record has at least one scalar
+-- the size of a record, which has at least one scalar
 abbrev pub record_size : Size → Size
 record_size z = record { scalars = max z.scalars 1; depth = z.depth + 1 }
 
--- The word RECORD precedes the name of the first field, and before a semicolon for each group
--- without fields before it. A record without any field is never too large.
+-- the first name of a list
 abbrev pub first_name : Tree ℕ names → ℕ
 first_name (listed x rest) = x
 
@@ -78,20 +78,22 @@ abbrev pub word_before : Tree ℕ fields → ℕ → ℕ
 word_before (some_fields ns t) following = token_before (first_name ns)
 word_before no_fields following = token_before following
 
--- the word RECORD
+-- The word RECORD. It precedes the first field's name and one semicolon for each group without
+-- fields before that name. For a record without fields the result is 0, which is never reported:
+-- such a record is never too large.
 abbrev pub record_word : Tree ℕ (items further_fields) → ℕ
 record_word end = 0
 record_word (more (then_fields g) rest) = word_before g (record_word rest)
 
--- a record of its own, or `TypeTooLarge`
+-- makes a new record, or reports `TypeTooLarge`
 abbrev pub record_made : ℕ → ℕ → Gathered → Reported TypedAfter
 record_made word ordinal g = make g.following word ordinal (of_fields g.fields) (record_size g.size)
 
--- the faults of a type that is inside `around` ARRAY and RECORD
+-- the faults of a type that is inside `around` words ARRAY and RECORD
 unfoldable mutual
   unfolding reported_expression
 
-  -- a name, or an array or a record after its parts
+  -- the faults of a name, or of an array or a record after its parts
   pub reported_type : ℕ → SoFar → Tree ℕ written_type → Reported TypedAfter
   reported_type around p (named_type x) = do
     t ← type_named (facts_at p false) x
@@ -106,21 +108,21 @@ unfoldable mutual
     all ← reported_groups (suc around) first rest
     record_made (word_before g (record_word rest)) (ordinal_here around p) all
 
-  -- a group of fields, added to those so far
+  -- the faults of a group of fields, which is added to the earlier ones
   pub reported_fields : ℕ → Gathered → Tree ℕ fields → Reported Gathered
   reported_fields around so_far no_fields = right so_far
   reported_fields around so_far (some_fields ns t) = do
     u ← reported_type around so_far.following t
     right (gathered_after so_far (names_listed ns) u)
 
-  -- further groups, added one after the other
+  -- the faults of further groups, added one after the other
   pub reported_groups : ℕ → Gathered → Tree ℕ (items further_fields) → Reported Gathered
   reported_groups around so_far end = right so_far
   reported_groups around so_far (more (then_fields g) rest) = do
     next ← reported_fields around so_far g
     reported_groups around next rest
 
--- one group more
+-- the faults of one more group
 unfoldable pub reported_group : ℕ → Gathered → Tree ℕ (item further_fields) → Reported Gathered
 unfolding reported_type
 reported_group around so_far (then_fields g) = reported_fields around so_far g

@@ -1,4 +1,4 @@
-//! The laws. Each function does nothing: its contract is the law.
+//! The laws. Each function does nothing; its contract is the law.
 
 ghost use Rattle.ob0_types_check.specs.ModuleLaws.{DeclarationsKnown, ModulesFit};
 ghost use Rattle.ob0_types_check.specs.ReportLaws.{ConstantsFit, ExpressionsFit, LengthsFit, StatementsFit, TypesOfTables};
@@ -6,77 +6,79 @@ ghost use Rattle.ob0_types_check.specs.SomeBodies.{SomeBodiesReported};
 ghost use Rattle.ob0_types_check.specs.WellTypedLaws.{NamesBound, NoFaultInConstants, NoFaultInExpressions, NoFaultInLengths, NoFaultInModules, NoFaultInStatements, NoFaultInTargets};
 ghost use Rattle.ob0_language_names.specs.Names.{Name};
 
-/// What is known of an expression of which nothing is reported is its type and its value.
+/// States that if nothing is reported for an expression, its reported type and value are right.
 pub fn expressions_fit()
     ensures { ExpressionsFit Name }
 {}
 
-/// A constant's right side of which nothing is reported has the value that is known.
+/// States that if nothing is reported for a constant's right side, its reported value is right.
 pub fn constants_fit()
     ensures { ConstantsFit Name }
 {}
 
-/// An array's length of which nothing is reported is the one that is known.
+/// States that if nothing is reported for an array's length, the reported length is right.
 pub fn lengths_fit()
     ensures { LengthsFit Name }
 {}
 
-/// Statements of which nothing is reported fit.
+/// States that statements fit if nothing is reported for them.
 pub fn statements_fit()
     ensures { StatementsFit Name }
 {}
 
-/// What is known of types by what was made is so of their shapes.
+/// States that types read from the table of arrays and records agree with their shapes.
 pub fn types_of_tables()
     ensures { TypesOfTables }
 {}
 
-/// A module of which nothing is reported fits.
+/// States that a module fits if nothing is reported for it.
 pub fn modules_fit()
     ensures { ModulesFit }
 {}
 
-/// After a module of which nothing is reported, each of its declarations is known.
+/// States that if nothing is reported for a module, the walk knows what each declaration is.
 pub fn declarations_known()
     ensures { DeclarationsKnown }
 {}
 
-/// No fault is reported of an expression that has a type.
+/// States that an expression that has a type has no reported fault.
 pub fn no_fault_in_expressions()
     ensures { NoFaultInExpressions Name }
 {}
 
-/// No fault is reported of a constant expression that has a value.
+/// States that a constant expression that has a value has no reported fault.
 pub fn no_fault_in_constants()
     ensures { NoFaultInConstants Name }
 {}
 
-/// No fault is reported of the length of an array, where it is one.
+/// States that a valid array length has no reported fault.
 pub fn no_fault_in_lengths()
     ensures { NoFaultInLengths Name }
 {}
 
-/// No fault is reported of the target of an assignment that is a variable or parameter with its selectors.
+/// States that the target of an assignment has no reported fault if it is a variable or parameter
+/// with its selectors.
 pub fn no_fault_in_targets()
     ensures { NoFaultInTargets Name }
 {}
 
-/// No fault is reported of well-typed statements.
+/// States that well-typed statements have no reported fault.
 pub fn no_fault_in_statements()
     ensures { NoFaultInStatements Name }
 {}
 
-/// Each name of a well-typed module is bound.
+/// States that every name of a well-typed module is bound.
 pub fn names_bound()
     ensures { NamesBound }
 {}
 
-/// No fault of types is reported of a well-typed module, and none of a name that nothing binds.
+/// States that a well-typed module has no fault of types and no undeclared name.
 pub fn no_fault_in_modules()
     ensures { NoFaultInModules }
 {}
 
-/// Where the tokens of a module changed in some bodies, nothing is reported of the others if nothing was before.
+/// States that if the tokens of a module changed in some bodies only, any other body that had no
+/// faults still has none.
 pub fn some_bodies_reported()
     ensures { SomeBodiesReported }
 {}

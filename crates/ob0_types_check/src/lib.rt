@@ -1,5 +1,7 @@
-//! Which faults of types a module has, and where (docs/LANGUAGE.md, Faults of scopes and types), and what is known of a
-//! module without faults; and the laws that a module with no reported fault is well-typed.
+//! Reports the type errors of a module and their places (docs/LANGUAGE.md, Faults of scopes and
+//! types). If there is none, the report says what each declaration is.
+//!
+//! The laws state that nothing is reported exactly if every name is bound and all types fit.
 #![tactic(auto)]
 
 pub mod laws;

@@ -1,45 +1,52 @@
-//! Reports the faults of a module's types, and gives what is known of a module without faults: one walk through the
-//! whole module.
+//! Reports the type errors of a module in one walk. If there is none, the walk also knows what each
+//! declaration is.
 //!
-//! What has a fault is of an unknown type, which raises no second fault.
+//! An expression or type with a fault has an unknown type, which causes no second fault.
 //!
-//! Nothing decides beside this walk. Of a module that doesn't fit something is reported (`modules_fit`), of a
-//! well-typed one nothing (`no_fault_in_modules`), and after a module of which nothing is reported the walk knows what
-//! each declaration is (`declarations_known`).
+//! No other code decides whether a module fits. The laws connect this walk with the definitions: a
+//! module that doesn't fit has a fault (`modules_fit`), and a well-typed module has none
+//! (`no_fault_in_modules`). After a module with no fault the walk knows every declaration
+//! (`declarations_known`).
 //!
-//! What is reported of a part is defined, with a clause for each production: its faults in order, with codes and spans,
-//! and what is known of it. `Reported` is a value with faults, and its `>>=` puts the faults of one step before those
-//! of the next. A statement gives faults alone. The one clause of each function that gives a value is `ReportsAfter
-//! before after x t`. An operand has its value where it is constant, so one walk over an expression gives its type, its
-//! value, whether it may be for a place, and its first and last token.
+//! The definitions give the faults of each production: in order, with codes and spans, and with the
+//! result of the part. A `Reported` is such a result with its faults. Its `>>=` puts the faults of
+//! one step before the faults of the next. Statements have faults but no result. A function that
+//! returns a value has one clause, `ReportsAfter before after x t`. An operand carries its value if
+//! it is constant. So one walk over an expression finds its type, its value, whether it can be a
+//! place, and its first and last token.
 //!
-//! The definitions are over any types with an unknown one (`Types`). The code's `TypeId` with its table is one of them
-//! (`known_types`), `Option Shape` with None for unknown another, which needs no table.
+//! The definitions work over any representation of types that has an unknown type (`Types`). One is
+//! the code's `TypeId` with its table (`known_types`). Another is `Option Shape`, with None for
+//! unknown, which needs no table.
 //!
-//! Types as they are written, declarations and blocks are reported over a value that goes along (`SoFar`): what
-//! declarations are, by their ordinals, and what arrays and records are made of, by their places. `so_far_in` is the
-//! code's `Supposed` as such a value; so what is said of expressions and statements knows nothing of it. `Supposed` and
-//! the list of faults are apart: expressions and statements take `&self` and the list, declarations take `Reporter`,
-//! which has both.
+//! Written types, declarations and blocks are reported with a state, `SoFar`. It has the meanings
+//! of the declarations, by ordinal, and the parts of arrays and records, by their places.
+//! `so_far_in` views the code's `Supposed` as such a state, so the definitions of expressions and
+//! statements don't mention `Supposed`. `Supposed` and the list of faults are separate values.
+//! Expressions and statements take `&self` and the list; declarations take a `Reporter`, which has
+//! both.
 //!
-//! The words ARRAY and RECORD aren't in the definition's trees, so the code doesn't take them from its own tree either:
-//! ARRAY is the token before its length, RECORD precedes the name of its first field, and a semicolon for each group
-//! without fields before that (`record_word`). A token always has neighbours (`token_after` stays at the end of the
-//! text), and a fault is always reported, at the text's start where there is no token (`span_at`).
+//! The definitions' trees don't contain the words ARRAY and RECORD, so the code doesn't use its own
+//! tree for them either. ARRAY is the token before its length. RECORD is the token before the name
+//! of its first field, less a semicolon for each group without fields before that name
+//! (`record_word`). Every token has neighbours: at the end of the text `token_after` returns the
+//! same token. Every fault has a place: `span_at` gives the start of the text if there is no token.
 //!
-//! A body defines nothing. So where the tokens of one body changed, what is known at the place of each is what it was,
-//! and nothing is reported of a body of which nothing was reported before (`some_bodies_reported`): `report_bodies` goes
-//! through the declarations, that body and those that were faulty, and leaves out all others. The walk says which bodies
-//! are faulty.
+//! A body declares nothing. So if only the tokens of one body changed, the facts at every other
+//! place are unchanged, and a body that had no faults still has none (`some_bodies_reported`).
+//! `report_bodies` therefore walks the declarations, the changed body and the bodies that had
+//! faults, and skips all others. The walk returns the list of bodies with faults.
 //!
-//! Where the statements of one body are others, of which nothing is known, and all else fits, nothing is reported but of
-//! these (`NewBody` of the proofs): `report_body` goes through the declarations and that body.
+//! If the statements of one body are new and everything else fits, only these statements can have
+//! faults (`NewBody` of the proofs). `report_body` walks the declarations and that body.
 //!
-//! No counter of ARRAY and RECORD goes along. Each makes one type, those inside before the one around them, so where
-//! nothing is reported the ordinal of a word is how many were made and how many are around it (`ordinal_here`). A sum
-//! that 64 bits can't hold is out of memory, so the definition has no cap; no text is long enough for it.
+//! The walk has no counter of ARRAY and RECORD words. Each word makes one type, and inner types are
+//! made first. So, if nothing is reported, a word's ordinal is the number of types made so far plus
+//! the number of words around it (`ordinal_here`). A sum that doesn't fit 64 bits is reported as
+//! out of memory, so the definition needs no cap. No text is long enough for that.
 //!
-//! Names that nothing binds are copied from the faults of scopes; the walk says nothing at such a name.
+//! Undeclared names are copied from the faults of scopes. The walk itself reports nothing at such a
+//! name.
 
 mod declarations;
 mod expressions;
@@ -65,18 +72,19 @@ use ob0_scope_table::Resolved;
 use ob0_types_table::DeclarationTable;
 use std::alloc::{AllocError, Global};
 
-/// What is reported of a module, and what is known of it.
+/// The faults of a module, and its declarations if there is no fault.
 #[derive(Drop)]
 pub struct Report {
-    /// The names that nothing binds, in text order, and then the faults of types.
+    /// The undeclared names in text order, and then the faults of types.
     pub faults: Vec<Fault>,
-    /// What the declarations are, where there is no fault.
+    /// What the declarations are, or None if there is a fault.
     pub known: Option<DeclarationTable>,
-    /// The bodies of which something is reported, by their closing names, in text order.
+    /// The bodies in which a fault of types is reported, by the tokens of their closing names, in
+    /// text order.
     pub faulty: Vec<usize>,
 }
 
-/// Which bodies are gone through: every one, or these, by their closing names.
+/// Which bodies to walk: all of them, or only those with these closing names.
 #[derive(Clone, Copy)]
 struct Wanted<'b> {
     every: bool,
@@ -91,8 +99,9 @@ impl<'b> Wanted<'b> {
     }
 }
 
-/// The names of a module that nothing binds, in text order, and then the faults of its types; where there is none, what
-/// its declarations are. Its second declarations and closing names aren't looked at.
+/// Returns the undeclared names of a module in text order and then its faults of types; if there is
+/// none, also what its declarations are. Duplicate declarations and wrong closing names aren't
+/// reported here.
 pub fn report_faults<'t>(alloc: Global, resolved: &'t Resolved<'t>) -> Result<Report, AllocError>
     ensures { IfOk result (IsReportOf resolved.now) }
 {
@@ -104,9 +113,9 @@ pub fn report_faults<'t>(alloc: Global, resolved: &'t Resolved<'t>) -> Result<Re
     report_wanted(alloc, resolved, &every)
 }
 
-/// What `report_faults` finds where the module's tokens changed in one of these bodies, which are known by their closing
-/// names, and nothing was reported before of the others: its declarations and these bodies are gone through, and no
-/// other body.
+/// Returns the same report as `report_faults`, but walks only the declarations and these bodies,
+/// given by their closing names. They must include every body that changed and every body that had
+/// a fault of types before the change.
 pub fn report_bodies<'t>(
     alloc: Global,
     resolved: &'t Resolved<'t>,
@@ -116,7 +125,7 @@ pub fn report_bodies<'t>(
     ensures { IfOk result (IsReportOf resolved.now) }
 {
     some_bodies_reported();
-    // For the proof: what the contract of this call says.
+    // The proof needs the contract of this call.
     let _module = resolved.module();
     let these = Wanted {
         every: false,
@@ -125,8 +134,8 @@ pub fn report_bodies<'t>(
     report_wanted(alloc, resolved, &these)
 }
 
-/// What `report_faults` finds, where the module fits without the statements of the block with this closing name, whatever
-/// these are: its declarations and these are gone through, and no other body.
+/// Returns the same report as `report_faults`, but walks only the declarations and the statements
+/// of the block with this closing name. The module without these statements must fit.
 pub fn report_body<'t>(
     alloc: Global,
     resolved: &'t Resolved<'t>,
@@ -135,7 +144,7 @@ pub fn report_body<'t>(
     requires { FitsWithout resolved.now closing }
     ensures { IfOk result (IsReportOf resolved.now) }
 {
-    // For the proof: what the contract of this call says.
+    // The proof needs the contract of this call.
     let _module = resolved.module();
     let bodies = [closing];
     let only = Wanted {
@@ -145,7 +154,8 @@ pub fn report_body<'t>(
     report_wanted(alloc, resolved, &only)
 }
 
-/// What is reported of a module, of which nothing is reported but of its declarations and of these bodies.
+/// Returns the report of a module in which only the declarations and the wanted bodies can have
+/// faults of types.
 fn report_wanted<'t>(
     alloc: Global,
     resolved: &'t Resolved<'t>,
@@ -161,7 +171,7 @@ fn report_wanted<'t>(
     reporter.into_report(resolved, faulty)
 }
 
-/// What is known, as a table.
+/// Returns the declarations and types as a table.
 fn known_of<'t>(alloc: Global, supposed: Supposed<'t>) -> Result<DeclarationTable, AllocError>
     requires { AreEntriesInOrder [] supposed.composites.items }
     ensures { IfOk result (λ t. t ≡ table_in supposed.entry) }
@@ -176,7 +186,7 @@ fn known_of<'t>(alloc: Global, supposed: Supposed<'t>) -> Result<DeclarationTabl
     Ok(DeclarationTable::new(composites, objects))
 }
 
-/// A module on its way through the reporting walk.
+/// The state of the walk: the declarations and types so far, and the faults so far.
 #[derive(Drop)]
 struct Reporter<'t> {
     alloc: Global,
@@ -204,7 +214,7 @@ impl<'t> Reporter<'t> {
         })
     }
 
-    /// What was reported, at the end of a walk.
+    /// Returns the report at the end of the walk.
     fn into_report(
         self,
         resolved: &'t Resolved<'t>,
@@ -214,7 +224,7 @@ impl<'t> Reporter<'t> {
         ensures { IfOk result (IsReportOf resolved.now) }
     {
         declarations_known();
-        // For the proof: what the contract of this call says.
+        // The proof needs the contract of this call.
         let _module = resolved.module();
         let Reporter {
             alloc,
@@ -238,7 +248,7 @@ impl<'t> Reporter<'t> {
     }
 }
 
-/// The names that nothing binds.
+/// Returns the undeclared names, in text order.
 fn unbound_names(alloc: Global, resolved: &Resolved) -> Result<Vec<Fault>, AllocError>
     ensures { IfOk result (λ faults. faults.items ≡ filter is_of_occurrences resolved.now.faults) }
 {
@@ -251,7 +261,7 @@ fn unbound_names(alloc: Global, resolved: &Resolved) -> Result<Vec<Fault>, Alloc
     Ok(faults)
 }
 
-/// Nothing is known yet of what these tokens declare.
+/// Appends an unknown meaning for each of these declarations.
 fn add_unknown(
     meanings: &mut Vec<Option<Meaning>>,
     declarations: &[usize],

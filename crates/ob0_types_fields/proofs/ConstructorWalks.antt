@@ -18,7 +18,7 @@ pub found_stays : (t : Option Shape) (xs : List (Option Shape)) → after_all (i
 found_stays t [] = refl
 found_stays t (x ∷ xs) = found_stays t xs
 
--- what is found is at its place
+-- the search finds the type at its position
 pub found_at : (n : ℕ) (xs : List (Option Shape)) → found_type (after_all (is_after n) xs) ≡ get_or xs n None
 found_at n [] = refl
 found_at zero (x ∷ xs) = ap found_type (found_stays x xs)
@@ -31,7 +31,8 @@ found_at (suc n) (x ∷ xs) = go (suc n == 0) refl (found_at n xs)
         let less : suc n - 1 ≡ n = omega arith in
         ap (λ k. found_type (after_all (is_after k) xs)) less ∙ later
 
--- the search after those that were passed, with those that are left, is the search after all
+-- states that the search after the visited items, continued with the remaining ones, is the search
+-- after all
 pub record OverItems {A : Type 0} {i : Item} (f : A → Tree ℕ (item i)) (m : Meanings ℕ Shape Signature) (t : Option Shape) (start : SearchState) (xs : List A) (done : ℕ) (now : SearchState) : Type 0 where
   pub so_far : after_all now (constructed m t (items_of f (drop done xs))) ≡ after_all start (constructed m t (items_of f xs))
 

@@ -1,4 +1,4 @@
--- What declarations bind in a numbered tree: each ordinal once, the latest first.
+-- The declarations of a numbered tree bind each ordinal once, the latest first.
 use Rattle.std.proofs.Common.{◌≡◌, ℕ, suc, ◌+◌, ◌<◌, ◌≤◌, cond, List, [], ◌∷◌, ◌++◌, Some, None, Option, refl, sym, ap, ◌∙◌, subst, append_assoc, arith, le_refl, eq-eqb}
 use Rattle.std.proofs.lemmas.Bool.{ne_eqb}
 use Rattle.ob0_tree.specs.Tree.{Tree, block, constant, declares, declares_constant, declares_type, declares_variable, end, has_body, items, more, type_name, variable}
@@ -20,7 +20,7 @@ use Rattle.ob0_language_types.proofs.Literals.{some_inverse}
 use Rattle.ob0_language_types.proofs.TypedElsewhere.{then_some}
 use Rattle.ob0_language_types.proofs.TypesByOrdinal.{label_typed, typed_names}
 
--- bindings of ordinals from below hi down to lo, each less than the one before
+-- states that the bindings have ordinals below hi and not below lo, each less than the one before
 abbrev pub Descends : ℕ → TypeEnvironment Label → ℕ → Type 0
 Descends hi [] lo = lo ≤ hi
 Descends hi (b ∷ env) lo = (i : ℕ) × (b.0 ≡ declared i) × (i < hi) × Descends i env lo
@@ -33,7 +33,7 @@ pub descends_join : (hi mid lo : ℕ) (xs ys : TypeEnvironment Label) → Descen
 descends_join hi mid lo [] ys a b = descends_higher mid hi lo ys a b
 descends_join hi mid lo (x ∷ xs) ys (i, e, less, a) b = (i, e, less, descends_join i mid lo xs ys a b)
 
--- an environment with ordinals from k on and below n put before it
+-- an environment with bindings of the ordinals from k up to n put before it
 pub record Grown (k n : ℕ) (env after : TypeEnvironment Label) : Type 0 where
   pub bound : TypeEnvironment Label
   pub is : after ≡ bound ++ env
@@ -131,12 +131,12 @@ block_grows scope j k (has_body (declares cs ts vs ps) statements) env inner h =
     (ap (λ gs. declare_typed as_labels (after_types j b') gs two.0) (sym (variables-section as_names (as_label as_names) (variables_scope k b scope) kv vs)) ∙ two.2) in
     grown_then k kt (first_procedure k b) env one.0 inner c (grown_then kt kv (first_procedure k b) one.0 two.0 inner t v)
 
--- what a label means, by ordinals
+-- the object of a label, from the objects of ordinals
 abbrev pub at_label : (ℕ → Option (Object Shape Signature)) → Label → Option (Object Shape Signature)
 at_label objects (declared k) = objects k
 at_label objects (as_written x) = None
 
--- each binding is what its ordinal means
+-- states that each binding has the object of its ordinal
 abbrev pub Right : (ℕ → Option (Object Shape Signature)) → TypeEnvironment Label → Type 0
 Right objects [] = Unit {0}
 Right objects (b ∷ env) = (at_label objects b.0 ≡ Some b.1) × Right objects env
@@ -156,7 +156,7 @@ right_older now before n (b ∷ env) (i, e, less, d) same h = (
   right_older now before i env d (λ d' below. same d' (omega (arith, below, less))) h.1,
 )
 
--- where each ordinal is bound once, it is what it is bound to
+-- if each ordinal is bound once, each binding has the object of its ordinal
 pub bound_right : (n : ℕ) (env : TypeEnvironment Label) → Descends n env 0 → Right (object_bound env) env
 bound_right n [] d = tt
 bound_right n ((x, o) ∷ env) (i, e, less, d) =

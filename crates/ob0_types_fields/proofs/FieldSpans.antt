@@ -1,6 +1,7 @@
--- The spans of identifiers in text order, and what is found among them by halving.
--- Tokens follow one another, so where tokens ascend neither starts nor ends descend (`starts_rise`, `ends_rise`); what
--- is found where those end that end before the place is what a walk finds (`halved`).
+-- The spans of identifiers in text order, and the binary search among them. Tokens follow one
+-- another. So, if token indexes ascend, the starts and the ends don't descend (`starts_rise`,
+-- `ends_rise`). The identifier after the ones that end before a place is the one that a linear
+-- search finds (`halved`).
 use Rattle.std.proofs.Common.{◌≡◌, ℕ, zero, suc, ◌+◌, ◌<◌, ◌≤◌, Bool, true, false, if◌then◌else◌, List, [], ◌∷◌, ◌++◌, length, get_or, Some, None, Option, refl, ap, ◌∙◌, sym, subst, arith, ⊎_elim}
 use Rattle.std.specs.Prelude.{nat_le, nat_lt, slice_get}
 use Rattle.std.specs.List.Sorted.{IsNonDecreasingBy, IsPartitionPoint}
@@ -22,7 +23,7 @@ use Rattle.ob0_types_fields.specs.Identifiers.{AreInTextOrder, field_on, tokens_
 
 -- ---- the tokens of a text
 
--- each begins where the one before it ends, or after that
+-- states that each token begins at or after the end of the one before it
 abbrev Follow : ℕ → List Token → Type 0
 Follow from [] = Unit {0}
 Follow from (t ∷ ts) = (from ≤ t.span.start) × ((t.span.start ≤ t.span.end) × Follow t.span.end ts)
@@ -116,9 +117,9 @@ module _ (source : Scanned) (scan : IsScan source) where
   pub ends_rise : (xs : List FieldName) → AreInTextOrder source xs → IsNonDecreasingBy (end_of source) xs
   ends_rise xs h = rising (λ i. (span_at source i).end) (length source.tokens) (λ i j le less. (in_order i j le less).1) xs 0 h
 
--- ---- what is found by halving
+-- ---- binary search
 
--- the identifier at which those end that end before a place, where the place is on it
+-- the identifier after the ones that end before a place, if it has the place in it
 abbrev pub on_place : Scanned → ℕ → Option FieldName → Option FieldName
 on_place source offset None = None
 on_place source offset (Some x) = if is_on offset (span_at source x.token) then Some x else None

@@ -1,4 +1,5 @@
--- The tokens of one field: they are identifiers in text order, and the module with the field renamed has the new name there.
+-- The tokens of one field are identifiers in text order, and renaming the field puts the new name
+-- there.
 use Rattle.std.proofs.Common.{◌≡◌, ◌≢◌, ℕ, zero, suc, ◌+◌, ◌<◌, ◌≤◌, Bool, true, false, ◌&&◌, ◌||◌, ◌==◌, if◌then◌else◌, List, [], ◌∷◌, length, replicate, set, Some, None, Option, refl, ap, ◌∙◌, sym, subst, arith, get_or-set_other, get_or-set_same, eq-eqb, eqb-true}
 use Rattle.std.specs.List.{list_any}
 use Rattle.std.specs.Prelude.{IfSome}
@@ -62,7 +63,7 @@ kept_are_identifiers source k x ts (y ∷ ys) h = one (is_field source k x y) (k
     one true e = (h.0, e)
     one false e = e
 
--- ---- what a table with fields written into it has at a token
+-- ---- the entry at a token in a table after entering fields
 
 abbrev owner_in : ℕ → List FieldName → Option ℕ → Option ℕ
 owner_in i [] o = o
@@ -151,7 +152,7 @@ renamed_at_tokens-holds r k f new named fits =
     renamed_by_token-holds m table k f new (owners_of_fields-holds r named fits)
     ∙ (λ j. mapped (λ i. if among i j then new else text_at m.source i) (value_at m.source) (tree_of m))
 
--- so is the one that a place is on
+-- the identifier at a place is one of the text's identifiers
 pub field_is_identifier : (source : Scanned) (ts : List Token) (offset : ℕ) (xs : List FieldName) → AreIdentifiers ts (tokens_of xs) → IfSome (field_on source offset xs) (λ x. IsIdentifierToken ts x.token)
 field_is_identifier source ts offset [] identified = tt
 field_is_identifier source ts offset (x ∷ xs) identified = one (is_on offset (span_at source x.token)) identified.0 (field_is_identifier source ts offset xs identified.1)

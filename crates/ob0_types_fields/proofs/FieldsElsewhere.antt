@@ -1,5 +1,6 @@
--- The fields of a module in which the statements of one body were replaced, by those that it had before: those before the body
--- stay, those after it are moved, and those of its statements are found.
+-- The fields of a module after the statements of one body were replaced, made from its fields
+-- before. The fields before the body are kept, those after it are moved, and the fields of its
+-- statements are found.
 use Rattle.std.proofs.Common.{◌≡◌, ℕ, suc, ◌+◌, ◌-◌, ◌^◌, ◌<◌, ◌≤◌, min, true, false, nat_le, nat_lt, List, [], ◌∷◌, ◌++◌, map, length, Some, None, Option, unwrap_or, refl, ap, ◌∙◌, sym, subst, arith}
 use Rattle.std.proofs.Math.Nat.{min-eq_left}
 use Rattle.std.proofs.lemmas.List.{map-append}
@@ -39,7 +40,7 @@ use Rattle.ob0_types_fields.proofs.OwnedTokens.{fields_have-owners, module-token
 use Rattle.ob0_types_fields.proofs.RefieldedWithout.{refielded_without}
 use Rattle.ob0_types_fields.proofs.Seams.{AreBetween, Between, all_between, among_each, between, fields_around, keeps_first, keeps_last, same_seam, weaker}
 
--- ---- places where tokens are now
+-- ---- the new indexes of tokens
 
 at_most : (n : ℕ) → n < 2 ^ 64 → n ≡ min n (2 ^ 64 - 1)
 at_most n less = sym (min-eq_left (omega (arith, less)))
@@ -49,17 +50,17 @@ module _ (s : SameTokens) where
   stays [] h = refl
   stays ((x, o) ∷ xs) h = λ i. (moved_below s x h.0 i, o) ∷ stays xs h.1 i
 
-  -- none passes the largest index
+  -- no index exceeds the largest one
   same_places : (xs : List FieldName) → AllByRecursion (λ x. moved s x.token < 2 ^ 64) xs → map (field_placed (moved s)) xs ≡ map (field_now s) xs
   same_places [] h = refl
   same_places (x ∷ xs) h = λ i. record { token = at_most (moved s x.token) h.0 i; owner = x.owner } ∷ same_places xs h.1 i
 
--- what holds of all that are made of items holds of what is made of each
+-- a property of all mapped items holds for each item's image
 of_made : {X Y : Type 0} (f : X → Y) (P : Y → Type 0) (xs : List X) → AllByRecursion P (map f xs) → AllByRecursion (λ x. P (f x)) xs
 of_made f P [] h = tt
 of_made f P (x ∷ xs) h = (h.0, of_made f P xs h.1)
 
--- ---- owners where tokens are now
+-- ---- owners at the new indexes
 
 first_is : {A : Type 0} {x y : A} {xs ys : List A} → x ∷ xs ≡ y ∷ ys → x ≡ y
 first_is h = cc
@@ -80,7 +81,7 @@ same_owner None (Some k) x y e h = absurd (longer k y (sym e ∙ h))
 same_owner (Some j) None x y e h = absurd (longer j x (e ∙ sym h))
 same_owner (Some j) (Some k) x y e h = ap Some (first_is h)
 
--- identifiers that are written alike with their owners have the same ones
+-- if identifiers and owners together have the same spelling as before, the owners are the same
 owners_kept : (at : ℕ → ℕ) (before now : ℕ → Option ℕ) (written writes : ℕ → Name) (xs : List ℕ)
     → map (λ i. of_records with_owner (now i) (writes i)) (map at xs) ≡ map (λ i. of_records with_owner (before i) (written i)) xs
     → map writes (map at xs) ≡ map written xs → AllByRecursion (λ i. now (at i) ≡ before i) xs
@@ -88,7 +89,7 @@ owners_kept at before now written writes [] e h = tt
 owners_kept at before now written writes (x ∷ xs) e h =
     (same_owner (now (at x)) (before x) (writes (at x)) (written x) (first_is h) (first_is e), owners_kept at before now written writes xs (others_are e) (others_are h))
 
--- lists of identifiers with their owners, the one at the places where the others are now
+-- lists of identifiers with their owners, one of them at the new indexes of the other
 placed_alike : (at : ℕ → ℕ) (before now : ℕ → Option ℕ) (xs ys : List (ℕ × Option ℕ)) → tokens xs ≡ map at (tokens ys) → HasOwners now xs → HasOwners before ys
     → AllByRecursion (λ i. now (at i) ≡ before i) (tokens ys) → xs ≡ map (placed at) ys
 placed_alike at before now [] [] e h g same = refl
@@ -103,13 +104,13 @@ owners_joined : (table : ℕ → Option ℕ) (xs ys : List (ℕ × Option ℕ)) 
 owners_joined table [] ys h g = g
 owners_joined table (x ∷ xs) ys h g = (h.0, owners_joined table xs ys h.1 g)
 
--- without those between
+-- leaves out the middle part
 owners_around : (table : ℕ → Option ℕ) (xs ys zs : List (ℕ × Option ℕ)) → HasOwners table (xs ++ (ys ++ zs)) → HasOwners table (xs ++ zs)
 owners_around table xs ys zs h =
     let p = owners_split table xs (ys ++ zs) h in
     owners_joined table xs zs p.0 (owners_split table ys zs p.1).1
 
--- what a module's identifiers mean by its declarations
+-- the meanings of a module's identifiers, from its declarations
 abbrev meant : Resolution → Meanings ℕ Shape Signature
 meant q = token_objects (declared_object (named_tree_of q.module_read)) q
 
@@ -138,7 +139,7 @@ module _ (old r : Resolution) (way : Way) (s : SameTokens) (is : IsBodyReplaced 
   abbrev meant_now : Meanings ℕ Shape Signature
   meant_now = meant r
 
-  -- the identifiers that stay are at the places where they are now
+  -- the kept identifiers are at their new indexes
   leaves_now : leaves (without way now) ≡ map (moved s) (leaves (without way before))
   leaves_now = ap leaves is.outside ∙ leaves_mapped (moved s) (moved s) (without way before)
 
@@ -189,7 +190,7 @@ module _ (old r : Resolution) (way : Way) (s : SameTokens) (is : IsBodyReplaced 
       (subst (λ xs. Ascending 0 xs (length r.module_read.source.tokens)) (sym (module-tokens meant_now now) ∙ ap tokens around_now.whole) (leaves_ascend r.module_read is.new_parsed))
       (owned-tokens meant_now None (body_at way now)) is.new_first
 
-  -- ---- what is before the body and after it
+  -- ---- the identifiers before the body and after it
 
   stay : map (placed (moved s)) around_before.before ≡ around_before.before
   stay = stays s around_before.before (weaker (λ x. x.0 < is.first) (λ x. x.0 < s.prefix) (λ x h. omega (arith, h, is.front)) around_before.before between_before.below)
@@ -265,7 +266,7 @@ module _ (old r : Resolution) (way : Way) (s : SameTokens) (is : IsBodyReplaced 
       (among_each (λ t. nat_le c t ≡ false) inner_before (weaker (λ x. (is.first ≤ x.0) × (x.0 < c)) (λ x. nat_le c x.0 ≡ false) (λ x h. le_false c x.0 h.1) inner_before b.inside))
       (among_each (λ t. nat_le c t ≡ true) around_before.after (weaker (λ x. (c + 1 ≤ x.0) × (x.0 < length old.module_read.source.tokens)) (λ x. nat_le c x.0 ≡ true) (λ x h. le_true c x.0 (omega (arith, h.0))) around_before.after b.above))
 
-  -- where the closing name was
+  -- the old index of the closing name
   closing_before : place_before s (closing_at way now) ≡ closing_at way before
   closing_before =
       let c : ℕ = closing_at way before in
@@ -274,7 +275,7 @@ module _ (old r : Resolution) (way : Way) (s : SameTokens) (is : IsBodyReplaced 
       let small = few_tokens old.module_read.source is.old_scan in
       ap (λ n. min n (2 ^ 64 - 1)) back ∙ sym (at_most c (omega (arith, small, between_before.closes)))
 
-  -- ---- those that are declared
+  -- ---- the declared fields
 
   declared_now : declared_fields r.module_read ≡ map (field_placed (moved s)) (declared_fields old.module_read)
   declared_now =
@@ -294,7 +295,7 @@ module _ (old r : Resolution) (way : Way) (s : SameTokens) (is : IsBodyReplaced 
       (subst (AllByRecursion (λ x. x.token < 2 ^ 64)) declared_now
       (declared_among meant_now (λ x. x.token < 2 ^ 64) now (subst (AllByRecursion (λ x. x.token < 2 ^ 64)) (module-fields meant_now now) all_few)))
 
-  -- the fields that are made of those before
+  -- the fields made from the old ones
   pub fields_elsewhere : (fields f : Listed) (t : Tables) → AreFields old fields → ((k : ℕ) → declared_in t k ≡ declared_object (named_tree_of r.module_read) k)
       → (statements : Tree ℕ (maybe body)) → statements ≡ body_at way now → (first closing : ℕ) → first_of (identifiers role.Declaring (body_at way now)) ≡ Some first → closing ≡ closing_at way now
       → f.declared ≡ map (field_now s) fields.declared

@@ -1,5 +1,6 @@
--- In a well-typed module each identifier that is written as a field is one of its fields. Were all of them rewritten, a table
--- of owners would write those that have one, and what declares and selects would write each.
+-- In a well-typed module each identifier in the place of a field is one of its fields. If all
+-- fields were rewritten, a table of owners would rewrite those with an owner, and the definition of
+-- a renaming would rewrite each one.
 use Rattle.std.proofs.Common.{◌≡◌, ℕ, suc, ◌+◌, true, ◌&&◌, List, [], ◌∷◌, ◌++◌, map, length, Some, None, Option, option_and_then, option_map, unwrap_or, refl, sym, ap, ◌∙◌, subst, arith}
 use Rattle.ob0_scan.specs.Scanned.{Scanned}
 use Rattle.ob0_tree.specs.declared.tree.Role.{Role}
@@ -33,7 +34,7 @@ use Rattle.ob0_types_fields.proofs.MappedIdentifiers.{beside_role, both, identif
 use Rattle.ob0_types_fields.proofs.OwnedModules.{owners_by_declaration-holds}
 use Rattle.ob0_types_fields.proofs.OwnedTokens.{fields_have-owners, module-tokens, tokens, with_owners}
 
--- ---- a name that no field had, written at each field
+-- ---- a name that no field had, used for each field
 
 abbrev again : Name → Name
 again x = 0 ∷ x
@@ -57,7 +58,7 @@ every k x = again x
 abbrev ids : {s : Sort} → Tree Name s → List (Role × Name)
 ids t = identifiers role.Declaring t
 
--- ---- statements: each field that is selected is rewritten
+-- ---- statements: each selected field is rewritten
 
 mutual
   expression-marked : (m : Typed Name) (e : Tree Name expression) → ids (refield every m None e) ≡ marked (ids e)
@@ -150,7 +151,7 @@ constant-scalar (Some (a_variable t)) s h = absurd (cc)
 constant-scalar (Some (a_procedure t)) s h = absurd (cc)
 constant-scalar (Some (a_standard t)) s h = absurd (cc)
 
--- names mean constants alone
+-- the meanings with constants only
 abbrev alone : Typed Name → Meanings Name Shape (Unit {0})
 alone m = constants_only m
 
@@ -228,7 +229,7 @@ constant_section-plain : (env : TypeEnvironment Name) (cs : Tree Name (maybe con
 constant_section-plain env none after h = refl
 constant_section-plain env (one (declares_constants cs)) after h = constants-plain env cs after h
 
--- ---- types as they are written: each field that is declared is rewritten
+-- ---- written types: each declared field is rewritten
 
 further-marked : (k : ℕ) (ns : Tree Name (items further_name)) → identifiers role.FieldName (with_names (λ x. x) (every (Some k)) ns) ≡ marked (identifiers role.FieldName ns)
 further-marked k end = refl
@@ -350,7 +351,7 @@ module-marked : (m : Tree Name module_text) → fits_over as_names m ≡ true �
 unfolding fits_over
 module-marked (is_module x b closing) h = ap (λ z. (role.ModuleName, x) ∷ z) (both mark_at (ids b) ((role.ModuleName, closing) ∷ []) (block-marked (outermost as_names) 0 b h) refl)
 
--- ---- what records declare is written alike, whatever is written where no record is known
+-- ---- the declarations of records have the same spelling, whatever is used for an unknown record
 
 abbrev by_record : FieldNames
 by_record = of_records (λ k x. again x)
@@ -377,7 +378,7 @@ others_are h = cc
 abbrev owner_writes : Scanned → (ℕ → Option ℕ) → ℕ → Name
 owner_writes source table i = of_records (λ k x. again x) (table i) (text_at source i)
 
--- an identifier has an owner exactly where it is written as a field
+-- states that an identifier has an owner exactly if it is in the place of a field
 abbrev Matches : Role → Option ℕ → Type 0
 Matches role.FieldName None = ⊥
 Matches role.FieldName (Some k) = Unit {0}
@@ -396,7 +397,8 @@ matched x role.ClosingName (Some k) h = longer x h
 matched x role.ModuleName None h = tt
 matched x role.ModuleName (Some k) h = longer x h
 
--- the owners of identifiers beside their roles: those that have one are those that are written as fields
+-- the owners of identifiers and their roles: the identifiers with an owner are the ones in the
+-- places of fields
 listed_fields : (source : Scanned) (table : ℕ → Option ℕ) (xs : List (ℕ × Option ℕ)) (ys : List (Role × ℕ)) → tokens xs ≡ names_only ys → HasOwners table xs
     → map mark_at (map (beside_role (text_at source)) ys) ≡ map (beside_role (owner_writes source table)) ys → tokens_of (fields_among xs) ≡ written_fields ys
 listed_fields source table [] [] e has h = refl

@@ -9,7 +9,8 @@ use Rattle.ob0_language_types.specs.Typing.{groups_constructors}
 use Rattle.ob0_types_fields.specs.declared.field_name.FieldName.{FieldName}
 use Rattle.ob0_types_fields.specs.Owned.{marked_groups, marked_names}
 
--- the names that are left, and those that were noted
+-- states that the fields so far, with the fields of the remaining names, are the fields of all
+-- names
 pub record OverNames (r : ℕ) (start : List FieldName) (xs : List ℕ) (done : ℕ) (out : List FieldName) : Type 0 where
   pub so_far : out ++ marked_names r (drop done xs) ≡ start ++ marked_names r xs
 
@@ -20,7 +21,7 @@ pub further_listed : (xs : List ℕ) → further_names (items_of then_name xs) �
 further_listed [] = refl
 further_listed (x ∷ xs) = ap (λ z. x ∷ z) (further_listed xs)
 
--- the groups that are left, and those that were gone over: what is found, and how many ARRAY and RECORD there are
+-- states the same for groups: the fields found, and the number of words ARRAY and RECORD
 pub record OverGroups (r k : ℕ) (start : List FieldName) (xs : List Fields) (done : ℕ) (out : List FieldName) (next : ℕ) : Type 0 where
   pub so_far : out ++ marked_groups r next (items_of further_fields_of_group (drop done xs)) ≡ start ++ marked_groups r k (items_of further_fields_of_group xs)
   pub counted : next + groups_constructors (items_of further_fields_of_group (drop done xs)) ≡ k + groups_constructors (items_of further_fields_of_group xs)

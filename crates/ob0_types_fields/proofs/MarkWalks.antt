@@ -1,4 +1,4 @@
--- A walk over the items of a list, which puts what is selected in each after what was found before.
+-- A walk over the items of a list, which appends the fields that each item selects.
 use Rattle.std.proofs.Common.{◌≡◌, ℕ, ◌≤◌, List, ◌++◌, length, drop, sym, ap, ◌∙◌, append_assoc, append-nil}
 use Rattle.std.proofs.lemmas.List.{drop_all}
 use Rattle.ob0_tree.specs.Tree.{Tree, Item, item}
@@ -9,7 +9,8 @@ use Rattle.ob0_types_fields.specs.declared.field_name.FieldName.{FieldName}
 use Rattle.ob0_types_fields.specs.Owned.{marked_tree}
 use Rattle.ob0_language_values.specs.Values.{Shape}
 
--- what was found, with the identifiers of the items that are left, is what was there at first with those of all
+-- states that the fields so far, with the fields of the remaining items, are the fields at the
+-- start with the fields of all items
 pub record Walking {A : Type 0} {i : Item} (f : A → Tree ℕ (item i)) (m : Meanings ℕ Shape Signature) (start : List FieldName) (xs : List A) (done : ℕ) (out : List FieldName) : Type 0 where
   pub so_far : out ++ marked_tree m (items_of f (drop done xs)) ≡ start ++ marked_tree m (items_of f xs)
 

@@ -1,4 +1,4 @@
--- What the walk finds are the fields among a module's identifiers.
+-- The walk finds the fields among a module's identifiers.
 use Rattle.std.proofs.Common.{◌≡◌, ℕ, suc, ◌+◌, List, [], ◌∷◌, ◌++◌, map, Some, None, Option, option_and_then, refl, ap, ◌∙◌, append-nil}
 use Rattle.ob0_tree.specs.declared.tree.Role.{Role}
 use Rattle.ob0_tree.specs.declared.tree.Role.TheVariants as role

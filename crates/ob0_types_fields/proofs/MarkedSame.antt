@@ -1,4 +1,5 @@
--- The fields that statements select are the same where the names at their tokens mean the same and are written alike.
+-- Statements select the same fields if the names at their tokens have the same meanings and
+-- spellings.
 use Rattle.std.proofs.Common.{◌≡◌, ℕ, ◌+◌, List, ◌++◌, Option, option_and_then, refl, ap}
 use Rattle.ob0_tree.specs.Tree.{Sort, Tree, adds, array_type, assigns, begins, block, branches, calls, compares, declares, declares_constant, declares_constants, declares_procedure, declares_type, declares_types, declares_variable, declares_variables, designator, else_branch, elsif_branch, empty, end, field, has_body, index, integer, is_module, item, items, listed, more, multiplies, named_type, negation, no_arguments, no_fields, no_formals, none, one, parenthesised, procedure, product, record_type, relates, repeat_loop, runs, selector, some_arguments, some_fields, some_formals, sum, then_argument, then_fields, then_name, then_section, then_statement, value_section, variable_section, while_loop}
 use Rattle.ob0_language_names.specs.Parts.{formal_sections, section_types, section_variables}
@@ -9,7 +10,7 @@ use Rattle.ob0_language_values.specs.Values.{Shape, integer_shape}
 use Rattle.ob0_scope_table.specs.BodyAlone.{EachToken}
 use Rattle.ob0_types_fields.specs.Owned.{marked_block, marked_field, marked_path, marked_procedure, marked_procedures, marked_sections, marked_tree, marked_types, marked_variables, owner}
 
--- names at a token mean the same, and are written alike
+-- states that the names at a token have the same meaning and spelling
 pub record MeansSame {Q : Type 0} (m n : Meanings ℕ Shape Q) (token : ℕ) : Type 0 where
   pub object : m.object_for token ≡ n.object_for token
   pub written : m.written token ≡ n.written token
@@ -77,7 +78,7 @@ module _ {Q : Type 0} (m n : Meanings ℕ Shape Q) where
     tree_same (has_body a b) h = refl
     tree_same (is_module a b c) h = refl
 
-    -- from a value of the same type on
+    -- from a value of the same type
     path_same : (s t : Option Shape) → s ≡ t → (path : Tree ℕ (items selector)) → EachToken Same path → marked_path m s path ≡ marked_path n t path
     path_same s t e end h = refl
     path_same s t e (more (field x) rest) h =

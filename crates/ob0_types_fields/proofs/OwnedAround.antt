@@ -1,4 +1,5 @@
--- The identifiers of a module before and after the statements to which a way leads: these are those of the module without them.
+-- The identifiers of a module before and after the statements to which a way leads: together they
+-- are the identifiers of the module without these statements.
 use Rattle.std.proofs.Common.{◌≡◌, ℕ, zero, suc, ◌+◌, List, [], ◌∷◌, ◌++◌, None, Option, refl, ap, ◌∙◌, sym, append_assoc, append-nil}
 use Rattle.ob0_tree.specs.Tree.{Tree, block, declares, declares_procedure, end, has_body, is_module, item, items, module_text, more, procedure}
 use Rattle.ob0_language_types.specs.Declarations.{after_formals, after_types, after_variables, block_constructors, formals_constructors, procedure_constructors, procedures_constructors, types_constructors, variables_constructors}
@@ -8,7 +9,7 @@ use Rattle.ob0_language_values.specs.Values.{Shape}
 use Rattle.ob0_scope_table.specs.BodyReplaced.{Way, block_without, body_among, body_at, body_in, body_inside, closing_among, closing_at, closing_in, closing_inside, procedure_without, procedures_without, without}
 use Rattle.ob0_types_fields.specs.Owned.{owned, owned_block, owned_formals, owned_module, owned_procedure, owned_procedures, owned_type_section, owned_variable_section, unowned}
 
--- ---- without statements there are as many ARRAY and RECORD
+-- ---- leaving out statements doesn't change the number of words ARRAY and RECORD
 
 module _ {N : Type 0} where
   mutual
@@ -28,15 +29,15 @@ module _ {N : Type 0} where
 
 -- ---- before and after
 
--- identifiers with those of some statements among them, and these identifiers without them: a closing name follows the
--- statements
+-- identifiers with the identifiers of some statements among them, and the list without those; a
+-- closing name follows the statements
 pub record IsAround (all rest inner : List (ℕ × Option ℕ)) (closing : ℕ) : Type 0 where
   pub before : List (ℕ × Option ℕ)
   pub after : List (ℕ × Option ℕ)
   pub whole : all ≡ before ++ (inner ++ ((closing, None) ∷ after))
   pub left : rest ≡ before ++ ((closing, None) ∷ after)
 
--- with the same in front of both
+-- the same identifiers in front of both
 in_front : (all rest inner front : List (ℕ × Option ℕ)) (closing : ℕ) → IsAround all rest inner closing → IsAround (front ++ all) (front ++ rest) inner closing
 in_front all rest inner front closing h = record {
   before = front ++ h.before;
@@ -45,7 +46,7 @@ in_front all rest inner front closing h = record {
   left = ap (λ l. front ++ l) h.left ∙ sym (append_assoc front h.before ((closing, None) ∷ h.after));
 }
 
--- with the same after both
+-- the same identifiers after both
 followed_by : (all rest inner back : List (ℕ × Option ℕ)) (closing : ℕ) → IsAround all rest inner closing → IsAround (all ++ back) (rest ++ back) inner closing
 followed_by all rest inner back closing h = record {
   before = h.before;

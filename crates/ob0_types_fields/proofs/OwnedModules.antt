@@ -1,10 +1,11 @@
--- A module with its fields under other names is the module with each token written by a table of owners: at each place the
--- environment says of a name what its declaration is.
--- One induction over blocks and procedures takes a list of names with their ordinals and objects, which is at once the
--- environment by name, that by ordinal, and the scope. It gives that the bindings of the part have descending ordinals
--- (`Descends`), and, where each of them is what its ordinal means (`Right`), the part with fields under other names.
--- Descending bindings are each what is found at their ordinal (`bound_right`), so the whole module's bindings are
--- `Right`, and each part's by splitting lists.
+-- Rewriting the fields of a module is the same as rewriting each token according to a table of
+-- owners: at each place, the environment gives a name the object of its declaration.
+-- One induction over blocks and procedures takes a list of names with their ordinals and objects.
+-- That list represents the environment by name, the environment by ordinal and the scope. The
+-- induction shows that the bindings of the part have descending ordinals (`Descends`). It also
+-- gives the part with its fields rewritten, if each binding has the object of its ordinal
+-- (`Right`). In descending bindings each one is found at its ordinal (`bound_right`), so the whole
+-- module's bindings are `Right`, and splitting the lists gives the same for each part.
 use Rattle.std.proofs.Common.{◌≡◌, ℕ, suc, ◌+◌, Bool, true, false, ◌&&◌, if◌then◌else◌, List, [], ◌∷◌, ◌++◌, map, Some, None, Option, option_map, option_and_then, unwrap_or, refl, sym, ap, ◌∙◌, subst, arith, le_refl, le_of_lt, lit<, true≢false, append-nil}
 use Rattle.std.proofs.lemmas.Bool.{and_parts}
 use Rattle.ob0_tree.specs.Tree.{Tree, block, body, constants, declares, declares_procedure, end, formals, has_body, is_module, item, items, Item, mapped, maybe, more, occurrences, procedure, type_names, variables}
@@ -43,7 +44,7 @@ use Rattle.ob0_language_fields.proofs.NamesMeant.{object_in}
 use Rattle.ob0_types_fields.proofs.Selecting.{body-selects, here}
 use Rattle.ob0_types_fields.proofs.DeclaredInOrder.{Descends, Grown, Right, block_grows, bound_right, descends_join, heading_grows, right_join, right_split}
 
--- what fits was declared, part by part
+-- the parts of a declaration that fits
 
 held : {A : Type 0} (o : Option A) (test : A → Bool) → some_and o test ≡ true → (a : A) × (o ≡ Some a) × (test a ≡ true)
 held None test h = absurd (true≢false (sym h))
@@ -146,7 +147,7 @@ entered noted j k below statements fs b closing rest h =
     (ap (typed_parameters as_labels env j) (sym (formals-section as_names (as_label as_names) (typed_scope noted) (suc k) fs)) ∙ p.1) in
     record { listed = f.0; by_name = f.1; names = f.3; parts = subst (FitParts env j statements (declared k) fs' b closing rest) (sym f.2) p.2 }
 
--- what a name is bound to is what its ordinal means
+-- the object that a name is bound to is the object of its ordinal
 object-right : (objects : ℕ → Option (Object Shape Signature)) (noted : TypeNoted Name) → Right objects (typed_by_ordinal noted) → (x : Name)
     → newest (from_binding as_names (typed_by_name noted) x) ≡ option_and_then objects (ordinal_of as_names (typed_scope noted) x)
 object-right objects [] right x = refl
@@ -171,7 +172,7 @@ pub bind_typed-append : (ps : List (TypedParameter Label)) (first env : TypeEnvi
 bind_typed-append [] first env = refl
 bind_typed-append (p ∷ ps) first env = bind_typed-append ps ((p.name, a_variable p.formal.shape) ∷ first) env
 
--- what is noted after a procedure's heading, and inside the procedure
+-- the names after a procedure's heading, and inside the procedure
 abbrev own_of : TypeNoted Name → ℕ → Name → List (TypedParameter Name) → TypeNoted Name
 own_of noted k x listed = record { name = x; ordinal = k; object = a_procedure (map (λ p. p.formal) listed) } ∷ noted
 
@@ -300,7 +301,7 @@ module _ (l : ℕ → Name → Name) (at : ℕ → Option ℕ) (text : ℕ → N
             λ i. has_body (declares (unowned-all l at text value cs s1.0 i) (type_section-owned l at text value j ts s2.0 i) (variables-written i) (procedures-written i)) (body-written i);
       }
 
-  -- a procedure, after its block and those that follow
+  -- a procedure, after its block and the procedures that follow
   record Entry (noted : TypeNoted Name) (j k : ℕ) (statements : Tree Label (maybe body)) (x : ℕ) (fs : Tree ℕ (maybe formals)) (b : Tree ℕ block) (closing : ℕ) (rest : Tree ℕ (items procedure)) : Type 0 where
     pub listed : List (TypedParameter Name)
     pub pars : parameters_of (typed_by_name noted) j (mapped text value (declares_procedure x fs b closing)) ≡ listed
@@ -428,7 +429,7 @@ outermost-descends = (6, refl, omega arith, (5, refl, omega arith, (4, refl, ome
 outermost-below : TypedBelow 7 (typed_outermost as_names)
 outermost-below = (lit< tt, (lit< tt, (lit< tt, (lit< tt, (lit< tt, (lit< tt, (lit< tt, tt)))))))
 
--- what each declaration of a well-typed module binds is what its ordinal means
+-- each binding of a well-typed module has the object of its ordinal
 pub bindings_right : (r : Resolution) → WellTyped (named_tree_of r.module_read) → Right (declared_object (named_tree_of r.module_read)) (module_bindings as_labels (numbered (named_tree_of r.module_read)))
 unfolding WellTyped fits_over
 bindings_right r fits =

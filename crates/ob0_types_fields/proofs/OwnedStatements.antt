@@ -1,4 +1,5 @@
--- Statements with their fields under other names are those with each token written by a table of owners.
+-- Rewriting the fields in statements is the same as rewriting each token according to a table of
+-- owners.
 use Rattle.std.proofs.Common.{◌≡◌, ℕ, List, [], ◌∷◌, ◌++◌, None, Option, option_and_then, refl, ap, ◌∙◌, sym}
 use Rattle.ob0_tree.specs.declared.tree.Role.{Role}
 use Rattle.ob0_tree.specs.declared.tree.Role.TheVariants as role
@@ -16,7 +17,7 @@ pub owners_split : (at : ℕ → Option ℕ) (xs ys : List (ℕ × Option ℕ)) 
 owners_split at [] ys h = (tt, h)
 owners_split at (x ∷ xs) ys h = let rest = owners_split at xs ys h.1 in ((h.0, rest.0), rest.1)
 
--- at none of these identifiers is a field
+-- states that no identifier in a list is a field's
 abbrev AllNone : (ℕ → Option ℕ) → List (Role × ℕ) → Type 0
 AllNone at [] = Unit {0}
 AllNone at (x ∷ xs) = (at x.1 ≡ None) × AllNone at xs
@@ -137,7 +138,7 @@ unowned-mapped l at text value r (is_module a b c) h =
 pub unowned-all : (l : ℕ → Name → Name) (at : ℕ → Option ℕ) (text : ℕ → Name) (value : ℕ → ℕ) {s : Sort} (t : Tree ℕ s) → HasOwners at (unowned t) → mapped text value t ≡ mapped (λ j. of_records l (at j) (text j)) value t
 unowned-all l at text value t h = unowned-mapped l at text value role.Declaring t (all_none at (identifiers role.Declaring t) h)
 
--- names that mean values of the same types, by name and by token
+-- states that names have values of the same types, by name and by token
 abbrev pub Alike : {P : Type 0} → Typed Name → Meanings ℕ Shape P → List ℕ → Type 0
 Alike meaning m [] = Unit {0}
 Alike meaning m (x ∷ xs) = (object_type (meaning.object_for (m.written x)) ≡ object_type (m.object_for x)) × Alike meaning m xs
@@ -172,7 +173,8 @@ following-mapped m value s (declares_variables a) = refl
 following-mapped m value s (declares_procedure a b c d) = refl
 following-mapped m value s (begins a) = refl
 
--- each selector that is a name with the ordinal of the record before it, whether or not that has such a field
+-- each selected name with the ordinal of the record before it, whether or not that record has the
+-- field
 abbrev pub recorded : {P : Type 0} {s : Sort} → Meanings ℕ Shape P → Option Shape → Tree ℕ s → List (ℕ × Option ℕ)
 recorded m s none = []
 recorded m s (one a) = recorded m None a
@@ -301,7 +303,7 @@ recorded-mapped l at meaning m value s (begins a) h e = λ i. begins (recorded-m
 recorded-mapped l at meaning m value s (has_body a b) h e = unowned-all l at m.written value (has_body a b) h
 recorded-mapped l at meaning m value s (is_module a b c) h e = unowned-all l at m.written value (is_module a b c) h
 
--- it hangs on the types of values alone
+-- states that the values of names have the same types; the result depends on nothing else
 abbrev pub SameTypes : {P Q : Type 0} → Meanings ℕ Shape P → Meanings ℕ Shape Q → List ℕ → Type 0
 SameTypes m n [] = Unit {0}
 SameTypes m n (x ∷ xs) = (object_type (m.object_for x) ≡ object_type (n.object_for x)) × SameTypes m n xs

@@ -1,4 +1,5 @@
--- Each identifier of a module is listed with its owner once, in text order; so a table with the fields written into it has them all.
+-- Each identifier of a module is listed once with its owner, in text order. So a table after
+-- entering the fields has all owners.
 use Rattle.std.proofs.Common.{◌≡◌, ◌≢◌, ℕ, suc, ◌+◌, ◌<◌, ◌≤◌, List, [], ◌∷◌, ◌++◌, map, length, replicate, set, Some, None, Option, refl, ap, ◌∙◌, sym, subst, arith, le_refl, get_or-set_other, get_or-set_same}
 use Rattle.std.proofs.Math.ListN.{length-set}
 use Rattle.std.proofs.lemmas.List.{get_or-replicate, length-replicate, map-append}
@@ -179,7 +180,7 @@ pub ascends_to : (low : ℕ) (xs : List ℕ) (high : ℕ) → Ascending low xs h
 ascends_to low [] high h = h
 ascends_to low (x ∷ xs) high h = let later = ascends_to (x + 1) xs high h.1 in omega (arith, h.0, later)
 
--- what is below stays
+-- entries below are unchanged
 kept_below : (xs : List (ℕ × Option ℕ)) (table : List (Option ℕ)) (low high i : ℕ) → Ascending low (tokens xs) high → i < low → ordinal_in (with_fields_at table (fields_among xs)) i ≡ ordinal_in table i
 kept_below [] table low high i ascend below = refl
 kept_below ((x, None) ∷ xs) table low high i ascend below = kept_below xs table (x + 1) high i ascend.1 (omega (arith, ascend.0, below))
@@ -204,7 +205,7 @@ fields_are_identifiers ((x, Some k) ∷ xs) table low high ascend within vacant 
       fields_are_identifiers xs next (x + 1) high ascend.1 still (λ i l u. let other : i ≢ x = omega (arith, l) in get_or-set_other table x i (Some k) None other ∙ vacant i (omega (arith, l, ascend.0)) u),
     )
 
--- the empty table, one entry a token, with the fields of a module written into it
+-- the empty table, with one entry per token, after entering the fields of a module
 abbrev pub with_owners : Resolution → List (Option ℕ)
 with_owners r = with_fields_at (replicate (length r.module_read.source.tokens) None) (fields_among (owned_tokens r))
 

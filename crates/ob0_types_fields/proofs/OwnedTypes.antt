@@ -1,4 +1,5 @@
--- Declarations with their fields under other names are those with each token written by a table of owners.
+-- Rewriting the fields in declarations is the same as rewriting each token according to a table of
+-- owners.
 use Rattle.std.proofs.Common.{◌≡◌, ℕ, suc, ◌+◌, ◌++◌, map, Some, Option, refl, ap, ◌∙◌, sym}
 use Rattle.ob0_tree.specs.Tree.{Tree, item, items, maybe, array_type, block, declares, declares_procedure, declares_type, declares_types, declares_variable, declares_variables, end, fields, formals, further_fields, further_name, further_section, has_body, listed, mapped, more, named_type, names, no_fields, no_formals, none, one, procedure, record_type, section, some_fields, some_formals, then_fields, then_name, then_section, type_name, type_names, value_section, variable, variable_section, variables, written_type}
 use Rattle.ob0_language_names.specs.Mapping.{with_names}
@@ -11,7 +12,7 @@ use Rattle.ob0_types_fields.specs.Owners.{of_records}
 use Rattle.ob0_types_fields.specs.Owned.{HasOwners, owned_formals, owned_group, owned_groups, owned_section, owned_sections, owned_type, owned_type_section, owned_types, owned_variable_section, owned_variables, unowned}
 use Rattle.ob0_types_fields.proofs.OwnedStatements.{owners_split, unowned-all}
 
--- how many ARRAY and RECORD are in a tree doesn't hang on what represents its names
+-- the number of words ARRAY and RECORD in a tree doesn't depend on the representation of its names
 module _ {M : Type 0} (f : ℕ → M) (g : ℕ → ℕ) where
   mutual
     pub counted_type : (t : Tree ℕ written_type) → constructors (mapped f g t) ≡ constructors t

@@ -1,5 +1,4 @@
--- A module with its fields under other names, without some statements: what these are changes nothing of what is written
--- elsewhere.
+-- Rewriting the fields of a module without some statements: these statements don't affect the rest.
 use Rattle.std.proofs.Common.{◌≡◌, ℕ, zero, suc, ◌+◌, [], ◌∷◌, None, refl, sym, ap}
 use Rattle.ob0_language_fields.specs.Fields.{FieldNames, parameters_of, refield, refield_block, refield_formals, refield_procedure, refield_procedures, refield_type_section, refield_variable_section, refielded, types_after_heading, types_after_procedures, types_after_variables}
 use Rattle.ob0_language_names.specs.Names.{Name, as_names}
@@ -10,7 +9,7 @@ use Rattle.ob0_scope_table.specs.BodyReplaced.{Way, block_without, procedures_wi
 use Rattle.ob0_tree.specs.Tree.{Tree, block, declares, declares_procedure, end, has_body, is_module, item, items, module_text, more, procedure}
 use Rattle.ob0_types_fields.proofs.OwnedAround.{procedure_counted}
 
--- what names mean after procedures
+-- the meanings of names after procedures
 same_after : (env : TypeEnvironment Name) (k j : ℕ) (way : Way) (ps : Tree Name (items procedure)) → types_after_procedures env k (procedures_without j way ps) ≡ types_after_procedures env k ps
 same_after env k zero way end = refl
 same_after env k (suc j) way end = refl

@@ -1,7 +1,7 @@
--- In a well-typed module each identifier of a field is of a field that has a type.
--- A field that is selected is declared, so only what records declare is gone through. `Has made k ordinal x` says that
--- of the types `made`, the first of which has the ordinal k, the one with this ordinal has the field x. A record
--- declares a field once, so the fields of a group are found from the whole record.
+-- In a well-typed module the field of each identifier has a type. A selected field is declared, so
+-- only the declarations of records are considered. `Has made k ordinal x` states that the type with
+-- this ordinal has the field x; the first of the types `made` has the ordinal k. A record declares
+-- a field once, so the fields of a group can be looked up in the whole record.
 use Rattle.std.proofs.Common.{◌≡◌, ◌⊎◌, inl, inr, ℕ, suc, ◌+◌, ◌<◌, ◌==◌, Bool, true, false, ◌&&◌, ◌||◌, not, if◌then◌else◌, nat_le, List, [], ◌∷◌, ◌++◌, map, length, get_or, is_some, Some, None, Option, option_map, option_and_then, refl, sym, ap, ◌∙◌, subst, true≢false, arith, length-append, eqb-true}
 use Rattle.std.proofs.lemmas.Bool.{and_parts}
 use Rattle.std.proofs.lemmas.List.{get_or-append-add, get_or_append_left}
@@ -34,7 +34,7 @@ use Rattle.ob0_types_fields.proofs.DeclaredTypes.{BlockIsTyped, Denotes, Formals
 use Rattle.ob0_types_fields.proofs.FieldLabels.{AllWritten, BlockPlain, GroupPlain, GroupsPlain, IsWritten, ProcedurePlain, ProceduresPlain, SectionsPlain, TypePlain, TypesPlain, VariablesPlain, numbered-plain}
 use Rattle.ob0_types_fields.proofs.FieldsDeclared.{fields_declared-holds, or_right}
 
--- ---- own of a record
+-- ---- the fields of the record itself
 
 among-left : (y : Name) (xs ys : List Name) → is_among y xs ≡ true → is_among y (xs ++ ys) ≡ true
 among-left y [] ys h = absurd (true≢false (sym h))
@@ -172,9 +172,10 @@ module _ (r : Resolution) where
     procedure-counted (declares_procedure x fs b closing) =
         length-append (constructed (meaning r) None fs) (constructed (meaning r) None b) ∙ (λ i. formal_section-counted fs i + block-counted b i)
 
--- ---- fields of the types that are constructed
+-- ---- fields of the constructed types
 
--- Where the first of these types has the ordinal k, the type with this ordinal has a field of the name.
+-- States that the type with this ordinal has a field with the name; the first of these types has
+-- the ordinal k.
 pub record Has (made : List (Option Shape)) (k ordinal : ℕ) (x : Name) : Type 0 where
   pub place : ℕ
   pub is_at : ordinal ≡ k + place
@@ -218,7 +219,7 @@ module _ (r : Resolution) where
   abbrev value : ℕ → ℕ
   value x = value_at r.module_read.source x
 
-  -- the text of a field's name
+  -- the spelling of a field's name
   written-text : (x : ℕ) → IsWritten (label_in r x) → label_text (label_in r x) ≡ text x
   written-text x h = go (ordinal_in r.ordinals x) h
     where
@@ -237,7 +238,7 @@ module _ (r : Resolution) where
   abbrev HasField : List (Option Shape) → ℕ → FieldName → Type 0
   HasField made k x = Has made k x.owner (text x.token)
 
-  -- one of the record itself, or of a type within
+  -- a field of the record itself, or of a type within it
   abbrev InRecord : Shape → ℕ → List (Option Shape) → ℕ → FieldName → Type 0
   InRecord s j made k x = ((x.owner ≡ j) × (is_some (typed_field_named s (text x.token)) ≡ true)) ⊎ HasField made k x
 
@@ -293,11 +294,12 @@ module _ (r : Resolution) where
       further-have rest (text x ∷ []) s has,
     )
 
-    -- the fields of a group are found from the whole record as from the group on
+    -- the fields of a group are the same in the whole record as in the record from this group
+    -- onwards
     abbrev Agree : List Name → FieldShapes → Type 0
     Agree own fs = (y : Name) → is_among y own ≡ true → shape_of_field all y ≡ shape_of_field fs y
 
-  -- after a group a name is found as from those that follow, where it isn't one of the group's
+  -- a name that isn't in a group is found in the fields after it
   following-group : (env : TypeEnvironment Label) (k : ℕ) (later fs : FieldShapes) (g : Tree ℕ fields) → denoted_group (meanings as_labels env) k later (in_labels r g) ≡ Some fs → GroupPlain (in_labels r g)
       → (others : List Name) → are_distinct (group_fields (mapped text value g) ++ others) ≡ true → (y : Name) → is_among y others ≡ true → shape_of_field fs y ≡ shape_of_field later y
   unfolding denoted
@@ -372,7 +374,7 @@ module _ (r : Resolution) where
 
   -- ---- declarations
 
-  -- the type that is declared is what the text of its type denotes
+  -- the declared type is the one that its written type denotes
   declared-have : (t : Option Shape) (u : Tree ℕ written_type) (s : Shape) → t ≡ Some s → Denotes r u s → TypePlain (in_labels r u) → fields_once (mapped text value u) ≡ true → (k : ℕ) → AllByRecursion (HasField (constructed (meaning r) t u) k) (marked_type k u)
   declared-have t u s is d plain once k =
       subst (λ z. AllByRecursion (HasField (constructed (meaning r) z u) k) (marked_type k u)) (sym is) (type-have d.env d.ordinal u s d.denotes plain once k)

@@ -1,4 +1,4 @@
--- Fields that are written over others at their tokens.
+-- Fields written over others at the same tokens.
 use Rattle.std.proofs.Common.{◌≡◌, ℕ, zero, suc, ◌+◌, ◌<◌, ◌≤◌, true, false, nat_lt, List, [], ◌∷◌, ◌++◌, length, get_or, slice_get, Option, Some, None, unwrap_or, ⊎_elim, refl, sym, ap, ◌∙◌, subst, arith, append_assoc, length-append}
 use Rattle.std.proofs.Math.ListN.{get_or-map}
 use Rattle.std.proofs.Math.Seq.{set-append_seam}
@@ -14,7 +14,7 @@ pub past_end : (xs : List FieldName) (k : ℕ) (ys : List FieldName) → length 
 past_end xs k [] le = refl
 past_end xs k (y ∷ ys) le = ap (λ l. written_over l (k + 1) ys) (set_past xs k y le) ∙ past_end xs (k + 1) ys (omega (arith, le))
 
--- as many as there are behind some
+-- the same number of fields after some others
 over_as_many : (before old others after : List FieldName) → length old ≡ length others → written_over (before ++ (old ++ after)) (length before) others ≡ before ++ (others ++ after)
 over_as_many before [] [] after e = refl
 over_as_many before [] (y ∷ ys) after e = absurd (omega (arith, e))
@@ -44,7 +44,7 @@ tokens_rise (x ∷ xs) low top h zero (suc j) d le less =
     omega (arith, later, here)
 tokens_rise (x ∷ xs) low top h (suc i) (suc j) d le less = tokens_rise xs (x.token + 1) top h.1 i j d (omega (arith, le)) (omega (arith, less))
 
--- those before a token that is behind some
+-- the tokens before a token in the middle
 below_seam : (before : List ℕ) (x : ℕ) (rest : List ℕ) (low top i d : ℕ) → Ascending low (before ++ x ∷ rest) top → i < length before → get_or (before ++ x ∷ rest) i d < x
 below_seam [] x rest low top i d h less = absurd (omega (arith, less))
 below_seam (y ∷ before) x rest low top zero d h less = from_start before (y + 1) h.1 (omega arith)
@@ -58,7 +58,7 @@ at_seam : (before : List ℕ) (x : ℕ) (rest : List ℕ) (d : ℕ) → get_or (
 at_seam [] x rest d = refl
 at_seam (y ∷ before) x rest d = at_seam before x rest d
 
--- ---- where they are written
+-- ---- the position at which they are written
 
 module _ (all before others after : List FieldName) (h : HasOthersWithin all before others after) where
   parts_same : tokens_of h.old ++ tokens_of after ≡ tokens_of others ++ tokens_of after
@@ -78,13 +78,14 @@ module _ (all before others after : List FieldName) (h : HasOthersWithin all bef
   pub rise : IsNonDecreasingBy (λ x. x.token) all
   rise = tokens_rise all 0 h.top h.in_order
 
-  -- nothing is written where there is none
+  -- nothing is written if there are none
   none_over : others ≡ [] → all ≡ before ++ (others ++ after)
   none_over none =
       let empty : length h.old ≡ 0 = as_many ∙ ap length none in
       h.is ∙ (λ i. before ++ ((nil_from_length h.old empty ∙ sym none) i ++ after))
 
-  -- the first of them is at a place of the list: those before it are before its token, and it isn't
+  -- the first of them is at a position of the list: the fields before have lower tokens, and it
+  -- doesn't
   module _ (y : FieldName) (ys : List FieldName) (e : others ≡ y ∷ ys) where
     tokens_are : tokens_of all ≡ tokens_of before ++ y.token ∷ (tokens_of ys ++ tokens_of after)
     tokens_are =

@@ -1,5 +1,4 @@
--- The type of each ARRAY and RECORD of a module,
--- and the field that an identifier is of, with its type.
+-- The type of each ARRAY and RECORD of a module, and the field of an identifier with its type.
 -- Rule: docs/LANGUAGE.md, Types 1 (each ARRAY and RECORD is a type of its own);
 -- docs/PROTOCOL.md, Requests on documents 4.
 use Rattle.std.specs.Prelude.{◌≡◌, ℕ, true, is_some, List, [], ◌∷◌, ◌++◌, get_or, Option, None, option_and_then, option_map}
@@ -24,8 +23,9 @@ use Rattle.ob0_types_fields.specs.Owned.{token_objects}
 abbrev pub first_listed : {N : Type 0} → Tree N names → N
 first_listed (listed x rest) = x
 
--- The types that the ARRAY and RECORD of a tree construct, in text order. `t` is the type that the
--- tree denotes, or that it is a part of; names that are declared together have one type.
+-- The types that the words ARRAY and RECORD of a tree construct, in text order. `t` is the type
+-- that the tree denotes, or of which it is a part. Names that are declared together have the same
+-- type.
 abbrev pub constructed : {N P : Type 0} {s : Sort}
     → Meanings N Shape P
     → Option Shape
@@ -59,7 +59,7 @@ constructed m t (has_body ds b) = constructed m t ds
 constructed m t (is_module name b closing) = constructed m t b
 constructed m t other = []
 
--- the type that the ARRAY or RECORD with the ordinal k constructs, by what declarations are
+-- the type that the ARRAY or RECORD with the ordinal k constructs, from the objects of declarations
 abbrev pub constructed_by : (ℕ → Option (Object Shape Signature))
     → Resolution
     → ℕ
@@ -72,14 +72,14 @@ pub record TypedField : Type 0 where
   pub field : FieldOf
   pub shape : Shape
 
--- the field of a name that a type has
+-- the field of a type that has a name
 abbrev pub typed_field_named : Shape → Name → Option TypedField
 typed_field_named s x =
     option_and_then (λ f. option_map (λ t. record { field = f; shape = t }) (field_type s x))
     (field_selected s x)
 
--- the field that an identifier is of, by what declarations are:
--- as the RECORD has it that declares it
+-- the field of an identifier, from the objects of declarations; it is looked up in the RECORD that
+-- declares it
 abbrev pub typed_field_by : (ℕ → Option (Object Shape Signature))
     → Resolution
     → FieldName
@@ -88,12 +88,11 @@ typed_field_by objects r x =
     option_and_then (λ s. typed_field_named s (text_at r.module_read.source x.token))
     (constructed_by objects r x.owner)
 
--- the field that an identifier of a module is of
+-- the field of an identifier of a module
 abbrev pub typed_field : Resolution → FieldName → Option TypedField
 typed_field r x = typed_field_by (declared_object (named_tree_of r.module_read)) r x
 
--- In a well-typed module each identifier that declares or selects a field is
--- of a field that has a type.
+-- States that, in a well-typed module, the field of each identifier has a type.
 abbrev pub FieldsTyped : Type 0
 FieldsTyped =
     (r : Resolution) → IsResolution r → WellTyped (named_tree_of r.module_read)

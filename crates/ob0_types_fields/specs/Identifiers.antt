@@ -1,5 +1,5 @@
--- The identifiers of one field: the one that declares it, and those that select it.
--- The names of these trees are tokens.
+-- The identifiers of one field: the one that declares it, and the ones that select it. The names of
+-- these trees are tokens.
 -- Rule: docs/PROTOCOL.md, Requests on documents 4 to 6.
 use Rattle.std.specs.Prelude.{◌≡◌, ℕ, ◌+◌, ◌==◌, ◌&&◌, Bool, true, not, is_some, List, [], ◌∷◌, ◌++◌, length, map, Option, Some, None, if◌then◌else◌}
 use Rattle.std.specs.List.{All, list_any, position_from}
@@ -20,15 +20,15 @@ use Rattle.ob0_types_fields.specs.declared.field_name.FieldName.{FieldName}
 use Rattle.ob0_types_fields.specs.Owned.{fields_among, marked_sections, marked_types, marked_variables, owned_tokens}
 use Rattle.ob0_language_fields.specs.Renaming.{field_renamed, is_duplicate_field}
 
--- the identifiers of a module that are fields, in text order
+-- the identifiers of fields in a module, in text order
 abbrev pub field_identifiers : Resolution → List FieldName
 field_identifiers r = fields_among (owned_tokens r)
 
--- it is the field x of the record k
+-- true for an identifier of the field x of the record k
 abbrev pub is_field : Scanned → ℕ → Name → FieldName → Bool
 is_field source k x found = (found.owner == k) && same_name (text_at source found.token) x
 
--- the tokens of that field among some identifiers of fields
+-- the tokens of that field in a list of identifiers
 abbrev pub tokens_among : Scanned → ℕ → Name → List FieldName → List ℕ
 tokens_among source k x [] = []
 tokens_among source k x (found ∷ rest) =
@@ -40,7 +40,7 @@ tokens_among source k x (found ∷ rest) =
 abbrev pub field_tokens : Resolution → ℕ → Name → List ℕ
 field_tokens r k x = tokens_among r.module_read.source k x (field_identifiers r)
 
--- the first identifier of a field that a place is on, in it or at its end
+-- the first identifier of a field that has a place in it or at its end
 abbrev pub field_on : Scanned → ℕ → List FieldName → Option FieldName
 field_on source offset [] = None
 field_on source offset (x ∷ xs) =
@@ -50,19 +50,19 @@ field_on source offset (x ∷ xs) =
 abbrev pub tokens_of : List FieldName → List ℕ
 tokens_of xs = map (λ x. x.token) xs
 
--- Their tokens ascend, and are all among those of the text.
+-- States that their tokens ascend, and are all tokens of the text.
 abbrev pub AreInTextOrder : Scanned → List FieldName → Type 0
 AreInTextOrder source xs = Ascending 0 (tokens_of xs) (length source.tokens)
 
--- the field at a place: its identifier there
+-- the identifier of a field at a place
 abbrev pub field_at : Resolution → ℕ → Option FieldName
 field_at r offset = field_on r.module_read.source offset (field_identifiers r)
 
--- ---- those that declare
+-- ---- declaring identifiers
 
 abbrev mutual
-  -- the fields that the declarations of a block declare;
-  -- k is the ordinal of the first ARRAY or RECORD
+  -- the fields that the declarations of a block declare; k is the ordinal of the first ARRAY or
+  -- RECORD
   pub declared_in_block : ℕ → Tree ℕ block → List FieldName
   declared_in_block k (has_body (declares cs ts vs ps) statements) =
       marked_types k (section_types ts)
@@ -70,13 +70,13 @@ abbrev mutual
       (section_variables vs)
       ++ declared_in_procedures (after_variables k (has_body (declares cs ts vs ps) statements)) ps)
 
-  -- those that procedures declare, in text order
+  -- the fields that procedures declare, in text order
   pub declared_in_procedures : ℕ → Tree ℕ (items procedure) → List FieldName
   declared_in_procedures k end = []
   declared_in_procedures k (more p rest) =
       declared_in_procedure k p ++ declared_in_procedures (k + procedure_constructors p) rest
 
-  -- those that a procedure declares: with its parameters, and in its block
+  -- the fields that a procedure declares: with its parameters, and in its block
   pub declared_in_procedure : ℕ → Tree ℕ (item procedure) → List FieldName
   declared_in_procedure k (declares_procedure x fs b closing) =
       marked_sections k (formal_sections fs)
@@ -86,7 +86,7 @@ abbrev mutual
 abbrev pub declared_fields : Parsed → List FieldName
 declared_fields m = declared_in_block 0 (module_block (tree_of m))
 
--- the first of a list
+-- the first token of a list
 abbrev pub first : List ℕ → Option ℕ
 first [] = None
 first (token ∷ tokens) = Some token
@@ -95,13 +95,13 @@ first (token ∷ tokens) = Some token
 abbrev pub declaring_field : Parsed → ℕ → Name → Option ℕ
 declaring_field m k x = first (tokens_among m.source k x (declared_fields m))
 
--- the tokens that declare the fields of the record k among some
+-- the tokens in a list that declare the fields of the record k
 abbrev pub record_tokens : ℕ → List FieldName → List ℕ
 record_tokens k [] = []
 record_tokens k (found ∷ rest) =
     if found.owner == k then found.token ∷ record_tokens k rest else record_tokens k rest
 
--- the place of the field x among the fields of the record k, counted from 0
+-- the position of the field x among the fields of the record k, counted from 0
 abbrev pub field_place : Parsed → ℕ → Name → Option ℕ
 field_place m k x =
     position_from (λ token. same_name (text_at m.source token) x) 0
@@ -109,8 +109,8 @@ field_place m k x =
 
 -- ---- laws
 
--- In a well-typed module the field f of the record k is called `new` where the new name is
--- at the tokens of that field.
+-- States that, in a well-typed module, renaming the field f of the record k to `new` puts the new
+-- name at the tokens of that field.
 abbrev pub RenamedAtTokens : Type 0
 RenamedAtTokens =
     (r : Resolution) (k : ℕ) (f new : Name)
@@ -121,16 +121,15 @@ RenamedAtTokens =
     then new
     else text_at r.module_read.source i) (value_at r.module_read.source) (tree_of r.module_read)
 
--- Another field of a record has the name where that is another name,
--- and a token declares a field of it.
+-- States that another field of a record has the new name exactly if this differs from the old one
+-- and a token declares a field of the record with it.
 abbrev pub DuplicateByToken : Type 0
 DuplicateByToken =
     (m : Parsed) (k : ℕ) (f new : Name)
     → is_duplicate_field (named_tree_of m) k f new
     ≡ (not (same_name new f) && is_some (declaring_field m k new))
 
--- In a well-typed module each identifier that declares or selects a field is of a field
--- that its record declares.
+-- States that, in a well-typed module, the field of each identifier is declared by its record.
 abbrev pub FieldsDeclared : Type 0
 FieldsDeclared =
     (r : Resolution) → IsResolution r → WellTyped (named_tree_of r.module_read)
@@ -138,8 +137,7 @@ FieldsDeclared =
     (λ x. is_some (declaring_field r.module_read x.owner (text_at r.module_read.source x.token))
     ≡ true) (field_identifiers r)
 
--- the tokens of the identifiers that are written as fields,
--- where a record is declared or a field is selected
+-- the tokens of the identifiers in the places of fields: declared in a record or selected
 abbrev pub written_fields : List (Role × ℕ) → List ℕ
 written_fields [] = []
 written_fields ((role.FieldName, token) ∷ rest) = token ∷ written_fields rest
@@ -148,8 +146,8 @@ written_fields ((role.LookedUp, token) ∷ rest) = written_fields rest
 written_fields ((role.ClosingName, token) ∷ rest) = written_fields rest
 written_fields ((role.ModuleName, token) ∷ rest) = written_fields rest
 
--- In a well-typed module the fields are all identifiers that are written as fields,
--- in text order, and no others.
+-- States that, in a well-typed module, the list of fields has all identifiers in the places of
+-- fields, in text order, and no others.
 abbrev pub FieldsListed : Type 0
 FieldsListed =
     (r : Resolution) → IsResolution r → WellTyped (named_tree_of r.module_read)

@@ -1,5 +1,5 @@
--- Each identifier of a text with the ordinal of the record whose field it is, in text order.
--- The names of these trees are tokens.
+-- Each identifier of a text with the ordinal of its record if it is a field's, in text order. The
+-- names of these trees are tokens.
 -- Rule: docs/LANGUAGE.md, Scopes 7.
 use Rattle.std.specs.Prelude.{◌≡◌, ℕ, suc, ◌+◌, List, [], ◌∷◌, ◌++◌, map, Some, None, Option, option_and_then, option_map, length, replicate, set}
 use Rattle.ob0_tree.specs.declared.tree.Role.{Role}
@@ -20,11 +20,11 @@ use Rattle.ob0_language_values.specs.Values.{Shape, integer_shape}
 use Rattle.ob0_types_fields.specs.declared.field_name.FieldName.{FieldName}
 use Rattle.ob0_types_fields.specs.Owners.{AreOwners}
 
--- identifiers none of which is a field
+-- lists identifiers that aren't fields
 abbrev pub unowned_among : List (Role × ℕ) → List (ℕ × Option ℕ)
 unowned_among xs = map (λ x. (x.1, None)) xs
 
--- identifiers that aren't fields
+-- the identifiers of a part without fields
 abbrev pub unowned : {s : Sort} → Tree ℕ s → List (ℕ × Option ℕ)
 unowned t = unowned_among (identifiers role.Declaring t)
 
@@ -83,17 +83,18 @@ owned m s (else_branch a) = owned m None a
 owned m s (begins a) = owned m None a
 owned m s t = unowned t
 
--- the identifiers of a type; k is the ordinal of its first ARRAY or RECORD,
--- and r that of the group's record
+-- the identifiers of a type; k is the ordinal of its first ARRAY or RECORD, and r the ordinal of
+-- the group's record
 abbrev mutual
-  -- a type's name; of an array those of its length and its elements; of a record its groups
+  -- a type's name; for an array, the identifiers of its length and its elements; for a record, its
+  -- groups
   pub owned_type : ℕ → Tree ℕ written_type → List (ℕ × Option ℕ)
   owned_type k (named_type x) = (x, None) ∷ []
   owned_type k (array_type e t) = unowned e ++ owned_type (suc k) t
   owned_type k (record_type g rest) =
       owned_group k (suc k) g ++ owned_groups k (suc k + group_constructors g) rest
 
-  -- the fields of a group, which are of the record r, and the identifiers of their type
+  -- the fields of a group, which belong to the record r, and the identifiers of their type
   pub owned_group : ℕ → ℕ → Tree ℕ fields → List (ℕ × Option ℕ)
   owned_group r k no_fields = []
   owned_group r k (some_fields ns t) = map (λ x. (x, Some r)) (names_listed ns) ++ owned_type k t
@@ -144,8 +145,8 @@ owned_formals k (one no_formals) = []
 owned_formals k (one (some_formals f fs)) =
     owned_section k f ++ owned_sections (k + constructors (section_type f)) fs
 
--- the identifiers of a block, of its procedures and of a procedure;
--- k is the ordinal of the first ARRAY or RECORD
+-- the identifiers of a block, of its procedures and of a procedure; k is the ordinal of the first
+-- ARRAY or RECORD
 abbrev mutual
   -- a block: its declarations, and then its statements
   pub owned_block : {P : Type 0} → Meanings ℕ Shape P → ℕ → Tree ℕ block → List (ℕ × Option ℕ)
@@ -177,14 +178,15 @@ abbrev mutual
       ++ (owned_block m (after_formals k (declares_procedure x fs b closing)) b
       ++ ((closing, None) ∷ [])))
 
--- the identifiers of a module, each with the ordinal of the record whose field it is
+-- the identifiers of a module, each with the ordinal of its record if it is a field's
 abbrev pub owned_module : {P : Type 0}
     → Meanings ℕ Shape P
     → Tree ℕ module_text
     → List (ℕ × Option ℕ)
 owned_module m (is_module x b closing) = (x, None) ∷ (owned_block m 0 b ++ ((closing, None) ∷ []))
 
--- What the names at tokens mean: each is bound to one declaration, and means what that declares.
+-- The meanings of the names at tokens: each name is bound to one declaration, and has the object of
+-- that declaration.
 abbrev pub token_objects : (ℕ → Option (Object Shape Signature))
     → Resolution
     → Meanings ℕ Shape Signature
@@ -195,19 +197,19 @@ token_objects objects r =
       written = λ token. text_at r.module_read.source token;
     }
 
--- each identifier of a module with the ordinal of the record whose field it is
+-- the identifiers of a resolved module, each with the ordinal of its record if it is a field's
 abbrev pub owned_tokens : Resolution → List (ℕ × Option ℕ)
 owned_tokens r =
     owned_module (token_objects (declared_object (named_tree_of r.module_read)) r)
     (tree_of r.module_read)
 
--- a table has at each token what is listed
+-- states that a table has the listed owner at each token
 abbrev pub HasOwners : (ℕ → Option ℕ) → List (ℕ × Option ℕ) → Type 0
 HasOwners table [] = Unit {0}
 HasOwners table (x ∷ xs) = (table x.0 ≡ x.1) × HasOwners table xs
 
--- In a well-typed module a table that has the listed owners at its tokens is a table of owners:
--- what names mean in the environment at each place is what their declarations are.
+-- States that, in a well-typed module, a table with the listed owners at its tokens is a table of
+-- owners. So at each place the environment gives a name the object of its declaration.
 abbrev pub OwnersByDeclaration : Type 0
 OwnersByDeclaration =
     (r : Resolution) (owners : List (Option ℕ))
@@ -216,19 +218,19 @@ OwnersByDeclaration =
     → HasOwners (ordinal_in owners) (owned_tokens r)
     → AreOwners r.module_read owners
 
--- those that are fields
+-- the identifiers in a list that are fields
 abbrev pub fields_among : List (ℕ × Option ℕ) → List FieldName
 fields_among [] = []
 fields_among ((x, None) ∷ xs) = fields_among xs
 fields_among ((x, Some k) ∷ xs) = record { token = x; owner = k } ∷ fields_among xs
 
--- a table with these written into it
+-- a table after entering these fields
 abbrev pub with_fields_at : List (Option ℕ) → List FieldName → List (Option ℕ)
 with_fields_at table [] = table
 with_fields_at table (f ∷ fs) = with_fields_at (set table f.token (Some f.owner)) fs
 
--- In a well-typed module the empty table, one entry a token,
--- with its fields written into it is a table of owners.
+-- States that, in a well-typed module, entering the fields in the empty table, which has one entry
+-- per token, gives a table of owners.
 abbrev pub OwnersOfFields : Type 0
 OwnersOfFields =
     (r : Resolution)
@@ -237,7 +239,7 @@ OwnersOfFields =
     → AreOwners r.module_read (with_fields_at (replicate (length r.module_read.source.tokens) None)
     (fields_among (owned_tokens r)))
 
--- ---- the fields alone, as a walk finds them
+-- ---- only the fields, as a walk finds them
 
 -- an identifier with the record whose field it is
 abbrev pub marked_field : ℕ → Option ℕ → List FieldName
@@ -246,7 +248,7 @@ marked_field x (Some k) = record { token = x; owner = k } ∷ []
 
 -- the fields that statements select
 abbrev mutual
-  -- in a statement or a part of one, in text order
+  -- the fields in a statement or a part of one, in text order
   pub marked_tree : {P : Type 0} {s : Sort} → Meanings ℕ Shape P → Tree ℕ s → List FieldName
   marked_tree m none = []
   marked_tree m (one a) = marked_tree m a
@@ -281,7 +283,7 @@ abbrev mutual
   marked_tree m (begins a) = marked_tree m a
   marked_tree m t = []
 
-  -- those of a designator's selectors, from a value of this type on, part after part
+  -- the fields that a designator's selectors select, one after another, from a value of this type
   pub marked_path : {P : Type 0}
       → Meanings ℕ Shape P
       → Option Shape
@@ -298,17 +300,17 @@ abbrev mutual
 abbrev pub marked_names : ℕ → List ℕ → List FieldName
 marked_names r xs = map (λ x. record { token = x; owner = r }) xs
 
--- the fields that a type's text declares; k is the ordinal of its first ARRAY or RECORD,
--- and r that of the group's record
+-- the fields that a written type declares; k is the ordinal of its first ARRAY or RECORD, and r the
+-- ordinal of the group's record
 abbrev mutual
-  -- in a type as it is written; a length declares none
+  -- the fields of a written type; a length declares none
   pub marked_type : ℕ → Tree ℕ written_type → List FieldName
   marked_type k (named_type x) = []
   marked_type k (array_type e t) = marked_type (suc k) t
   marked_type k (record_type g rest) =
       marked_group k (suc k) g ++ marked_groups k (suc k + group_constructors g) rest
 
-  -- the fields of a group, which are of the record r, and those that their type declares
+  -- the fields of a group, which belong to the record r, and the fields that their type declares
   pub marked_group : ℕ → ℕ → Tree ℕ fields → List FieldName
   marked_group r k no_fields = []
   marked_group r k (some_fields ns t) = marked_names r (names_listed ns) ++ marked_type k t
@@ -319,7 +321,7 @@ abbrev mutual
   marked_groups r k (more (then_fields g) rest) =
       marked_group r k g ++ marked_groups r (k + group_constructors g) rest
 
--- the fields that are declared in declarations of types
+-- the fields that declarations of types declare
 abbrev pub marked_types : ℕ → Tree ℕ (items type_name) → List FieldName
 marked_types k end = []
 marked_types k (more (declares_type x u) ds) =
@@ -357,7 +359,7 @@ abbrev mutual
   marked_procedures m k (more p rest) =
       marked_procedure m k p ++ marked_procedures m (k + procedure_constructors p) rest
 
-  -- those of a procedure: declared with its parameters, and then those of its block
+  -- the fields of a procedure: those declared with its parameters, and then the fields of its block
   pub marked_procedure : {P : Type 0}
       → Meanings ℕ Shape P
       → ℕ
@@ -371,7 +373,7 @@ abbrev mutual
 abbrev pub marked_module : {P : Type 0} → Meanings ℕ Shape P → Tree ℕ module_text → List FieldName
 marked_module m (is_module x b closing) = marked_block m 0 b
 
--- The walk finds just the fields among a module's identifiers.
+-- States that the walk finds exactly the fields among a module's identifiers.
 abbrev pub MarkedFields : Type 0
 MarkedFields =
     (r : Resolution)

@@ -1,4 +1,4 @@
--- Which identifiers of a text are fields, and of which record: by token.
+-- The identifiers of a text that are fields, and their records, by token.
 -- Rule: none; for contracts: which record a field's token belongs to.
 use Rattle.std.specs.Prelude.{◌≡◌, ℕ, Bool, ◌&&◌, List, Option, Some, None, if◌then◌else◌}
 use Rattle.ob0_scan.specs.Scanned.{Scanned}
@@ -11,14 +11,14 @@ use Rattle.ob0_language_names.specs.Scopes.{same_ordinal}
 use Rattle.ob0_language_fields.specs.Fields.{FieldNames, refielded}
 use Rattle.ob0_language_fields.specs.Renaming.{field_renamed}
 
--- the fields of known records rewritten
+-- rewrites the fields whose record is known
 abbrev pub of_records : (ℕ → Name → Name) → FieldNames
 of_records l None x = x
 of_records l (Some k) x = l k x
 
--- A table that has at each token that is a field's name, declared or selected, the ordinal of the
--- field's record: in whatever way fields are rewritten,
--- the module so written is the tree with each token written by the table.
+-- A table that has, at each token where a field is declared or selected, the ordinal of the field's
+-- record. For every way of rewriting fields, the rewritten module is the tree in which each token
+-- is rewritten according to the table.
 abbrev pub AreOwners : Parsed → List (Option ℕ) → Type 0
 AreOwners m owners =
     (l : ℕ → Name → Name)
@@ -26,12 +26,12 @@ AreOwners m owners =
     ≡ mapped (λ i. of_records l (ordinal_in owners i) (text_at m.source i)) (value_at m.source)
     (tree_of m)
 
--- the token is the field f of the record r, where it is declared or selected
+-- true if the token declares or selects the field f of the record r
 abbrev pub is_of_field : Scanned → List (Option ℕ) → ℕ → Name → ℕ → Bool
 is_of_field source owners r f i =
     same_ordinal (ordinal_in owners i) r && same_name (text_at source i) f
 
--- the module with a field renamed is the tree with the new name at the tokens of that field
+-- states that renaming a field gives the tree with the new name at the tokens of that field
 abbrev pub RenamedByToken : Type 0
 RenamedByToken =
     (m : Parsed) (owners : List (Option ℕ)) (r : ℕ) (f new : Name) → AreOwners m owners

@@ -1,4 +1,4 @@
--- The search for the ARRAY or RECORD with an ordinal, among all of a module in text order.
+-- The search for the ARRAY or RECORD with an ordinal among all of them in a module, in text order.
 -- Rule: none; for private contracts of a walk.
 use Rattle.std.specs.Prelude.{ℕ, ◌-◌, ◌==◌, List, [], ◌∷◌, Option, None, option_map, if◌then◌else◌}
 use Rattle.ob0_language_types.specs.Expressions.{Meanings}
@@ -14,17 +14,17 @@ use Rattle.ob0_types_fields.specs.declared.field_types.TypedField as code
 use Rattle.ob0_types_fields.specs.FieldTypes.{TypedField}
 use Rattle.ob0_types_fields.specs.Owned.{token_objects}
 
--- the type that was found, or how many ARRAY and RECORD come before it
+-- the type that was found, or the number of words ARRAY and RECORD before it
 pub data SearchState : Type 0 where
   is_found : Option Shape → SearchState
   is_after : ℕ → SearchState
 
--- after one more, which constructs the type t
+-- the search after one more ARRAY or RECORD, which constructs the type t
 abbrev pub after_one : SearchState → Option Shape → SearchState
 after_one (is_found found) t = is_found found
 after_one (is_after n) t = if n == 0 then is_found t else is_after (n - 1)
 
--- after several
+-- the search after several
 abbrev pub after_all : SearchState → List (Option Shape) → SearchState
 after_all s [] = s
 after_all s (t ∷ ts) = after_all (after_one s t) ts
@@ -34,7 +34,7 @@ abbrev pub found_type : SearchState → Option Shape
 found_type (is_found found) = found
 found_type (is_after n) = None
 
--- what the walk over the declarations knows: what names mean, and what types are
+-- the meanings of names and the types, as the walk over the declarations has them
 abbrev pub meanings_in : ConstructorWalk → Meanings ℕ Shape Signature
 meanings_in w = token_objects (declared_in w.known.now) w.resolved.now
 
@@ -47,7 +47,7 @@ abbrev pub search_in : List Shape → Search → SearchState
 search_in shapes (search.Found of) = is_found (option_map (type_shape shapes) of)
 search_in shapes (search.Before n) = is_after n
 
--- what a search of the walk means
+-- a search of the walk
 abbrev pub sought_in : ConstructorWalk → Search → SearchState
 sought_in w s = search_in (shapes_of w.known.now) s
 

@@ -1,4 +1,4 @@
--- What the walk over a module keeps.
+-- Definitions for the contracts of the walk over a module.
 -- Rule: none; for private contracts of a walk.
 use Rattle.std.specs.Prelude.{ℕ, List, Option}
 use Rattle.ob0_tree.specs.Tree.{Tree, field, index, item, selector}
@@ -13,11 +13,11 @@ use Rattle.ob0_types_fields.specs.declared.field_name.FieldName.{FieldName}
 use Rattle.ob0_types_fields.specs.declared.owning.Owning.{Owning}
 use Rattle.ob0_types_fields.specs.Owned.{marked_field, marked_tree, owner, token_objects}
 
--- what identifiers at tokens mean, by the table of declarations
+-- the meanings of identifiers at tokens, from the table of declarations
 abbrev pub meaning_in : Owning → Meanings ℕ Shape Signature
 meaning_in w = token_objects (declared_in w.known.now) w.resolved.now
 
--- the type that a record of the table is
+-- the type of a record in the table
 abbrev pub record_shape_in : Owning → RecordShape → Shape
 record_shape_in w r = made_shape (shapes_of w.known.now) (made.Record r)
 

@@ -1,4 +1,4 @@
-//! The walk over types that finds the fields that records declare.
+//! Walks written types to find the fields that records declare.
 
 ghost use Rattle.std.specs.Prelude.{◌≡◌, ◌≤◌, ◌++◌, ◌+◌, ◌^◌, IfOk, MatchResult};
 ghost use Rattle.ob0_language_names.specs.Parts.{formal_sections, names_listed, section_types, section_variables};
@@ -13,7 +13,7 @@ use ob0_tree::{
 };
 use std::alloc::AllocError;
 
-/// Notes the names of a group's fields with the ordinal of their record.
+/// Adds the names of a group's fields with the ordinal of their record.
 fn names(found: &mut FieldTokens, owner: usize, listed: &Names) -> Result<(), AllocError>
     ensures { IfOk result (λ _. found.new.items
         ≡ found.old.items ++ marked_names owner (names_listed (names_of listed.now))) }
@@ -27,8 +27,8 @@ fn names(found: &mut FieldTokens, owner: usize, listed: &Names) -> Result<(), Al
     Ok(())
 }
 
-/// The ordinal of the next ARRAY or RECORD, which is how many come before it; then it is counted too. An error exactly
-/// where their number has no 64 bits, which no text is long enough for.
+/// Returns the ordinal of the next ARRAY or RECORD, which is the number of them so far, and counts
+/// it. Returns an error if the count doesn't fit 64 bits; no text is long enough for that.
 fn next_ordinal(made: &mut usize) -> Result<usize, AllocError>
     ensures { MatchResult result (λ n. (n ≡ made.old) × (made.new ≡ made.old + 1))
         (λ _. 2 ^ 64 ≤ made.old + 1) }
@@ -43,7 +43,7 @@ fn next_ordinal(made: &mut usize) -> Result<usize, AllocError>
     }
 }
 
-/// Notes the fields that a type's text declares. `made` is the number of ARRAY and RECORD before it.
+/// Adds the fields that a written type declares. `made` counts the words ARRAY and RECORD so far.
 #[cycle(types)]
 pub(crate) fn written_type(
     found: &mut FieldTokens,
@@ -101,7 +101,8 @@ fn fields(
     }
 }
 
-/// Notes the fields that the types of a block declare. `made` is the number of ARRAY and RECORD before them.
+/// Adds the fields that the types of a block declare. `made` counts the words ARRAY and RECORD so
+/// far.
 pub(crate) fn types(
     found: &mut FieldTokens,
     made: &mut usize,
@@ -122,7 +123,8 @@ pub(crate) fn types(
     Ok(())
 }
 
-/// Notes the fields that the variables of a block declare. `made` is the number of ARRAY and RECORD before them.
+/// Adds the fields that the variables of a block declare. `made` counts the words ARRAY and RECORD
+/// so far.
 pub(crate) fn variables(
     found: &mut FieldTokens,
     made: &mut usize,
@@ -144,7 +146,7 @@ pub(crate) fn variables(
     Ok(())
 }
 
-/// Notes the fields that formal parameters declare. `made` is the number of ARRAY and RECORD before them.
+/// Adds the fields that formal parameters declare. `made` counts the words ARRAY and RECORD so far.
 pub(crate) fn formals(
     found: &mut FieldTokens,
     made: &mut usize,

@@ -1,4 +1,4 @@
-//! The walk over a module's declarations that finds the fields that records declare.
+//! Walks a module's declarations to find the fields that records declare.
 
 ghost use Rattle.std.specs.Prelude.{◌≡◌, ◌++◌, ◌+◌, IfOk};
 ghost use Rattle.ob0_tree.specs.View.{block_of, procedure_of};
@@ -10,7 +10,8 @@ use crate::field_name::FieldTokens;
 use ob0_tree::{Block, Procedure};
 use std::alloc::AllocError;
 
-/// The fields that a block declares, and its procedures. `made` is the number of ARRAY and RECORD before it.
+/// Adds the fields that a block and its procedures declare. `made` counts the words ARRAY and
+/// RECORD so far.
 #[cycle(blocks)]
 pub(crate) fn block(found: &mut FieldTokens, made: &mut usize, b: &Block) -> Result<(), AllocError>
     ensures found { IfOk result (λ _. found.new.items

@@ -1,13 +1,13 @@
 //! An identifier of a field.
 
-/// An identifier that declares or selects a field, with the record that the field belongs to.
+/// An identifier that declares or selects a field, with the field's record.
 #[derive(Clone, Copy)]
 pub struct FieldName {
-    /// The index of the token that it is.
+    /// The index of the identifier's token.
     pub token: usize,
-    /// The ordinal of its record among the ARRAY and RECORD of the text.
+    /// The ordinal of the record among the words ARRAY and RECORD of the text.
     pub owner: usize,
 }
 
-/// Identifiers of fields.
+/// A list of identifiers of fields.
 pub(crate) type FieldTokens = Vec<FieldName>;

@@ -1,10 +1,11 @@
-//! The field that an identifier is of, with its type: as the RECORD has it that declares it.
+//! Finds the field of an identifier, with the field's type, in the RECORD that declares it.
 //!
-//! The type of a field is kept nowhere. The list has the ordinal of the field's record, so the type is what this RECORD
-//! gives to the name (`typed_field`). The walk goes through declarations, what they are declared as and the text side
-//! by side, and counts ARRAY and RECORD (`constructed`); no array's length is evaluated again, and no fact is needed on
-//! the ordinals in the checker's table. It takes the search and returns it (`Search`), so its contracts are of one form
-//! (`after_all`); once the type is found, further procedures are passed over.
+//! The types of fields aren't stored. The list has the ordinal of the field's record, so the type
+//! is looked up in that RECORD (`typed_field`). The walk visits the text's declarations together
+//! with their objects, and counts ARRAY and RECORD (`constructed`). It evaluates no array length
+//! again and needs no fact about the ordinals in the checker's table. It takes a search and returns
+//! the search after each part (`Search`), so all its contracts have the same form (`after_all`).
+//! Once the type is found, the remaining procedures are skipped.
 
 ghost use Rattle.std.specs.Prelude.{◌≡◌, List, None, option_and_then, option_map};
 ghost use Rattle.ob0_tree.specs.View.{block_of, fields_of, formals_of, procedure_of, record_in, section_of, type_of, types_of, variables_of};
@@ -30,8 +31,8 @@ pub struct TypedField {
     pub of: TypeId,
 }
 
-/// The field that an identifier is of: as the RECORD with the ordinal of its record has it, by the table of
-/// declarations.
+/// Returns the field of an identifier and its type. They are looked up in the RECORD with the
+/// ordinal of the identifier's record, using the table of declarations.
 pub fn typed_field<'a, 't>(
     known: &'a DeclarationTable,
     resolved: &'a Resolved<'t>,
@@ -47,7 +48,7 @@ pub fn typed_field<'a, 't>(
     Some(TypedField { field, of })
 }
 
-/// The type that the ARRAY or RECORD with an ordinal constructs.
+/// Returns the type that the ARRAY or RECORD with an ordinal constructs.
 fn constructed_type<'a, 't>(
     known: &'a DeclarationTable,
     resolved: &'a Resolved<'t>,
@@ -66,14 +67,14 @@ fn constructed_type<'a, 't>(
 /// The search for an ARRAY or RECORD.
 #[derive(Clone, Copy)]
 enum Search {
-    /// How many ARRAY and RECORD come before it.
+    /// The number of words ARRAY and RECORD before it.
     Before(usize),
     /// The type that it constructs.
     Found(Option<TypeId>),
 }
 
 impl Search {
-    /// Passes an ARRAY or RECORD, which constructs this type.
+    /// Continues the search after an ARRAY or RECORD that constructs this type.
     fn pass(self, of: Option<TypeId>) -> Search
         ensures { (shapes : List Shape)
             → search_in shapes result
@@ -100,7 +101,7 @@ struct ConstructorWalk<'a, 't> {
 }
 
 impl<'a, 't> ConstructorWalk<'a, 't> {
-    /// The type of what the name at a token declares.
+    /// Returns the type of the type, variable or parameter that the name at a token declares.
     fn declared_type(&self, token: usize) -> Option<TypeId>
         ensures { type_in self.now result
             ≡ type_declared ((meanings_in self.now).object_for token) }
@@ -109,7 +110,7 @@ impl<'a, 't> ConstructorWalk<'a, 't> {
         self.known.declared_type(ordinal)
     }
 
-    /// The type of an array's elements.
+    /// Returns the type of an array's elements.
     fn element(&self, of: Option<TypeId>) -> Option<TypeId>
         ensures { type_in self.now result
             ≡ option_and_then (λ a. element_type a integer_shape) (type_in self.now of) }
@@ -117,7 +118,7 @@ impl<'a, 't> ConstructorWalk<'a, 't> {
         self.known.element(of?)
     }
 
-    /// The type of the field with a name.
+    /// Returns the type of the field with a name.
     fn field(&self, of: Option<TypeId>, name: usize) -> Option<TypeId>
         ensures { type_in self.now result
             ≡ option_and_then (λ r. field_type r ((meanings_in self.now).written name))
@@ -127,7 +128,7 @@ impl<'a, 't> ConstructorWalk<'a, 't> {
             .field_type(of?, text_at(self.resolved.tokens(), name))
     }
 
-    /// The search after a type as it is written, by the type that it denotes.
+    /// Returns the search after a written type that denotes the type `of`.
     #[cycle(types)]
     fn written_type(&self, search: Search, of: Option<TypeId>, t: &WrittenType) -> Search
         ensures { sought_in self.now result
@@ -224,7 +225,7 @@ impl<'a, 't> ConstructorWalk<'a, 't> {
         self.written_type(search, self.declared_type(s.names.first), &s.written)
     }
 
-    /// The search after the declarations of a block.
+    /// Returns the search after the declarations of a block.
     #[cycle(blocks)]
     fn block(&self, search: Search, b: &Block) -> Search
         ensures { sought_in self.now result

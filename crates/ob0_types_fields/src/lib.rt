@@ -1,4 +1,4 @@
-//! The identifiers of a module that are fields, and which record each belongs to.
+//! Finds the identifiers of fields in a module, and the record of each.
 #![tactic(auto)]
 
 mod declared;

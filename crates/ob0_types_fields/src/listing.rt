@@ -1,19 +1,21 @@
-//! The fields of a module in lists, and what is found in them.
+//! The lists of a module's fields, and look-ups in them.
 //!
-//! A list is made once for a module, by `check` of `ob0_types`. The walk over the declarations comes first; where it
-//! finds nothing the walk over all isn't made, since a field that is selected is declared (`fields_declared`). So a
-//! module without RECORD costs a look at its declarations. The laws require `IsResolution` and `WellTyped`.
+//! `check` of `ob0_types` makes the lists once for a module. It walks the declarations first. If
+//! they declare no field, the walk over the whole module is skipped, because every selected field
+//! is declared (`fields_declared`). So a module without RECORD costs only the walk over its
+//! declarations. The laws require `IsResolution` and `WellTyped`.
 //!
-//! Where the tokens of one body changed, its fields are found again and written over those at their tokens
-//! (`FieldList::with_body`): nothing moves, since the fields of a well-typed module are all identifiers that are written
-//! as fields (`fields_listed`).
+//! If the tokens of one body changed, its fields are found again and written over the old ones at
+//! the same tokens (`FieldList::with_body`). Nothing moves, because the fields of a well-typed
+//! module are all identifiers in the places of fields (`fields_listed`).
 //!
-//! Where the statements of one body were replaced by others, of another number of tokens, the fields before that body
-//! stay, those after it are moved to where their tokens are now, and its own are found again
-//! (`FieldList::with_new_body`).
+//! If the statements of one body were replaced, perhaps with a different number of tokens, the
+//! fields before that body are kept. Those after it are moved to the new positions of their tokens,
+//! and the body's own fields are found again (`FieldList::with_new_body`).
 //!
-//! A list doesn't hold its text, and a token that a text hasn't got has the empty span at its start, so the
-//! clause of `FieldList::at` has a premise (`AreInTextOrder`). A module's fields fulfil it (`fields_ascend`).
+//! A list doesn't hold its text. A token that the text doesn't have gets the empty span at the
+//! text's start, so the clause of `FieldList::at` has a premise (`AreInTextOrder`). A module's
+//! fields satisfy it (`fields_ascend`).
 
 ghost use Rattle.std.specs.Prelude.{◌≡◌, ◌++◌, List, [], false, true, map, nat_lt, IfOk, OnOk};
 ghost use Rattle.std.specs.List.{position_from};
@@ -39,7 +41,7 @@ use ob0_types_table::DeclarationTable;
 use std::alloc::{AllocError, Global};
 use std::marker::Model;
 
-/// The fields of a module in text order: the identifiers that declare one, and all that declare or select one.
+/// The identifiers of fields of a module, in text order: the declaring ones, and all of them.
 #[derive(Drop)]
 pub struct FieldList {
     declared: FieldTokens,
@@ -55,7 +57,7 @@ impl Model for FieldList {
 }
 
 impl FieldList {
-    /// No fields.
+    /// Returns an empty list.
     pub fn none(alloc: Global) -> FieldList
         ensures { result.all ≡ [] }
     {
@@ -65,8 +67,8 @@ impl FieldList {
         }
     }
 
-    /// The fields of a module by the table of its declarations. Where no field is declared, none is looked for among
-    /// what is selected.
+    /// Returns the fields of a module, using the table of its declarations. If no field is
+    /// declared, the search for selected fields is skipped.
     pub fn of<'a, 't>(
         alloc: Global,
         known: &'a DeclarationTable,
@@ -79,8 +81,9 @@ impl FieldList {
         Ok(FieldList { declared, all })
     }
 
-    /// These fields, but for those that the statements of one body select, which are found again and written over
-    /// those at their tokens.
+    /// Returns the list after the statements of one body changed without changing their number of
+    /// tokens. The fields that these statements select are found again and replace the old ones at
+    /// their tokens.
     pub fn with_body<'a, 't>(
         self,
         alloc: Global,
@@ -104,9 +107,10 @@ impl FieldList {
         Ok(FieldList { declared, all })
     }
 
-    /// These fields where the statements of one body were replaced by others: those before the body's first identifier
-    /// stay, those that its new statements select are found, and those from its block's closing name on are moved.
-    /// `place` is that of the new body; token indexes that would pass the largest are the largest.
+    /// Returns the list after the statements of one body were replaced. Fields before the body's
+    /// first identifier are kept, the new statements' fields are found, and fields from the block's
+    /// closing name onwards are moved. `place` is the place of the new body. Token indexes saturate
+    /// at the largest value.
     pub fn with_new_body<'a, 't>(
         self,
         alloc: Global,
@@ -133,8 +137,8 @@ impl FieldList {
         Ok(FieldList { declared, all })
     }
 
-    /// The field that a place is on, where it lies in an identifier of the field or at its end: that identifier. The
-    /// tokens are those of the text that the fields are in.
+    /// Returns the field identifier at a place, which is in the identifier or at its end. The
+    /// tokens must be the tokens of the text that has these fields.
     pub fn at(&self, tokens: &Tokens, offset: usize) -> Option<FieldName>
         ensures { AreInTextOrder tokens.now self.now.all
             → result ≡ field_on tokens.now offset self.now.all }
@@ -142,8 +146,8 @@ impl FieldList {
         field_on(tokens, offset, &self.all)
     }
 
-    /// The tokens of the field of this name of a record: the one that declares it and all that select it, in text
-    /// order.
+    /// Returns the tokens of the field with this name in a record, in text order: the declaring one
+    /// and all selecting ones.
     pub fn tokens(
         &self,
         alloc: Global,
@@ -157,14 +161,15 @@ impl FieldList {
         tokens_among(alloc, tokens, &self.all, owner, name)
     }
 
-    /// The token that declares the field of this name of a record.
+    /// Returns the token that declares the field with this name in a record.
     pub fn declaring(&self, tokens: &Tokens, owner: usize, name: &str) -> Option<usize>
         ensures { result ≡ first (tokens_among tokens.now owner name.now self.now.declared) }
     {
         first_among(tokens, &self.declared, owner, name)
     }
 
-    /// The place of the field of this name among the fields of a record, counted from 0.
+    /// Returns the position of the field with this name among the fields of a record, counted from
+    /// 0.
     pub fn place(&self, tokens: &Tokens, owner: usize, name: &str) -> Option<usize>
         ensures { result
             ≡ position_from (λ token. same_name (text_at tokens.now token) name.now) 0
@@ -174,7 +179,7 @@ impl FieldList {
     }
 }
 
-/// Writes fields over those of a list that are at their tokens.
+/// Replaces the fields of a list that are at the tokens of other fields.
 fn write_at_tokens(all: &mut FieldTokens, found: &[FieldName])
     ensures { (before after : List FieldName) → HasOthersWithin all.old.items before found.now after
         → all.new.items ≡ before ++ (found.now ++ after) }
@@ -188,7 +193,7 @@ fn write_at_tokens(all: &mut FieldTokens, found: &[FieldName])
     }
 }
 
-/// How many fields of a list come before a token.
+/// Returns the number of fields in a list that come before a token.
 fn count_before(all: &[FieldName], token: usize) -> usize
     ensures { IsNonDecreasingBy (λ x. x.token) all.now
         → IsPartitionPoint (λ x. nat_lt x.token token ≡ true)
@@ -197,7 +202,7 @@ fn count_before(all: &[FieldName], token: usize) -> usize
     all.partition_point(|field| field.token < token)
 }
 
-/// Writes fields over those of a list from a place on.
+/// Overwrites the fields of a list, starting at a position.
 fn write_over(all: &mut FieldTokens, start: usize, found: &[FieldName])
     ensures { all.new.items ≡ written_over all.old.items start found.now }
 {
@@ -210,7 +215,7 @@ fn write_over(all: &mut FieldTokens, start: usize, found: &[FieldName])
     }
 }
 
-/// Where a token is now that isn't one of those replaced.
+/// Returns the new index of a token that wasn't replaced.
 fn place_now(token: usize, same: SameTokens) -> usize
     ensures { result ≡ place_now same token }
 {
@@ -223,7 +228,7 @@ fn place_now(token: usize, same: SameTokens) -> usize
     }
 }
 
-/// Where a token after those replaced was before.
+/// Returns the old index of a token after the replaced ones.
 fn place_before(token: usize, same: SameTokens) -> usize
     ensures { result ≡ place_before same token }
 {
@@ -232,7 +237,7 @@ fn place_before(token: usize, same: SameTokens) -> usize
         .saturating_add(same.old_suffix)
 }
 
-/// Adds those of some fields that are before a token.
+/// Appends the fields that are before a token.
 fn add_before(found: &mut FieldTokens, fields: &[FieldName], token: usize) -> Result<(), AllocError>
     ensures { OnOk result (found.new.items ≡ found.old.items ++ fields_before token fields.now) }
 {
@@ -244,7 +249,7 @@ fn add_before(found: &mut FieldTokens, fields: &[FieldName], token: usize) -> Re
     Ok(())
 }
 
-/// Adds those of some fields that are at a token or after it, where they are now.
+/// Appends the fields at or after a token, with the new indexes of their tokens.
 fn add_moved(
     found: &mut FieldTokens,
     fields: &[FieldName],
@@ -266,7 +271,7 @@ fn add_moved(
     Ok(())
 }
 
-/// The fields that a module declares, each with the ordinal of its record.
+/// Returns the fields that a module declares, each with the ordinal of its record.
 fn declared_fields(alloc: Global, resolved: &Resolved<'_>) -> Result<FieldTokens, AllocError>
     ensures { IfOk result (λ found. found.items ≡ declared_fields resolved.now.module_read) }
 {
@@ -276,7 +281,7 @@ fn declared_fields(alloc: Global, resolved: &Resolved<'_>) -> Result<FieldTokens
     Ok(found)
 }
 
-/// All fields of the module; without a walk where none is declared.
+/// Returns all fields of the module. If no field is declared, the walk is skipped.
 fn all_fields<'a, 't>(
     alloc: Global,
     known: &'a DeclarationTable,
@@ -295,7 +300,7 @@ fn all_fields<'a, 't>(
     }
 }
 
-/// The fields of a module, in text order.
+/// Returns all fields of a module in text order, found by a walk.
 fn found_fields<'a, 't>(
     alloc: Global,
     known: &'a DeclarationTable,

@@ -1,9 +1,10 @@
-//! The walk over a module that finds its fields: where records declare them, and where selectors select them.
+//! Walks a module to find its fields: where records declare them, and where selectors select them.
 //!
-//! A designator's path is one loop with the type so far, which visits the indexes itself, so all is found in text
-//! order. Constants and array lengths aren't visited. What selects nothing is passed at once: an expression of one
-//! factor is that factor, and of a designator without selectors the type isn't looked up. A selected name is looked up
-//! once, for its type.
+//! The path of a designator is one loop that carries the type so far. It also visits the indexes,
+//! so all fields are found in text order. Constants and array lengths aren't visited. Parts that
+//! select nothing are skipped quickly: an expression with a single factor is treated as that
+//! factor, and the type of a designator without selectors isn't looked up. A selected name is
+//! looked up once, for its type.
 
 ghost use Rattle.std.specs.Prelude.{◌≡◌, ◌++◌, ◌+◌, IfOk, Some, option_and_then, option_map};
 ghost use Rattle.ob0_tree.specs.View.{expression_of, compound_of, simple_of, term_of, factor_of, designator_of, selector_of, assignment_of, call_of, arguments_in, statement_of, if_of, elsifs_in, sequence_in, body_of, block_of, procedure_of};
@@ -33,7 +34,8 @@ pub(crate) struct Owning<'a, 't> {
 }
 
 impl<'a, 't> Owning<'a, 't> {
-    /// The type of the variable, parameter or constant that the name at a token is bound to.
+    /// Returns the type of the variable, parameter or constant that the name at a token is bound
+    /// to.
     fn value_type(&self, token: usize) -> Option<TypeId>
         ensures { option_map (type_shape (shapes_of self.now.known.now)) result
             ≡ object_type ((meaning_in self.now).object_for token) }
@@ -49,7 +51,7 @@ impl<'a, 't> Owning<'a, 't> {
         }
     }
 
-    /// Notes the record whose field a name selects, and gives the field's type.
+    /// Adds the record of the field that a name selects, and returns the field's type.
     fn select(
         &self,
         found: &mut FieldTokens,
@@ -78,8 +80,8 @@ impl<'a, 't> Owning<'a, 't> {
         }
     }
 
-    /// Notes the record whose field a name selects, by the record, and gives the field's type. The name is looked up once,
-    /// for the type: the ordinal is that of the record.
+    /// Adds the field that a name selects from this record, and returns the field's type. The name
+    /// is looked up only once, for the type; the record gives the ordinal.
     fn select_in(
         &self,
         found: &mut FieldTokens,
@@ -105,7 +107,7 @@ impl<'a, 't> Owning<'a, 't> {
         }
     }
 
-    /// The type of an array's elements.
+    /// Returns the type of an array's elements.
     fn element(&self, base: Option<TypeId>) -> Option<TypeId>
         ensures { option_map (type_shape (shapes_of self.now.known.now)) result
             ≡ option_and_then (λ z. element_type z integer_shape)
@@ -117,7 +119,7 @@ impl<'a, 't> Owning<'a, 't> {
         }
     }
 
-    /// What is selected in an expression.
+    /// Adds the fields that an expression selects.
     #[cycle(expressions)]
     fn expression(&self, found: &mut FieldTokens, e: &Expression) -> Result<(), AllocError>
         ensures { IfOk result (λ _. found.new.items
@@ -193,7 +195,7 @@ impl<'a, 't> Owning<'a, 't> {
         Ok(())
     }
 
-    /// The type after a selector; what is selected on the way is noted.
+    /// Adds the fields that a selector selects, and returns the type after it.
     #[cycle(expressions)]
     fn selector(
         &self,
@@ -312,7 +314,7 @@ impl<'a, 't> Owning<'a, 't> {
         Ok(())
     }
 
-    /// What is selected in the statements of a block.
+    /// Adds the fields that the statements of a block select.
     pub(crate) fn body(
         &self,
         found: &mut FieldTokens,
@@ -327,8 +329,9 @@ impl<'a, 't> Owning<'a, 't> {
         }
     }
 
-    /// The fields of a block: those that its declarations and its procedures declare and select, and those of its
-    /// statements. `made` is the number of ARRAY and RECORD before it.
+    /// Adds the fields of a block: first those that its declarations and procedures declare and
+    /// select, then the fields that its statements select. `made` counts the words ARRAY and RECORD
+    /// so far.
     #[cycle(blocks)]
     pub(crate) fn block(
         &self,

@@ -1,4 +1,4 @@
-//! What is found in a list of fields.
+//! Look-ups in a list of fields.
 
 ghost use Rattle.std.specs.Prelude.{◌≡◌, ◌≤◌, IfOk, None, Some, false, if◌then◌else◌, length, nat_lt, true};
 ghost use Rattle.std.specs.List.{position_from};
@@ -14,12 +14,12 @@ use ob0_scan::{Span, Tokens};
 use ob0_scope_table::{is_written, token_span};
 use std::alloc::{AllocError, Global};
 
-/// The first identifier that a place is on. It is found by halving: of identifiers in text order it is the first that
-/// doesn't end before the place, if any.
+/// Returns the first identifier at a place. It is found by binary search: in text order, it is the
+/// first identifier that doesn't end before the place, if it contains the place.
 pub(crate) fn field_on(tokens: &Tokens, offset: usize, found: &[FieldName]) -> Option<FieldName>
     ensures { AreInTextOrder tokens.now found.now → result ≡ field_on tokens.now offset found.now }
 {
-    // For the proof: what the contract of this call says.
+    // The proof needs the contract of this call.
     let _scanned = tokens.text();
     match found.get(ended_before(tokens, offset, found)) {
         Some(field) => if_on(tokens, offset, *field),
@@ -27,7 +27,7 @@ pub(crate) fn field_on(tokens: &Tokens, offset: usize, found: &[FieldName]) -> O
     }
 }
 
-/// How many identifiers end before a place.
+/// Returns the number of identifiers that end before a place.
 fn ended_before(tokens: &Tokens, offset: usize, found: &[FieldName]) -> usize
     ensures bound { result ≤ length found.now }
     ensures point { IsNonDecreasingBy (λ x. (span_at tokens.now x.token).end) found.now
@@ -37,7 +37,7 @@ fn ended_before(tokens: &Tokens, offset: usize, found: &[FieldName]) -> usize
     found.partition_point(|field| (token_span(tokens, field.token).end as usize) < offset)
 }
 
-/// An identifier, where a place is on it.
+/// Returns an identifier if it is at a place.
 fn if_on(tokens: &Tokens, offset: usize, field: FieldName) -> Option<FieldName>
     ensures { result ≡ (if is_on offset (span_at tokens.now field.token) then Some field else None) }
 {
@@ -54,7 +54,7 @@ fn is_on(offset: usize, span: Span) -> bool
     span.start as usize <= offset && offset <= span.end as usize
 }
 
-/// The place of the field of this name among those of a record.
+/// Returns the position of the field with this name among the fields of a record.
 pub(crate) fn place_among(
     tokens: &Tokens,
     fields: &[FieldName],
@@ -77,7 +77,7 @@ pub(crate) fn place_among(
     None
 }
 
-/// The tokens of one field among some.
+/// Returns the tokens of one field in a list.
 pub(crate) fn tokens_among(
     alloc: Global,
     tokens: &Tokens,
@@ -97,7 +97,7 @@ pub(crate) fn tokens_among(
     Ok(found)
 }
 
-/// The first of them.
+/// Returns the first token of one field in a list.
 pub(crate) fn first_among(
     tokens: &Tokens,
     fields: &[FieldName],

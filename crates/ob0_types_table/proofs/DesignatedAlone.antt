@@ -1,4 +1,5 @@
--- What fits, part by part: designators alone, what may be assigned to, calls, and sequences.
+-- Parts that fit: expressions that are only a designator, targets of assignments, calls, and
+-- sequences.
 use Rattle.std.proofs.Common.{◌≡◌, ℕ, ◌<◌, List, [], ◌∷◌, length, Some, None, Option, option_map, refl, sym, ap, ◌∙◌, arith}
 use Rattle.ob0_tree.specs.Tree.{Tree, addend, comparison, compares, designator, end, expression, factor, integer, item, items, more, negation, none, one, parenthesised, product, selector, simple, sum, term}
 use Rattle.ob0_tree.specs.View.{addend_of, factor_of, items_of, multiplier_of}
@@ -67,7 +68,7 @@ pub multiplied_designated : (f : Factor) (xs : List Multiplier) → 0 < length x
 multiplied_designated f [] some = absurd (omega arith)
 multiplied_designated f (x ∷ xs) some = refl
 
--- a designator keeps its place under labels
+-- a designator keeps its position in the labelled tree
 abbrev pub parts_in : Resolution → ℕ × Tree ℕ (items selector) → Label × Tree Label (items selector)
 parts_in r p = (label_in r p.0, in_labels r p.1)
 

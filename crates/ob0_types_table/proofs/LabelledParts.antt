@@ -1,4 +1,4 @@
--- Parts of sections, of procedures and of lists, in labels.
+-- The parts of sections, of procedures and of lists, in labelled trees.
 use Rattle.std.proofs.Common.{◌≡◌, ℕ, ◌+◌, ◌<◌, Bool, true, false, cond, List, [], ◌∷◌, length, get_or, drop, refl, sym, ap, ◌∙◌}
 use Rattle.std.proofs.lemmas.List.{drop_more}
 use Rattle.ob0_tree.specs.declared.tree.Expression.{Expression}
@@ -22,7 +22,7 @@ section-names r s = by_mode s.by_reference
     by_mode true = refl
     by_mode false = refl
 
--- the mode, by whatever decides modes by the mark
+-- the mode of a section, with any function from the VAR mark to modes
 pub section-mode : (mode_of : Bool → Mode) → mode_of true ≡ by_place → mode_of false ≡ by_value → (r : Resolution) (s : Section) → section_mode (in_labels r (section_of s)) ≡ mode_of s.by_reference
 section-mode mode_of marked unmarked r s = by_mode s.by_reference
   where
@@ -30,7 +30,7 @@ section-mode mode_of marked unmarked r s = by_mode s.by_reference
     by_mode true = sym marked
     by_mode false = sym unmarked
 
--- a procedure's parts
+-- the parts of a procedure
 pub procedure_parts : (p : Procedure) → procedure_of p ≡ declares_procedure (out-Procedure p).name (formals_of (out-Procedure p).formals) (block_of (out-Procedure p).block) (out-Procedure p).closing
 procedure_parts p = sym (ap procedure_of (roll-out-Procedure p)) ∙ procedure_made (out-Procedure p)
 
@@ -43,6 +43,6 @@ pub all_listed : (r : Resolution) (es : List Expression) → arguments_listed (i
 all_listed r [] = refl
 all_listed r (e ∷ es) = ap (λ z. in_labels r (expression_of e) ∷ z) (further_listed r es)
 
--- what is left of a list, and what is done with a result
+-- the rest of a list, and a function applied to a result
 pub split : {A : Type 0} (done : ℕ) (xs : List A) (x : A) → done < length xs → x ≡ get_or xs done x → drop done xs ≡ x ∷ drop (done + 1) xs
 split done xs x less here = drop_more xs done x less ∙ ap (λ y. y ∷ drop (done + 1) xs) (sym here)

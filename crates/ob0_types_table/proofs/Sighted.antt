@@ -1,4 +1,4 @@
--- The last of a list.
+-- The last element of a list.
 use Rattle.std.proofs.Common.{◌≡◌, ◌<◌, List, [], ◌∷◌, ◌++◌, length, sym, refl, ap, arith}
 
 -- the last of some bindings

@@ -1,4 +1,5 @@
--- Designators and lists of expressions in labels, and which expressions are a designator alone.
+-- Designators and lists of expressions in labelled trees, and the expressions that are only a
+-- designator.
 -- Rule: none; for contracts: trees with labels.
 use Rattle.std.specs.Prelude.{ℕ, List, map, Some, None, Option}
 use Rattle.ob0_tree.specs.Tree.{Tree, designator, end, expression, factor, items, product, selector, simple, sum, term}
@@ -14,19 +15,19 @@ use Rattle.ob0_language_types.specs.Selected.{selectors_in}
 abbrev pub designator_parts : Designator → ℕ × Tree ℕ (items selector)
 designator_parts d = ((out-Designator d).name, selectors_in d)
 
--- a designator alone, where no sign and no operator is beside it
+-- the designator of a factor, if it is one
 abbrev pub designator_of_factor : {N : Type 0}
     → Tree N factor
     → Option (N × Tree N (items selector))
 designator_of_factor (designator x path) = Some (x, path)
 designator_of_factor _ = None
 
--- the designator that a term is, alone
+-- the designator of a term, if the term is only that
 abbrev pub designator_of_term : {N : Type 0} → Tree N term → Option (N × Tree N (items selector))
 designator_of_term (product f end) = designator_of_factor f
 designator_of_term _ = None
 
--- the designator that a simple expression is, alone
+-- the designator of a simple expression, if this has no sign and no operator
 abbrev pub designator_of_simple : {N : Type 0}
     → Tree N simple
     → Option (N × Tree N (items selector))

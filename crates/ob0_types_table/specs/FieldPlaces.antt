@@ -1,18 +1,17 @@
--- Which field of which record a name selects.
+-- The field that a name selects, and its record.
 -- Rule: none; for contracts: places of fields.
 use Rattle.std.specs.Prelude.{ℕ, suc, Some, None, Option, option_map, if◌then◌else◌}
 use Rattle.ob0_language_names.specs.Names.{Name, same_name}
 use Rattle.ob0_types_table.specs.declared.known.FieldOf.{FieldOf}
 use Rattle.ob0_language_values.specs.Values.{FieldShapes, Shape, array_shape, boolean_shape, integer_shape, next_field_shape, no_field_shape, record_shape}
 
--- the place of the first field of a name
+-- the position of the first field with a name
 abbrev pub place_of_field : FieldShapes → Name → Option ℕ
 place_of_field no_field_shape x = None
 place_of_field (next_field_shape y s rest) x =
     if same_name x y then Some 0 else option_map suc (place_of_field rest x)
 
--- the field that a name selects of a value of a type:
--- the ordinal of its record, and its place there
+-- the field that a name selects in a type: the ordinal of its record, and its position there
 abbrev pub field_selected : Shape → Name → Option FieldOf
 field_selected (record_shape k fs) x =
     option_map (λ i. record { ordinal = k; index = i }) (place_of_field fs x)

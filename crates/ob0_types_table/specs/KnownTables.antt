@@ -1,4 +1,4 @@
--- What is known of a module: the shapes of its types, and what its declarations are.
+-- The table of a module: the shapes of its types, and the objects of its declarations.
 -- Rule: none; for contracts of the table of types and declarations.
 use Rattle.std.specs.Prelude.{ℕ, List, [], None, Option, option_and_then, slice_index_or}
 use Rattle.ob0_language_values.specs.Values.{Shape}
@@ -8,15 +8,15 @@ use Rattle.ob0_language_types.specs.Expressions.{Object}
 use Rattle.ob0_types_table.specs.Tables.{object_in, shapes_from}
 use Rattle.ob0_language_types.specs.WellTyped.{Signature}
 
--- the types that were made, and what was declared at each ordinal
+-- the arrays and records that were made, and the object of each ordinal
 pub record Tables : Type 0 where
   pub shapes : List code.TypeEntry
   pub objects : List (Option declaration.Object)
 
--- the types of the table, each made over those before it
+-- the shapes of the table, each made from earlier ones
 abbrev pub shapes_of : Tables → List Shape
 shapes_of t = shapes_from [] t.shapes
 
--- what is declared at an ordinal
+-- the object of the declaration with an ordinal
 abbrev pub declared_in : Tables → ℕ → Option (Object Shape Signature)
 declared_in t k = option_and_then (object_in (shapes_of t)) (slice_index_or t.objects k None)

@@ -19,7 +19,7 @@ parts_shape shapes (parts.Array a) = made_shape shapes (made.Array a)
 parts_shape shapes (parts.Record r) = made_shape shapes (made.Record r.now)
 parts_shape shapes parts.Faulty = no_shape
 
--- the scalars and the depth that come with an array or a record are those of its shape
+-- states that an array or a record comes with the number of scalars and the depth of its shape
 abbrev pub PartsAreCounted : List Shape → Parts → Type 0
 PartsAreCounted shapes parts.Integer = Unit {0}
 PartsAreCounted shapes parts.Boolean = Unit {0}
@@ -29,19 +29,19 @@ PartsAreCounted shapes (parts.Record r) =
     CountsParts (made.Record r.now) (made_shape shapes (made.Record r.now))
 PartsAreCounted shapes parts.Faulty = Unit {0}
 
--- an ARRAY of the text made this entry
+-- true for an entry made by an ARRAY of the text
 abbrev pub is_array_entry : Option TypeEntry → Bool
 is_array_entry None = false
 is_array_entry (Some (made.Array a)) = true
 is_array_entry (Some (made.Record r)) = false
 
--- a RECORD of the text made this entry
+-- true for an entry made by a RECORD of the text
 abbrev pub is_record_entry : Option TypeEntry → Bool
 is_record_entry None = false
 is_record_entry (Some (made.Array a)) = false
 is_record_entry (Some (made.Record r)) = true
 
--- a type of the module: INTEGER, BOOLEAN, or what an ARRAY or RECORD of the text made
+-- true for a type of the module: INTEGER, BOOLEAN, or a type made by an ARRAY or RECORD of the text
 abbrev pub is_known_type : Tables → TypeId → Bool
 is_known_type t type.Integer = true
 is_known_type t type.Boolean = true
@@ -49,7 +49,7 @@ is_known_type t (type.Array i) = is_array_entry (slice_get t.shapes i)
 is_known_type t (type.Record i) = is_record_entry (slice_get t.shapes i)
 is_known_type t type.Unknown = false
 
--- all parts but those of what has a fault
+-- true unless the type is faulty
 abbrev pub has_parts : Parts → Bool
 has_parts parts.Integer = true
 has_parts parts.Boolean = true

@@ -1,4 +1,4 @@
-//! Expressions that are a designator alone: what may be passed by its place.
+//! Recognizes expressions that are only a designator. Only these may be VAR arguments.
 
 ghost use Rattle.std.specs.Prelude.{◌≡◌, option_map};
 ghost use Rattle.ob0_tree.specs.View.{compound_of, expression_of, factor_of, simple_of, term_of};
@@ -7,7 +7,7 @@ ghost use Rattle.ob0_language_types.specs.Typing.{lone_designator};
 
 use ob0_tree::{Compound, Designator, Expression, Factor, Simple, Term};
 
-/// A designator alone, without sign, operators or parentheses.
+/// Returns the designator if the expression is only that, without sign, operators or parentheses.
 pub fn lone_designator(e: &Expression) -> Option<&Designator>
     ensures { option_map (λ d. designator_parts d.now) result
         ≡ lone_designator (expression_of e.now) }

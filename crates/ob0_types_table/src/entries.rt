@@ -7,8 +7,8 @@ use crate::known::TypeEntry;
 use crate::types::TypeId;
 use std::alloc::AllocError;
 
-/// Adds what an ARRAY or RECORD makes after the others, and returns its type: another one than theirs, whatever their
-/// forms are.
+/// Adds the entry of an ARRAY or RECORD, and returns its type, which differs from the types of all
+/// other entries. If the allocation fails, the table is unchanged.
 pub fn add_entry(entries: &mut Vec<TypeEntry>, entry: TypeEntry) -> Result<TypeId, AllocError>
     ensures made { IfOk result (λ of. of ≡ type_at entry (length entries.old.items)) }
     ensures added { OnOk result (entries.new.items ≡ entries.old.items ++ entry ∷ []) }
@@ -19,7 +19,7 @@ pub fn add_entry(entries: &mut Vec<TypeEntry>, entry: TypeEntry) -> Result<TypeI
     Ok(of)
 }
 
-/// The type of an array or record that is put at this place.
+/// Returns the type of an array or record at this place of the table.
 fn type_at(entry: &TypeEntry, place: usize) -> TypeId
     ensures { result ≡ type_at entry.now place }
 {

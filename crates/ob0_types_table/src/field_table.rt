@@ -1,7 +1,7 @@
-//! The fields of a record, each found by its name in logarithmic time.
+//! The fields of a record, found by name in logarithmic time.
 //!
-//! In clauses a table is the list of fields alone. A map has no code, so it can't be in a value; that it is the list's
-//! index is an invariant (`IsIndex`).
+//! In clauses a table is only the list of fields. The map is an index of that list, which is an
+//! invariant (`IsIndex`); it isn't part of the table's value.
 
 ghost use Rattle.std.specs.Prelude.{◌≡◌, List, IfOk, option_map};
 ghost use Rattle.ob0_language_values.specs.Values as shape;
@@ -16,14 +16,14 @@ use std::alloc::{AllocError, Global};
 use std::collections::BTreeMap;
 use std::marker::Model;
 
-/// A field that is the first of its name: its place and its type.
+/// The first field with a name: its position and its type.
 #[derive(Clone, Copy)]
 struct FirstOfName {
     place: usize,
     of: TypeId,
 }
 
-/// Fields in order, with the first of each name.
+/// The fields in order, with a map to the first field of each name.
 #[derive(Drop)]
 pub struct FieldTable {
     fields: Vec<Field>,
@@ -43,7 +43,8 @@ impl Model for FieldTable {
     ghost invariant = { λ t. IsIndex t.first_of t.fields.items };
 }
 
-/// The first field of each name. The last field goes first, so that the first of a name stays.
+/// Returns a map to the first field of each name. It is filled starting at the last field, so that
+/// the first one with a name remains.
 fn first_of(alloc: Global, fields: &[Field]) -> Result<BTreeMap<String, FirstOfName>, AllocError>
     ensures { IfOk result (λ m. IsIndex m fields.now) }
 {
@@ -62,7 +63,7 @@ fn first_of(alloc: Global, fields: &[Field]) -> Result<BTreeMap<String, FirstOfN
 }
 
 impl FieldTable {
-    /// These fields, with the first of each name.
+    /// Makes the table of these fields.
     pub fn new(fields: Vec<Field>) -> Result<FieldTable, AllocError>
         ensures { IfOk result (λ t. t ≡ fields.items) }
     {
@@ -73,14 +74,14 @@ impl FieldTable {
         })
     }
 
-    /// The fields, in text order.
+    /// Returns the fields, in text order.
     pub fn as_slice(&self) -> &[Field]
         ensures { result.now ≡ self.now }
     {
         self.fields.as_slice()
     }
 
-    /// The type of the first field of this name.
+    /// Returns the type of the first field with this name.
     pub fn find(&self, name: &str) -> Option<TypeId>
         ensures first { result ≡ first_field_type self.now name.now }
         ensures shape { (shapes : List shape.Shape)
@@ -93,7 +94,7 @@ impl FieldTable {
         }
     }
 
-    /// The place of the first field of this name.
+    /// Returns the position of the first field with this name.
     pub fn place(&self, name: &str) -> Option<usize>
         ensures { (shapes : List shape.Shape)
             → result ≡ place_of_field (fields_shape shapes self.now) name.now }

@@ -1,9 +1,9 @@
-//! What is known of a module without faults: the shapes of its types, and what its declarations are.
+//! The table of a valid module: the shapes of its types, and the objects of its declarations.
 //!
-//! Types are places in a table: the entry of an ARRAY or RECORD is made over those before it (`AreEntriesInOrder`), and
-//! `shapes_of` computes the shapes of the table from its first entry on. The value of `DeclarationTable` is its two
-//! lists as the code has them, since the code of a value is found for types of the code and not for the definitions'
-//! `Shape`; shapes are functions of it.
+//! Types are places in a table. The entry of an ARRAY or RECORD refers only to earlier entries
+//! (`AreEntriesInOrder`), and `shapes_of` computes the shapes of the table starting at the first
+//! entry. The value of `DeclarationTable` is its two lists of entries, as the code has them. The
+//! shapes are functions of this value, because the definitions' `Shape` isn't a type of the code.
 
 ghost use Rattle.std.specs.Prelude.{◌≡◌, List, option_map};
 ghost use Rattle.ob0_language_values.specs.Values as shape;
@@ -15,10 +15,11 @@ use crate::types::{TypeId, scalar_type};
 use ob0_language_values::Scalar;
 use std::marker::Model;
 
-/// The greatest length of an array, and the most scalars that a type may have.
+/// The greatest length of an array, and the greatest number of scalars in a type.
 pub const MAX_SCALARS: usize = 65536;
 
-/// The most arrays and records that may be inside one another, named types followed.
+/// The greatest number of arrays and records inside one another; a named type counts as if written
+/// out.
 pub const MAX_DEPTH: usize = 100;
 
 /// A field of a record.
@@ -28,15 +29,15 @@ pub struct Field {
     pub of: TypeId,
 }
 
-/// A field of a record: which of the ARRAY and RECORD of the text the record is, and which of its fields, each from 0
-/// on.
+/// A field of a record: the ordinal of the record among the words ARRAY and RECORD of the text, and
+/// the position of the field in it, both from 0.
 #[derive(Clone, Copy, PartialEq, Eq)]
 pub struct FieldOf {
     pub ordinal: usize,
     pub index: usize,
 }
 
-/// `ARRAY length OF element`, made by the constructor with this ordinal in the text.
+/// `ARRAY length OF element`, made by the word with this ordinal in the text.
 #[derive(Clone, Copy)]
 pub struct ArrayShape {
     pub ordinal: usize,
@@ -46,7 +47,7 @@ pub struct ArrayShape {
     pub depth: usize,
 }
 
-/// `RECORD fields END`, made by the constructor with this ordinal in the text.
+/// `RECORD fields END`, made by the word with this ordinal in the text.
 #[derive(Drop)]
 pub struct RecordShape {
     pub ordinal: usize,
@@ -55,7 +56,7 @@ pub struct RecordShape {
     pub depth: usize,
 }
 
-/// What an ARRAY or RECORD of the text makes.
+/// The array or record that an ARRAY or RECORD of the text makes.
 #[derive(Drop)]
 pub enum TypeEntry {
     Array(ArrayShape),
@@ -77,10 +78,10 @@ pub enum Standard {
     WriteLn,
 }
 
-/// What a declaration is.
+/// The object that a declaration declares.
 #[derive(Drop)]
 pub enum Object {
-    /// A type, by its name.
+    /// A type's name, with the type.
     Named(TypeId),
     Constant(Scalar),
     /// A constant whose right side has a fault.
@@ -90,7 +91,7 @@ pub enum Object {
     Standard(Standard),
 }
 
-/// The shapes of the types, each made of those before it, and what each declaration is, by its ordinal.
+/// The types, each made from earlier ones, and the object of each declaration, by its ordinal.
 #[derive(Drop)]
 pub struct DeclarationTable {
     shapes: Vec<TypeEntry>,
@@ -98,7 +99,7 @@ pub struct DeclarationTable {
 }
 
 impl RecordShape {
-    /// The first field of this name.
+    /// Returns the first field with this name.
     fn field(&self, name: &str) -> Option<FieldOf>
         ensures { (shapes : List shape.Shape)
             → result
@@ -135,7 +136,7 @@ impl DeclarationTable {
     ghost use Rattle.ob0_language_values.specs.Scalars.{scalar_value};
     ghost use Rattle.ob0_language_values.specs.Values.{integer_shape};
 
-    /// What is known of a module, by the arrays and records that it makes and by what its declarations are.
+    /// Makes the table of a module from its arrays and records and the objects of its declarations.
     pub fn new(shapes: Vec<TypeEntry>, objects: Vec<Option<Object>>) -> DeclarationTable
         requires { AreEntriesInOrder [] shapes.items }
         ensures { result ≡ record { shapes = shapes.items; objects = objects.items } }
@@ -143,21 +144,21 @@ impl DeclarationTable {
         DeclarationTable { shapes, objects }
     }
 
-    /// How many declarations there are.
+    /// Returns the number of declarations.
     pub fn count(&self) -> usize
         ensures { result ≡ length self.now.objects }
     {
         self.objects.len()
     }
 
-    /// The types that were made, in order: each is made of those before it.
+    /// Returns the arrays and records in order. Each is made from earlier ones.
     pub fn shapes(&self) -> &[TypeEntry]
         ensures { result.now ≡ self.now.shapes }
     {
         self.shapes.as_slice()
     }
 
-    /// What a declaration is.
+    /// Returns the object of a declaration.
     pub fn object(&self, ordinal: usize) -> Option<&Object>
         ensures { option_and_then (λ o. object_in (shapes_of self.now) o.now) result
             ≡ declared_in self.now ordinal }
@@ -171,7 +172,7 @@ impl DeclarationTable {
         }
     }
 
-    /// The value of a declaration that is a constant.
+    /// Returns the value of a declaration if it is a constant.
     pub fn constant(&self, ordinal: usize) -> Option<Scalar>
         ensures { option_map scalar_value result ≡ constant_of (declared_in self.now ordinal) }
     {
@@ -185,7 +186,7 @@ impl DeclarationTable {
         }
     }
 
-    /// The type of a declaration: of a type, of a variable or parameter, and of a constant.
+    /// Returns the type of a declaration if it is a type, a variable, a parameter or a constant.
     pub fn declared_type(&self, ordinal: usize) -> Option<TypeId>
         ensures { option_map (type_shape (shapes_of self.now)) result
             ≡ type_declared (declared_in self.now ordinal) }
@@ -200,7 +201,7 @@ impl DeclarationTable {
         }
     }
 
-    /// What the shape at a place of the table is.
+    /// Returns the entry at a place of the table.
     pub(crate) fn entry(&self, place: usize) -> Option<&TypeEntry>
         ensures found { option_map (λ m. m.now) result ≡ slice_get self.now.shapes place }
         ensures shape { MatchOption result
@@ -216,7 +217,7 @@ impl DeclarationTable {
         }
     }
 
-    /// The type of an array's elements.
+    /// Returns the type of an array's elements.
     pub fn element(&self, base: TypeId) -> Option<TypeId>
         ensures { option_map (type_shape (shapes_of self.now)) result
             ≡ element_type (type_shape (shapes_of self.now) base) integer_shape }
@@ -233,7 +234,7 @@ impl DeclarationTable {
         }
     }
 
-    /// The type of the first field of this name in a record.
+    /// Returns the type of the first field with this name in a record.
     pub fn field_type(&self, base: TypeId, name: &str) -> Option<TypeId>
         ensures { option_map (type_shape (shapes_of self.now)) result
             ≡ field_type (type_shape (shapes_of self.now) base) name.now }
@@ -250,7 +251,7 @@ impl DeclarationTable {
         }
     }
 
-    /// The first field of this name in a record.
+    /// Returns the first field with this name in a record.
     pub fn field(&self, base: TypeId, name: &str) -> Option<FieldOf>
         ensures { result ≡ field_selected (type_shape (shapes_of self.now) base) name.now }
     {

@@ -1,5 +1,5 @@
-//! What is known of a module: the table of its types and of what its declarations are; the operators of constants; and
-//! which expressions are a designator alone.
+//! The table of a module's types and declarations, the operators of constants, and the expressions
+//! that are only a designator.
 #![tactic(auto)]
 
 pub mod designated;

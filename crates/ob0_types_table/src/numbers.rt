@@ -1,4 +1,4 @@
-//! The numbers that tokens are.
+//! The numbers of integer tokens.
 
 ghost use Rattle.std.specs.Prelude.{◌≡◌, ◌≤◌, pos};
 ghost use Rattle.ob0_tree.specs.Places.{value_at, value_of};
@@ -6,11 +6,11 @@ ghost use Rattle.ob0_scan.specs.Classes.{max_integer};
 
 use ob0_scan::{TokenKind, Tokens};
 
-/// The number that a token is, and 0 for every other token.
+/// Returns the number of an integer token, and 0 for any other token.
 pub fn number_at(tokens: &Tokens, token: usize) -> i32
     ensures { result ≡ pos (value_at tokens.now token) }
 {
-    // For the proof: what the contract of this call says.
+    // The proof needs the contract of this call.
     let _scanned = tokens.text();
     let tokens = tokens.tokens();
     if token < tokens.len() {

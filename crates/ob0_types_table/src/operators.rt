@@ -1,5 +1,5 @@
-//! Operations on the values of constants, where an operand may have none. An operand that settles an operation alone
-//! decides it, whatever the value of the other.
+//! Operations on the values of constants. An operand may lack a value. If the left operand settles
+//! the operation, the result is its value, even if the right one has none.
 
 ghost use Rattle.std.specs.Prelude.{◌≡◌, Some, option_and_then, option_map};
 ghost use Rattle.ob0_language_values.specs.Scalars.{scalar_value};
@@ -14,7 +14,7 @@ use ob0_language_values::scalar::{
 };
 use ob0_tree::{AddOperator, MultiplyOperator, Relation, Sign};
 
-/// The truth value of a relation; None where a side has no value, or they don't fit.
+/// Returns the truth value of a relation, or None if a side has no value or the two don't fit.
 pub fn value_of_relation(
     relation: Relation,
     left: Option<Scalar>,
@@ -33,7 +33,7 @@ pub fn value_of_relation(
     }
 }
 
-/// The value of a first term with its sign, if there is one; None where it overflows.
+/// Returns the value of a first term with its optional sign, or None if it overflows.
 pub fn with_sign(sign: Option<Sign>, operand: Option<Scalar>) -> Option<Scalar>
     ensures { option_map scalar_value result
         ≡ option_and_then (λ x. given_value (values.apply_sign sign x))
@@ -45,7 +45,7 @@ pub fn with_sign(sign: Option<Sign>, operand: Option<Scalar>) -> Option<Scalar>
     }
 }
 
-/// The value of `~` with its operand.
+/// Returns the value of `~` applied to an operand.
 pub fn complement(operand: Option<Scalar>) -> Option<Scalar>
     ensures { option_map scalar_value result
         ≡ option_and_then (λ x. given_value (values.negate x)) (option_map scalar_value operand) }
@@ -56,7 +56,7 @@ pub fn complement(operand: Option<Scalar>) -> Option<Scalar>
     }
 }
 
-/// The value of a sum, a difference or an OR; None where it has none.
+/// Returns the value of a sum, a difference or an OR, or None if it has no value.
 pub fn value_of_sum(
     operator: AddOperator,
     left: Option<Scalar>,
@@ -80,7 +80,7 @@ pub fn value_of_sum(
     }
 }
 
-/// The value of a product, a quotient, a remainder or an `&`; None where it has none.
+/// Returns the value of a product, a quotient, a remainder or an `&`, or None if it has no value.
 pub fn value_of_product(
     operator: MultiplyOperator,
     left: Option<Scalar>,

@@ -1,9 +1,10 @@
 //! A type with its parts.
 //!
-//! The scalars and the depth that come with an array or a record are those of its shape (`PartsAreCounted`). There are
-//! no parts exactly where the `TypeId` is none of the module's (`is_known_type`). What has a fault has a shape too
-//! (`no_shape`), with an ordinal that no ARRAY or RECORD of a text has: so no clause on shapes lets a type of a module be
-//! given as `Unknown`.
+//! An array or a record comes with the number of scalars and the depth of its shape
+//! (`PartsAreCounted`). A `TypeId` has no parts exactly if it isn't one of the module's types
+//! (`is_known_type`). A faulty type also has a shape (`no_shape`), with an ordinal that no ARRAY or
+//! RECORD of a text has. So no clause about shapes allows a type of a module to be returned as
+//! `Unknown`.
 
 ghost use Rattle.std.specs.Prelude.{◌≡◌};
 ghost use Rattle.ob0_types_table.specs.Parts.{PartsAreCounted, has_parts, is_known_type, parts_shape};
@@ -13,7 +14,7 @@ ghost use Rattle.ob0_types_table.specs.Tables.{type_shape};
 use crate::known::{ArrayShape, DeclarationTable, RecordShape, TypeEntry};
 use crate::types::TypeId;
 
-/// A type with its parts. What has a fault is a record without fields.
+/// A type with its parts. The shape of a faulty type is a record without fields.
 #[derive(Clone, Copy)]
 pub enum Parts<'k> {
     Integer,
@@ -24,7 +25,8 @@ pub enum Parts<'k> {
 }
 
 impl DeclarationTable {
-    /// A type with its parts. It has none exactly where it isn't a type of the module.
+    /// Returns a type with its parts. The result is `Faulty` exactly if it isn't a type of the
+    /// module.
     pub fn parts(&self, of: TypeId) -> Parts<'_>
         ensures shape { parts_shape (shapes_of self.now) result
             ≡ type_shape (shapes_of self.now) of }

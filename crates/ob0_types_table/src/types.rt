@@ -1,4 +1,4 @@
-//! What a type is to the checker.
+//! The checker's representation of a type.
 
 ghost use Rattle.std.specs.Prelude.{◌≡◌, List, Some};
 ghost use Rattle.ob0_language_values.specs.Scalars.{scalar_value};
@@ -15,11 +15,11 @@ pub enum TypeId {
     Boolean,
     Array(usize),
     Record(usize),
-    /// The type of what has a fault. No well-typed module has it.
+    /// The type of a part with a fault. No well-typed module has it.
     Unknown,
 }
 
-/// The type of a constant.
+/// Returns the type of a constant.
 pub fn scalar_type(value: Scalar) -> TypeId
     ensures { (shapes : List Shape)
         → Some (type_shape shapes result) ≡ value_type (scalar_value value) }

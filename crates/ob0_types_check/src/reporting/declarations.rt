@@ -1,4 +1,4 @@
-//! Goes through declarations in text order, and says what each is from its place on.
+//! Walks the declarations in text order, and records what each is for the text after it.
 
 ghost use Rattle.std.specs.Prelude.{◌≡◌, ◌∷◌, ◌++◌, [], map, IfOk, OnOk};
 ghost use Rattle.ob0_language_names.specs.Parts.{formal_sections, section_constants, section_types, section_variables};
@@ -16,7 +16,7 @@ use ob0_tree::{Block, Constant, Names, Procedure, Section, Statement, TypeDeclar
 use ob0_types_table::{Formal, TypeId};
 use std::alloc::AllocError;
 
-/// Puts as many parameters after others as these names are.
+/// Appends a formal parameter for each of these names.
 fn add_formals(names: &Names, formal: Formal, formals: &mut Vec<Formal>) -> Result<(), AllocError>
     ensures { OnOk result (formals.new.items
         ≡ formals.old.items ++ map (λ name. formal) (names.now.first ∷ names.now.more.items)) }
@@ -42,8 +42,9 @@ impl<'t> Supposed<'t> {
 }
 
 impl<'t> Reporter<'t> {
-    /// Constants, types, variables, procedures, and then the statements, where they are wanted; `own` is the block's
-    /// closing name. Bodies of which something is reported are put after `faulty`.
+    /// Reports the faults of a block: constants, types, variables, procedures, and then the
+    /// statements if they are wanted. `own` is the token of the block's closing name. Appends each
+    /// body with a fault to `faulty`.
     #[cycle(blocks)]
     pub(crate) fn block(
         &mut self,
@@ -81,7 +82,8 @@ impl<'t> Reporter<'t> {
         Ok(())
     }
 
-    /// A procedure is known after its heading, and so in its own body.
+    /// Reports the faults of a procedure. Its name is known after the heading, and so in its own
+    /// body.
     #[cycle(blocks)]
     fn procedure(
         &mut self,

@@ -1,4 +1,5 @@
-//! Reports the faults of expressions, and finds their types and the values of constant ones on the same way.
+//! Reports the faults of expressions, and finds their types and, if they are constant, their
+//! values.
 
 ghost use Rattle.std.specs.Prelude.{◌≡◌, ◌++◌, [], false, true, if◌then◌else◌, IfOk, OnOk, option_map};
 ghost use Rattle.ob0_language_values.specs.Scalars.{scalar_value};
@@ -21,15 +22,15 @@ use ob0_tree::{
 use ob0_types_table::{TypeId, number_at, operators};
 use std::alloc::AllocError;
 
-/// An expression, as far as it is known.
+/// The known facts of an expression.
 #[derive(Clone, Copy)]
 pub(crate) struct Operand {
     pub(crate) of: TypeId,
-    /// Its value. None where it has a fault, and where that is known only when it runs.
+    /// The value, or None if the expression has a fault or isn't constant.
     pub(crate) value: Option<Scalar>,
-    /// Whether it is a name with selectors alone, and the name no constant's.
+    /// True if the expression is only a name with selectors, and the name isn't a constant's.
     pub(crate) is_place: bool,
-    /// The tokens where it begins and ends.
+    /// The first and the last token.
     pub(crate) first: usize,
     pub(crate) last: usize,
 }
@@ -55,7 +56,8 @@ fn required_by_multiply(operator: MultiplyOperator) -> TypeId
     }
 }
 
-/// `=` and `#` take two numbers or two truths, and require nothing of the right side where the left one is unknown.
+/// Returns the type that a relation requires of both sides. `=` and `#` compare two numbers or two
+/// truth values. If the left side's type is unknown, they require nothing of the right side.
 fn required_by_relation(relation: Relation, left: TypeId) -> TypeId
     ensures { result ≡ required_by_relation (known_types []) relation left }
 {
@@ -81,7 +83,8 @@ fn required_by_equality(left: TypeId) -> TypeId
     }
 }
 
-/// A comparison is a truth where its operands are known.
+/// Returns the type of a comparison, from the type of its operands: BOOLEAN, or unknown if that
+/// type is unknown.
 fn truth_of(operands: TypeId) -> TypeId
     ensures { result ≡ comparison_type (known_types []) operands }
 {
@@ -100,14 +103,15 @@ pub(crate) fn same_type(a: TypeId, b: TypeId) -> bool
     a == b
 }
 
-/// Nothing is required of an unknown type, and it requires nothing.
+/// True if a type is accepted where another is required. An unknown type is accepted everywhere,
+/// and requires nothing.
 fn fits(of: TypeId, wanted: TypeId) -> bool
     ensures { result ≡ fits (known_types []) of wanted }
 {
     same_type(of, wanted) || same_type(of, TypeId::Unknown) || same_type(wanted, TypeId::Unknown)
 }
 
-/// The type that was required, where it is there.
+/// Returns the required type if the operand has it, otherwise the unknown type.
 fn agreed_type(of: TypeId, wanted: TypeId) -> TypeId
     ensures { result ≡ (if same_type of wanted then wanted else type.Unknown) }
 {
@@ -119,7 +123,7 @@ fn agreed_type(of: TypeId, wanted: TypeId) -> TypeId
 }
 
 impl Operand {
-    /// The operation on this whose sign precedes it.
+    /// Returns the operand with the sign or `~` that precedes it.
     fn after_sign(self, of: TypeId, value: Option<Scalar>) -> Operand
         ensures { operand_of result
             ≡ after_sign of (option_map scalar_value value) (operand_of self) }
@@ -133,7 +137,7 @@ impl Operand {
         }
     }
 
-    /// The operation on this and what is to the right.
+    /// Returns the operation whose operands are this and the right one.
     fn with(self, right: Operand, of: TypeId, value: Option<Scalar>) -> Operand
         ensures { operand_of result
             ≡ joint_operand of (option_map scalar_value value) (operand_of self)
@@ -148,7 +152,7 @@ impl Operand {
         }
     }
 
-    /// The part of this up to a token.
+    /// Returns the part of this designator up to a token.
     fn part(self, of: TypeId, last: usize) -> Operand
         ensures { operand_of result ≡ part_of (operand_of self) of last }
     {
@@ -176,7 +180,8 @@ impl<'t> Supposed<'t> {
         self.report(faults, code, operand.first, operand.last)
     }
 
-    /// Requires a type, and gives it where it is there; else it is unknown.
+    /// Requires a type of an operand: reports the operand if its type is known and different.
+    /// Returns the required type if the operand has it, otherwise the unknown type.
     pub(crate) fn require(
         &self,
         faults: &mut Vec<Fault>,
@@ -192,8 +197,8 @@ impl<'t> Supposed<'t> {
         Ok(agreed_type(operand.of, wanted))
     }
 
-    /// Requires the same type on both sides, and gives it where it is there. Only one wrong operand is reported, the
-    /// left one first.
+    /// Requires the same type of both sides, and returns it if both have it, otherwise the unknown
+    /// type. At most one side is reported, the left one first.
     fn require_both(
         &self,
         faults: &mut Vec<Fault>,
@@ -216,7 +221,7 @@ impl<'t> Supposed<'t> {
         }
     }
 
-    /// Reports the faults of an expression. In a constant expression names mean constants alone.
+    /// Reports the faults of an expression. With `only_constants` a variable's name is a fault.
     #[cycle(expressions)]
     pub(crate) fn expression(
         &self,
@@ -423,7 +428,7 @@ impl<'t> Supposed<'t> {
         Ok(operand.after_sign(of, operators::complement(operand.value)))
     }
 
-    /// A name where a value is required.
+    /// Returns the operand of a name that must refer to a value.
     fn value_named(
         &self,
         faults: &mut Vec<Fault>,
@@ -463,7 +468,7 @@ impl<'t> Supposed<'t> {
         }
     }
 
-    /// A designator whose name is this operand, with its selectors.
+    /// Applies the selectors of a designator to `base`, the operand of its name.
     #[cycle(expressions)]
     pub(crate) fn apply_selectors(
         &self,
@@ -504,7 +509,7 @@ impl<'t> Supposed<'t> {
         }
     }
 
-    /// An index is required to be a number also where there is no array.
+    /// Selects an element. An index must be INTEGER even if the base isn't an array.
     fn select_element(
         &self,
         faults: &mut Vec<Fault>,
@@ -599,7 +604,7 @@ impl<'t> Supposed<'t> {
         Ok(TypeId::Unknown)
     }
 
-    /// Reports the faults of the right side of a constant's declaration, and gives its value where it has none.
+    /// Reports the faults of a constant's right side, and returns its value if there is none.
     pub(crate) fn constant_value(
         &self,
         faults: &mut Vec<Fault>,
@@ -613,7 +618,8 @@ impl<'t> Supposed<'t> {
         self.operand_value(faults, constant)
     }
 
-    /// The value of an operand of a constant expression. In one with a fault nothing is evaluated.
+    /// Returns the value of a constant expression, or reports `ConstFault` if its evaluation fails.
+    /// An expression with another fault isn't evaluated.
     fn operand_value(
         &self,
         faults: &mut Vec<Fault>,
@@ -633,7 +639,7 @@ impl<'t> Supposed<'t> {
     }
 }
 
-/// A constant's name.
+/// Returns the operand of a constant's name.
 fn constant(value: Option<Scalar>, token: usize) -> Operand
     ensures { operand_of result
         ≡ a_constant_name (known_types []) (option_map scalar_value value) token }

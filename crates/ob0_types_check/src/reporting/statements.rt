@@ -91,7 +91,7 @@ impl<'t> Supposed<'t> {
         self.right_side(faults, TypeId::Boolean, e)
     }
 
-    /// Requires a type of an expression.
+    /// Requires this type of an expression, and reports its faults.
     fn right_side(
         &self,
         faults: &mut Vec<Fault>,
@@ -107,7 +107,8 @@ impl<'t> Supposed<'t> {
         Ok(())
     }
 
-    /// After a target with a fault only the own faults of the right side are reported.
+    /// Reports the faults of an assignment. If the target has a fault, its type is unknown, so the
+    /// right side may have any type.
     fn assignment(&self, faults: &mut Vec<Fault>, a: &Assignment) -> Result<(), AllocError>
         ensures { OnOk result (faults.new.items
             ≡ faults.old.items
@@ -125,7 +126,8 @@ impl<'t> Supposed<'t> {
         self.right_side(faults, target.of, &a.value)
     }
 
-    /// The type of the variable that is assigned to.
+    /// Returns the type of the variable that is assigned to, or reports that the name isn't a
+    /// variable's.
     fn target_type(&self, faults: &mut Vec<Fault>, token: usize) -> Result<TypeId, AllocError>
         ensures { IfOk result (λ t. ReportsAfter faults.old.items faults.new.items t
             (target_meaning (facts_in self.now false) token)) }
@@ -160,7 +162,7 @@ impl<'t> Supposed<'t> {
         }
     }
 
-    /// A call with these arguments of what a name means.
+    /// Reports the faults of a call, according to what its name means.
     fn report_call(
         &self,
         faults: &mut Vec<Fault>,
@@ -200,7 +202,7 @@ impl<'t> Supposed<'t> {
         self.parts(faults, arguments)
     }
 
-    /// Arguments of any type.
+    /// Reports the faults of arguments that may have any type.
     fn parts(&self, faults: &mut Vec<Fault>, arguments: &[Expression]) -> Result<(), AllocError>
         ensures { OnOk result (faults.new.items
             ≡ faults.old.items
@@ -212,7 +214,8 @@ impl<'t> Supposed<'t> {
         Ok(())
     }
 
-    /// Arguments of a wrong number aren't looked at.
+    /// Reports the faults of a procedure call's arguments. If their number is wrong, only that is
+    /// reported.
     fn arguments(
         &self,
         faults: &mut Vec<Fault>,
@@ -234,7 +237,7 @@ impl<'t> Supposed<'t> {
         Ok(())
     }
 
-    /// An argument for a formal parameter.
+    /// Reports the faults of an argument, including a mismatch with its parameter.
     fn argument(
         &self,
         faults: &mut Vec<Fault>,

@@ -1,4 +1,5 @@
-//! What is supposed of types and declarations while faults are reported; each may be unknown, as a whole or in parts.
+//! The state of the reporting walk: the types and declarations so far. Each may be unknown, as a
+//! whole or in parts.
 
 ghost use Rattle.std.specs.Prelude.{◌≡◌, ◌≤◌, ◌∷◌, [], ◌++◌, ◌+◌, ◌^◌, map, IfOk, MatchResult, OnOk, option_map, slice_get, slice_index_or, None, Some};
 ghost use Rattle.ob0_types_table.specs.declared.types.TypeId.TheVariants as type;
@@ -16,18 +17,18 @@ use ob0_tree::text_at;
 use ob0_types_table::{Formal, MAX_DEPTH, MAX_SCALARS, TypeEntry, TypeId, add_entry};
 use std::alloc::{AllocError, Global};
 
-/// What a declaration is.
+/// A declaration, with its type, value or parameters.
 #[derive(Drop)]
 pub(crate) enum Meaning {
-    /// A type, by its name.
+    /// A type's name, with the type.
     Named(TypeId),
-    /// A constant; without a value where its right side has a fault.
+    /// A constant, without a value if its right side has a fault.
     Constant(Option<Scalar>),
     Variable(TypeId),
     Procedure(Vec<Formal>),
 }
 
-/// The predeclared names, in the order of their ordinals.
+/// Returns the meanings of the predeclared names, in the order of their ordinals.
 pub(crate) fn predeclared_meanings(alloc: Global) -> Result<Vec<Option<Meaning>>, AllocError>
     ensures { IfOk result (λ ms. map (option_map known_meaning) ms.items ≡ predeclared_meanings) }
 {
@@ -42,7 +43,7 @@ pub(crate) fn predeclared_meanings(alloc: Global) -> Result<Vec<Option<Meaning>>
     Ok(meanings)
 }
 
-/// A procedure with one parameter, a number.
+/// Returns a procedure with one INTEGER parameter.
 fn one_parameter(alloc: Global, by_place: bool) -> Result<Meaning, AllocError>
     ensures { IfOk result
         (λ m. known_meaning m
@@ -56,27 +57,27 @@ fn one_parameter(alloc: Global, by_place: bool) -> Result<Meaning, AllocError>
     Ok(Meaning::Procedure(formals))
 }
 
-/// How many scalars a type has, and how deep it is.
+/// The number of scalars in a type, and how many arrays and records are inside one another.
 #[derive(Clone, Copy)]
 pub(crate) struct Size {
     pub(crate) scalars: usize,
     pub(crate) depth: usize,
 }
 
-/// What an unknown type counts.
+/// The size of an unknown type.
 pub(crate) const NOTHING: Size = Size {
     scalars: 0,
     depth: 0,
 };
 
-/// What a number or a truth counts.
+/// The size of INTEGER and BOOLEAN.
 const SCALAR: Size = Size {
     scalars: 1,
     depth: 0,
 };
 
 impl Size {
-    /// An array of `count` of these.
+    /// Returns the size of an array with `count` elements of this size.
     pub(crate) fn array(self, count: usize) -> Size
         ensures { size_of result ≡ counted (array_size count (size_of self)) }
     {
@@ -86,7 +87,7 @@ impl Size {
         }
     }
 
-    /// Both beside one another.
+    /// Returns the size of two parts side by side.
     pub(crate) fn and(self, other: Size) -> Size
         ensures { size_of result ≡ counted (beside (size_of self) (size_of other)) }
     {
@@ -96,7 +97,7 @@ impl Size {
         }
     }
 
-    /// A record of these, with at least one scalar.
+    /// Returns the size of a record whose fields have this total size: it has at least one scalar.
     pub(crate) fn record(self) -> Size
         ensures { size_of result ≡ counted (record_size (size_of self)) }
     {
@@ -116,7 +117,8 @@ impl Size {
     }
 }
 
-/// A sum. An error exactly where it has no number of 64 bits, which no text is long enough for.
+/// Adds two numbers. Returns an error if the sum doesn't fit 64 bits; no text is long enough for
+/// that.
 pub(crate) fn sum(a: usize, b: usize) -> Result<usize, AllocError>
     ensures { MatchResult result (λ n. n ≡ a + b) (λ _. 2 ^ 64 ≤ a + b) }
 {
@@ -126,25 +128,26 @@ pub(crate) fn sum(a: usize, b: usize) -> Result<usize, AllocError>
     }
 }
 
-/// What is supposed of a module's names and types.
+/// The declarations and types of a module, as far as the walk has come.
 #[derive(Drop)]
 pub(crate) struct Supposed<'t> {
     pub(crate) resolved: &'t Resolved<'t>,
-    /// What the declarations so far are, by their ordinals. A name is bound only to what is declared before it.
+    /// The declarations so far, by their ordinals. A name is bound only to an earlier
+    /// declaration.
     pub(crate) meanings: Vec<Option<Meaning>>,
     /// The arrays and records so far, by their places in a `TypeId`.
     pub(crate) composites: Vec<TypeEntry>,
 }
 
 impl<'t> Supposed<'t> {
-    /// How a token is written.
+    /// Returns the spelling of a token.
     pub(crate) fn text(&self, token: usize) -> &'t str
         ensures { result.now ≡ text_at self.now.resolved.now.module_read.source token }
     {
         text_at(self.resolved.tokens(), token)
     }
 
-    /// The token after another. After the end of the text is none.
+    /// Returns the token after another. The end of the text is returned unchanged.
     pub(crate) fn token_after(&self, token: usize) -> usize
         ensures { result ≡ token_after self.now.resolved.now.module_read.source token }
     {
@@ -155,7 +158,7 @@ impl<'t> Supposed<'t> {
         }
     }
 
-    /// Reports a fault from one token to another.
+    /// Reports a fault that extends from the start of one token to the end of another.
     pub(crate) fn report(
         &self,
         faults: &mut Vec<Fault>,
@@ -192,7 +195,8 @@ impl<'t> Supposed<'t> {
         self.report(faults, code, token, token)
     }
 
-    /// What a name means. None where nothing binds it.
+    /// Returns what the name at a token means, or None if it is unbound or its declaration isn't
+    /// known yet.
     pub(crate) fn meaning(&self, token: usize) -> Option<&Meaning>
         ensures { option_map (λ m. m.now) result ≡ supposed_meaning_at self.now token }
     {
@@ -202,7 +206,7 @@ impl<'t> Supposed<'t> {
         }
     }
 
-    /// What the declaration of an ordinal is.
+    /// Returns what the declaration with an ordinal is.
     fn meaning_of(&self, ordinal: usize) -> Option<&Meaning>
         ensures { option_map (λ m. m.now) result
             ≡ slice_index_or self.now.meanings.items ordinal None }
@@ -216,7 +220,7 @@ impl<'t> Supposed<'t> {
         }
     }
 
-    /// Says what the declaration at a token is.
+    /// Records what the declaration at a token is.
     pub(crate) fn define(&mut self, token: usize, meaning: Meaning)
         ensures { so_far_in self.new ≡ define (so_far_in self.old) (known_meaning meaning) token }
     {
@@ -235,7 +239,7 @@ impl<'t> Supposed<'t> {
         }
     }
 
-    /// What is counted of a type.
+    /// Returns the size of a type.
     pub(crate) fn size_of(&self, of: TypeId) -> Size
         ensures { size_of result ≡ size_at (so_far_in self.now).made of }
     {
@@ -257,7 +261,7 @@ impl<'t> Supposed<'t> {
         }
     }
 
-    /// The type of the elements of the array at a place.
+    /// Returns the element type of the array at a place.
     pub(crate) fn elements(&self, place: usize) -> TypeId
         ensures { result ≡ elements_of (slice_get self.now.composites.items place) }
     {
@@ -270,7 +274,8 @@ impl<'t> Supposed<'t> {
         }
     }
 
-    /// The type of the first field of this name of the record at a place. None where it has no such field.
+    /// Returns the type of the first field with this name in the record at a place, or None if
+    /// there is no such field.
     pub(crate) fn field(&self, place: usize, name: &str) -> Option<TypeId>
         ensures { result ≡ field_of (slice_get self.now.composites.items place) name.now }
     {
@@ -283,7 +288,7 @@ impl<'t> Supposed<'t> {
         }
     }
 
-    /// The ordinal of a word ARRAY or RECORD that is inside of `around` others.
+    /// Returns the ordinal of the next ARRAY or RECORD word, which is inside `around` others.
     pub(crate) fn ordinal_here(&self, around: usize) -> Result<usize, AllocError>
         ensures { MatchResult result (λ n. n ≡ ordinal_here around (so_far_in self.now))
             (λ _. 2 ^ 64 ≤ ordinal_here around (so_far_in self.now)) }
@@ -291,7 +296,8 @@ impl<'t> Supposed<'t> {
         sum(self.composites.len(), around)
     }
 
-    /// Makes an array or record, whose word is this token. One that is too large is reported, and unknown.
+    /// Makes an array or record, whose word is this token. If it is too large, that is reported and
+    /// the type is unknown.
     pub(crate) fn make(
         &mut self,
         faults: &mut Vec<Fault>,
@@ -311,7 +317,7 @@ impl<'t> Supposed<'t> {
     }
 }
 
-/// The size of an array or a record.
+/// Returns the size of an array or a record.
 fn size_of_entry(entry: &TypeEntry) -> Size
     ensures { size_of result ≡ (made_type_of entry.now).size }
 {

@@ -1,4 +1,4 @@
-//! Reports the faults of types as they are written, and finds what is known of them.
+//! Reports the faults of written types, and makes these types.
 
 ghost use Rattle.std.specs.Prelude.{◌≡◌, ◌∷◌, ◌++◌, [], false, IfOk, OnOk, Some};
 ghost use Rattle.ob0_types_table.specs.declared.types.TypeId.TheVariants as type;
@@ -23,7 +23,7 @@ use ob0_tree::{ArrayType, FieldGroup, Fields, Names, RecordType, WrittenType};
 use ob0_types_table::{ArrayShape, Field, FieldTable, MAX_SCALARS, RecordShape, TypeEntry, TypeId};
 use std::alloc::{AllocError, Global};
 
-/// The length of an array, from 1 to 65,536.
+/// Returns a number from 1 to 65,536 as an array's length, and None for any other value.
 fn array_length(value: Scalar) -> Option<usize>
     ensures { result ≡ array_length (scalar_value value) }
 {
@@ -43,7 +43,7 @@ fn array_length(value: Scalar) -> Option<usize>
     }
 }
 
-/// The fields of a record so far, in order, and the size of all.
+/// The fields of a record so far, in order, and their total size.
 #[derive(Drop)]
 pub(crate) struct Gathered {
     fields: Vec<Field>,
@@ -72,7 +72,8 @@ impl Gathered {
     }
 }
 
-/// The word RECORD: it precedes the first name and before a semicolon for each group without fields before it.
+/// Returns the token RECORD. It precedes the first field's name and one semicolon for each group
+/// without fields before that name.
 fn record_word(groups: &[Fields]) -> usize
     ensures { result ≡ record_word (items_of further_fields_of_group groups.now) }
 {
@@ -89,7 +90,7 @@ fn record_word(groups: &[Fields]) -> usize
 }
 
 impl<'t> Supposed<'t> {
-    /// The type that a name means.
+    /// Returns the type that a name refers to, or reports that the name isn't a type's.
     fn type_named(&self, faults: &mut Vec<Fault>, token: usize) -> Result<TypeId, AllocError>
         ensures { IfOk result (λ t. ReportsAfter faults.old.items faults.new.items t
             (type_named (facts_in self.now false) token)) }
@@ -113,7 +114,7 @@ impl<'t> Supposed<'t> {
         Ok(TypeId::Unknown)
     }
 
-    /// The length of an array, by an operand. None where it has a fault.
+    /// Returns the length of an array from its operand, or None if it has a fault.
     fn length(&self, faults: &mut Vec<Fault>, operand: Operand) -> Result<Option<usize>, AllocError>
         ensures { IfOk result (λ n. ReportsAfter faults.old.items faults.new.items n
             (length_of (facts_in self.now false) (operand_of operand))) }
@@ -135,7 +136,8 @@ impl<'t> Supposed<'t> {
 }
 
 impl<'t> Reporter<'t> {
-    /// The type that is written, with unknown parts where these have faults.
+    /// Reports the faults of a written type and returns the type, with unknown parts in place of
+    /// faulty ones.
     pub(crate) fn written_type(&mut self, t: &WrittenType) -> Result<TypeId, AllocError>
         ensures { IfOk result (λ of. ReportsAfter self.old.faults.items self.new.faults.items
             (record { of = of; following = so_far_in self.new.supposed })
@@ -144,7 +146,7 @@ impl<'t> Reporter<'t> {
         self.type_inside(t, 0)
     }
 
-    /// The type that is written inside of `around` words ARRAY and RECORD, with unknown parts where these have faults.
+    /// Does the same for a type inside `around` words ARRAY and RECORD.
     #[cycle(types)]
     fn type_inside(&mut self, t: &WrittenType, around: usize) -> Result<TypeId, AllocError>
         ensures { IfOk result
@@ -176,8 +178,8 @@ impl<'t> Reporter<'t> {
         self.make_array(ordinal, size, length, element)
     }
 
-    /// An array of a faulty length is unknown as a whole; the type of its elements was looked at all the same. The word
-    /// ARRAY precedes the length.
+    /// Makes an array type. If the length has a fault, the array is unknown as a whole, although
+    /// its element type has been checked. The word ARRAY precedes the length.
     fn make_array(
         &mut self,
         ordinal: usize,
@@ -223,7 +225,7 @@ impl<'t> Reporter<'t> {
         self.make_record(word, ordinal, gathered)
     }
 
-    /// The fields of all groups of a record.
+    /// Returns the fields of all groups of a record.
     #[cycle(types)]
     fn groups(&mut self, groups: &[Fields], around: usize) -> Result<Gathered, AllocError>
         ensures { IfOk result (λ gathered.
@@ -321,7 +323,7 @@ impl<'t> Supposed<'t> {
         Ok(())
     }
 
-    /// One field more.
+    /// Adds a field.
     fn gather(
         &self,
         alloc: Global,
