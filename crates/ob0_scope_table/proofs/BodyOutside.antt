@@ -1,5 +1,6 @@
--- The tokens of a module's names and numbers but for those in one body are before the range of tokens that lies in that
--- body, or after it: they ascend, and the body's first identifier isn't after the range begins.
+-- The tokens of a module's names and numbers outside one body are before or after the range of
+-- tokens that the body contains. The reason is that they ascend, and that the body's first
+-- identifier isn't after the start of the range.
 use Rattle.std.proofs.Common.{◌≡◌, ◌<◌, ◌≤◌, ℕ, zero, ◌+◌, Bool, true, false, ◌&&◌, ◌||◌, nat_le, nat_lt, if◌then◌else◌, List, [], ◌∷◌, ◌++◌, refl, sym, ap, ◌∙◌, subst, arith, append_assoc, le_refl, lt-ltb, le-leb, leb-true, ltb-true}
 use Rattle.ob0_tree.specs.declared.tree.Role.{Role}
 use Rattle.ob0_tree.specs.declared.tree.Role.TheVariants as role
@@ -25,12 +26,12 @@ split low (x ∷ xs) ys high h =
     let s = split (x + 1) xs ys high h.1 in
     record { middle = s.middle; first = (h.0, s.first); last = s.last }
 
--- the first isn't after a number
+-- states that the first number isn't above a number
 abbrev Begins : ℕ → List ℕ → Type 0
 Begins low [] = ⊥
 Begins low (x ∷ xs) = x ≤ low
 
--- what comes before such numbers
+-- the numbers before such numbers
 before_first : (least low : ℕ) (xs : List ℕ) (high : ℕ) → Ascending least xs high → Begins low xs → least ≤ low
 before_first least low [] high h b = absurd b
 before_first least low (x ∷ xs) high h b = omega (arith, h.0, b)
@@ -47,7 +48,7 @@ begins_then : (low : ℕ) (xs ys : List ℕ) → Begins low xs → Begins low (x
 begins_then low [] ys b = absurd b
 begins_then low (x ∷ xs) ys b = b
 
--- the last one
+-- the last number
 last_above : (least : ℕ) (xs : List ℕ) (c high : ℕ) → Ascending least (xs ++ (c ∷ [])) high → least ≤ c
 last_above least [] c high h = h.0
 last_above least (x ∷ xs) c high h = let le = last_above (x + 1) xs c high h.1 in omega (arith, h.0, le)
@@ -82,10 +83,11 @@ out_if_above : (a b : Bool) → b ≡ true → (a || b) ≡ true
 out_if_above true b e = refl
 out_if_above false b e = e
 
--- ---- of the tokens of a block without a body
+-- ---- the tokens of a block without a body
 
 module _ (P : ℕ → Type 0) where
-  -- of the tokens of a block's procedures and statements, without those to which a way leads
+  -- states a property of the tokens of a block's procedures and statements, without those to which
+  -- a way leads
   abbrev pub Among : Way → Tree ℕ (items procedure) → Tree ℕ (maybe body) → Type 0
   Among [] ps statements = EachToken P ps
   Among (k ∷ way) ps statements = EachToken P (procedures_without k way ps) × EachToken P statements
@@ -99,7 +101,7 @@ module _ (P : ℕ → Type 0) where
   block_among [] cs ts vs ps statements c t v h = ((c, t, v, h), tt)
   block_among (k ∷ way) cs ts vs ps statements c t v h = ((c, t, v, h.0), h.1)
 
--- ---- in the body and out of it
+-- ---- inside the body and outside
 
 module _ (low high : ℕ) (P : ℕ → Type 0) (out : (k : ℕ) → is_out low high k ≡ true → P k) where
   is_below : (k : ℕ) → k < low → P k
@@ -116,18 +118,18 @@ module _ (low high : ℕ) (P : ℕ → Type 0) (out : (k : ℕ) → is_out low h
   all_above least [] top h le = tt
   all_above least (x ∷ xs) top h le = (is_above x (omega (arith, h.0, le)), all_above (x + 1) xs top h.1 (omega (arith, h.0, le)))
 
-  -- what comes before a part that begins in time
+  -- the tokens before a part that begins at or before `low`
   all_before : (least : ℕ) (xs ys : List ℕ) (top : ℕ) → Ascending least (xs ++ ys) top → Begins low ys → AllOf P xs
   all_before least xs ys top h b =
       let s = split least xs ys top h in
       all_below least xs s.middle s.first (before_first s.middle low ys top s.last b)
 
-  -- what ends before the range
+  -- the tokens that end before the range
   all_upto : (least : ℕ) (xs : List ℕ) (c top : ℕ) → Ascending least (xs ++ (c ∷ [])) top → c < low → AllOf P (xs ++ (c ∷ []))
   all_upto least [] c top h less = (is_below c less, tt)
   all_upto least (x ∷ xs) c top h less = let le = last_above (x + 1) xs c top h.1 in (is_below x (omega (arith, le, less)), all_upto (x + 1) xs c top h.1 less)
 
-  -- what holds of a part, which begins in time
+  -- a property of a part that begins at or before `low`
   record Found (A : Type 0) (xs : List ℕ) : Type 0 where
     pub outside : A
     pub begins : Begins low xs
@@ -153,14 +155,14 @@ module _ (low high : ℕ) (P : ℕ → Type 0) (out : (k : ℕ) → is_out low h
       let e : front ++ (closing ∷ []) ≡ places (declares_procedure x fs b closing) = ap (λ l. x ∷ l) (append_assoc (places fs) (places b) (closing ∷ [])) in
       each_of P (declares_procedure x fs b closing) (subst (AllOf P) e (all_upto least front closing top (subst (λ l. Ascending least l top) (sym e) h) less))
 
-  -- what follows a procedure
+  -- the tokens after a procedure
   closes_below : (p : Tree ℕ (item procedure)) (least top : ℕ) → Ascending least (places p) top → closing_name p < top
   closes_below (declares_procedure x fs b closing) least top h =
       let front = x ∷ (places fs ++ places b) in
       let e : front ++ (closing ∷ []) ≡ places (declares_procedure x fs b closing) = ap (λ l. x ∷ l) (append_assoc (places fs) (places b) (closing ∷ [])) in
       last_below least front closing top (subst (λ l. Ascending least l top) (sym e) h)
 
-  -- a procedure, of which the block is found
+  -- a procedure whose block has the property
   with_block : (x : ℕ) (fs : List ℕ) (b : Tree ℕ block) (closing least top : ℕ) → Ascending least (x ∷ (fs ++ (places b ++ (closing ∷ [])))) top → high ≤ closing
       → ((start : ℕ) → Ascending start (places b) closing → BlockFound b)
       → AllOf P (x ∷ fs) × EachToken P (block_without (way_in_block low b) b) × P closing × Begins low (x ∷ (fs ++ (places b ++ (closing ∷ []))))

@@ -1,4 +1,5 @@
--- Where the body is in which a range of tokens lies: by the procedures of a block, one after the other.
+-- The place of the body that contains a range of tokens, found in the procedures of a block one
+-- after the other.
 use Rattle.std.proofs.Common.{◌≡◌, ◌<◌, ◌≤◌, ℕ, zero, ◌+◌, Bool, true, false, ◌&&◌, if◌then◌else◌, nat_le, nat_lt, Option, Some, None, is_some, option_map, List, [], ◌∷◌, length, drop, get_or, refl, sym, ap, ◌∙◌, arith}
 use Rattle.std.proofs.lemmas.List.{drop_all, drop_more}
 use Rattle.ob0_tree.specs.declared.tree.Role.{Role}
@@ -20,9 +21,9 @@ a_place first closing = Some (record { first = first; closing = closing })
 some_same : {A : Type 0} (x y : A) → Some x ≡ Some y → x ≡ y
 some_same x y e = ap (λ o. elim o [ Some z ↦ z | None ↦ x ]) e
 
--- ---- what a place says
+-- ---- the properties of a place
 
--- of a body that is sought, with its closing name
+-- states that a place belongs to a sought body with this closing name
 pub record IsPlaceOf (sought : Bool) (statements : Tree ℕ (maybe body)) (closing : ℕ) (p : BodyPlace) : Type 0 where
   pub is_sought : sought ≡ true
   pub first : first_of (identifiers role.Declaring statements) ≡ Some p.first
@@ -39,12 +40,12 @@ place_read : (sought : Bool) (statements : Tree ℕ (maybe body)) (closing : ℕ
 place_read true statements closing p e = place_there statements closing p (first_of (identifiers role.Declaring statements)) refl e
 place_read false statements closing p e = absurd (cc)
 
--- of a module
+-- the place in a module
 pub body_place_read : (low high : ℕ) (t : Tree ℕ module_text) (p : BodyPlace) → body_place low high t ≡ Some p
     → IsPlaceOf (is_in_body low high t) (body_at (way_to low t) t) (closing_at (way_to low t) t) p
 body_place_read low high t p e = place_read (is_in_body low high t) (body_at (way_to low t) t) (closing_at (way_to low t) t) p e
 
--- ---- of some statements, by their first identifier
+-- ---- the place of some statements, from their first identifier
 
 abbrev pub place_by : ℕ → ℕ → List (Role × ℕ) → Option BodyPlace
 place_by low closing xs = if begins_by low xs then option_map (λ first. record { first = first; closing = closing }) (first_of xs) else None
@@ -125,7 +126,7 @@ module _ (low high own : ℕ) where
       ∙ among_block (constants_of (out-Block b).constants) (types_of (out-Block b).types) (variables_of (out-Block b).variables) (items_of procedure_of (out-Block b).procedures.items) (body_of (out-Block b).body)
 
   module _ (statements : Tree ℕ (maybe body)) where
-    -- the place in the procedures from one on, or in the statements
+    -- the place in the procedures from one onwards, or in the statements
     abbrev pub place_from : ℕ → List Procedure → Option BodyPlace
     place_from k xs = place_among (items_of procedure_of (drop k xs)) statements
 
@@ -143,7 +144,7 @@ module _ (low high own : ℕ) where
     in_one xs k q less here le =
         one_more xs k q less here ∙ ap (λ b. if b then place_from (k + 1) xs else place_reached (out-Procedure q).closing (procedure_of q)) (less_false (out-Procedure q).closing low le)
 
-    -- it is found at the procedure's place, where a test says whether the range reaches past it
+    -- the place is in this procedure; a test says whether the range extends beyond its end
     at_end : (q : Procedure) (b : Bool) → nat_le high (out-Procedure q).closing ≡ b
         → place_reached (out-Procedure q).closing (procedure_of q) ≡ place_if (b && is_in_procedure low high (procedure_of q)) (body_inside (way_in_procedure low (procedure_of q)) (procedure_of q)) (closing_inside (way_in_procedure low (procedure_of q)) (procedure_of q))
     at_end q b e = ap (λ b. place_if (b && is_in_procedure low high (procedure_of q)) (body_inside (way_in_procedure low (procedure_of q)) (procedure_of q)) (closing_inside (way_in_procedure low (procedure_of q)) (procedure_of q))) e
@@ -157,7 +158,7 @@ module _ (low high own : ℕ) where
     pub in_statements : (xs : List Procedure) (k : ℕ) → length xs ≤ k → place_from k xs ≡ place_if (begins_by low (identifiers role.Declaring statements)) statements own
     in_statements xs k all = ap (λ ys. place_among (items_of procedure_of ys) statements) (drop_all k xs all)
 
--- ---- a range has a place exactly where it lies in a body
+-- ---- a range has a place exactly if it is inside a body
 
 module _ (low high : ℕ) where
   begins_placed : (own : ℕ) (statements : Tree ℕ (maybe body)) → is_some (place_if (begins_by low (identifiers role.Declaring statements)) statements own) ≡ begins_by low (identifiers role.Declaring statements)

@@ -1,5 +1,5 @@
--- A module in which the statements of one body were replaced: without them a tree under other names is the tree without
--- them under these names; all its tokens lie outside what was replaced, and are written as they were.
+-- A module in which the statements of one body were replaced. Leaving out these statements commutes
+-- with renaming. All other tokens are outside the replaced range and have the same spellings.
 use Rattle.std.proofs.Common.{◌≡◌, ℕ, zero, suc, true, [], ◌∷◌, length, slice_get, refl, sym, ap, ◌∙◌, subst}
 use Rattle.ob0_scan.specs.Reused.{words_in}
 use Rattle.ob0_scan.specs.Scanned.{Scanned}
@@ -15,7 +15,7 @@ use Rattle.ob0_scope_table.proofs.MappedAlike.{mapped_alike, mapped_mapped}
 use Rattle.ob0_scope_table.proofs.OneBody.{text_in_word, value_in_word, word_text, word_value}
 use Rattle.ob0_scope_table.proofs.Placed.{places_ascend}
 
--- ---- a tree under other names
+-- ---- a tree with its names replaced
 
 module _ {N M : Type 0} (f : N → M) (g : ℕ → ℕ) where
   mutual
@@ -34,13 +34,13 @@ module _ {N M : Type 0} (f : N → M) (g : ℕ → ℕ) where
     procedure_without_mapped way (declares_procedure x fs b closing) =
         ap (λ c. declares_procedure (f x) (mapped f g fs) c (f closing)) (block_without_mapped way b)
 
--- a module without a body, under other names
+-- a module without a body, with its names replaced
 pub without_mapped : {N M : Type 0} (f : N → M) (g : ℕ → ℕ) (way : Way) (t : Tree N module_text) → without way (mapped f g t) ≡ mapped f g (without way t)
 without_mapped f g way (is_module x b closing) = ap (λ c. is_module (f x) c (f closing)) (block_without_mapped f g way b)
 
--- ---- what is outside the body
+-- ---- outside the body
 
--- what holds of each token out of the range holds of each of the module but for the body
+-- a property of each token outside the range holds for each token of the module without the body
 pub outside_each : (P : ℕ → Type 0) (old new : Parsed) (way : Way) (s : SameTokens) → IsBodyReplaced old new way s → ((k : ℕ) → is_out s.prefix s.old_suffix k ≡ true → P k) → EachToken P (without way (tree_of old))
 outside_each P old new way s r out =
     subst (λ w. EachToken P (without w (tree_of old))) r.old_way
@@ -49,24 +49,24 @@ outside_each P old new way s r out =
 pub outside_out : (old new : Parsed) (way : Way) (s : SameTokens) → IsBodyReplaced old new way s → EachToken (λ i. is_out s.prefix s.old_suffix i ≡ true) (without way (tree_of old))
 outside_out old new way s r = outside_each (λ i. is_out s.prefix s.old_suffix i ≡ true) old new way s r (λ k e. e)
 
--- a token of one text and a token of another one that are the same word
+-- two tokens of two texts that are the same word
 module _ (old new : Scanned) (k j : ℕ) (same : slice_get (words_in new.text new.tokens) j ≡ slice_get (words_in old.text old.tokens) k) where
-  -- are written alike
+  -- have the same spelling
   pub text_by_word : text_at new j ≡ text_at old k
   text_by_word = text_in_word new.text new.tokens j ∙ (ap word_text same ∙ sym (text_in_word old.text old.tokens k))
 
-  -- and have one value
+  -- have the same value
   pub value_by_word : value_at new j ≡ value_at old k
   value_by_word = value_in_word new.text new.tokens j ∙ (ap word_value same ∙ sym (value_in_word old.text old.tokens k))
 
--- a token out of the range is written as it was, where it is now, and has the value that it had
+-- a token outside the range has the same spelling and value at its new index
 pub text_moved : (old new : Parsed) (way : Way) (s : SameTokens) → IsBodyReplaced old new way s → (k : ℕ) → is_out s.prefix s.old_suffix k ≡ true → text_at new.source (moved s k) ≡ text_at old.source k
 text_moved old new way s r k e = text_by_word old.source new.source k (moved s k) (r.words k e)
 
 pub value_moved : (old new : Parsed) (way : Way) (s : SameTokens) → IsBodyReplaced old new way s → (k : ℕ) → is_out s.prefix s.old_suffix k ≡ true → value_at new.source (moved s k) ≡ value_at old.source k
 value_moved old new way s r k e = value_by_word old.source new.source k (moved s k) (r.words k e)
 
--- but for the body, both modules have the same names and numbers
+-- both modules without the body have the same names and numbers
 pub names_outside : (old new : Parsed) (way : Way) (s : SameTokens) → IsBodyReplaced old new way s → named new.source (without way (tree_of new)) ≡ named old.source (without way (tree_of old))
 names_outside old new way s r =
     ap (named new.source) r.outside

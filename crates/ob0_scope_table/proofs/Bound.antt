@@ -1,4 +1,4 @@
--- What a table of ordinals says of the occurrences.
+-- The ordinals of occurrences in a table.
 use Rattle.std.proofs.Common.{◌≡◌, ℕ, Option, Some, None, List, map, refl, sym, ap, ◌∙◌, option_map, option_and_then, slice_get}
 use Rattle.std.proofs.lemmas.Option.{slice_get-map}
 use Rattle.ob0_scan.specs.Scanned.{Scanned}

@@ -1,4 +1,4 @@
--- How many ARRAY and RECORD are in a tree doesn't hang on what represents its names.
+-- The number of words ARRAY and RECORD in a tree doesn't depend on the representation of its names.
 use Rattle.std.proofs.Common.{◌≡◌, ℕ, map, List, [], ◌∷◌, refl, ap}
 use Rattle.ob0_tree.specs.Tree.{then_name}
 use Rattle.ob0_tree.specs.View.{items_of, names_of}

@@ -1,5 +1,5 @@
--- The names that are declared in a module, in text order, and the identifiers that mean them.
--- The names that a block declares are its declaring identifiers, and ordinals count them.
+-- The names that are declared in a module, in text order, and their identifiers. The names that a
+-- block declares are its declaring identifiers, and ordinals count them.
 use Rattle.std.proofs.Common.{◌≡◌, ℕ, suc, ◌+◌, List, [], ◌∷◌, ◌++◌, length, refl, sym, ap, ◌∙◌, arith, append-nil}
 use Rattle.ob0_tree.specs.declared.tree.Role.TheVariants as role
 use Rattle.ob0_tree.specs.Tree.{Tree, identifiers, block, constant, constants, declares, declares_constant, declares_constants, declares_procedure, declares_type, declares_types, declares_variable, declares_variables, end, formals, further_name, further_section, has_body, is_module, item, items, listed, maybe, module_text, more, names, none, one, procedure, section, some_formals, then_name, then_section, type_name, type_names, value_section, variable, variable_section, variables, written_type}
@@ -49,7 +49,7 @@ pub after_count : {N : Type 0} (k : ℕ) (xs : List N) → after_names k xs ≡ 
 after_count k [] = omega arith
 after_count k (x ∷ xs) = after_count (suc k) xs ∙ omega arith
 
--- the identifiers that declare
+-- the declaring identifiers
 
 further_declared : (ns : Tree ℕ (items further_name)) → declaring_only (identifiers role.Declaring ns) ≡ further_names ns
 further_declared end = refl

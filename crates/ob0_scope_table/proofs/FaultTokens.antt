@@ -1,4 +1,4 @@
--- Where the tokens of two texts are written alike, names are at fault at the same tokens.
+-- If the tokens of two texts have the same spellings, the faults of names are at the same tokens.
 use Rattle.std.proofs.Common.{◌≡◌, ℕ, zero, suc, Bool, true, false, not, List, [], ◌∷◌, ◌++◌, length, map, drop, get_or, slice_get, refl, sym, ap, ap₂, ◌∙◌, subst, arith, if◌then◌else◌}
 use Rattle.std.specs.List.{filter}
 use Rattle.std.proofs.lemmas.List.{map-append}
@@ -21,7 +21,7 @@ use Rattle.ob0_scope_table.specs.FaultTokens.{AreAtSameTokens, AreWrittenAlike, 
 use Rattle.ob0_scope_table.specs.Resolution.{is_unbound, unbound_at, unbound_in}
 use Rattle.ob0_scope_table.specs.declared.fault_tokens.FaultAt.{FaultAt}
 
--- ---- texts and values of tokens
+-- ---- spellings and values of tokens
 
 no_word : Word
 no_word = record { kind = kind.Identifier; text = [] }
@@ -77,7 +77,7 @@ module _ (old new : Scanned) where
     in_new = ap₂ (λ x y. x ++ y) p.in_new q.in_new ∙ sym (map-append (fault_at new) p.tokens q.tokens);
   }
 
-  -- those that pass a test of their codes
+  -- the faults whose codes pass a test
   pub filter_same : {a b : List Fault} (p : Fault → Bool) → ((f : FaultAt) → p (fault_at new f) ≡ p (fault_at old f)) → Same a b → Same (filter p a) (filter p b)
   filter_same p alike h = record {
     tokens = filter (λ f. p (fault_at old f)) h.tokens;
@@ -85,7 +85,7 @@ module _ (old new : Scanned) where
     in_new = ap (filter p) h.in_new ∙ (filter_mapped (fault_at new) p h.tokens ∙ ap (λ (q : FaultAt → Bool). map (fault_at new) (filter q h.tokens)) (λ j f. alike f j));
   }
 
-  -- ---- names that are declared twice, and closing names
+  -- ---- duplicate declarations and closing names
 
   module _ (w : AreWrittenAlike old new) where
     same_texts : text_at old ≡ text_at new
@@ -147,7 +147,7 @@ module _ (old new : Scanned) where
     module_same : (m : Tree ℕ module_text) → Same (module_twice old m) (module_twice new m)
     module_same (is_module x b closing) = both_same (closing_same x closing) (block_same [] b)
 
-    -- ---- names that nothing binds
+    -- ---- undeclared names
 
     with_one : (b : Bool) (f : FaultAt) (before after : List Fault) → Same before after → Same (if b then fault_at old f ∷ before else before) (if b then fault_at new f ∷ after else after)
     with_one true f before after h = both_same (one_same f) h

@@ -1,4 +1,4 @@
--- Tokens outside the range that is replaced, and where they are now.
+-- Tokens outside the replaced range, and their new indexes.
 use Rattle.std.proofs.Common.{◌≡◌, ◌<◌, ◌≤◌, ◌+◌, ◌-◌, ◌||◌, ◌⊎◌, ℕ, Bool, true, false, nat_le, nat_lt, if◌then◌else◌, refl, sym, ap, ◌∙◌, arith, inl, inr, leb-true, ltb-true}
 use Rattle.ob0_scan.specs.declared.tokens.SameTokens.{SameTokens}
 use Rattle.ob0_scope_table.specs.BodyReplaced.{moved}

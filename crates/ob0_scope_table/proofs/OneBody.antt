@@ -1,4 +1,5 @@
--- The first identifier of a part, once all were seen; and the tokens outside a range, which are written as before.
+-- The first identifier of a part, after all were seen; and the tokens outside a range, which have
+-- the same spellings as before.
 use Rattle.std.proofs.Common.{◌≡◌, ◌<◌, ◌≤◌, ℕ, zero, suc, slice_get, Bool, true, false, nat_le, nat_lt, Option, Some, None, List, [], ◌∷◌, refl, sym, ap, ◌∙◌, arith}
 use Rattle.std.proofs.lemmas.Bool.Decides.{nat_tests}
 use Rattle.ob0_scan.specs.declared.lexeme.Token.{Token}
@@ -11,7 +12,7 @@ use Rattle.ob0_tree.specs.Visited.{visited_all}
 use Rattle.ob0_scope_table.specs.BodyReplaced.{first_of}
 use Rattle.ob0_scope_table.specs.OneBody.{IsBodyChange, is_out, with_first}
 
--- one that was seen stays the first
+-- the first one seen remains the first
 stays_first : (xs : List (Role × ℕ)) (t : ℕ) → (visited_all with_first xs (record { token = Some t })).token ≡ Some t
 stays_first [] t = refl
 stays_first (x ∷ xs) t = stays_first xs t
@@ -48,9 +49,9 @@ le_false a b less = one (nat_le a b) refl
     one false e = refl
     one true e = absurd (grind (arith, nat_tests))
 
--- ---- tokens outside the range are written as before
+-- ---- tokens outside the range have the same spellings as before
 
--- how a token is written and its value, by its word
+-- the spelling and the value of a token, from its word
 abbrev pub word_text : Option Word → List ℕ
 word_text None = []
 word_text (Some w) = w.text

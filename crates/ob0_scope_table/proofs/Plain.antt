@@ -1,4 +1,4 @@
--- A part that is an expression, a type or statements declares nothing.
+-- Expressions, types and statements declare nothing.
 use Rattle.std.proofs.Common.{◌≡◌, ℕ, List, [], ◌∷◌, ◌++◌, refl, ◌∙◌}
 use Rattle.ob0_tree.specs.declared.tree.Role.{Role}
 use Rattle.ob0_tree.specs.declared.tree.Role.TheVariants as role
@@ -13,7 +13,7 @@ declaring_only-append ((role.ClosingName, n) ∷ xs) ys = declaring_only-append 
 declaring_only-append ((role.FieldName, n) ∷ xs) ys = declaring_only-append xs ys
 declaring_only-append ((role.ModuleName, n) ∷ xs) ys = declaring_only-append xs ys
 
--- no identifier declares
+-- states that no identifier declares
 pub record Plain (xs : List (Role × ℕ)) : Type 0 where
   pub plain : declaring_only xs ≡ []
 

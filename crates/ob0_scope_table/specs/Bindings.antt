@@ -1,10 +1,10 @@
--- What the names of a module are bound to, joined to the module.
+-- A module joined to the bindings of its names.
 -- Rule: docs/LANGUAGE.md, Scopes 2 to 4.
 use Rattle.ob0_tree.specs.Parsed.{Parsed}
 use Rattle.ob0_scope_table.specs.Resolution.{Resolution}
 use Rattle.ob0_scope_table.specs.declared.resolved.Bindings.{Bindings}
 
--- what is known of a module's names, by its bindings
+-- the resolved module with these bindings
 abbrev pub resolution_by : Parsed → Bindings → Resolution
 resolution_by m b =
     record {

@@ -1,4 +1,4 @@
--- Where a body is: its first identifier, and the closing name of its block.
+-- The place of a body: its first identifier, and the closing name of its block.
 -- Rule: none; for contracts: the body in which a range of tokens lies.
 use Rattle.std.specs.Prelude.{ℕ, Bool, Option, None, if◌then◌else◌, option_map}
 use Rattle.ob0_tree.specs.Tree.{Tree, block, body, identifiers, is_module, item, maybe, module_text, procedure}
@@ -9,11 +9,11 @@ use Rattle.ob0_scope_table.specs.BodyReplaced.{body_at, body_in, body_inside, cl
 use Rattle.ob0_scope_table.specs.OneBody.{is_in_block, is_in_body, is_in_procedure}
 use Rattle.ob0_scope_table.specs.declared.one_body.BodyPlace.{BodyPlace}
 
--- a module's tree alone, over indexes of tokens
+-- a module's tree, whose names are indexes of tokens
 abbrev pub tree_in : ModuleTree → Tree ℕ module_text
 tree_in t = is_module t.name (block_of t.block) t.closing
 
--- the place of a body with this closing name, if it is the one that is sought and has an identifier
+-- the place of a body with this closing name, if it is the sought one and has an identifier
 abbrev pub place_if : Bool → Tree ℕ (maybe body) → ℕ → Option BodyPlace
 place_if sought statements closing =
     if sought
@@ -21,20 +21,20 @@ place_if sought statements closing =
     (first_of (identifiers role.Declaring statements))
     else None
 
--- the place of the body in a block with this closing name in which a range of tokens lies, if it
--- lies in one
+-- the place of the body in a block, if that body contains a range of tokens; the block has this
+-- closing name
 abbrev pub place_in_block : ℕ → ℕ → ℕ → Tree ℕ block → Option BodyPlace
 place_in_block low high closing b =
     place_if (is_in_block low high b) (body_in (way_in_block low b) b)
     (closing_in (way_in_block low b) closing b)
 
--- in a procedure
+-- the same in a procedure
 abbrev pub place_in_procedure : ℕ → ℕ → Tree ℕ (item procedure) → Option BodyPlace
 place_in_procedure low high p =
     place_if (is_in_procedure low high p) (body_inside (way_in_procedure low p) p)
     (closing_inside (way_in_procedure low p) p)
 
--- in a module
+-- the same in a module
 abbrev pub body_place : ℕ → ℕ → Tree ℕ module_text → Option BodyPlace
 body_place low high t =
     place_if (is_in_body low high t) (body_at (way_to low t) t) (closing_at (way_to low t) t)

@@ -1,5 +1,5 @@
--- A module in which the statements of one body were replaced, so that it has another number of tokens: how one comes
--- to that body, the module without it, and what is the same in both.
+-- A module in which the statements of one body were replaced, so that its number of tokens may
+-- differ: the way to that body, the module without it, and what is the same in both versions.
 -- Rule: none; for contracts: what stays where the tokens of one body are replaced.
 use Rattle.std.specs.Prelude.{◌≡◌, ◌<◌, ◌≤◌, ◌+◌, ◌-◌, ℕ, zero, suc, true, nat_lt, List, [], ◌∷◌, Option, Some, None, if◌then◌else◌, slice_get}
 use Rattle.ob0_scan.specs.Reused.{words_in}
@@ -11,23 +11,23 @@ use Rattle.ob0_tree.specs.declared.tree.Role.{Role}
 use Rattle.ob0_tree.specs.declared.tree.Role.TheVariants as role
 use Rattle.ob0_scope_table.specs.OneBody.{closing_name, is_in_body, is_out}
 
--- How one comes to a body: which procedure of each block is entered, counted from 0. After the last
--- one it is the block's own body.
+-- The way to a body: the procedure that is entered in each block, counted from 0. After the last
+-- procedure it is the block's own body.
 abbrev pub Way : Type 0
 Way = List ℕ
 
--- the same procedure, where one more is before it
+-- the way with one more procedure before the first one that is entered
 abbrev pub later : Way → Way
 later [] = []
 later (k ∷ way) = suc k ∷ way
 
--- the way to the body in which a range of tokens lies, from `low` on
+-- the way to the body that contains the range of tokens from `low` upwards
 abbrev mutual
   -- in a block
   pub way_in_block : ℕ → Tree ℕ block → Way
   way_in_block low (has_body (declares cs ts vs ps) statements) = way_among low ps
 
-  -- through the first procedure that doesn't close before it, if there is one
+  -- through the first procedure that doesn't close before the range, if there is one
   pub way_among : ℕ → Tree ℕ (items procedure) → Way
   way_among low end = []
   way_among low (more p ps) =
@@ -38,7 +38,7 @@ abbrev mutual
   pub way_in_procedure : ℕ → Tree ℕ (item procedure) → Way
   way_in_procedure low (declares_procedure x fs b closing) = way_in_block low b
 
--- the way in a module
+-- in a module
 abbrev pub way_to : ℕ → Tree ℕ module_text → Way
 way_to low (is_module x b closing) = way_in_block low b
 
@@ -69,7 +69,7 @@ abbrev mutual
 abbrev pub without : {N : Type 0} → Way → Tree N module_text → Tree N module_text
 without way (is_module x b closing) = is_module x (block_without way b) closing
 
--- the statements to which a way leads; none where it leads nowhere
+-- the statements to which a way leads, or none if it leads nowhere
 abbrev mutual
   -- in a block
   pub body_in : {N : Type 0} → Way → Tree N block → Tree N (maybe body)
@@ -86,7 +86,7 @@ abbrev mutual
   pub body_inside : {N : Type 0} → Way → Tree N (item procedure) → Tree N (maybe body)
   body_inside way (declares_procedure x fs b closing) = body_in way b
 
--- in a module
+-- the statements in a module to which a way leads
 abbrev pub body_at : {N : Type 0} → Way → Tree N module_text → Tree N (maybe body)
 body_at way (is_module x b closing) = body_in way b
 
@@ -108,23 +108,23 @@ abbrev mutual
   pub closing_inside : {N : Type 0} → Way → Tree N (item procedure) → N
   closing_inside way (declares_procedure x fs b closing) = closing_in way closing b
 
--- in a module
+-- the closing name in a module
 abbrev pub closing_at : {N : Type 0} → Way → Tree N module_text → N
 closing_at way (is_module x b closing) = closing_in way closing b
 
--- the first of some identifiers
+-- the token of the first of some identifiers
 abbrev pub first_of : List (Role × ℕ) → Option ℕ
 first_of [] = None
 first_of (x ∷ xs) = Some x.1
 
--- where a token is now that isn't one of those replaced
+-- the new index of a token that wasn't replaced
 abbrev pub moved : SameTokens → ℕ → ℕ
 moved s i = if nat_lt i s.prefix then i else s.new_suffix + (i - s.old_suffix)
 
--- Two modules that are the same but for the statements of one body: the tokens of that from
--- `prefix` on and before `old_suffix` are replaced by those before `new_suffix`. All other tokens are
--- moved, and written as they were. The body's first identifier is before the range in both, and its
--- block's END after it.
+-- Two modules that are the same except for the statements of one body. In these, the tokens from
+-- `prefix` up to `old_suffix` are replaced by those up to `new_suffix`. All other tokens are moved
+-- and have the same spellings. The body's first identifier is before the range in both modules, and
+-- its block's END after it.
 pub record IsBodyReplaced (old new : Parsed) (way : Way) (s : SameTokens) : Type 0 where
   pub old_range : s.prefix ≤ s.old_suffix
   pub new_range : s.prefix ≤ s.new_suffix

@@ -1,5 +1,5 @@
--- The faults of names that are declared once more, and of closing names that differ, in the order
--- in which they are reported. The names of these trees are tokens.
+-- The faults of duplicate declarations and wrong closing names, in the order in which they are
+-- reported. The names of these trees are tokens.
 -- Rule: docs/LANGUAGE.md, Faults of scopes and types, `Duplicate`, `EndName`.
 use Rattle.std.specs.Prelude.{ℕ, Bool, not, List, [], ◌∷◌, ◌++◌, if◌then◌else◌}
 use Rattle.ob0_scan.specs.declared.fault.Code.TheVariants as code
@@ -13,7 +13,7 @@ use Rattle.ob0_language_names.specs.Names.{Name, same_name}
 use Rattle.ob0_language_names.specs.Parts.{formal_names, formal_sections, section_type, section_types, section_variables}
 use Rattle.ob0_scope_table.specs.Spans.{span_at}
 
--- a fault, unless something holds
+-- a fault unless a condition holds
 abbrev pub unless : Bool → Fault → List Fault
 unless holds fault = if holds then [] else fault ∷ []
 
@@ -25,22 +25,21 @@ duplicate_at source token = record { code = code.Duplicate; span = span_at sourc
 abbrev pub end_name_at : Scanned → ℕ → Fault
 end_name_at source token = record { code = code.EndName; span = span_at source token }
 
--- each of some names that precedes it in the list, or among those before the list,
--- is reported where it is once more
+-- reports each name that is already earlier in the list or among `before`
 abbrev pub again : Scanned → List Name → List ℕ → List Fault
 again source before [] = []
 again source before (x ∷ xs) =
     unless (not (is_among (text_at source x) before)) (duplicate_at source x)
     ++ again source (text_at source x ∷ before) xs
 
--- a closing name that differs from its opening name is reported where it closes
+-- reports a closing name that differs from its opening name
 abbrev pub closing_other : Scanned → ℕ → ℕ → List Fault
 closing_other source x closing =
     unless (same_name (text_at source x) (text_at source closing)) (end_name_at source closing)
 
--- the second fields of a record, and then those of the records in it
+-- the duplicate fields of a record, and then the duplicate fields of the records in it
 abbrev mutual
-  -- in a type as it is written, the outer record first
+  -- in a written type, the outer record first
   pub fields_twice : Scanned → Tree ℕ written_type → List Fault
   fields_twice source (named_type x) = []
   fields_twice source (array_type e t) = fields_twice source t
@@ -58,27 +57,27 @@ abbrev mutual
   groups_twice source end = []
   groups_twice source (more (then_fields g) rest) = group_twice source g ++ groups_twice source rest
 
--- second fields in the types of a TYPE section
+-- duplicate fields in the types of a TYPE section
 abbrev pub types_twice : Scanned → Tree ℕ (items type_name) → List Fault
 types_twice source end = []
 types_twice source (more (declares_type x t) ds) = fields_twice source t ++ types_twice source ds
 
--- second fields in the types of variables
+-- duplicate fields in the types of variables
 abbrev pub variables_twice : Scanned → Tree ℕ (items variable) → List Fault
 variables_twice source end = []
 variables_twice source (more (declares_variable ns t) gs) =
     fields_twice source t ++ variables_twice source gs
 
--- second fields in the types of parameters
+-- duplicate fields in the types of parameters
 abbrev pub formals_twice : Scanned → Tree ℕ (items further_section) → List Fault
 formals_twice source end = []
 formals_twice source (more (then_section s) fs) =
     fields_twice source (section_type s) ++ formals_twice source fs
 
--- the names of a block, with those of its procedure's parameters before them;
--- then its types, variables and procedures
+-- the names of its procedure's parameters, then the names of a block; then its types, variables and
+-- procedures
 abbrev mutual
-  -- a block, with `own`, the names of its procedure's parameters
+  -- a block; `own` has the names of its procedure's parameters
   pub block_twice : Scanned → List ℕ → Tree ℕ block → List Fault
   block_twice source own (has_body (declares cs ts vs ps) statements) =
       again source [] (own ++ block_names (has_body (declares cs ts vs ps) statements))
@@ -97,11 +96,11 @@ abbrev mutual
       ++ (formals_twice source (formal_sections fs)
       ++ block_twice source (formal_names (formal_sections fs)) b)
 
--- all such faults of a module
+-- all such faults of a module's tree
 abbrev pub module_twice : Scanned → Tree ℕ module_text → List Fault
 module_twice source (is_module x b closing) =
     closing_other source x closing ++ block_twice source [] b
 
--- all of a module
+-- all such faults of a module
 abbrev pub twice_in : Parsed → List Fault
 twice_in m = module_twice m.source (tree_of m)

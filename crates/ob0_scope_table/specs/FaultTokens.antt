@@ -1,5 +1,5 @@
--- Faults by the tokens at which they are. In two texts whose tokens are written alike, what is at
--- fault is at fault at the same tokens.
+-- Faults and the tokens at which they are. In two texts whose tokens have the same spellings, the
+-- faults are at the same tokens.
 -- Rule: none; for contracts: what stays where the tokens of a text are written as they were.
 use Rattle.std.specs.Prelude.{◌≡◌, ◌==◌, ℕ, nat_lt, List, length, map, if◌then◌else◌}
 use Rattle.std.specs.List.{prefix_len}
@@ -10,12 +10,12 @@ use Rattle.ob0_scan.specs.Scanned.{IsScan, Scanned}
 use Rattle.ob0_scope_table.specs.Spans.{span_at}
 use Rattle.ob0_scope_table.specs.declared.fault_tokens.FaultAt.{FaultAt}
 
--- where the first token begins
+-- the start of the first token
 abbrev pub first_start : Scanned → ℕ
 first_start source = (span_at source 0).start
 
--- The tokens of two texts are of the same kinds and are written alike, one after the other; and both
--- texts begin with a token, or neither does.
+-- States that the tokens of two texts have the same kinds and spellings, one after the other, and
+-- that both texts begin with a token or neither does.
 pub record AreWrittenAlike (old new : Scanned) : Type 0 where
   pub old_scan : IsScan old
   pub new_scan : IsScan new
@@ -31,19 +31,19 @@ fault_at source f =
           record { start = (span_at source f.first).start; end = (span_at source f.last).end };
     }
 
--- which token begins at a place; none does at the text's start
+-- the token that begins at a place; none begins at the text's start
 abbrev pub begun_at : List Token → ℕ → ℕ
 begun_at tokens place =
     if place == 0 then length tokens
     else prefix_len (λ (t : Token). nat_lt t.span.start place) tokens
 
--- which token ends at a place; none does at the text's start
+-- the token that ends at a place; none ends at the text's start
 abbrev pub ended_at : List Token → ℕ → ℕ
 ended_at tokens place =
     if place == 0 then length tokens
     else prefix_len (λ (t : Token). nat_lt t.span.end place) tokens
 
--- the tokens where a fault begins and ends
+-- the tokens at which a fault begins and ends
 abbrev pub tokens_of : List Token → Fault → FaultAt
 tokens_of tokens f =
     record {
@@ -52,11 +52,11 @@ tokens_of tokens f =
       last = ended_at tokens f.span.end;
     }
 
--- the faults of a text at the tokens at which these are in another
+-- the faults of one text moved to the same tokens of another
 abbrev pub moved_faults : Scanned → Scanned → List Fault → List Fault
 moved_faults old new faults = map (fault_at new) (map (tokens_of old.tokens) faults)
 
--- some faults of one text, and those of another at the same tokens
+-- states that the faults of two texts are at the same tokens
 pub record AreAtSameTokens (old new : Scanned) (before after : List Fault) : Type 0 where
   pub tokens : List FaultAt
   pub in_old : before ≡ map (fault_at old) tokens

@@ -1,4 +1,4 @@
--- A change inside the statements of one block: where it is, and what is the same outside.
+-- A change inside the statements of one block: its place, and what is the same outside.
 -- Rule: none; for contracts: what stays where the tokens of one body are written otherwise.
 use Rattle.std.specs.Prelude.{◌≡◌, ℕ, Bool, true, false, ◌&&◌, ◌||◌, nat_le, nat_lt, List, [], ◌∷◌, if◌then◌else◌, slice_get, Some, is_some}
 use Rattle.ob0_scan.specs.Reused.{kinds, words_in}
@@ -9,49 +9,50 @@ use Rattle.ob0_tree.specs.declared.tree.Role.{Role}
 use Rattle.ob0_tree.specs.declared.tree.Role.TheVariants as role
 use Rattle.ob0_scope_table.specs.declared.one_body.First.{First}
 
--- a token is before a range of tokens, or after it
+-- true for a token before or after a range of tokens
 abbrev pub is_out : ℕ → ℕ → ℕ → Bool
 is_out low high token = nat_lt token low || nat_le high token
 
--- a procedure's name at its end
+-- a procedure's closing name
 abbrev pub closing_name : {N : Type 0} → Tree N (item procedure) → N
 closing_name (declares_procedure x fs b closing) = closing
 
--- the first identifier, or the one before it
+-- records an identifier if it is the first one
 abbrev pub with_first : Role → ℕ → First → First
 with_first r token first =
     record { token = if is_some first.token then first.token else Some token }
 
--- the first of some identifiers isn't after a token
+-- true if there is a first identifier and it isn't after a token
 abbrev pub begins_by : ℕ → List (Role × ℕ) → Bool
 begins_by low [] = false
 begins_by low (x ∷ xs) = nat_le x.1 low
 
--- a range of tokens lies in the statements of one block
+-- true if a range of tokens is inside the statements of one block
 abbrev mutual
-  -- in those of a block, or of a block in it
+  -- in the statements of a block, or of a block in it
   pub is_in_block : ℕ → ℕ → Tree ℕ block → Bool
   is_in_block low high (has_body (declares cs ts vs ps) statements) =
       is_in_procedures low high ps statements
 
-  -- in the first procedure that doesn't close before the range, to whose end it reaches at most;
-  -- where all close before it in the block's own statements, from their first identifier on
+  -- in the first procedure that doesn't close before the range; the range may extend to its end; if
+  -- all procedures close before it, in the block's own statements, starting at their first
+  -- identifier
   pub is_in_procedures : ℕ → ℕ → Tree ℕ (items procedure) → Tree ℕ (maybe body) → Bool
   is_in_procedures low high end statements = begins_by low (identifiers role.Declaring statements)
   is_in_procedures low high (more p ps) statements =
       if nat_lt (closing_name p) low then is_in_procedures low high ps statements
       else nat_le high (closing_name p) && is_in_procedure low high p
 
-  -- in those of a procedure's block
+  -- in the statements of a procedure's block
   pub is_in_procedure : ℕ → ℕ → Tree ℕ (item procedure) → Bool
   is_in_procedure low high (declares_procedure x fs b closing) = is_in_block low high b
 
--- a range of tokens lies in the statements of one block of a module
+-- true if a range of tokens is inside the statements of one block of a module
 abbrev pub is_in_body : ℕ → ℕ → Tree ℕ module_text → Bool
 is_in_body low high (is_module x b closing) = nat_le high closing && is_in_block low high b
 
--- A module over other tokens than before: they are of the kinds that they were, and written as they were but for
--- those of a range that lies in one body.
+-- A module over changed tokens. Their kinds are the same as before. Their spellings are also the
+-- same, except in a range inside one body.
 pub record IsBodyChange (old : Scanned) (m : Parsed) (low high : ℕ) : Type 0 where
   pub old_scan : IsScan old
   pub new_scan : IsScan m.source

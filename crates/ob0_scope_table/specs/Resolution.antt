@@ -1,5 +1,4 @@
--- What is known of a module's names: to which declaration each is bound,
--- and what is wrong with them.
+-- The names of a module: the declaration to which each is bound, and the faults of names.
 -- Rule: docs/LANGUAGE.md, Scopes, Faults of scopes and types, `Undeclared`.
 use Rattle.std.specs.Prelude.{◌≡◌, ℕ, ◌-◌, nat_lt, Bool, true, false, not, ◌==◌, List, [], ◌∷◌, ◌++◌, Option, None, slice_get, slice_index_or, if◌then◌else◌, is_some}
 use Rattle.std.specs.List.{filter, list_any}
@@ -20,11 +19,11 @@ use Rattle.ob0_language_names.specs.DeclaredOnce.{declared_once}
 use Rattle.ob0_scope_table.specs.DeclaredTwice.{twice_in}
 use Rattle.ob0_scope_table.specs.Spans as spans
 
--- the ordinal that a table has at a token: None also where it has no such token
+-- the ordinal in a table at a token, or None if the table has no such token
 abbrev pub ordinal_in : List (Option ℕ) → ℕ → Option ℕ
 ordinal_in ordinals token = slice_index_or ordinals token None
 
--- the label of the identifier at a token, by a table of ordinals
+-- the label of the identifier at a token, from a table of ordinals
 abbrev pub label_at : Scanned → List (Option ℕ) → ℕ → Label
 label_at source ordinals token =
     as_label as_names (ordinal_in ordinals token) (text_at source token)
@@ -38,32 +37,32 @@ declaring_only ((role.ClosingName, n) ∷ xs) = declaring_only xs
 declaring_only ((role.FieldName, n) ∷ xs) = declaring_only xs
 declaring_only ((role.ModuleName, n) ∷ xs) = declaring_only xs
 
--- the token that declares what has an ordinal: none for the predeclared names
+-- the token that declares the object with an ordinal; none for the predeclared names
 abbrev pub token_declaring : List ℕ → ℕ → Option ℕ
 token_declaring declarations ordinal =
     if nat_lt ordinal predeclared_count
     then None
     else slice_get declarations (ordinal - predeclared_count)
 
--- no declaration binds the name
+-- true for the label of an unbound name
 abbrev pub is_unbound : Label → Bool
 is_unbound (declared k) = false
 is_unbound (as_written x) = true
 
--- a name is declared twice, or closes what another name opened
+-- true for a duplicate declaration or a wrong closing name
 abbrev pub is_of_declarations : Fault → Bool
 is_of_declarations fault =
     elim (fault.code) [ code.Duplicate ↦ true | code.EndName ↦ true | _ ↦ false ]
 
--- no declaration binds a name that is looked up
+-- true for an undeclared name
 abbrev pub is_of_occurrences : Fault → Bool
 is_of_occurrences fault = elim (fault.code) [ code.Undeclared ↦ true | _ ↦ false ]
 
--- where a token is
+-- the span of a token
 abbrev pub span_at : Scanned → ℕ → Span
 span_at source token = spans.span_at source token
 
--- the faults at the occurrences that a table binds to nothing
+-- the faults at the occurrences that a table leaves unbound
 abbrev pub undeclared_at : Scanned → List (Option ℕ) → List ℕ → List Fault
 undeclared_at source ordinals [] = []
 undeclared_at source ordinals (token ∷ tokens) =
@@ -71,8 +70,8 @@ undeclared_at source ordinals (token ∷ tokens) =
     else record { code = code.Undeclared; span = span_at source token }
     ∷ undeclared_at source ordinals tokens
 
--- A module with the ordinals of its names by token, the tokens that declare in order of their
--- ordinals, which begin at `predeclared_count`, the tokens of the occurrences in text order, and the faults.
+-- A module with its resolved names. It has the ordinals by token; the declaring tokens by ordinal,
+-- which begins at `predeclared_count`; the tokens of the occurrences in text order; and the faults.
 pub record Resolution : Type 0 where
   pub module_read : Parsed
   pub ordinals : List (Option ℕ)
@@ -80,28 +79,27 @@ pub record Resolution : Type 0 where
   pub uses : List ℕ
   pub faults : List Fault
 
--- The table of ordinals gives the numbered tree:
--- each identifier of the tree has the ordinal of its declaration.
+-- States that the table of ordinals gives the numbered tree: each identifier of the tree has the
+-- ordinal of its declaration.
 abbrev pub IsNumbering : Parsed → List (Option ℕ) → Type 0
 IsNumbering m ordinals =
     numbered (named_tree_of m) ≡ mapped (label_at m.source ordinals) (value_at m.source) (tree_of m)
 
--- the label that says all: the ordinal of the declaration, where there is one,
--- and the name as written
+-- the most detailed label: the ordinal of the declaration, if there is one, and the name's spelling
 abbrev pub with_ordinal : Labels Name (Option ℕ × Name)
 with_ordinal ordinal x = (ordinal, x)
 
--- what the identifier at a token is bound to, and its text
+-- the ordinal to which the identifier at a token is bound, and its spelling
 abbrev pub bound_at : Scanned → List (Option ℕ) → ℕ → Option ℕ × Name
 bound_at source ordinals token = (ordinal_in ordinals token, text_at source token)
 
--- the table of ordinals is what the scopes of the module bind
+-- states that the table of ordinals agrees with the scopes of the module
 abbrev pub IsBinding : Parsed → List (Option ℕ) → Type 0
 IsBinding m ordinals =
     relabelled as_names with_ordinal (named_tree_of m)
     ≡ mapped (bound_at m.source ordinals) (value_at m.source) (tree_of m)
 
--- a fault at each of some occurrences that is bound to nothing
+-- a fault at each unbound occurrence in a list
 abbrev pub unbound_at : Scanned → List ℕ → List Label → List Fault
 unbound_at source [] labels = []
 unbound_at source (token ∷ tokens) [] = []
@@ -111,28 +109,28 @@ unbound_at source (token ∷ tokens) (label ∷ labels) =
     ∷ unbound_at source tokens labels
     else unbound_at source tokens labels
 
--- the occurrences that no declaration binds, in text order
+-- the undeclared names of a module, in text order
 abbrev pub unbound_in : Parsed → List Fault
 unbound_in m = unbound_at m.source (occurrences (tree_of m)) (bindings (named_tree_of m))
 
--- The faults are those of names that are declared once more and of closing names that differ, and
--- after these one for each occurrence that no declaration binds, in text order. There are some of
--- the first exactly where a name is declared twice or closes what another name opened.
+-- States that these are the faults of a module: duplicate declarations and wrong closing names, and
+-- after these one fault for each undeclared name, in text order. There are faults of the first two
+-- kinds exactly if a name is declared twice or a closing name is wrong.
 pub record AreFaultsOf (m : Parsed) (faults : List Fault) : Type 0 where
   pub by_kind : faults ≡ twice_in m ++ unbound_in m
   pub declared_twice : list_any is_of_declarations faults ≡ not (declared_once (named_tree_of m))
   pub undeclared : filter is_of_occurrences faults ≡ unbound_in m
 
--- one of a module's identifiers is at this token
+-- true if an identifier of the module is at this token
 abbrev pub is_identifier_of : Parsed → ℕ → Bool
 is_identifier_of m token = list_any (λ i. i == token) (leaves (tree_of m))
 
--- a table has no ordinal at a token that isn't an identifier of the module
+-- states that a table has no ordinal at a token that isn't an identifier of the module
 abbrev pub NamesAlone : Parsed → List (Option ℕ) → Type 0
 NamesAlone m ordinals =
     (token : ℕ) → is_identifier_of m token ≡ false → ordinal_in ordinals token ≡ None
 
--- what is known of a module's names is right
+-- states that the names of a module are resolved correctly
 pub record IsResolution (r : Resolution) : Type 0 where
   pub parsed : IsParsed r.module_read
   pub numbering : IsNumbering r.module_read r.ordinals

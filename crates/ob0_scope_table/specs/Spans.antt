@@ -1,19 +1,19 @@
--- Where tokens are.
+-- The spans of tokens.
 -- Rule: none; for contracts: places of tokens.
 use Rattle.std.specs.Prelude.{ℕ, Bool, nat_le, ◌&&◌, Option, Some, None, slice_get}
 use Rattle.ob0_scan.specs.declared.lexeme.Span.{Span}
 use Rattle.ob0_scan.specs.declared.lexeme.Token.{Token}
 use Rattle.ob0_scan.specs.Scanned.{Scanned}
 
--- where a token is: at the text's start where there is no such token
+-- the span of an optional token: empty at the text's start if there is none
 abbrev pub span_in : Option Token → Span
 span_in None = record { start = 0; end = 0 }
 span_in (Some t) = t.span
 
--- where a token is: an empty span at the text's start where there is no such token
+-- the span of a token: empty at the text's start if there is no such token
 abbrev pub span_at : Scanned → ℕ → Span
 span_at source token = span_in (slice_get source.tokens token)
 
--- a place is on what has this span: in it or at its end
+-- true if a place is in a span or at its end
 abbrev pub is_on : ℕ → Span → Bool
 is_on offset span = nat_le span.start offset && nat_le offset span.end

@@ -1,4 +1,5 @@
-//! Faults by their tokens, and by their places again in a text whose tokens are written alike.
+//! Describes faults by their tokens, so that they can be placed again in a text whose tokens have
+//! the same spellings.
 
 ghost use Rattle.std.specs.Prelude.{◌≡◌, ◌≤◌, IfOk, length, map, nat_lt};
 ghost use Rattle.std.specs.List.Sorted.{IsNonDecreasingBy, IsPartitionPoint};
@@ -9,7 +10,7 @@ use crate::table::token_span;
 use ob0_scan::{Code, Fault, Span, Token, Tokens};
 use std::alloc::{AllocError, Global};
 
-/// A fault by the first and the last token of what is at fault.
+/// A fault, with the first and the last token of its range.
 #[derive(Clone, Copy)]
 pub struct FaultAt {
     pub code: Code,
@@ -17,7 +18,7 @@ pub struct FaultAt {
     pub last: usize,
 }
 
-/// The tokens where the faults of a text begin and end.
+/// Returns the tokens at which the faults of a text begin and end.
 pub fn tokens_of_faults(
     alloc: Global,
     tokens: &Tokens,
@@ -32,11 +33,11 @@ pub fn tokens_of_faults(
     Ok(found)
 }
 
-/// The tokens where a fault begins and ends.
+/// Returns the tokens at which a fault begins and ends.
 fn find_tokens(tokens: &Tokens, fault: &Fault) -> FaultAt
     ensures { result ≡ tokens_of tokens.now.tokens fault.now }
 {
-    // For the proof: what the contract of this call says.
+    // The proof needs the contract of this call.
     let _text = tokens.text();
     let all = tokens.tokens();
     let first = token_begun(all, fault.span.start as usize);
@@ -48,7 +49,7 @@ fn find_tokens(tokens: &Tokens, fault: &Fault) -> FaultAt
     }
 }
 
-/// The faults at these tokens of a text.
+/// Returns the faults at these tokens of a text.
 pub fn faults_at_tokens(
     alloc: Global,
     tokens: &Tokens,
@@ -63,7 +64,7 @@ pub fn faults_at_tokens(
     Ok(faults)
 }
 
-/// A fault at these tokens of a text.
+/// Returns the fault at these tokens of a text.
 fn place_fault(tokens: &Tokens, fault: &FaultAt) -> Fault
     ensures { result ≡ fault_at tokens.now fault.now }
 {
@@ -78,7 +79,7 @@ fn place_fault(tokens: &Tokens, fault: &FaultAt) -> Fault
     }
 }
 
-/// The token that begins at a place where one begins. It is found by halving.
+/// Returns the token that begins at a place, if one begins there. It is found by binary search.
 fn token_begun(tokens: &[Token], place: usize) -> usize
     ensures { IsNonDecreasingBy (λ (t : token.Token). t.span.start) tokens.now
         → result ≡ begun_at tokens.now place }
@@ -89,7 +90,7 @@ fn token_begun(tokens: &[Token], place: usize) -> usize
     tokens.partition_point(|token| (token.span.start as usize) < place)
 }
 
-/// The token that ends at a place where one ends. It is found by halving.
+/// Returns the token that ends at a place, if one ends there. It is found by binary search.
 fn token_ended(tokens: &[Token], place: usize) -> usize
     ensures { IsNonDecreasingBy (λ (t : token.Token). t.span.end) tokens.now
         → result ≡ ended_at tokens.now place }

@@ -1,5 +1,5 @@
-//! What is known of a module's names once they are resolved: the ordinal that each token has, and the faults of names;
-//! trees with labels by it.
+//! The result of resolving a module's names: the ordinal of each token, the faults of names, and
+//! trees labelled with the ordinals.
 #![tactic(auto)]
 
 mod fault_tokens;

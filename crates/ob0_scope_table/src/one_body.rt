@@ -1,4 +1,5 @@
-//! Whether a range of tokens lies in the statements of one block, and where these are.
+//! Finds out whether a range of tokens is inside the statements of one block, and where these
+//! statements are.
 
 ghost use Rattle.std.specs.Prelude.{◌≡◌, IfOk};
 ghost use Rattle.ob0_tree.specs.Parsed.{tree_of};
@@ -12,7 +13,7 @@ use ob0_tree::walk::{Visitor, body};
 use ob0_tree::{Block, Module, ModuleTree, Procedure, Role, Statement};
 use std::alloc::AllocError;
 
-/// The first identifier of a part, once there is one.
+/// The first identifier of a part, once one has been seen.
 #[derive(Drop)]
 struct First {
     token: Option<usize>,
@@ -31,15 +32,16 @@ impl Visitor for First {
     }
 }
 
-/// Where a body is: the token of its first identifier, and that of the closing name of its block.
+/// The place of a body: the token of its first identifier, and the token of its block's closing
+/// name.
 #[derive(Clone, Copy)]
 pub struct BodyPlace {
     pub first: usize,
     pub closing: usize,
 }
 
-/// Whether the tokens from `low` on and before `high` lie in the statements of one block of a module: none before the
-/// first identifier of these, and none after the last.
+/// True if the tokens from `low` up to, but not including, `high` are inside the statements of one
+/// block: no token is before the first identifier of these statements or after their end.
 pub fn is_in_body(read: &Module<'_>, low: usize, high: usize) -> Result<bool, AllocError>
     ensures { IfOk result (λ lies. lies ≡ is_in_body low high (tree_of read.now)) }
 {
@@ -50,7 +52,8 @@ pub fn is_in_body(read: &Module<'_>, low: usize, high: usize) -> Result<bool, Al
     Ok(place.is_some())
 }
 
-/// The place of the body in which the tokens from `low` on and before `high` lie, if they lie in one.
+/// Returns the place of the body that contains the tokens from `low` up to, but not including,
+/// `high`, if one body does.
 pub fn place_of_body(
     tree: &ModuleTree,
     low: usize,
@@ -64,7 +67,8 @@ pub fn place_of_body(
     place_in_block(&tree.block, tree.closing, low, high)
 }
 
-/// The place of the body of a module in which the tokens from `low` on and before `high` lie, if they lie in one.
+/// Returns the place of the body of a module that contains the tokens from `low` up to, but not
+/// including, `high`, if one body does.
 pub fn place_in_module(
     read: &Module<'_>,
     low: usize,
@@ -109,7 +113,8 @@ fn place_in_procedure(
     place_in_block(&p.block, p.closing, low, high)
 }
 
-/// The place of some statements, if they have an identifier, the first of which isn't after a token.
+/// Returns the place of some statements if they have an identifier and the first one isn't after
+/// the token `low`.
 fn place_of_statements(
     statements: &Option<Vec<Statement>>,
     closing: usize,

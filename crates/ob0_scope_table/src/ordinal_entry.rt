@@ -1,4 +1,4 @@
-//! What a table of ordinals has at a token.
+//! The entry of a table of ordinals.
 
 ghost use Rattle.std.specs.Prelude.{◌≡◌};
 ghost use Rattle.ob0_scope_table.specs.Entries.{kept};
@@ -8,8 +8,8 @@ use std::marker::Model;
 /// The greatest ordinal that an entry can have.
 const GREATEST: usize = 4294967294;
 
-/// An ordinal, or none, in 32 bits: the number after the ordinal, and 0 for none. A text has far fewer declarations
-/// than there are such ordinals, so that a table of entries has them all.
+/// An optional ordinal in 32 bits: the ordinal plus 1, or 0 for None. A text has far fewer
+/// declarations than there are such ordinals, so a table of entries can hold them all.
 #[derive(Clone, Copy)]
 pub struct OrdinalEntry {
     number: u32,
@@ -27,7 +27,8 @@ impl Model for OrdinalEntry {
 }
 
 impl OrdinalEntry {
-    /// The entry of this ordinal, or of none. An ordinal past the greatest counts as the greatest.
+    /// Makes the entry of an ordinal, or of none. An ordinal above the greatest counts as the
+    /// greatest.
     pub fn new(ordinal: Option<usize>) -> OrdinalEntry
         ensures { result ≡ kept ordinal }
     {
@@ -39,7 +40,7 @@ impl OrdinalEntry {
         }
     }
 
-    /// The ordinal, if there is one.
+    /// Returns the ordinal, if there is one.
     pub fn ordinal(self) -> Option<usize>
         ensures { result ≡ self }
     {

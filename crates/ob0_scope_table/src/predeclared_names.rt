@@ -1,6 +1,7 @@
 //! The ordinals of the predeclared names (docs/LANGUAGE.md, Scopes 1).
 
-/// How many names are predeclared: INTEGER, BOOLEAN, TRUE, FALSE, Read, Write and WriteLn, with the ordinals 0 to 6.
+/// The number of predeclared names: INTEGER, BOOLEAN, TRUE, FALSE, Read, Write and WriteLn, with
+/// the ordinals 0 to 6.
 pub const PREDECLARED: usize = 7;
 
 pub const TRUE: usize = 2;

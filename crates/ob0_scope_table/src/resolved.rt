@@ -1,4 +1,4 @@
-//! What is known of a module's names.
+//! A module with its names resolved.
 
 ghost use Rattle.std.specs.Prelude.{◌≡◌, ◌-◌, ◌<◌, slice_get, Some, None};
 ghost use Rattle.ob0_tree.specs.Parsed.{named_tree_of};
@@ -13,8 +13,9 @@ use ob0_tree::Module;
 use std::borrow::Cow;
 use std::marker::Model;
 
-/// What the names of a module are bound to, by indexes of tokens and ordinals alone: the ordinal of each token's name,
-/// the tokens that declare, those of the occurrences, and the faults. It borrows nothing.
+/// The bindings of a module's names, as indexes of tokens and ordinals only: the ordinal of each
+/// token's name, the declaring tokens, the tokens of the occurrences, and the faults. It borrows
+/// nothing.
 #[derive(Drop)]
 pub struct Bindings {
     pub ordinals: Vec<OrdinalEntry>,
@@ -23,9 +24,10 @@ pub struct Bindings {
     pub faults: Vec<Fault>,
 }
 
-/// A module of which each name is bound to its declaration. Declarations go by ordinal: 0 to 6 are the predeclared
-/// names, from 7 on those of the text, in text order. What is said below of its parts is its invariant
-/// (`IsResolution`), which `module` gives as a clause.
+/// A module in which each name is bound to its declaration. Declarations are identified by
+/// ordinals: 0 to 6 are the predeclared names, and those from 7 upwards are the declarations of the
+/// text, in text order. The properties of its parts are its invariant (`IsResolution`), which the
+/// contract of `module` gives.
 #[derive(Drop)]
 pub struct Resolved<'t> {
     module: &'t Module<'t>,
@@ -74,7 +76,7 @@ impl<'t> Resolved<'t> {
         }
     }
 
-    /// The bindings, without the module.
+    /// Returns the bindings, without the module.
     fn bindings(&self) -> &Bindings
         ensures { resolution_by self.now.module_read result.now ≡ self.now }
     {
@@ -84,7 +86,7 @@ impl<'t> Resolved<'t> {
         }
     }
 
-    /// The module.
+    /// Returns the module.
     pub fn module(&self) -> &'t Module<'t>
         ensures value { result.now ≡ self.now.module_read }
         ensures resolved { IsResolution self.now }
@@ -92,19 +94,19 @@ impl<'t> Resolved<'t> {
         self.module
     }
 
-    /// The tokens of the module's text.
+    /// Returns the tokens of the module's text.
     pub fn tokens(&self) -> &'t Tokens
         ensures { result.now ≡ self.now.module_read.source }
     {
         self.module.tokens()
     }
 
-    /// The ordinal of the declaration that an occurrence is bound to, where occurrences are counted from 0 in text
-    /// order. None where nothing binds it, or where no occurrence has this number.
+    /// Returns the ordinal of the declaration to which an occurrence is bound. Occurrences are
+    /// counted from 0 in text order. Returns None if the occurrence is unbound or doesn't exist.
     pub fn declaration_of(&self, occurrence: usize) -> Option<usize>
         ensures { result ≡ binds (named_tree_of self.now.module_read) occurrence }
     {
-        // For the proof: what is known of this value.
+        // The proof needs the invariant of this value.
         let _ = &self.bindings;
         match self.occurrence(occurrence) {
             Some(token) => self.ordinal_at(token),
@@ -112,38 +114,39 @@ impl<'t> Resolved<'t> {
         }
     }
 
-    /// The token of an occurrence. None where no occurrence has this number.
+    /// Returns the token of an occurrence, or None if there is no occurrence with this number.
     pub fn occurrence(&self, occurrence: usize) -> Option<usize>
         ensures { result ≡ slice_get self.now.uses occurrence }
     {
         self.bindings().occurrences.get(occurrence).copied()
     }
 
-    /// The ordinal of the declaration of the identifier at token `token`: of a name that is looked up what binds it,
-    /// of a declaring name its own, of a procedure's closing name the procedure's. None at a field, at the module's
-    /// name, at a name that nothing binds and at every other token.
+    /// Returns the ordinal of the declaration of the identifier at a token. A looked-up name has
+    /// the ordinal that it is bound to, a declaring name has its own, and a procedure's closing
+    /// name has the procedure's. Returns None at a field, at the module's name, at an unbound name
+    /// and at any other token.
     pub fn ordinal_at(&self, token: usize) -> Option<usize>
         ensures { result ≡ ordinal_in self.now.ordinals token }
     {
         ordinal_at(&self.bindings().ordinals, token)
     }
 
-    /// The ordinals by token.
+    /// Returns the ordinals by token.
     pub fn ordinals(&self) -> &[OrdinalEntry]
         ensures { result.now ≡ self.now.ordinals }
     {
         self.bindings().ordinals.as_slice()
     }
 
-    /// The tokens of the names that declare, in text order: the first has the ordinal 7.
+    /// Returns the tokens of the declaring names, in text order; the first has the ordinal 7.
     pub fn declarations(&self) -> &[usize]
         ensures { result.now ≡ self.now.declarations }
     {
         self.bindings().declarations.as_slice()
     }
 
-    /// The token that declares what has this ordinal. None for the predeclared names, and where there is no such
-    /// ordinal.
+    /// Returns the token that declares the object with this ordinal. Returns None for a predeclared
+    /// name, and if there is no such ordinal.
     pub fn declaring_token(&self, ordinal: usize) -> Option<usize>
         ensures { result ≡ token_declaring self.now.declarations ordinal }
     {
@@ -156,15 +159,15 @@ impl<'t> Resolved<'t> {
             .copied()
     }
 
-    /// The tokens of the occurrences, in text order.
+    /// Returns the tokens of the occurrences, in text order.
     pub fn occurrences(&self) -> &[usize]
         ensures { result.now ≡ self.now.uses }
     {
         self.bindings().occurrences.as_slice()
     }
 
-    /// Second declarations in a block or record and closing names that differ; after these the names that no
-    /// declaration binds, in text order.
+    /// Returns the faults: first duplicate declarations in a block or record and wrong closing
+    /// names, then the undeclared names in text order.
     pub fn faults(&self) -> &[Fault]
         ensures { result.now ≡ self.now.faults }
     {

@@ -1,4 +1,4 @@
-//! Tables of ordinals by token; where tokens are, and which are written as a name.
+//! Tables of ordinals by token, the spans of tokens, and comparisons with their spellings.
 
 ghost use Rattle.std.specs.Prelude.{◌≡◌};
 ghost use Rattle.ob0_tree.specs.Places.{text_at};
@@ -10,7 +10,7 @@ use crate::ordinal_entry::OrdinalEntry;
 use ob0_scan::{Span, Tokens};
 use ob0_tree::text_at;
 
-/// The ordinal that a table has at a token; None also where it has no such token.
+/// Returns the ordinal in a table at a token, or None if the table has no such token.
 pub fn ordinal_at(ordinals: &[OrdinalEntry], token: usize) -> Option<usize>
     ensures { result ≡ ordinal_in ordinals.now token }
 {
@@ -20,7 +20,7 @@ pub fn ordinal_at(ordinals: &[OrdinalEntry], token: usize) -> Option<usize>
     }
 }
 
-/// Whether there is an ordinal, and it is this one.
+/// True if there is an ordinal and it is this one.
 pub fn same_ordinal(found: Option<usize>, ordinal: usize) -> bool
     ensures { result ≡ same_ordinal found ordinal }
 {
@@ -30,7 +30,7 @@ pub fn same_ordinal(found: Option<usize>, ordinal: usize) -> bool
     }
 }
 
-/// Where a token is; the text's start where there is no such token.
+/// Returns the span of a token, or an empty one at the text's start if there is no such token.
 pub fn token_span(tokens: &Tokens, token: usize) -> Span
     ensures { result ≡ span_at tokens.now token }
 {
@@ -40,7 +40,8 @@ pub fn token_span(tokens: &Tokens, token: usize) -> Span
     }
 }
 
-/// Whether a token is written as this name. Where there is no such token, only the empty name is.
+/// True if a token has this name as its spelling. A token that doesn't exist has the empty
+/// spelling.
 pub fn is_written(tokens: &Tokens, token: usize, name: &str) -> bool
     ensures { result ≡ same_name (text_at tokens.now token) name.now }
 {
