@@ -40,7 +40,7 @@ use Rattle.ob0_world_rules.specs.ClientAndServer.{Open, SentAsk, request_numbere
 use Rattle.ob0_world_rules.specs.Happens.{Event, does, serve, take_message, after_taking, ServerTakes}
 use Rattle.ob0_world_rules.specs.Mirror.{as_open, Mirrors}
 use Rattle.ob0_world_rules.proofs.Acts.{of_each}
-use Rattle.ob0_world_rules.proofs.SameDocument.{numbered_push, slice_get_last}
+use Rattle.ob0_world_rules.proofs.Asked.{numbered_push, slice_get_last}
 use Rattle.ob0_world.specs.Queues.{IsReached, IsRunning}
 use Rattle.ob0_world.specs.Versions.{named_in, named_by_edit, NamesAsked, NamesItsAsk, IsLayout, VersionsAreNamed, VersionsSuffice}
 use Rattle.ob0_world.specs.Worlds.{Wire, Connection, Begins, TakesFirst, GetsFirst, AllSay, IsTied, ConnectionStep, ConnectionCourse}
@@ -117,7 +117,7 @@ module _ (w : ClientAndServer) (contents : List (List ℕ)) (mirrors : Mirrors w
         opened = λ uri text none. (noted (Opened uri (pos 1) text), named);
         changed = λ uri d how text at made. (noted (Changed uri (pos (d.version + 1)) how), named);
         closed = λ uri d at. (noted (Closed uri), named);
-        asked = λ uri ask d at. asks_now uri ask d at (record { ask = ask; uri = uri; opening = d.opening; version = d.version }) refl;
+        asked = λ uri ask d at. asks_now uri ask d at (record { ask = ask; uri = uri; text = d.text; opening = d.opening; version = d.version }) refl;
         made = λ k edits a d text held numbered same makes. (noted (Changed a.uri (pos (d.version + 1)) (whole_text text ∷ [])), named);
         dropped = λ k. (quiet, named);
       })

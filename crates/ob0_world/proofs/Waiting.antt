@@ -14,7 +14,7 @@ use Rattle.ob0_world_editor.specs.Heard.{heard, SaysToServer, request_number}
 use Rattle.ob0_world_editor.specs.Understood.{understood, value_understood, answer_understood, answer_to, publication_understood}
 use Rattle.ob0_world_editor.proofs.Hearing.{says_heard}
 use Rattle.ob0_world_rules.specs.ClientAndServer.{SentAsk, request_numbered, ToServer, notifies, requests, ToEditor}
-use Rattle.ob0_world_rules.proofs.SameDocument.{numbered_push}
+use Rattle.ob0_world_rules.proofs.Asked.{numbered_push}
 use Rattle.ob0_world.specs.Queues.{Contents, bytes, all_heard, all_understood, IsHeard, IsUnderstood}
 
 -- ---- more asks

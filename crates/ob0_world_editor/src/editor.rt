@@ -31,6 +31,7 @@ use std::marker::Model;
 pub struct SentAsk {
     pub ask: Ask,
     pub uri: String,
+    pub text: String,
     pub opening: u64,
     pub version: u64,
 }
@@ -162,10 +163,9 @@ impl Editor {
         let Some(open) = self.documents.get(uri) else {
             return Ok(None);
         };
-        let (version, opening) = (open.version, open.opening);
         let number = self.requested.len() as u64 + 1;
         let content = request(self.alloc, number, uri, ask)?;
-        let sent = sent_ask(self.alloc, ask, uri, opening, version)?;
+        let sent = sent_ask(self.alloc, ask, uri, open)?;
         self.requested.push(sent)?;
         Ok(Some(content))
     }
@@ -304,24 +304,25 @@ impl Editor {
     }
 }
 
-/// What is requested of a document.
-fn sent_ask(
-    alloc: Global,
-    ask: &Ask,
-    uri: &str,
-    opening: u64,
-    version: u64,
-) -> Result<SentAsk, AllocError>
-    ensures { IfOk result (λ sent. requested_of sent ≡ record
-        { ask = ask_of ask.now; uri = uri.now; opening = opening; version = version }) }
+/// Returns what is requested of a document, with the document's present state.
+fn sent_ask(alloc: Global, ask: &Ask, uri: &str, document: &Open) -> Result<SentAsk, AllocError>
+    ensures { IfOk result (λ sent. requested_of sent ≡ record {
+        ask = ask_of ask.now;
+        uri = uri.now;
+        text = chars (string_bytes document.now.text);
+        opening = document.now.opening;
+        version = document.now.version;
+    }) }
 {
     let uri = String::from_str(alloc, uri)?;
+    let text = String::from_str(alloc, document.text.as_str())?;
     let ask = copy_of(alloc, ask)?;
     Ok(SentAsk {
         ask,
         uri,
-        opening,
-        version,
+        text,
+        opening: document.opening,
+        version: document.version,
     })
 }
 

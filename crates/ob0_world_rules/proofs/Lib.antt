@@ -15,6 +15,7 @@ pub mod Interleavings
 pub mod MadeFor
 pub mod MadeInOrder
 pub mod UriLaws
+pub mod Asked
 pub mod SameDocument
 pub mod Acts
 pub mod EditedTexts

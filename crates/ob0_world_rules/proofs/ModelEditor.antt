@@ -1,12 +1,12 @@
 -- The model's editor keeps ob0's rules: each of its acts is a move that it may make, or leaves everything as it is.
-use Rattle.std.proofs.Common.{◌≡◌, ◌∙◌, ℕ, ◌+◌, arith, inl, inr, List, [], ◌∷◌, ◌++◌, map, append-nil, refl, sym, ap, subst}
+use Rattle.std.proofs.Common.{◌≡◌, ◌∙◌, ℕ, ◌+◌, inl, inr, List, [], ◌∷◌, ◌++◌, map, append-nil, refl, sym, ap, subst}
 use Rattle.std.specs.Prelude.{◌⊎◌, Some}
 use Rattle.std.proofs.lemmas.List.{map-append}
 use Rattle.ob0_text.specs.declared.position_types.Unit.{Unit}
 use Rattle.ob0_text.specs.OpenDocuments.{TextChange, changed_text}
 use Rattle.ob0_world_rules.specs.Edited.{Replacement, edited, whole_text, after_changes}
-use Rattle.ob0_world_rules.specs.ClientAndServer.{Open, SentAsk, Editor, request_numbered, open_at, ToServer, ToEditor, ClientAndServer, start, after_message}
-use Rattle.ob0_world_rules.specs.Editing.{Act, Done, stays, rewrites, kept_answer, without_answer, done_by}
+use Rattle.ob0_world_rules.specs.ClientAndServer.{Open, SentAsk, Editor, request_numbered, open_at, ToServer, ToEditor, publishes, answers, ClientAndServer, start, after_message}
+use Rattle.ob0_world_rules.specs.Editing.{Act, Done, stays, rewrites, kept_answer, without_answer, done_by, reads}
 use Rattle.ob0_world_rules.specs.Happens.{Event, does, serve, take_message, after_act, after_taking, ServerTakes, Happens, Course}
 use Rattle.ob0_world_rules.specs.Headline.{Holds}
 use Rattle.ob0_world_rules.specs.Mirror.{Mirrors}
@@ -14,7 +14,7 @@ use Rattle.ob0_world_rules.specs.Laws.{InEveryInterleaving, ServerMirrors}
 use Rattle.ob0_world_rules.specs.MadeInOrder.{Announced}
 use Rattle.ob0_world_rules.specs.Editors.{Revision, Move, to_open, to_revise, to_close, to_ask, to_apply, to_drop, revised, with_document, Revises, AppliesAnswer, May}
 use Rattle.ob0_world_rules.specs.EveryEditor.{EditorAndServer, as_model, Turn, editor_does, server_takes, editor_takes, TakesNext, after_one, MayHappen, MayLead, TheModelIsOne}
-use Rattle.ob0_world_rules.proofs.SameDocument.{Same}
+use Rattle.ob0_world_rules.proofs.SameDocument.{Same, Knows, same_text, knows_first, knows_other, knows_open, knows_rewrite, knows_close, knows_ask}
 use Rattle.ob0_world_rules.proofs.Acts.{edit_of, of_each}
 use Rattle.ob0_world_rules.proofs.EveryEditor.{others_none, with_every_editor}
 
@@ -56,15 +56,15 @@ rewrite_of version text how = record { version = version + 1; text = text; how =
 
 rewritten_revises : (e : Editor) (uri : List ℕ) (d : Open) (how : List TextChange) (text : List ℕ) → open_at e uri ≡ Some d → after_changes e.unit (Some d.text) how ≡ Some text
     → Revises e uri (rewrite_of d.version text how ∷ []) (with_document e uri (revised d (rewrite_of d.version text how))) (record { uri = uri; document = revised d (rewrite_of d.version text how) } ∷ [])
-rewritten_revises e uri d how text at makes = (d, [], at, omega arith, makes, (refl, refl), refl)
+rewritten_revises e uri d how text at makes = (d, [], at, makes, (refl, refl), refl)
 
 whole : (u : Unit) (old text : List ℕ) → after_changes u (Some old) (whole_text text ∷ []) ≡ Some text
 unfolding changed_text
 whole u old text = refl
 
-applied_so : (e : Editor) (k : ℕ) (edits : List Replacement) (a : SentAsk) (d : Open) (text : List ℕ) → kept_answer k e.answers ≡ Some edits → request_numbered e.requested k ≡ Some a → Same e a d → edited e.unit d.text edits ≡ Some text
+applied_so : (e : Editor) (k : ℕ) (edits : List Replacement) (a : SentAsk) (d : Open) (text : List ℕ) → kept_answer k e.answers ≡ Some edits → request_numbered e.requested k ≡ Some a → Same e a d → d.text ≡ a.text → edited e.unit d.text edits ≡ Some text
     → AppliesAnswer e k (rewrite_of d.version text (whole_text text ∷ []) ∷ []) (rewrites (without_answer e k) a.uri d text (whole_text text ∷ []) (edit_of a.uri d text ∷ [])) (record { uri = a.uri; document = revised d (rewrite_of d.version text (whole_text text ∷ [])) } ∷ [])
-applied_so e k edits a d text answered numbered same makes =
+applied_so e k edits a d text answered numbered same as_asked makes =
     let r : Revision = rewrite_of d.version text (whole_text text ∷ []) in
     record {
       edits = edits;
@@ -73,8 +73,7 @@ applied_so e k edits a d text answered numbered same makes =
       numbered = numbered;
       document = d;
       is_open = same.at;
-      same_opening = same.opening;
-      same_version = same.version;
+      same_text = as_asked;
       text = text;
       makes = makes;
       new = with_document (without_answer e k) a.uri (revised d r);
@@ -86,30 +85,68 @@ applied_so e k edits a d text answered numbered same makes =
       is = refl;
     }
 
+-- ---- what the model's editor knows of its asks
+
+knows_act : (e : Editor) (act : Act) → Knows e → Knows (done_by e act).editor
+knows_act e act knows =
+    of_each e (λ done. Knows done.editor)
+    (record {
+      still = knows;
+      opened = λ uri text none. knows_open e uri text knows;
+      changed = λ uri d how text at makes. knows_rewrite e uri d text how [] at knows;
+      closed = λ uri d at. knows_close e uri knows;
+      asked = λ uri ask d at. knows_ask e uri ask d at knows;
+      made = λ k edits a d text answered numbered same makes.
+          knows_rewrite (without_answer e k) a.uri d text (whole_text text ∷ []) (edit_of a.uri d text ∷ []) same.at (knows_other e (without_answer e k).answers knows);
+      dropped = λ k. knows_other e (without_answer e k).answers knows;
+    })
+    act
+
+knows_read : (e : Editor) (m : ToEditor) → Knows e → Knows (reads e m)
+knows_read e (publishes uri version empty) knows = knows
+knows_read e (answers k []) knows = knows
+knows_read e (answers k (edit ∷ edits)) knows = knows_other e (reads e (answers k (edit ∷ edits))).answers knows
+
+pub knows_event : (w : ClientAndServer) (event : Event) (new : ClientAndServer) → Knows w.editor → Happens w event new → Knows new.editor
+knows_event w (does act) new knows is = subst (λ (x : ClientAndServer). Knows x.editor) (sym is) (knows_act w.editor act knows)
+knows_event w serve new knows happens = go w.to_server happens
+  where
+    go : (queue : List ToServer) → ServerTakes w queue new → Knows new.editor
+    go [] is = subst (λ (x : ClientAndServer). Knows x.editor) (sym is) knows
+    go (m ∷ rest) (said, made, replies, is) = subst (λ (x : ClientAndServer). Knows x.editor) (sym is) knows
+knows_event w take_message new knows is = subst (λ (x : ClientAndServer). Knows x.editor) (sym is) (go w.to_editor)
+  where
+    go : (queue : List ToEditor) → Knows (after_taking w queue).editor
+    go [] = knows
+    go (m ∷ rest) = knows_read w.editor m knows
+
+-- ---- each event
+
 -- nothing is done
 nothing_done : (w : ClientAndServer) → after_act w (stays w.editor) ≡ w
 nothing_done w i = record w { to_server = append-nil w.to_server i; applied = append-nil w.applied i }
 
 -- an act leaves everything as it is, or is a move that the editor may make
-pub act_may : (e : Editor) (act : Act) → (done_by e act ≡ stays e) ⊎ ((move : Move) × (announced : List Announced) × May e move (done_by e act) announced)
-act_may e =
+pub act_may : (e : Editor) (act : Act) → Knows e → (done_by e act ≡ stays e) ⊎ ((move : Move) × (announced : List Announced) × May e move (done_by e act) announced)
+act_may e act knows =
     of_each e (λ done. (done ≡ stays e) ⊎ ((move : Move) × (announced : List Announced) × May e move done announced))
     (record {
       still = inl refl;
-      opened = λ uri text none. inr (to_open uri 1 text, record { uri = uri; document = record { version = 1; text = text; opening = e.openings + 1 } } ∷ [], (none, refl, refl));
+      opened = λ uri text none. inr (to_open uri 1 text, record { uri = uri; document = record { version = 1; text = text; opening = e.openings + 1 } } ∷ [], (refl, refl));
       changed = λ uri d how text at makes.
           let r : Revision = rewrite_of d.version text how in
           inr (to_revise uri (r ∷ []), record { uri = uri; document = revised d r } ∷ [], (with_document e uri (revised d r), rewritten_revises e uri d how text at makes, refl));
-      closed = λ uri d at. inr (to_close uri, [], (d, at, refl, refl));
+      closed = λ uri d at. inr (to_close uri, [], (refl, refl));
       asked = λ uri ask d at. inr (to_ask uri ask, [], (d, at, refl, refl));
       made = λ k edits a d text answered numbered same makes.
           let r : Revision = rewrite_of d.version text (whole_text text ∷ []) in
-          inr (to_apply k (r ∷ []), record { uri = a.uri; document = revised d r } ∷ [], applied_so e k edits a d text answered numbered same makes);
+          inr (to_apply k (r ∷ []), record { uri = a.uri; document = revised d r } ∷ [], applied_so e k edits a d text answered numbered same (same_text e k a d knows numbered same) makes);
       dropped = λ k. inr (to_drop k, [], (refl, refl));
     })
+    act
 
-act_comes : (w : ClientAndServer) (announced : List Announced) (act : Act) → ComesTo (from_model w announced) (after_act w (done_by w.editor act))
-act_comes w announced act = go (act_may w.editor act)
+act_comes : (w : ClientAndServer) (announced : List Announced) (act : Act) → Knows w.editor → ComesTo (from_model w announced) (after_act w (done_by w.editor act))
+act_comes w announced act knows = go (act_may w.editor act knows)
   where
     go : (done_by w.editor act ≡ stays w.editor) ⊎ ((move : Move) × (more : List Announced) × May w.editor move (done_by w.editor act) more) → ComesTo (from_model w announced) (after_act w (done_by w.editor act))
     go (inl is) = subst (λ done. ComesTo (from_model w announced) (after_act w done)) (sym is) (as_it_was w (after_act w (stays w.editor)) announced (nothing_done w))
@@ -138,20 +175,20 @@ take_comes w announced (m ∷ rest) waits =
     by_turn (from_model w announced) (after_taking w (m ∷ rest)) editor_takes announced
     (subst (λ q. from_model (after_taking w (m ∷ rest)) announced ≡ after_one (from_model w announced) (map Some q)) (sym waits) refl)
 
-event_comes : (w : ClientAndServer) (announced : List Announced) (event : Event) (new : ClientAndServer) → Happens w event new → ComesTo (from_model w announced) new
-event_comes w announced (does act) new is = subst (ComesTo (from_model w announced)) (sym is) (act_comes w announced act)
-event_comes w announced serve new happens = serve_comes w announced w.to_server new refl happens
-event_comes w announced take_message new is = subst (ComesTo (from_model w announced)) (sym is) (take_comes w announced w.to_editor refl)
+event_comes : (w : ClientAndServer) (announced : List Announced) (event : Event) (new : ClientAndServer) → Knows w.editor → Happens w event new → ComesTo (from_model w announced) new
+event_comes w announced (does act) new knows is = subst (ComesTo (from_model w announced)) (sym is) (act_comes w announced act knows)
+event_comes w announced serve new knows happens = serve_comes w announced w.to_server new refl happens
+event_comes w announced take_message new knows is = subst (ComesTo (from_model w announced)) (sym is) (take_comes w announced w.to_editor refl)
 
 lead_append : (turns more : List Turn) (w between new : EditorAndServer) → MayLead w turns between → MayLead between more new → MayLead w (turns ++ more) new
 lead_append [] more w between new is lead = subst (λ x. MayLead x more new) is lead
 lead_append (turn ∷ turns) more w between new (mid, happens, rest) lead = (mid, happens, lead_append turns more mid between new rest lead)
 
-course_comes : (events : List Event) (w : ClientAndServer) (announced : List Announced) (new : ClientAndServer) → Course w events new → ComesTo (from_model w announced) new
-course_comes [] w announced new is = as_it_was w new announced is
-course_comes (event ∷ events) w announced new (between, happens, run) =
-    let first : ComesTo (from_model w announced) between = event_comes w announced event between happens in
-    let rest : ComesTo (from_model between first.announced) new = course_comes events between first.announced new run in
+course_comes : (events : List Event) (w : ClientAndServer) (announced : List Announced) (new : ClientAndServer) → Knows w.editor → Course w events new → ComesTo (from_model w announced) new
+course_comes [] w announced new knows is = as_it_was w new announced is
+course_comes (event ∷ events) w announced new knows (between, happens, run) =
+    let first : ComesTo (from_model w announced) between = event_comes w announced event between knows happens in
+    let rest : ComesTo (from_model between first.announced) new = course_comes events between first.announced new (knows_event w event between knows happens) run in
     record {
       turns = first.turns ++ rest.turns;
       announced = rest.announced;
@@ -164,7 +201,7 @@ as_it_is w announced i = record w { to_server = others_none w.to_server i; to_ed
 
 pub the_model_is_one : TheModelIsOne
 the_model_is_one unit events end run =
-    let c : ComesTo (from_model (start unit) []) end = course_comes events (start unit) [] end run in
+    let c : ComesTo (from_model (start unit) []) end = course_comes events (start unit) [] end (knows_first unit) run in
     (c.turns, from_model end c.announced, c.lead, as_it_is end c.announced)
 
 -- so the laws of the model's editor are cases of those of every editor

@@ -22,10 +22,11 @@ abbrev pub EditorDocuments : Type 0
 EditorDocuments = map_of.FinMap (slice_cmp nat_cmp) Open
 
 -- a request that was sent: what is requested, the document,
--- and its opening and version at that time
+-- and its text, opening and version at that time
 pub record SentAsk : Type 0 where
   pub ask : Ask
   pub uri : List ℕ
+  pub text : List ℕ
   pub opening : ℕ
   pub version : ℕ
 

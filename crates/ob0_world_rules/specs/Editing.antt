@@ -55,8 +55,13 @@ closes e uri =
 -- something is requested of an open document, with the next number
 abbrev pub asks : Editor → List ℕ → Ask → Open → Done
 asks e uri ask d =
-    let a : SentAsk
-    = record { ask = ask; uri = uri; opening = d.opening; version = d.version } in
+    let a : SentAsk = record {
+      ask = ask;
+      uri = uri;
+      text = d.text;
+      opening = d.opening;
+      version = d.version;
+    } in
     sends (record e { requested = e.requested ++ a ∷ [] })
     (requests (suc (length e.requested)) uri ask) []
 

@@ -1,10 +1,9 @@
 -- What holds with every editor that keeps ob0's rules, in every interleaving.
 -- Rule: docs/PROMISES.md, Client and server.
-use Rattle.std.specs.Prelude.{◌≡◌, ℕ, List, [], ◌∷◌, ◌++◌, map, replicate, Option, Some, None}
+use Rattle.std.specs.Prelude.{◌≡◌, ℕ, List, [], ◌∷◌, ◌++◌, map, Option, Some, None}
 use Rattle.ob0_text.specs.declared.position_types.Unit.{Unit}
 use Rattle.ob0_text.specs.OpenDocuments.{OpenDocuments, none_open}
-use Rattle.ob0_world_rules.specs.Asks.{rename}
-use Rattle.ob0_world_rules.specs.ClientAndServer.{SentAsk, Editor, new_editor, ToServer, notifies, requests, ToEditor, Applied, Made, ClientAndServer, start, after_message}
+use Rattle.ob0_world_rules.specs.ClientAndServer.{Editor, new_editor, ToServer, notifies, requests, ToEditor, Applied, Made, ClientAndServer, start, after_message}
 use Rattle.ob0_world_rules.specs.Editing.{Done, reads}
 use Rattle.ob0_world_rules.specs.Serving.{Replies}
 use Rattle.ob0_world_rules.specs.Happens.{Event, Course}
@@ -71,22 +70,12 @@ as_model w =
 pub data Turn : Type 0 where
   -- the editor does something
   editor_does : Move → Turn
-  -- the editor sends another message; so many numbers are then those of other requests
-  editor_says : ℕ → Turn
+  -- the editor sends another message
+  editor_says : Turn
   -- the server takes one message, and sends what it replies
   server_takes : Turn
   -- the editor takes one message
   editor_takes : Turn
-
--- what has the number of another request: nothing that was asked
-abbrev pub no_ask : SentAsk
-no_ask =
-    record
-    { ask = rename (record { line = 0; character = 0 }) []; uri = []; opening = 0; version = 0 }
-
--- the next numbers, so many, are those of other requests
-abbrev pub without_numbers : ℕ → Editor → Editor
-without_numbers numbers e = record e { requested = e.requested ++ replicate numbers no_ask }
 
 -- the editor has moved
 abbrev pub after_move : EditorAndServer → Done → List Announced → EditorAndServer
@@ -132,12 +121,7 @@ MayHappen w (editor_does move) new =
     × (announced : List Announced)
     × May w.editor move done announced
     × (new ≡ after_move w done announced)
-MayHappen w (editor_says numbers) new =
-    new
-    ≡ record w {
-      editor = without_numbers numbers w.editor;
-      to_server = w.to_server ++ None ∷ [];
-    }
+MayHappen w editor_says new = new ≡ record w { to_server = w.to_server ++ None ∷ [] }
 MayHappen w server_takes new = TakesNext w w.to_server new
 MayHappen w editor_takes new = new ≡ after_one w w.to_editor
 
