@@ -90,13 +90,18 @@ pub record IsNote (note : DocumentEvent) (content : List ℕ) : Type 0 where
   pub reported : note_of method params ≡ sent_as note
   pub fits : HasVersion note
 
--- the content is the request of this number, with this ask about a document
-pub record IsRequest (k : ℕ) (uri : List ℕ) (ask : Ask) (content : List ℕ) : Type 0 where
+-- the content is the request with this id, with this ask about a document
+pub record IsRequestWithId (id : Data) (uri : List ℕ) (ask : Ask) (content : List ℕ)
+    : Type 0 where
   pub json : Data
   pub reads : ReadsContent content (Some json)
   pub params : Data
-  pub means : meaning_of json ≡ request (number (unsigned k)) (method_of ask) params
+  pub means : meaning_of json ≡ request id (method_of ask) params
   pub calls : request_by_method (method_of ask) params ≡ Ok (call_for uri ask)
+
+-- and its id is this number
+abbrev pub IsRequest : ℕ → List ℕ → Ask → List ℕ → Type 0
+IsRequest k uri ask content = IsRequestWithId (number (unsigned k)) uri ask content
 
 -- ask k is this one
 pub record IsAsk (requested : List SentAsk) (k : ℕ) (uri : List ℕ) (ask : Ask) : Type 0 where

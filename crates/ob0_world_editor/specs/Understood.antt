@@ -15,6 +15,11 @@ use Rattle.ob0_world_editor.specs.Heard.{request_number}
 
 -- ---- publications
 
+-- a text is this one
+abbrev pub is_text : List ℕ → Option (List ℕ) → Bool
+is_text text (Some found) = bytes_eq found text
+is_text text None = false
+
 -- a list has no item
 abbrev pub has_none : Items → Bool
 has_none no_items = true
@@ -57,16 +62,11 @@ workspace_items value =
     option_and_then as_array (option_and_then (get (codes "edits"))
     (option_and_then (at 0) (get (codes "documentChanges") value)))
 
--- an action has this title
-abbrev pub is_titled : List ℕ → Option (List ℕ) → Bool
-is_titled title (Some found) = bytes_eq found title
-is_titled title None = false
-
 -- the first action with this title
 abbrev pub titled_action : List ℕ → Items → Option Data
 titled_action title no_items = None
 titled_action title (item d ds) =
-    if is_titled title (text_member (codes "title") d) then Some d else titled_action title ds
+    if is_text title (text_member (codes "title") d) then Some d else titled_action title ds
 
 -- the edits of the action with this title
 abbrev pub action_items : List ℕ → Data → Option Items
@@ -93,22 +93,32 @@ abbrev pub answer_to : List SentAsk → Data → ℕ → Option ToEditor
 answer_to requested answer k =
     option_map (λ a. answers k (edits_for a.ask answer)) (request_numbered requested k)
 
--- an answer to a request that the editor sent
-abbrev pub answer_understood : List SentAsk → Data → Option ToEditor
-answer_understood requested answer =
+-- an answer to a request that the editor sent, when requests have their numbers so
+abbrev pub answer_read : (Data → Option ℕ) → List SentAsk → Data → Option ToEditor
+answer_read number_of requested answer =
     option_and_then (answer_to requested answer)
-    (option_and_then request_number (get (codes "id") answer))
+    (option_and_then number_of (get (codes "id") answer))
 
 -- ---- messages
 
--- what a message says to the editor
-abbrev pub value_understood : List SentAsk → Data → Option ToEditor
-value_understood requested d =
-    if is_some (get (codes "method") d)
-    then option_and_then publication_understood (get (codes "params") d)
-    else answer_understood requested d
+-- a notification: only that of diagnostics is read
+abbrev pub notice_understood : Data → Option ToEditor
+notice_understood d =
+    if is_text (codes "textDocument/publishDiagnostics") (text_member (codes "method") d)
+    then option_and_then publication_understood (get (codes "params") d) else None
 
--- the message in a content, where these asks were sent
-unfoldable pub understood : List SentAsk → List ℕ → Option ToEditor
-understood requested content =
-    if is_utf8 content then option_and_then (value_understood requested) (read content) else None
+-- what a message says to the editor, when requests have their numbers so
+abbrev pub value_read : (Data → Option ℕ) → List SentAsk → Data → Option ToEditor
+value_read number_of requested d =
+    if is_some (get (codes "method") d)
+    then notice_understood d else answer_read number_of requested d
+
+-- the message in a content, when these asks were sent, and requests have their numbers so
+unfoldable pub read_so : (Data → Option ℕ) → List SentAsk → List ℕ → Option ToEditor
+read_so number_of requested content =
+    if is_utf8 content
+    then option_and_then (value_read number_of requested) (read content) else None
+
+-- and when each request has its number as its id
+abbrev pub understood : List SentAsk → List ℕ → Option ToEditor
+understood requested content = read_so request_number requested content

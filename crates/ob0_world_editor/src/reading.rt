@@ -6,7 +6,7 @@ ghost use Rattle.ob0_rpc.specs.Members.{text_member};
 ghost use Rattle.ob0_world_editor.specs.Code.{message_of, ask_of, requested_of};
 ghost use Rattle.ob0_world_rules.specs.Edited.{replacement_of, replacements};
 ghost use Rattle.ob0_world_editor.specs.Heard.{request_number};
-ghost use Rattle.ob0_world_editor.specs.Understood.{understood, value_understood, publication_understood, answer_understood, has_none, edit_in, edits_in, workspace_items, is_titled, titled_action, action_items, items_for as items_of_answer, edits_for};
+ghost use Rattle.ob0_world_editor.specs.Understood.{understood, value_read, publication_understood, answer_read, has_none, edit_in, edits_in, workspace_items, is_text, titled_action, action_items, items_for as items_of_answer, edits_for};
 ghost use Rattle.ob0_world_rules.specs.ClientAndServer.{request_numbered};
 
 use crate::asks::Ask;
@@ -57,10 +57,13 @@ fn read_value(
     message: &Value,
 ) -> Result<Option<Message>, AllocError>
     ensures { IfOk result (λ found. option_map message_of found
-        ≡ value_understood (map requested_of requested.now) (view message.now)) }
+        ≡ value_read request_number (map requested_of requested.now) (view message.now)) }
 {
     if message.get("method").is_none() {
         return read_answer(alloc, requested, message);
+    }
+    if !has_text(message, "method", "textDocument/publishDiagnostics") {
+        return Ok(None);
     }
     match message.get("params") {
         Some(params) => read_publication(alloc, params),
@@ -121,7 +124,7 @@ fn read_answer(
     answer: &Value,
 ) -> Result<Option<Message>, AllocError>
     ensures { IfOk result (λ found. option_map message_of found
-        ≡ answer_understood (map requested_of requested.now) (view answer.now)) }
+        ≡ answer_read request_number (map requested_of requested.now) (view answer.now)) }
 {
     let Some(number) = answer_number(answer) else {
         return Ok(None);
@@ -212,18 +215,19 @@ fn action_with_title<'v>(actions: &'v [Value], title: &str) -> Option<&'v Value>
         ≡ titled_action title.now (items_view actions.now) }
 {
     for action in actions {
-        if has_title(action, title) {
+        if has_text(action, "title", title) {
             return Some(action);
         }
     }
     None
 }
 
-fn has_title(action: &Value, title: &str) -> bool
-    ensures { result ≡ is_titled title.now (text_member (codes "title") (view action.now)) }
+/// Returns whether a value has a member of this name with this text.
+fn has_text(value: &Value, name: &str, text: &str) -> bool
+    ensures { result ≡ is_text text.now (text_member name.now (view value.now)) }
 {
-    match text_in(action, "title") {
-        Some(found) => found == title,
+    match text_in(value, name) {
+        Some(found) => found == text,
         None => false,
     }
 }
