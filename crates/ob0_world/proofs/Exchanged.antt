@@ -27,7 +27,7 @@ use Rattle.ob0_world_rules.proofs.ModelEditor.{act_may, knows_event}
 use Rattle.ob0_world.specs.Worlds.{Wire, Connection, Begins, TakesFirst, GetsFirst, MovesWire, AllSay, IsTied, ConnectionStep, ConnectionCourse}
 use Rattle.ob0_world.specs.Exchanges.{SentId, number_id, sent_with, ask_with, NamesAsks, Exchange, BeginsExchange, IsActionsRequest, IsRequestFor, TakesActions, TakesEdits, SaysToSession, EachSays, read_by, reads_meaning, GetsOne, with_contents, ExchangeLeads, ACourseIsAnExchange}
 use Rattle.ob0_world.proofs.Conversing.{answered_once}
-use Rattle.std.proofs.lemmas.Bool.{eqb-true, eqb-refl}
+use Rattle.std.proofs.lemmas.Bool.{eqb-true, eqb-false}
 use Rattle.std.proofs.lemmas.Option.{same_Some, none-some}
 use Rattle.ob0_rpc.specs.declared.clients.Client.{Client}
 use Rattle.ob0_world_rules.proofs.Acts.{of_each}

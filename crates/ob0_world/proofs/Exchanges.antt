@@ -46,6 +46,7 @@ use Rattle.ob0_world.specs.Queues.{made_first}
 use Rattle.ob0_world.specs.Exchanges.{Id, id_read, same_id, SentId, sent_with, ask_with, NamesAsks, with_other, IsOtherId, Exchange, BeginsExchange, SaysToSession, IsRequestFor, IsQuestion, IsOtherMessage, IsOther, read_by, reads_meaning, GetsOne, with_contents, Exchanges, ExchangeLeads, EachSays, EachMeans, IsOfTheModel, EveryExchangeIsOfTheModel, Published, with_version, published_in, AreRightOf, last_published, notes_in, HoldsOfExchange, EveryExchangeHolds}
 use Rattle.ob0_world.proofs.Answering.{Served, note_answered, ask_answered, actions_answered, going_on, reacts_so}
 use Rattle.ob0_world.proofs.Waiting.{read_still}
+use Rattle.ob0_world.proofs.Ending.{ends_well}
 use Rattle.ob0_world.proofs.Courses.{Conversed, takes_conversed, gets_conversed, written_conversed, initialized_conversed, as_conversation}
 use Rattle.ob0_session_answers.specs.Renamed.{RequestedRename}
 use Rattle.ob0_rpc.specs.declared.clients.Client.{Client}
@@ -724,4 +725,5 @@ every_exchange_holds unit begin now turns b leads =
       mirrors = λ uri.
           ap (λ held. document_at held uri) (ap (fold after_message now.wire.session.held) notes ∙ notes_change now.wire.session.held waiting) ∙ holds.mirrors uri;
       conversation = as_conversation now.wire led.tied.conversed;
+      ends = λ id shutdown exit is_shutdown is_exit sent end talked. ends_well id now.wire.session shutdown exit sent end led.tied.running is_shutdown is_exit talked;
     }

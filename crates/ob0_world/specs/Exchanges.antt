@@ -12,11 +12,13 @@ use Rattle.ob0_rpc.specs.declared.clients.Client.{Client}
 use Rattle.ob0_rpc.specs.declared.incoming.RpcFault.{RpcFault}
 use Rattle.ob0_rpc.specs.Messages.{ReadsContent, MessageMeaning, not_json, not_a_message, response, request, notice, meaning_of}
 use Rattle.ob0_rpc.specs.Notifications.{other, note_of}
+use Rattle.ob0_rpc.specs.Shapes.{result_message}
 use Rattle.ob0_rpc.specs.Requesting as asked
 use Rattle.ob0_rpc.specs.Requesting.{ClientRequest, request_by_method}
 use Rattle.ob0_session_answers.specs.Actions.{allows_inlining}
 use Rattle.ob0_session_server.specs.Answers as server
-use Rattle.ob0_session_server.specs.Answers.{begins, Conversation}
+use Rattle.ob0_session_server.specs.Answers.{ServerState, begins, Sends, Conversation}
+use Rattle.ob0_session_server.specs.declared.session.Phase.TheVariants.{Ended}
 use Rattle.ob0_session_server.specs.Units.{unit_for}
 use Rattle.ob0_world_editor.specs.Heard.{heard, IsNote, IsRequestWithId, IsAsk}
 use Rattle.ob0_world_editor.specs.Understood.{understood, read_so}
@@ -350,6 +352,30 @@ EveryExchangeIsOfTheModel =
     → ExchangeLeads begin turns now
     → IsOfTheModel unit turns now
 
+-- ---- the end
+
+-- the content is the request `shutdown`, with this id
+pub record IsShutdown (id : Data) (content : List ℕ) : Type 0 where
+  pub json : Data
+  pub reads : ReadsContent content (Some json)
+  pub params : Data
+  pub means : meaning_of json ≡ request id (codes "shutdown") params
+
+-- the content is the notification `exit`
+pub record IsExit (content : List ℕ) : Type 0 where
+  pub json : Data
+  pub reads : ReadsContent content (Some json)
+  pub params : Data
+  pub means : meaning_of json ≡ notice (codes "exit") params
+
+-- a session has sent the answer to `shutdown`, and nothing else; it has ended with status 0, and its
+-- documents are the same
+pub record EndsWell (id : Data) (before : ServerState) (sent : List (List ℕ)) (end : ServerState)
+    : Type 0 where
+  pub answer : Sends (result_message id null) sent
+  pub ended : end.phase ≡ Ended 0
+  pub held : end.held ≡ before.held
+
 -- ---- the headline of every exchange, without a model
 
 -- a list of diagnostics with a version: its uri, its version, and whether none is in it
@@ -419,6 +445,11 @@ pub record HoldsOfExchange (begin now : Exchange) : Type 0 where
   -- all that passed is one conversation of a session, by the protocol
   pub conversation : Conversation server.start now.wire.taken
       (now.wire.got ++ now.wire.to_editor) now.wire.session
+  -- the session ends well when it then takes `shutdown` and `exit`
+  pub ends : (id : Data) (shutdown exit : List ℕ) → IsShutdown id shutdown → IsExit exit
+      → (sent : List (List ℕ)) (end : ServerState)
+      → Conversation now.wire.session (shutdown ∷ exit ∷ []) sent end
+      → EndsWell id now.wire.session sent end
 
 -- so it is with every editor that keeps ob0's rules, and every session
 abbrev pub EveryExchangeHolds : Type 0
