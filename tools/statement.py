@@ -398,7 +398,7 @@ PROVED = (
     "*The headline, and that its events were those of a session*, for fewer than 2^63 - 1 events (`few`) on which "
     "`play_in` returns an `Ok`: by its contract (`Plays`).",
     "*`Holds`* of each state of the model that events lead to, without a premise: by the law `in_every_interleaving`.",
-    "*The headline with other editors*, up to `shutdown`: by the laws `every_exchange_holds` and "
+    "*The headline with other editors*: by the laws `every_exchange_holds` and "
     "`every_exchange_is_served`. The guarantee is proved for every editor that keeps ob0's rules. In short: it tells the "
     "server every change, in order, with positions in the agreed unit and texts of Unicode scalar values. It makes all "
     "edits of an answer as one change. It discards an answer if the document has been changed, or closed and reopened, "
