@@ -20,10 +20,9 @@ use Rattle.ob0_world_rules.specs.Asks.{Ask, rename, inline_here, inline_all, for
 use Rattle.ob0_world_rules.specs.ClientAndServer.{SentAsk, Editor, request_numbered, ToServer, notifies, requests, ToEditor, publishes, answers, Applied, ClientAndServer, start}
 use Rattle.ob0_world_rules.specs.Editing.{Act, Done, stays, done_by, reads}
 use Rattle.ob0_world_rules.specs.Happens.{Event, does, serve, take_message, after_act, after_taking, ServerTakes, Happens}
-use Rattle.ob0_world_rules.specs.Editors.{Move, May}
 use Rattle.ob0_world_rules.specs.EveryEditor.{Turn, editor_does, server_takes, editor_takes}
-use Rattle.ob0_world_rules.specs.MadeInOrder.{Announced}
-use Rattle.ob0_world_rules.proofs.ModelEditor.{act_may, knows_event}
+use Rattle.ob0_world_rules.specs.MadeInOrder.{Announced, announced_in}
+use Rattle.ob0_world_rules.proofs.ModelEditor.{IsMove, act_may, knows_event}
 use Rattle.ob0_world.specs.Worlds.{Wire, Connection, Begins, TakesFirst, GetsFirst, MovesWire, AllSay, IsTied, ConnectionStep, ConnectionCourse}
 use Rattle.ob0_world.specs.Exchanges.{SentId, number_id, sent_with, ask_with, NamesAsks, Exchange, BeginsExchange, IsActionsRequest, IsRequestFor, TakesActions, TakesEdits, SaysToSession, EachSays, read_by, reads_meaning, GetsOne, with_contents, ExchangeLeads, ACourseIsAnExchange}
 use Rattle.ob0_world.proofs.Conversing.{answered_once}
@@ -229,11 +228,12 @@ module _ (c : Connection) (announced : List Announced) (goes : Goes c) where
       → Comes (done_by c.model.editor act).editor (with_contents c.wire contents) (c.model.applied ++ (done_by c.model.editor act).applied)
   act_comes contents act say = go (act_may c.model.editor act goes.knows)
     where
-      go : (done_by c.model.editor act ≡ stays c.model.editor) ⊎ ((move : Move) × (more : List Announced) × May c.model.editor move (done_by c.model.editor act) more)
+      go : IsMove c.model.editor (done_by c.model.editor act)
           → Comes (done_by c.model.editor act).editor (with_contents c.wire contents) (c.model.applied ++ (done_by c.model.editor act).applied)
       go (inl is) = still contents (done_by c.model.editor act) is say
-      go (inr (move, more, may)) =
+      go (inr (move, may)) =
           let done : Done = done_by c.model.editor act in
+          let more : List Announced = announced_in done.editor done.sent in
           let ids : List SentId = ids_from 1 done.editor.requested in
           let y : Exchange = record { editor = done.editor; ids = ids; wire = with_contents c.wire contents; announced = announced ++ more; applied = c.model.applied ++ done.applied } in
           record {

@@ -13,7 +13,6 @@ mod CourseFits
 mod Keeping
 pub mod Interleavings
 pub mod MadeFor
-pub mod MadeInOrder
 pub mod UriLaws
 pub mod Asked
 pub mod SameDocument
