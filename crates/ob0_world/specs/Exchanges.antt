@@ -1,5 +1,5 @@
--- An editor that keeps ob0's rules, and a session: what passes between them. No server of the model
--- is in it: what the session sends is by the protocol alone (`Answers`).
+-- Defines what an editor that keeps ob0's rules and a session exchange, and states what then holds. The
+-- session is any that the protocol (`Answers`) allows: no server of the model is part of it.
 -- Rule: LSP 3.17; for a law of every editor with a session.
 use Rattle.std.specs.Prelude.{◌≡◌, ◌⊎◌, ◌<◌, ◌≤◌, ◌==◌, map, filter_map, ⊤, ℕ, ℤ, pos, List, [], ◌∷◌, ◌++◌, All, fold, Bool, true, false, Option, Some, None, MatchOption, option_map, option_and_then, Result, Ok, Err, if◌then◌else◌, codes}
 use Rattle.std.specs.Str.{bytes_eq}
@@ -36,12 +36,12 @@ use Rattle.ob0_world.specs.Worlds.{Wire, Connection, Begins, ConnectionCourse, T
 
 -- ---- the ids of requests
 
--- an id of a request: a whole number from 0 on, or a text (JSON-RPC 2.0, request object)
+-- an id of a request: a whole number that isn't negative, or a text (JSON-RPC 2.0, request object)
 pub data Id : Type 0 where
   number_id : ℕ → Id
   text_id : List ℕ → Id
 
--- the id that a JSON value is
+-- returns the id that a JSON value is, if it is such an id
 abbrev pub id_read : Data → Option Id
 id_read (number (unsigned n)) = Some (number_id n)
 id_read (number (negative z)) = None
@@ -52,7 +52,7 @@ id_read (string text) = Some (text_id text)
 id_read (array ds) = None
 id_read (object ms) = None
 
--- two ids are the same
+-- returns whether two ids are the same
 abbrev pub same_id : Id → Id → Bool
 same_id (number_id n) (number_id m) = n == m
 same_id (number_id n) (text_id t) = false
@@ -64,16 +64,16 @@ pub record SentId : Type 0 where
   pub id : Id
   pub ask : Option ℕ
 
--- the first request with this id: the number of its ask, if it is one
+-- finds the first request with this id, and returns the number of its ask, if it is one
 abbrev pub sent_with : List SentId → Id → Option (Option ℕ)
 sent_with [] id = None
 sent_with (s ∷ sent) id = if same_id s.id id then Some s.ask else sent_with sent id
 
--- the number of the ask that has this id
+-- returns the number of the ask that has this id
 abbrev pub ask_with : List SentId → Data → Option ℕ
 ask_with sent id = option_and_then (λ ask. ask) (option_and_then (sent_with sent) (id_read id))
 
--- each ask that is sent has an id that no request had before
+-- states that each ask that is sent has an id that no request had before
 abbrev pub NamesAsks : List SentId → List ToServer → List SentId → Type 0
 NamesAsks ids [] new = new ≡ ids
 NamesAsks ids (notifies note ∷ sent) new = NamesAsks ids sent new
@@ -82,12 +82,12 @@ NamesAsks ids (requests k uri ask ∷ sent) new =
     × (sent_with ids id ≡ None)
     × NamesAsks (ids ++ record { id = id; ask = Some k } ∷ []) sent new
 
--- another request was sent, with this id, if it is such an id
+-- returns the ids after another request with this id, if it is such an id
 abbrev pub with_other : List SentId → Option Id → List SentId
 with_other ids None = ids
 with_other ids (Some id) = ids ++ record { id = id; ask = None } ∷ []
 
--- it is the id of another request, and of no ask
+-- states that it is the id of another request, and of no ask
 abbrev pub IsOtherId : List SentId → Option Id → Type 0
 IsOtherId ids None = ⊤
 IsOtherId ids (Some id) = sent_with ids id ≡ Some None
@@ -103,8 +103,8 @@ pub record Exchange : Type 0 where
   pub announced : List Announced
   pub applied : List Applied
 
--- The session was initialized by a client that counts positions in this unit. No document is open,
--- and nothing waits, so the ids used until now may be used again.
+-- States that the session was initialized by a client that counts positions in this unit. No document
+-- is open and nothing waits, so the ids used until now may be used again.
 pub record BeginsExchange (unit : Unit) (x : Exchange) : Type 0 where
   pub client : Client
   pub counts : unit_for client ≡ unit
@@ -128,8 +128,8 @@ pub record BeginsExchange (unit : Unit) (x : Exchange) : Type 0 where
 
 -- ---- other messages
 
--- a request that changes nothing: a question; a request for edits that the editor drops; or one that
--- the server doesn't know or can't read
+-- States that a request changes nothing: it is a question, a request for edits that the editor drops,
+-- or a request that the server doesn't know or can't read.
 abbrev pub IsQuestion : Result ClientRequest RpcFault → Type 0
 IsQuestion (Ok (asked.initialize client)) = ⊥
 IsQuestion (Ok asked.shutdown) = ⊥
@@ -142,8 +142,8 @@ IsQuestion (Ok (asked.code_action uri range only)) = ⊤
 IsQuestion (Ok (asked.formatting uri indent)) = ⊤
 IsQuestion (Err fault) = ⊤
 
--- it says nothing of documents, and asks for no edit that is applied: a request that changes nothing,
--- a notification that is ignored, or a response
+-- States that a message opens, changes and closes no document, and requests no edit that is applied: it
+-- is a request that changes nothing, a notification that the server ignores, or a response.
 abbrev pub IsOtherMessage : List SentId → MessageMeaning → Type 0
 IsOtherMessage ids not_json = ⊥
 IsOtherMessage ids not_a_message = ⊥
@@ -154,19 +154,19 @@ IsOtherMessage ids (request id method params) =
     × IsOtherId ids (id_read id)
 IsOtherMessage ids (notice method params) = note_of method params ≡ other
 
--- a content that says such a thing
+-- states that a content is such a message
 abbrev pub IsOther : List SentId → List ℕ → Type 0
 IsOther ids content =
     (json : Data) × ReadsContent content (Some json) × IsOtherMessage ids (meaning_of json)
 
 -- ---- asks and notifications
 
--- a position isn't after another
+-- states that a position isn't after another
 abbrev pub IsNotAfter : Position → Position → Type 0
 IsNotAfter p q = (p.line < q.line) ⊎ ((p.line ≡ q.line) × (p.character ≤ q.character))
 
--- the content is a request with this id for the code actions in a range that begins at this position,
--- of all kinds or of some that inlining is of
+-- States that the content is a request with this id for the code actions in a range that begins at this
+-- position, of all kinds or of some that include inlining.
 pub record IsActionsRequest (id : Data) (uri : List ℕ) (position : Position) (content : List ℕ)
     : Type 0 where
   pub json : Data
@@ -182,7 +182,7 @@ pub record IsActionsRequest (id : Data) (uri : List ℕ) (position : Position) (
   pub ordered : IsNotAfter range.start range.end
   pub allowed : allows_inlining only ≡ true
 
--- the content is the request with this id, for this ask; of an inlining it is one for code actions
+-- states that the content is the request with this id for this ask; an inlining requests code actions
 abbrev pub IsRequestFor : Data → List ℕ → Ask → List ℕ → Type 0
 IsRequestFor id uri (rename position name) content =
     IsRequestWithId id uri (rename position name) content
@@ -190,25 +190,25 @@ IsRequestFor id uri (inline_here position) content = IsActionsRequest id uri pos
 IsRequestFor id uri (inline_all position) content = IsActionsRequest id uri position content
 IsRequestFor id uri (format indent) content = IsRequestWithId id uri (format indent) content
 
--- the client takes code actions with edits, and edits of documents with versions
+-- states that the client takes code actions with edits, and edits of documents with versions
 abbrev pub TakesActions : Client → Type 0
 TakesActions client =
     (client.takes_document_changes ≡ true) × (client.takes_literal_actions ≡ true)
 
--- the client takes the edits of such an ask
+-- states that the client takes the edits of such an ask
 abbrev pub TakesEdits : Client → Ask → Type 0
 TakesEdits client (rename position name) = client.takes_document_changes ≡ true
 TakesEdits client (inline_here position) = TakesActions client
 TakesEdits client (inline_all position) = TakesActions client
 TakesEdits client (format indent) = ⊤
 
--- ask k has this id
+-- states that ask k has this id
 pub record IsAskWithId (ids : List SentId) (requested : List SentAsk) (id : Data) (k : ℕ)
     (uri : List ℕ) (ask : Ask) : Type 0 where
   pub numbered : ask_with ids id ≡ Some k
   pub is : IsAsk requested k uri ask
 
--- the content says this to the session of this client
+-- states that the content is this message to the session of this client
 abbrev pub SaysToSession : Client
     → List SentId
     → List SentAsk
@@ -222,7 +222,7 @@ SaysToSession client ids requested (requests k uri ask) content =
     × IsAskWithId ids requested id k uri ask
     × TakesEdits client ask
 
--- each content says its message to the session; to another message there is another content
+-- states that each content is its message to the session, or another message for `None`
 abbrev pub EachSays : Client
     → List SentId
     → List SentAsk
@@ -241,16 +241,16 @@ EachSays client ids requested (None ∷ messages) [] = ⊥
 
 -- ---- what may happen
 
--- what the editor reads in a content
+-- returns the message that the editor reads in a content
 abbrev pub read_by : List SentId → List SentAsk → List ℕ → Option ToEditor
 read_by ids requested content = read_so (ask_with ids) requested content
 
--- what the editor makes of a content: an answer with edits to an ask of its own is kept
+-- returns the editor after it has read a message: it keeps an answer with edits to one of its asks
 abbrev pub reads_meaning : Editor → Option ToEditor → Editor
 reads_meaning e None = e
 reads_meaning e (Some message) = reads e message
 
--- the editor gets the first content that waits for it
+-- states that the editor gets the first content that waits for it
 abbrev pub GetsOne : List (List ℕ) → Exchange → Exchange → Type 0
 GetsOne [] old new = new ≡ old
 GetsOne (content ∷ rest) old new =
@@ -260,11 +260,11 @@ GetsOne (content ∷ rest) old new =
       wire = record old.wire { got = old.wire.got ++ content ∷ []; to_editor = rest };
     }
 
--- the editor writes these contents
+-- returns the wire after the editor has written these contents
 abbrev pub with_contents : Wire → List (List ℕ) → Wire
 with_contents wire contents = record wire { to_server = wire.to_server ++ contents }
 
--- at `old` this may happen, and leave `new`
+-- states that this turn may lead from `old` to `new`
 abbrev pub Exchanges : Exchange → Turn → Exchange → Type 0
 Exchanges old (editor_does move) new =
     (done : Done)
@@ -297,7 +297,7 @@ Exchanges old server_takes new =
     × (new ≡ record old { wire = wire })
 Exchanges old editor_takes new = GetsOne old.wire.to_editor old new
 
--- these, one after another, may lead from one to the other
+-- states that these turns, one after another, may lead from one to the other
 abbrev pub ExchangeLeads : Exchange → List Turn → Exchange → Type 0
 ExchangeLeads old [] new = new ≡ old
 ExchangeLeads old (turn ∷ turns) new =
@@ -305,13 +305,13 @@ ExchangeLeads old (turn ∷ turns) new =
 
 -- ---- the law
 
--- it brings no edits and no diagnostics, whatever is requested later
+-- states that the editor reads no message in the content, whatever is requested later
 abbrev pub BringsNothing : List SentId → List ℕ → Type 0
 BringsNothing ids content =
     (later : List SentId) (requested : List SentAsk)
     → read_by (ids ++ later) requested content ≡ None
 
--- each content says its message to the editor; another one brings nothing
+-- states that the editor reads its message in each content, and none in another content
 abbrev pub EachMeans : List SentId
     → List SentAsk
     → List (Option ToEditor)
@@ -344,7 +344,7 @@ pub record IsOfTheModel (unit : Unit) (turns : List Turn) (x : Exchange) : Type 
   pub conversation : Conversation server.start x.wire.taken (x.wire.got ++ x.wire.to_editor)
       x.wire.session
 
--- so it is with every editor that keeps ob0's rules, and every session
+-- states that it holds with every editor that keeps ob0's rules, and every session
 abbrev pub EveryExchangeIsOfTheModel : Type 0
 EveryExchangeIsOfTheModel =
     (unit : Unit) (begin now : Exchange) (turns : List Turn)
@@ -354,22 +354,22 @@ EveryExchangeIsOfTheModel =
 
 -- ---- the end
 
--- the content is the request `shutdown`, with this id
+-- states that the content is the request `shutdown`, with this id
 pub record IsShutdown (id : Data) (content : List ℕ) : Type 0 where
   pub json : Data
   pub reads : ReadsContent content (Some json)
   pub params : Data
   pub means : meaning_of json ≡ request id (codes "shutdown") params
 
--- the content is the notification `exit`
+-- states that the content is the notification `exit`
 pub record IsExit (content : List ℕ) : Type 0 where
   pub json : Data
   pub reads : ReadsContent content (Some json)
   pub params : Data
   pub means : meaning_of json ≡ notice (codes "exit") params
 
--- a session has sent the answer to `shutdown`, and nothing else; it has ended with status 0, and its
--- documents are the same
+-- States that a session has sent the answer to `shutdown` and nothing else, has ended with status 0,
+-- and has the same documents.
 pub record EndsWell (id : Data) (before : ServerState) (sent : List (List ℕ)) (end : ServerState)
     : Type 0 where
   pub answer : Sends (result_message id null) sent
@@ -378,13 +378,13 @@ pub record EndsWell (id : Data) (before : ServerState) (sent : List (List ℕ)) 
 
 -- ---- the headline of every exchange, without a model
 
--- a list of diagnostics with a version: its uri, its version, and whether none is in it
+-- a list of diagnostics with a version: its uri, its version, and whether it is empty
 pub record Published : Type 0 where
   pub uri : List ℕ
   pub version : ℤ
   pub empty : Bool
 
--- where this is one
+-- returns the message if it is such a list
 abbrev pub with_version : Option ToEditor → List Published
 with_version (Some (publishes uri (Some version) empty)) =
     record { uri = uri; version = version; empty = empty } ∷ []
@@ -392,13 +392,13 @@ with_version (Some (publishes uri None empty)) = []
 with_version (Some (answers k edits)) = []
 with_version None = []
 
--- those that these contents are
+-- returns the lists of diagnostics with a version among these contents
 abbrev pub published_in : List (List ℕ) → List Published
 published_in [] = []
 published_in (content ∷ contents) = with_version (understood [] content) ++ published_in contents
 
--- each is of a document, one for each and in this order: it has its uri and version, and is empty
--- exactly when its text is a well-typed module
+-- States that there are as many lists as documents, and that the n-th list has the uri and version of
+-- the n-th document and is empty exactly when its text is a well-typed module.
 abbrev pub AreRightOf : List Published → List Announced → Type 0
 AreRightOf [] [] = ⊤
 AreRightOf (p ∷ published) (t ∷ announced) =
@@ -409,40 +409,40 @@ AreRightOf (p ∷ published) (t ∷ announced) =
 AreRightOf [] (t ∷ announced) = ⊥
 AreRightOf (p ∷ published) [] = ⊥
 
--- the last one for a uri
+-- returns the last list for a uri
 abbrev pub last_published : List ℕ → List Published → Option Published
 last_published uri published =
     fold (λ last p. if bytes_eq p.uri uri then Some p else last) None published
 
--- The messages about documents in these contents. (No ask is known here, so a request has none.)
+-- Returns the messages in these contents that open, change or close documents.
 abbrev pub notes_in : List (List ℕ) → List ToServer
 notes_in contents = filter_map (heard []) contents
 
--- This holds of an editor that keeps ob0's rules and a session, whatever has passed between them.
+-- States what holds of an editor that keeps ob0's rules and a session, whatever they have exchanged.
 pub record HoldsOfExchange (begin now : Exchange) : Type 0 where
   -- each edit that the editor applied keeps the run
   pub applied : All KeepsTheRun now.applied
-  -- of what the session has sent since the beginning, the lists of diagnostics with a version are of
-  -- the documents that the editor announced, and right
+  -- the lists of diagnostics with a version that the session has sent since the beginning are right,
+  -- and are for the first documents that the editor announced, in order
   pub since : List (List ℕ)
   pub sent : now.wire.got ++ now.wire.to_editor ≡ begin.wire.got ++ since
   pub published_of : List Announced
   pub not_yet : List Announced
   pub announced : now.announced ≡ published_of ++ not_yet
   pub right : AreRightOf (published_in since) published_of
-  -- the others are announced by contents that still wait for the session
+  -- contents that still wait for the session announce the other documents
   pub still_wait : map versioned_uri not_yet ≡ named_in (notes_in now.wire.to_server)
-  -- when no content that waits says anything about documents, the latest list of each open document
-  -- is of its present version and text
+  -- when no content that waits opens, changes or closes a document, the latest list of each open
+  -- document is for its present version and text
   pub latest : notes_in now.wire.to_server ≡ [] → (uri : List ℕ) (d : Open)
       → open_at now.editor uri ≡ Some d
       → MatchOption (last_published uri (published_in since)) ⊥
       (λ p. (p.version ≡ pos d.version) × IsEmptyIfCorrect d.text p.empty)
-  -- the session's documents, once it has taken the waiting contents, are the editor's
+  -- the session's documents, after it has taken the waiting contents, are the editor's
   pub mirrors : (uri : List ℕ)
       → document_at (fold after_message now.wire.session.held (notes_in now.wire.to_server)) uri
       ≡ option_map as_open (open_at now.editor uri)
-  -- all that passed is one conversation of a session, by the protocol
+  -- everything that was exchanged is one conversation of a session, by the protocol
   pub conversation : Conversation server.start now.wire.taken
       (now.wire.got ++ now.wire.to_editor) now.wire.session
   -- the session ends well when it then takes `shutdown` and `exit`
@@ -451,7 +451,7 @@ pub record HoldsOfExchange (begin now : Exchange) : Type 0 where
       → Conversation now.wire.session (shutdown ∷ exit ∷ []) sent end
       → EndsWell id now.wire.session sent end
 
--- so it is with every editor that keeps ob0's rules, and every session
+-- states that it holds with every editor that keeps ob0's rules, and every session
 abbrev pub EveryExchangeHolds : Type 0
 EveryExchangeHolds =
     (unit : Unit) (begin now : Exchange) (turns : List Turn)

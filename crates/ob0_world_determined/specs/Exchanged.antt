@@ -13,11 +13,12 @@ use Rattle.ob0_session_server.specs.Answers.{ServerState, Conversation}
 use Rattle.ob0_world.specs.Exchanges.{Exchange, BeginsExchange, ExchangeLeads, IsShutdown, IsExit, EndsWell, HoldsOfExchange}
 use Rattle.ob0_world_determined.specs.Determined.{MayServe, IsWritten}
 
--- Relates the exchange of a session and an editor that keeps ob0's rules to the bytes that `serve` writes.
+-- Relates the exchange of a session and an editor that keeps ob0's rules to the bytes that `serve`
+-- writes.
 pub record ServedExchange (begin now : Exchange) : Type 0 where
   pub holds : HoldsOfExchange begin now
-  -- for the frames of the contents that the session took it writes the frames of those that the
-  -- editor got and of those that wait for it, unless it returns `Memory` or `Write`
+  -- for the frames of the contents that the session took, `serve` writes the frames of the contents
+  -- that it sent, unless it returns `Memory` or `Write`
   pub written : All (λ content. length content ≤ max_content) now.wire.taken
       → (put : List ℕ) (result : Result ℕ ServeFault) → IsWritten result
       → MayServe result (flat_map frame now.wire.taken) put
@@ -37,13 +38,13 @@ pub record ServedExchange (begin now : Exchange) : Type 0 where
       → MayServe result (flat_map frame (now.wire.taken ++ shutdown ∷ exit ∷ [])) put
       → EndsWell id now.wire.session sent end
       × (put ≡ flat_map frame ((now.wire.got ++ now.wire.to_editor) ++ sent))
-  -- where it returns `Memory` it has answered the first contents that it read: where these are what
-  -- the session took, it has written the same
+  -- if it returns `Memory`, it has answered the first contents that it read; if these are the contents
+  -- that the session took, it has written the same
   pub in_part : (taken put : List ℕ) (part : PrefixServed taken put)
       → part.answered ≡ now.wire.taken
       → put ≡ flat_map frame (now.wire.got ++ now.wire.to_editor)
 
--- so it is with every editor that keeps ob0's rules, and every session
+-- states that it holds with every editor that keeps ob0's rules, and every session
 abbrev pub EveryExchangeIsServed : Type 0
 EveryExchangeIsServed =
     (unit : Unit) (begin now : Exchange) (turns : List Turn)

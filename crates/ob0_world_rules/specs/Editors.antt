@@ -1,4 +1,4 @@
--- Editors that keep ob0's rules: what such an editor may do, and what it sends.
+-- States the rules that an editor keeps: what it may do, and what it sends.
 -- The model's editor (`done_by`) is one of them: it does each thing in one way.
 -- Rule: LSP 3.17, Text Document Synchronization, versioned documents.
 use Rattle.std.specs.Prelude.{◌≡◌, ◌+◌, ℕ, pos, List, [], ◌∷◌, ◌++◌, map, Some}
@@ -16,7 +16,7 @@ pub record Revision : Type 0 where
   pub text : List ℕ
   pub how : List TextChange
 
--- what the editor may do
+-- a move of the editor
 pub data Move : Type 0 where
   -- the uri, the version and the text
   to_open : List ℕ → ℕ → List ℕ → Move
@@ -30,17 +30,17 @@ pub data Move : Type 0 where
 
 -- ---- revisions
 
--- the document after a revision
+-- returns the document after a revision
 abbrev pub revised : Open → Revision → Open
 revised d r = record d { version = r.version; text = r.text }
 
--- the editor with this document open
+-- returns the editor with this document open
 abbrev pub with_document : Editor → List ℕ → Open → Editor
 with_document e uri d = record e { documents = map_of.insert e.documents uri d }
 
--- The open document is revised, again and again: each time the changes that are sent make the new
--- text of the old one, whole or by ranges, in the unit that was agreed on. The version may be any.
--- These documents are announced.
+-- States that the open document is revised one revision after another, and that these documents are
+-- announced. The changes of each revision, ranges or whole texts in the agreed unit, make its text of
+-- the text before. Its version may be any.
 abbrev pub Revises : Editor → List ℕ → List Revision → Editor → List Announced → Type 0
 Revises e uri [] new announced = (new ≡ e) × (announced ≡ [])
 Revises e uri (r ∷ more) new announced =
@@ -51,20 +51,20 @@ Revises e uri (r ∷ more) new announced =
     × Revises (with_document e uri (revised d r)) uri more new later
     × (announced ≡ record { uri = uri; document = revised d r } ∷ later)
 
--- what the server is sent of revisions
+-- returns the messages that tell the server of revisions
 abbrev pub told : List ℕ → List Revision → List ToServer
 told uri revisions = map (λ r. notifies (Changed uri (pos r.version) r.how)) revisions
 
--- the changes that are sent of revisions, one after another
+-- returns the changes of all revisions, in order
 abbrev pub changes_of : List Revision → List TextChange
 changes_of [] = []
 changes_of (r ∷ more) = r.how ++ changes_of more
 
 -- ---- answers
 
--- The edits of answer k are made at once, in the document that was asked about, while it has the text
--- that it had then. The first of the changes that are then sent make the edited text; the others are
--- what the user did next, which an editor may send together with the edits.
+-- States that the edits of answer k are made at once in the document that was asked about, which still
+-- has the text that was asked about. The first of the changes that are sent make the edited text. The
+-- others are the user's next changes, which an editor may send together with the edits.
 pub record AppliesAnswer (e : Editor) (k : ℕ) (revisions : List Revision) (done : Done)
     (announced : List Announced) : Type 0 where
   pub edits : List Replacement
@@ -97,8 +97,8 @@ opened_as d e uri =
     sends (record (with_document e uri d) { openings = d.opening })
     (notifies (Opened uri (pos d.version) d.text)) []
 
--- What a move may leave, and the documents that it announces to the server. Only an open document is
--- changed or asked about.
+-- States that a move may have this result and announce these documents to the server. Only an open
+-- document is changed or asked about.
 abbrev pub May : Editor → Move → Done → List Announced → Type 0
 May e (to_open uri version text) done announced =
     let d : Open = record { version = version; text = text; opening = e.openings + 1 } in
