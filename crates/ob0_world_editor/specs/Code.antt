@@ -1,4 +1,4 @@
--- What the values of the code mean.
+-- Defines the meaning of the code's values.
 -- Rule: none; for contracts: what values of the code mean.
 use Rattle.std.specs.Prelude.{string_bytes}
 use Rattle.std.specs.Str.{chars}
