@@ -328,7 +328,7 @@ module _ (number_of : Data → Option ℕ) (requested : List SentAsk) where
       }
       go false was saying = record { phase = running; client = refl; held = refl; said = []; heard = heard_none sent saying; replies = (sym (ap (λ b. cond b (publishes uri None true ∷ []) []) was), refl) }
 
-  -- the id is that of ask k, which is this one
+  -- ask k is this one, and has this id
   record Asks (id : Data) (k : ℕ) (uri : List ℕ) (ask : Ask) : Type 0 where
     numbered : number_of id ≡ Some k
     is : IsAsk requested k uri ask
@@ -530,7 +530,7 @@ served requested (notifies note) before after content sent running is h = note_a
 served requested (requests k uri ask) before after content sent running (is, of) h =
     ask_answered request_number requested (number (unsigned k)) k uri ask before after content sent running.0 (takes_all before ask running) refl of is h
 
--- the session goes on with the same client
+-- the session runs with the same client
 pub runs_on : (requested : List SentAsk) (m : ToServer) (before after : ServerState) (sent : List (List ℕ)) → IsRunning before → Served request_number requested m before after sent → IsRunning after
 runs_on requested m before after sent running s =
     (s.phase, ap (λ (c : Client). c.takes_document_changes) s.client ∙ running.1, ap (λ (c : Client). c.takes_literal_actions) s.client ∙ running.2)

@@ -6,7 +6,7 @@ use Rattle.ob0_rpc.specs.Messages.{request, notice, meaning_of}
 use Rattle.ob0_rpc.specs.Shapes.{result_message}
 use Rattle.ob0_session_server.specs.declared.session.Phase.TheVariants.{Running, ShutDown, Ended}
 use Rattle.ob0_session_server.specs.Answers.{ServerState, SaysReply, Sends, Reaction, react, react_to_request, react_to_notification, answer_method, end_status, ends, Answers, AnswersInState, AnswersGoingOn, Conversation}
-use Rattle.ob0_world.specs.Exchanges.{IsShutdown, IsExit, EndsWell}
+use Rattle.ob0_world.specs.Exchanges.{IsShutdown, IsExit, EndsSession}
 use Rattle.ob0_world.proofs.Answering.{going_on, reacts_so}
 
 -- it is shut down
@@ -36,7 +36,7 @@ exits before after content sent shut is h =
     let now : after ≡ (ends before).after = answer.0 ∙ ap (λ (x : Reaction). x.after) so in
     (subst (λ (x : Reaction). SaysReply x.say sent) so answer.1, now ∙ ap (λ status. record before { phase = Ended status }) (ap end_status shut))
 
-pub ends_well : (id : Data) (before : ServerState) (shutdown exit : List ℕ) (sent : List (List ℕ)) (end : ServerState) → before.phase ≡ Running → IsShutdown id shutdown → IsExit exit → Conversation before (shutdown ∷ exit ∷ []) sent end → EndsWell id before sent end
+pub ends_well : (id : Data) (before : ServerState) (shutdown exit : List ℕ) (sent : List (List ℕ)) (end : ServerState) → before.phase ≡ Running → IsShutdown id shutdown → IsExit exit → Conversation before (shutdown ∷ exit ∷ []) sent end → EndsSession id before sent end
 ends_well id before shutdown exit sent end running is_shutdown is_exit h =
     let first : IsShut id before h.first h.between = shuts id before h.between shutdown h.first running is_shutdown h.answers in
     let then_exits = exits h.between h.follows.between exit h.follows.first first.phase is_exit h.follows.answers in

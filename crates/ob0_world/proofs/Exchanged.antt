@@ -37,7 +37,7 @@ use Rattle.ob0_world.proofs.Waiting.{read_still}
 
 -- ---- the ids of the model's editor
 
--- the ids of asks that have their numbers as ids, from this number on
+-- returns the ids of asks that have their numbers as ids; the first has this number
 abbrev ids_from : ℕ → List SentAsk → List SentId
 ids_from n [] = []
 ids_from n (a ∷ list) = record { id = number_id n; ask = Some n } ∷ ids_from (suc n) list
@@ -156,7 +156,7 @@ module _ (client : Client) (takes : TakesActions client) where
   each_says requested [] (c ∷ contents) h = absurd h
   each_says requested (m ∷ messages) [] h = absurd h
 
--- what is sent names its asks by their numbers
+-- the asks that are sent have their numbers as ids
 sent_names : (e : Editor) (act : Act) → NamesAsks (ids_from 1 e.requested) (done_by e act).sent (ids_from 1 (done_by e act).editor.requested)
 sent_names e act =
     of_each e (λ done. NamesAsks (ids_from 1 e.requested) done.sent (ids_from 1 done.editor.requested))
@@ -177,7 +177,7 @@ sent_names e act =
 
 -- ---- what is needed of a connection
 
--- its contents say what waits, its session runs, and its editor knows its asks
+-- its contents are its messages, its session runs, and its editor knows its asks
 record Goes (c : Connection) : Type 0 where
   says : AllSay c.model.editor.requested c.model.to_server c.wire.to_server
   means : map (understood c.model.editor.requested) c.wire.to_editor ≡ map Some c.model.to_editor

@@ -19,7 +19,7 @@ use Rattle.ob0_world.specs.Queues.{Contents, bytes, all_heard, all_understood, I
 
 -- ---- more asks
 
--- a content that is read stays so, as more is asked, and with other ids that are those of the same asks
+-- a content is read the same after further asks, and with other ids for the same asks
 module _ (f g : Data → Option ℕ) (requested more : List SentAsk) (grows : (d : Data) (k : ℕ) (a : SentAsk) → request_numbered requested k ≡ Some a → f d ≡ Some k → g d ≡ Some k) where
   answer_still : (d : Data) (o : Option Data) (m : ToEditor) → option_and_then (answer_to requested d) (option_and_then f o) ≡ Some m → option_and_then (answer_to (requested ++ more) d) (option_and_then g o) ≡ Some m
   answer_still d None m h = absurd (none-some m h)

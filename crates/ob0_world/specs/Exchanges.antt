@@ -370,7 +370,7 @@ pub record IsExit (content : List ℕ) : Type 0 where
 
 -- States that a session has sent the answer to `shutdown` and nothing else, has ended with status 0,
 -- and has the same documents.
-pub record EndsWell (id : Data) (before : ServerState) (sent : List (List ℕ)) (end : ServerState)
+pub record EndsSession (id : Data) (before : ServerState) (sent : List (List ℕ)) (end : ServerState)
     : Type 0 where
   pub answer : Sends (result_message id null) sent
   pub ended : end.phase ≡ Ended 0
@@ -449,7 +449,7 @@ pub record HoldsOfExchange (begin now : Exchange) : Type 0 where
   pub ends : (id : Data) (shutdown exit : List ℕ) → IsShutdown id shutdown → IsExit exit
       → (sent : List (List ℕ)) (end : ServerState)
       → Conversation now.wire.session (shutdown ∷ exit ∷ []) sent end
-      → EndsWell id now.wire.session sent end
+      → EndsSession id now.wire.session sent end
 
 -- states that it holds with every editor that keeps ob0's rules, and every session
 abbrev pub EveryExchangeHolds : Type 0

@@ -10,7 +10,7 @@ use Rattle.ob0_session.specs.declared.serving.ServeFault.{ServeFault}
 use Rattle.ob0_world_rules.specs.EveryEditor.{Turn}
 use Rattle.serde_json.specs.Data.{Data}
 use Rattle.ob0_session_server.specs.Answers.{ServerState, Conversation}
-use Rattle.ob0_world.specs.Exchanges.{Exchange, BeginsExchange, ExchangeLeads, IsShutdown, IsExit, EndsWell, HoldsOfExchange}
+use Rattle.ob0_world.specs.Exchanges.{Exchange, BeginsExchange, ExchangeLeads, IsShutdown, IsExit, EndsSession, HoldsOfExchange}
 use Rattle.ob0_world_determined.specs.Determined.{MayServe, IsWritten}
 
 -- Relates the exchange of a session and an editor that keeps ob0's rules to the bytes that `serve`
@@ -36,7 +36,7 @@ pub record ServedExchange (begin now : Exchange) : Type 0 where
       → All (λ content. length content ≤ max_content) (now.wire.taken ++ shutdown ∷ exit ∷ [])
       → (put : List ℕ) (result : Result ℕ ServeFault) → IsWritten result
       → MayServe result (flat_map frame (now.wire.taken ++ shutdown ∷ exit ∷ [])) put
-      → EndsWell id now.wire.session sent end
+      → EndsSession id now.wire.session sent end
       × (put ≡ flat_map frame ((now.wire.got ++ now.wire.to_editor) ++ sent))
   -- if it returns `Memory`, it has answered the first contents that it read; if these are the contents
   -- that the session took, it has written the same

@@ -1,4 +1,4 @@
--- Proves that what is known of the text of a numbered ask stays known as more is asked.
+-- Proves that a fact about the text of a numbered ask holds after further asks.
 use Rattle.std.proofs.Common.{◌≡◌, ℕ, zero, suc, List, [], ◌∷◌, ◌++◌, length, refl}
 use Rattle.std.specs.Prelude.{Option, Some, None, slice_get}
 use Rattle.std.proofs.lemmas.Option.{none-some}

@@ -16,7 +16,7 @@ use Rattle.ob0_world_rules.specs.Asks.{Ask}
 use Rattle.ob0_world_rules.specs.Editing.{opens, rewrites, closes, asks, if_same}
 use Rattle.ob0_world_rules.proofs.UriLaws.{get_put, get_removed, same_uri}
 
--- an ask of the past: its opening's number isn't fresh any more, and in that opening the version only rose
+-- an earlier ask: its opening's number isn't fresh any more, and in that opening the version only rose
 record Past (e : Editor) (a : SentAsk) : Type 0 where
   known : a.opening ≤ e.openings
   risen : (d : Open) → open_at e a.uri ≡ Some d → d.opening ≡ a.opening → a.version ≤ d.version
@@ -41,7 +41,7 @@ same_from e a d h = go (open_at e a.uri) refl h
           version = ap (λ y. y.version) (sym both.1) ∙ eqb-true _ _ tests.1;
         }
 
--- an editor, and what it is later on: an ask of the past stays one, and has the same document only if it had it before
+-- an editor, and its later state, in which an earlier ask has the same document only if it had it before
 record Later (e e' : Editor) : Type 0 where
   past : (a : SentAsk) → Past e a → Past e' a
   same : (a : SentAsk) (d : Open) → Past e a → Same e' a d → Same e a d
@@ -73,7 +73,7 @@ later_documents e list kept =
       same = λ a d past same. record { at = same.at; opening = same.opening; version = same.version };
     }
 
--- a fresh opening is the same as that of no request
+-- no request has a fresh opening
 later_open : (e : Editor) (uri : List ℕ) (new : Open) → new.opening ≡ e.openings + 1 → Later e (record e { documents = map_of.insert e.documents uri new; openings = e.openings + 1 })
 later_open e uri new fresh =
     record {
@@ -90,7 +90,7 @@ later_open e uri new fresh =
         let equal : e.openings + 1 ≡ a.opening = sym fresh ∙ ap (λ y. y.opening) is ∙ opening in
         omega arith
 
--- a version that rose is the same as that of no request
+-- no request has a version that rose
 later_revise : (e : Editor) (uri : List ℕ) (d new : Open) → new.opening ≡ d.opening → d.version < new.version → open_at e uri ≡ Some d → Later e (record e { documents = map_of.insert e.documents uri new })
 later_revise e uri d new same_opening rises was_open =
     record {
@@ -120,7 +120,7 @@ later_close e uri =
 
 -- ---- what the model's editor keeps
 
--- an ask of the past, whose document has the same text while it is the same
+-- an earlier ask, whose document has the same text while it is the same
 record IsKnown (e : Editor) (a : SentAsk) : Type 0 where
   past : Past e a
   same_text : (d : Open) → Same e a d → d.text ≡ a.text
@@ -138,7 +138,7 @@ known_numbered e [] k a all h = absurd (none-some a h)
 known_numbered e (x ∷ list) zero a all h = subst (IsKnown e) (same_Some x a h) (All-head (IsKnown e) x list all)
 known_numbered e (x ∷ list) (suc k) a all h = known_numbered e list k a (All-tail (IsKnown e) x list all) h
 
--- so the text is that of the request
+-- so the text is the request's
 pub same_text : (e : Editor) (k : ℕ) (a : SentAsk) (d : Open) → Knows e → request_numbered e.requested k ≡ Some a → Same e a d → d.text ≡ a.text
 same_text e zero a d knows h same = absurd (none-some a h)
 same_text e (suc k) a d knows h same = (known_numbered e e.requested k a knows.asks h).same_text d same

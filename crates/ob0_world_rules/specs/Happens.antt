@@ -23,7 +23,7 @@ after_act w done =
       applied = w.applied ++ done.applied;
     }
 
--- states that the server takes the first message that waits for it, and sends its replies
+-- the server takes the first message that waits for it, and sends its replies
 abbrev pub ServerTakes : ClientAndServer → List ToServer → ClientAndServer → Type 0
 ServerTakes w [] new = new ≡ w
 ServerTakes w (message ∷ rest) new =
@@ -44,13 +44,13 @@ after_taking w [] = w
 after_taking w (message ∷ rest) =
     record w { editor = reads w.editor message; to_editor = rest }
 
--- states that this event leads from w to `new`
+-- this event leads from w to `new`
 abbrev pub Happens : ClientAndServer → Event → ClientAndServer → Type 0
 Happens w (does act) new = new ≡ after_act w (done_by w.editor act)
 Happens w serve new = ServerTakes w w.to_server new
 Happens w take_message new = new ≡ after_taking w w.to_editor
 
--- states that these events, one after another, lead from one state to the other
+-- these events, one after another, lead from one state to the other
 abbrev pub Course : ClientAndServer → List Event → ClientAndServer → Type 0
 Course w [] new = new ≡ w
 Course w (event ∷ events) new =

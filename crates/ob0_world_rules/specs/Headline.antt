@@ -10,7 +10,7 @@ use Rattle.ob0_world_rules.specs.Happens.{Event, Course}
 
 -- ---- an applied edit
 
--- states that the edit leaves a well-typed module with the same run as the well-typed module before
+-- the edit leaves a well-typed module with the same run as the well-typed module before
 pub record KeepsTheRun (a : Applied) : Type 0 where
   pub before_fits : WellTypedText a.before
   pub after_fits : WellTypedText a.after
@@ -18,7 +18,7 @@ pub record KeepsTheRun (a : Applied) : Type 0 where
 
 -- ---- a publication with a version
 
--- states that the list is empty exactly when the text that it was made for is a well-typed module
+-- the list is empty exactly when the text that it was made for is a well-typed module
 abbrev pub IsRight : Made → Type 0
 IsRight m = IsEmptyIfCorrect m.text m.empty
 
@@ -40,8 +40,7 @@ abbrev pub last_publication : List ℕ → List Made → Option Made
 last_publication uri made =
     fold (λ last m. if bytes_eq m.uri uri then Some m else last) None made
 
--- states that each open document has a publication, and the last one was made for its present version
--- and text
+-- each open document has a publication, and the last one was made for its present version and text
 abbrev pub AreUpToDate : Editor → List Made → Type 0
 AreUpToDate e made =
     (uri : List ℕ) (d : Open)

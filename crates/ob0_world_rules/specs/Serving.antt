@@ -7,7 +7,7 @@ use Rattle.ob0_world_rules.specs.Edited.{Replacement}
 use Rattle.ob0_world_rules.specs.Answers.{IsAnswer, IsEmptyIfCorrect}
 use Rattle.ob0_world_rules.specs.ClientAndServer.{ToServer, notifies, requests, ToEditor, publishes, answers, Made}
 
--- states that a document in step is published, with its version
+-- a document in step is published, with its version
 abbrev pub Publishes : List ℕ → Option Document → List ToEditor → List Made → Type 0
 Publishes uri (Some (InStep version text)) sent made =
     (empty : Bool) × IsEmptyIfCorrect text empty × (sent ≡ publishes uri (Some version) empty ∷ [])
