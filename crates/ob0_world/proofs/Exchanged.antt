@@ -50,11 +50,11 @@ ids_push (b ∷ list) n a =
 
 no_id : (list : List SentAsk) (n m : ℕ) → n + length list ≤ m → sent_with (ids_from n list) (number_id m) ≡ None
 no_id [] n m h = refl
-no_id (a ∷ list) n m h = go (n == m) refl
+no_id (a ∷ list) n m h = go (n == m) refl (no_id list (suc n) m (omega (arith, h)))
   where
-    go : (b : Bool) → (n == m) ≡ b → cond b (Some (Some n)) (sent_with (ids_from (suc n) list) (number_id m)) ≡ None
-    go true is = let same : n ≡ m = eqb-true n m is in absurd (omega (arith, same, h))
-    go false is = no_id list (suc n) m (omega (arith, h))
+    go : (b : Bool) → (n == m) ≡ b → sent_with (ids_from (suc n) list) (number_id m) ≡ None → cond b (Some (Some n)) (sent_with (ids_from (suc n) list) (number_id m)) ≡ None
+    go true is later = let same : n ≡ m = eqb-true n m is in absurd (omega (arith, same, h))
+    go false is later = later
 
 has_id : (list : List SentAsk) (n i : ℕ) (a : SentAsk) → slice_get list i ≡ Some a → sent_with (ids_from n list) (number_id (n + i)) ≡ Some (Some (n + i))
 has_id [] n i a h = absurd (none-some a h)
@@ -66,14 +66,14 @@ has_id (b ∷ list) n zero a h = go (n == n + zero) refl
     go : (b : Bool) → (n == n + zero) ≡ b → cond b (Some (Some n)) (sent_with (ids_from (suc n) list) (number_id (n + zero))) ≡ Some (Some (n + zero))
     go true is = ap (λ m. Some (Some m)) here
     go false is = absurd (eqb-false n (n + zero) is here)
-has_id (b ∷ list) n (suc i) a h = go (n == n + suc i) refl
+has_id (b ∷ list) n (suc i) a h = go (n == n + suc i) refl (has_id list (suc n) i a h)
   where
     on : suc n + i ≡ n + suc i
     on = omega arith
 
-    go : (b : Bool) → (n == n + suc i) ≡ b → cond b (Some (Some n)) (sent_with (ids_from (suc n) list) (number_id (n + suc i))) ≡ Some (Some (n + suc i))
-    go true is = let same : n ≡ n + suc i = eqb-true n (n + suc i) is in absurd (omega (arith, same))
-    go false is = subst (λ m. sent_with (ids_from (suc n) list) (number_id m) ≡ Some (Some m)) on (has_id list (suc n) i a h)
+    go : (b : Bool) → (n == n + suc i) ≡ b → sent_with (ids_from (suc n) list) (number_id (suc n + i)) ≡ Some (Some (suc n + i)) → cond b (Some (Some n)) (sent_with (ids_from (suc n) list) (number_id (n + suc i))) ≡ Some (Some (n + suc i))
+    go true is later = let same : n ≡ n + suc i = eqb-true n (n + suc i) is in absurd (omega (arith, same))
+    go false is later = subst (λ m. sent_with (ids_from (suc n) list) (number_id m) ≡ Some (Some m)) on later
 
 -- an ask has its number as its id
 numbered_so : (requested : List SentAsk) (k : ℕ) (a : SentAsk) → request_numbered requested k ≡ Some a → ask_with (ids_from 1 requested) (number (unsigned k)) ≡ Some k

@@ -42,6 +42,7 @@ use Rattle.ob0_world_rules.specs.MadeInOrder.{Announced, AreMadeOf, versions_ann
 use Rattle.ob0_world_rules.proofs.UriLaws.{mapped_choice}
 use Rattle.ob0_world_rules.proofs.EveryEditor.{with_every_editor}
 use Rattle.ob0_world.specs.Worlds.{Wire, TakesFirst}
+use Rattle.ob0_session_server.specs.declared.session.Phase.TheVariants.{Running}
 use Rattle.ob0_world.specs.Queues.{made_first}
 use Rattle.ob0_world.specs.Exchanges.{Id, id_read, same_id, SentId, sent_with, ask_with, NamesAsks, with_other, IsOtherId, Exchange, BeginsExchange, SaysToSession, IsRequestFor, IsQuestion, IsOtherMessage, IsOther, read_by, reads_meaning, GetsOne, with_contents, Exchanges, ExchangeLeads, EachSays, EachMeans, IsOfTheModel, EveryExchangeIsOfTheModel, Published, with_version, published_in, AreRightOf, last_published, notes_in, HoldsOfExchange, EveryExchangeHolds}
 use Rattle.ob0_world.proofs.Answering.{Served, note_answered, ask_answered, actions_answered, going_on, reacts_so}
