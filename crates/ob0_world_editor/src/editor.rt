@@ -306,11 +306,11 @@ impl Editor {
 /// Returns the request about a document, with the document's present state.
 fn sent_ask(alloc: Global, ask: &Ask, uri: &str, document: &Open) -> Result<SentAsk, AllocError>
     ensures { IfOk result (λ sent. requested_of sent ≡ record {
-        ask = ask_of ask.now;
-        uri = uri.now;
-        text = chars (string_bytes document.now.text);
-        opening = document.now.opening;
-        version = document.now.version;
+      ask = ask_of ask.now;
+      uri = uri.now;
+      text = chars (string_bytes document.now.text);
+      opening = document.now.opening;
+      version = document.now.version;
     }) }
 {
     let uri = String::from_str(alloc, uri)?;

@@ -1,6 +1,6 @@
 -- Proves that a fact about the text of a numbered ask holds after further asks.
 use Rattle.std.proofs.Common.{◌≡◌, ℕ, zero, suc, List, [], ◌∷◌, ◌++◌, length, refl}
-use Rattle.std.specs.Prelude.{Option, Some, None, slice_get}
+use Rattle.std.specs.Prelude.{Some, slice_get}
 use Rattle.std.proofs.lemmas.Option.{none-some}
 use Rattle.ob0_world_rules.specs.ClientAndServer.{SentAsk, request_numbered}
 

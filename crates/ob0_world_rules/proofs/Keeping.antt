@@ -11,7 +11,7 @@ use Rattle.ob0_text.specs.declared.position_types.Unit.{Unit}
 use Rattle.ob0_text.specs.OpenDocuments.{OpenDocuments, InStep, document, DocumentEvent, Opened, Changed, Lost, Closed, TextChange, after_event, changed_document, document_at}
 use Rattle.ob0_text.proofs.EntryLaws.{updated-some}
 use Rattle.ob0_world_rules.specs.Edited.{Replacement, after_changes}
-use Rattle.ob0_world_rules.specs.ClientAndServer.{Open, SentAsk, Answer, Editor, open_at, ToServer, notifies, requests, ToEditor, publishes, answers, Applied, ClientAndServer, after_message}
+use Rattle.ob0_world_rules.specs.ClientAndServer.{Open, SentAsk, Answer, open_at, ToServer, notifies, requests, ToEditor, publishes, answers, Applied, ClientAndServer, after_message}
 use Rattle.ob0_world_rules.specs.Editing.{Done, kept_answer}
 use Rattle.ob0_world_rules.specs.Happens.{after_act}
 use Rattle.ob0_world_rules.specs.Mirror.{will_have, as_open, Mirrors}

@@ -1,6 +1,6 @@
 -- States what holds with every editor that keeps ob0's rules, in every interleaving.
 -- Rule: docs/PROMISES.md, Client and server.
-use Rattle.std.specs.Prelude.{◌≡◌, ℕ, List, [], ◌∷◌, ◌++◌, map, Option, Some, None}
+use Rattle.std.specs.Prelude.{◌≡◌, List, [], ◌∷◌, ◌++◌, map, Option, Some, None}
 use Rattle.ob0_text.specs.declared.position_types.Unit.{Unit}
 use Rattle.ob0_text.specs.OpenDocuments.{OpenDocuments, none_open}
 use Rattle.ob0_world_rules.specs.ClientAndServer.{Editor, new_editor, ToServer, notifies, requests, ToEditor, Applied, Made, ClientAndServer, start, after_message}
