@@ -41,10 +41,10 @@ use Rattle.ob0_session_json.specs.Shapes.{Diagnostic, diagnostic_value, edit_val
 use Rattle.ob0_world_rules.specs.Answers.{Inlining, Here, Everywhere}
 use Rattle.ob0_session_server.specs.declared.session.Phase.TheVariants.{Running}
 use Rattle.ob0_world_editor.specs.Heard as heard_as
-use Rattle.ob0_world_editor.specs.Heard.{sent_as, HasVersion, IsAsk, call_for}
+use Rattle.ob0_world_editor.specs.Heard.{request_number, sent_as, HasVersion, IsAsk, call_for}
 use Rattle.ob0_world_editor.specs.Shapes.{method_of, empty_at}
-use Rattle.ob0_world_editor.specs.Understood.{understood, value_understood, edits_in, workspace_items, edits_for, has_none}
-use Rattle.ob0_world_editor.proofs.Hearing.{understood_as}
+use Rattle.ob0_world_editor.specs.Understood.{answer_to, value_read, read_so, edits_in, workspace_items, edits_for, has_none}
+use Rattle.ob0_world_editor.proofs.Hearing.{read_as}
 use Rattle.ob0_world_rules.specs.Edited.{Replacement, replacement_of, replacements}
 use Rattle.ob0_world_rules.specs.Asks.{Ask, rename, inline_here, inline_all, format, indent_read}
 use Rattle.ob0_world_rules.specs.Answers.{place_at, AnswersFor, IsAnswer, IsEmptyIfCorrect}
@@ -53,6 +53,8 @@ use Rattle.ob0_world_rules.specs.Serving.{Publishes, Replies}
 use Rattle.ob0_world_rules.proofs.ModuleTexts.{well_typed_text, well_typed_module}
 use Rattle.ob0_world_rules.proofs.UriLaws.{get_put, uri_itself}
 use Rattle.ob0_world.specs.Queues.{IsRunning, made_of_document, made_first}
+use Rattle.ob0_world.specs.Exchanges.{IsActionsRequest, TakesActions, TakesEdits}
+use Rattle.ob0_world.proofs.Places.{place_of_range}
 
 -- ---- contents that are read
 
@@ -60,25 +62,14 @@ same_json : (content : List ℕ) (json : Option Data) (d : Data) → ReadsConten
 same_json content (Some e) d one other = sym one.1 ∙ other.1
 same_json content None d one other = sym (one other.0) ∙ other.1
 
--- what the editor understands of the contents that were sent
-pub record Heard (requested : List SentAsk) (sent : List (List ℕ)) (said : List ToEditor) : Type 0 where
-  pub each : All (λ content. (m : ToEditor) × (understood requested content ≡ Some m)) sent
-  pub all : filter_map (understood requested) sent ≡ said
-  pub count : length sent ≡ length said
+-- the answers of a session that runs
+pub going_on : (before after : ServerState) (content : List ℕ) (sent : List (List ℕ)) → before.phase ≡ Running → Answers before content sent after → AnswersGoingOn before content sent after
+going_on before after content sent running h = subst (λ phase. AnswersInState phase before content sent after) running h
 
-heard_none : (requested : List SentAsk) (sent : List (List ℕ)) → sent ≡ [] → Heard requested sent []
-heard_none requested sent none =
-    subst (λ s. Heard requested s []) (sym none) (record { each = All-nil (λ content. (m : ToEditor) × (understood requested content ≡ Some m)); all = refl; count = refl })
-
-heard_one : (requested : List SentAsk) (sent : List (List ℕ)) (message : Data) (m : ToEditor) → Sends message sent → value_understood requested message ≡ Some m → Heard requested sent (m ∷ [])
-heard_one requested sent message m (content, is, writes) means =
-    let said : understood requested content ≡ Some m = understood_as requested content message writes.reads ∙ means in
-    subst (λ s. Heard requested s (m ∷ [])) (sym is)
-    (record {
-      each = All-push (λ c. (m : ToEditor) × (understood requested c ≡ Some m)) [] content (All-nil (λ c. (m : ToEditor) × (understood requested c ≡ Some m))) (m, said);
-      all = ap (λ o. cons_option o []) said;
-      count = refl;
-    })
+-- what comes of a content with this meaning
+pub reacts_so : (before after : ServerState) (content : List ℕ) (sent : List (List ℕ)) (d : Data) → AnswersGoingOn before content sent after → ReadsContent content (Some d) → (after ≡ (react before (meaning_of d)).after) × SaysReply (react before (meaning_of d)).say sent
+reacts_so before after content sent d (json, reads, answer) known =
+    subst (λ j. (after ≡ (react before (meaning j)).after) × SaysReply (react before (meaning j)).say sent) (same_json content json d reads known) answer
 
 -- ---- diagnostics
 
@@ -111,28 +102,7 @@ reports_right unit text ds (reported, reporting, is) =
     go (inl (found, none)) = (λ empty. well_typed_text text found, λ well_typed. empty_none (diagnostic_of unit text) reported none)
     go (inr (unfit, faults)) = (λ empty. absurd (some_reported (utf8 text) reported faults (none_empty (diagnostic_of unit text) reported empty)), λ well_typed. absurd (unfit (well_typed_module text well_typed)))
 
--- ---- publications
-
--- what was sent of a notification
-pub record Noted (requested : List SentAsk) (held : OpenDocuments) (uri : List ℕ) (o : Option Document) (sent : List (List ℕ)) : Type 0 where
-  pub said : List ToEditor
-  pub heard : Heard requested sent said
-  pub replies : Publishes uri o said (option_to_list (made_first held said))
-
-publishes_step : (requested : List SentAsk) (held : OpenDocuments) (uri : List ℕ) (version : ℤ) (text : List ℕ) (sent : List (List ℕ)) → document_at held uri ≡ Some (InStep version text) → as_i64 (of_integer version) ≡ Some version
-    → SaysReply (published held.unit uri (Some (InStep version text))) sent → Noted requested held uri (Some (InStep version text)) sent
-publishes_step requested held uri version text sent at fits (ds, diagnoses, sends) =
-    let empty : Bool = has_none (items_of (map diagnostic_value ds)) in
-    record {
-      said = publishes uri (Some version) empty ∷ [];
-      heard = heard_one requested sent (publication uri (Some version) ds) (publishes uri (Some version) empty) sends (ap (λ v. Some (publishes uri v empty)) fits);
-      replies = (empty, reports_right held.unit text ds diagnoses, refl, ap (λ o. option_to_list (option_and_then (made_of_document uri version empty) o)) at);
-    }
-
-publishes_now : (requested : List SentAsk) (held : OpenDocuments) (uri : List ℕ) (version : ℤ) (t : Option (List ℕ)) (sent : List (List ℕ)) → document_at held uri ≡ Some (document version t) → as_i64 (of_integer version) ≡ Some version
-    → SaysReply (published held.unit uri (Some (document version t))) sent → Noted requested held uri (Some (document version t)) sent
-publishes_now requested held uri version (Some text) sent at fits saying = publishes_step requested held uri version text sent at fits saying
-publishes_now requested held uri version None sent at fits saying = record { said = []; heard = heard_none requested sent saying; replies = (refl, refl) }
+-- ---- documents
 
 -- a document that was changed
 changed_at : (held : OpenDocuments) (uri : List ℕ) (version : ℤ) (how : List TextChange) → document_at (changed held uri version how) uri ≡ option_map (changed_document held.unit version how) (document_at held uri)
@@ -151,103 +121,15 @@ opened_at : (held : OpenDocuments) (uri : List ℕ) (version : ℤ) (text : List
 opened_at held uri version text =
     get_put held.by_uri uri (InStep version text) uri ∙ ap (λ b. cond b (Some (InStep version text)) (document_at held uri)) (uri_itself uri)
 
--- what is said of the document that is held now
-noted_at : (requested : List SentAsk) (held : OpenDocuments) (uri : List ℕ) (o : Option Document) (sent : List (List ℕ)) → document_at held uri ≡ o → (SaysReply (published held.unit uri o) sent → Noted requested held uri o sent)
-    → SaysReply (published held.unit uri (document_at held uri)) sent → Noted requested held uri (document_at held uri) sent
-noted_at requested held uri o sent at then_noted saying =
-    subst (λ o. Noted requested held uri o sent) (sym at) (then_noted (subst (λ o. SaysReply (published held.unit uri o) sent) at saying))
-
--- ---- what may be sent
-
--- the server has taken a message, and sent this
-pub record Served (requested : List SentAsk) (m : ToServer) (before after : ServerState) (sent : List (List ℕ)) : Type 0 where
-  pub running : IsRunning after
-  pub held : after.held ≡ after_message before.held m
-  pub said : List ToEditor
-  pub heard : Heard requested sent said
-  pub replies : Replies before.held m said (option_to_list (made_first after.held said))
-
--- the reaction to a notification, and what it saying
-note_served : (requested : List SentAsk) (note : DocumentEvent) (before after : ServerState) (sent : List (List ℕ)) → IsRunning before → HasVersion note → after ≡ (apply_notification before (sent_as note)).after → SaysReply (apply_notification before (sent_as note)).say sent
-    → Served requested (notifies note) before after sent
-note_served requested (Opened uri version text) before after sent running fits is saying =
-    let held : OpenDocuments = opened before.held uri version text in
-    let noted : Noted requested held uri (document_at held uri) sent =
-    noted_at requested held uri (Some (InStep version text)) sent (opened_at before.held uri version text) (publishes_step requested held uri version text sent (opened_at before.held uri version text) fits) saying in
-    subst (λ a. Served requested (notifies (Opened uri version text)) before a sent) (sym is)
-    (record { running = running; held = refl; said = noted.said; heard = noted.heard; replies = noted.replies })
-note_served requested (Changed uri version how) before after sent running fits is saying =
-    let held : OpenDocuments = changed before.held uri version how in
-    let noted : Noted requested held uri (document_at held uri) sent = go held (document_at before.held uri) (changed_at before.held uri version how) saying in
-    subst (λ a. Served requested (notifies (Changed uri version how)) before a sent) (sym is)
-    (record { running = running; held = refl; said = noted.said; heard = noted.heard; replies = noted.replies })
-  where
-    go : (held : OpenDocuments) (o : Option Document) → document_at held uri ≡ option_map (changed_document before.held.unit version how) o → SaysReply (published held.unit uri (document_at held uri)) sent → Noted requested held uri (document_at held uri) sent
-    go held None at saying = noted_at requested held uri None sent at (λ saying. record { said = []; heard = heard_none requested sent saying; replies = (refl, refl) }) saying
-    go held (Some d) at saying =
-        let t : Option (List ℕ) = fold (changed_text before.held.unit) (text_of d) how in
-        noted_at requested held uri (Some (document version t)) sent at (publishes_now requested held uri version t sent at fits) saying
-note_served requested (Lost uri) before after sent running fits is saying =
-    subst (λ a. Served requested (notifies (Lost uri)) before a sent) (sym is)
-    (record { running = running; held = refl; said = []; heard = heard_none requested sent saying; replies = (refl, refl) })
-note_served requested (Closed uri) before after sent running fits is saying =
-    subst (λ a. Served requested (notifies (Closed uri)) before a sent) (sym is) (go (is_some (document_at before.held uri)) refl saying)
-  where
-    go : (b : Bool) → is_some (document_at before.held uri) ≡ b → SaysReply (cond b (says (publication uri None [])) answers_of.nothing) sent → Served requested (notifies (Closed uri)) before (apply_notification before (sent_as (Closed uri))).after sent
-    go true was saying = record {
-      running = running;
-      held = refl;
-      said = publishes uri None true ∷ [];
-      heard = heard_one requested sent (publication uri None []) (publishes uri None true) saying refl;
-      replies = (sym (ap (λ b. cond b (publishes uri None true ∷ []) []) was), refl);
-    }
-    go false was saying = record { running = running; held = refl; said = []; heard = heard_none requested sent saying; replies = (sym (ap (λ b. cond b (publishes uri None true ∷ []) []) was), refl) }
-
 -- ---- edits
 
 edits_read_back : (edits : List Edit) → edits_in (items_of (map edit_value edits)) ≡ Some (replacements edits)
 edits_read_back [] = refl
 edits_read_back (e ∷ edits) = ap (option_map (λ es. replacement_of e ∷ es)) (edits_read_back edits)
 
--- an answer to ask k, where that asks this
-pub answered : (requested : List SentAsk) (k : ℕ) (uri : List ℕ) (ask : Ask) (answer : Data) → IsAsk requested k uri ask → option_map (λ (a : SentAsk). answers k (edits_for a.ask answer)) (request_numbered requested k) ≡ Some (answers k (edits_for ask answer))
-answered requested k uri ask answer of = ap (option_map (λ (a : SentAsk). answers k (edits_for a.ask answer))) of.is ∙ ap (λ x. Some (answers k (edits_for x answer))) of.asks_this
-
--- the answer to an ask
-record Answered (requested : List SentAsk) (k : ℕ) (ask : Ask) (unit : Unit) (o : Option Document) (sent : List (List ℕ)) : Type 0 where
-  edits : List Replacement
-  heard : Heard requested sent (answers k edits ∷ [])
-  replies : IsAnswer unit o ask edits
-
--- a refusal has no edits
-refused : (requested : List SentAsk) (k : ℕ) (uri : List ℕ) (ask : Ask) (unit : Unit) (o : Option Document) (code : ℤ) (why : List ℕ) (sent : List (List ℕ)) → IsAsk requested k uri ask → Sends (error_message (number (unsigned k)) code why) sent
-    → IsAnswer unit o ask [] → Answered requested k ask unit o sent
-refused requested k uri ask unit o code why sent of sends none =
-    record {
-      edits = [];
-      heard = heard_one requested sent (error_message (number (unsigned k)) code why) (answers k []) sends (answered requested k uri ask (error_message (number (unsigned k)) code why) of);
-      replies = none;
-    }
-
 -- nothing is returned for a text that isn't a well-typed module
 unfit_answer : (unit : Unit) (text : List ℕ) (ask : Ask) → ¬ IsWellTypedModule (utf8 text) → AnswersFor unit text ask []
 unfit_answer unit text ask unfit = inr (inr (λ fits. unfit (well_typed_module text fits)), refl)
-
-formatted : (requested : List SentAsk) (k : ℕ) (uri : List ℕ) (indent : Indent) (unit : Unit) (version : ℤ) (text : List ℕ) (sent : List (List ℕ)) → IsAsk requested k uri (format indent)
-    → SaysReply (lays_out unit (number (unsigned k)) (indent_read indent) text) sent → Answered requested k (format indent) unit (Some (InStep version text)) sent
-formatted requested k uri indent unit version text sent of (message, how, sends) = go how
-  where
-    go : AnswersFormatting unit (number (unsigned k)) (indent_read indent) text message → Answered requested k (format indent) unit (Some (InStep version text)) sent
-    go (inl (edits, laid, is)) =
-        let answer : Data = result_message (number (unsigned k)) (edits_value edits) in
-        let these : edits_for (format indent) answer ≡ replacements edits = ap (λ o. unwrap_or o []) (edits_read_back edits) in
-        record {
-          edits = replacements edits;
-          heard = heard_one requested sent answer (answers k (replacements edits)) (subst (λ m. Sends m sent) is sends) (answered requested k uri (format indent) answer of ∙ ap (λ es. Some (answers k es)) these);
-          replies = inl (edits, laid, refl);
-        }
-    go (inr (inl (long, is))) = refused requested k uri (format indent) unit (Some (InStep version text)) (minus 32803) (refusal_text TooLong) sent of (subst (λ m. Sends m sent) is sends) (inr (inl long, refl))
-    go (inr (inr (unfit, is))) = refused requested k uri (format indent) unit (Some (InStep version text)) (minus 32803) (codes "ill-typed") sent of (subst (λ m. Sends m sent) is sends) (unfit_answer unit text (format indent) unfit)
 
 -- edits of a versioned document are read back
 workspace_read_back : (client : Client) (uri : List ℕ) (version : ℤ) (edits : List Edit) → client.takes_document_changes ≡ true
@@ -265,25 +147,9 @@ renames_read_back : (id : Data) (position : Position) (name uri : List ℕ) (ver
 renames_read_back id position name uri version edits client takes = ap (λ o. unwrap_or o []) (workspace_read_back client uri version edits takes)
 
 -- the request as the session takes it
-abbrev rename_requested : Client → ℕ → List ℕ → Position → List ℕ → ℤ → RequestedRename
-rename_requested client k uri position name version =
-    record { id = number (unsigned k); client = client; at = record { uri = uri; position = position }; version = version; new = name }
-
-renamed : (requested : List SentAsk) (k : ℕ) (uri : List ℕ) (position : Position) (name : List ℕ) (client : Client) (unit : Unit) (version : ℤ) (text : List ℕ) (sent : List (List ℕ)) → client.takes_document_changes ≡ true → IsAsk requested k uri (rename position name)
-    → SaysReply (renames unit (rename_requested client k uri position name version) text) sent → Answered requested k (rename position name) unit (Some (InStep version text)) sent
-renamed requested k uri position name client unit version text sent takes of (message, how, sends) = go how
-  where
-    go : AnswersRenaming unit (rename_requested client k uri position name version) text message → Answered requested k (rename position name) unit (Some (InStep version text)) sent
-    go (inl (edits, found, is)) =
-        let answer : Data = result_message (number (unsigned k)) (workspace_edit client uri version edits) in
-        let these : edits_for (rename position name) answer ≡ replacements edits = renames_read_back (number (unsigned k)) position name uri version edits client takes in
-        record {
-          edits = replacements edits;
-          heard = heard_one requested sent answer (answers k (replacements edits)) (subst (λ m. Sends m sent) is sends) (answered requested k uri (rename position name) answer of ∙ ap (λ es. Some (answers k es)) these);
-          replies = inl (edits, found, refl);
-        }
-    go (inr (inl (refusal, why, is))) = refused requested k uri (rename position name) unit (Some (InStep version text)) (minus 32803) (refusal_text refusal) sent of (subst (λ m. Sends m sent) is sends) (inr (inl (refusal, why), refl))
-    go (inr (inr (unfit, is))) = refused requested k uri (rename position name) unit (Some (InStep version text)) (minus 32803) (codes "ill-typed") sent of (subst (λ m. Sends m sent) is sends) (unfit_answer unit text (rename position name) unfit)
+abbrev rename_requested : Client → Data → List ℕ → Position → List ℕ → ℤ → RequestedRename
+rename_requested client id uri position name version =
+    record { id = id; client = client; at = record { uri = uri; position = position }; version = version; new = name }
 
 -- ---- inlining
 
@@ -338,153 +204,333 @@ requested_offered Here unit text position offset here everywhere is one other = 
 requested_offered Everywhere unit text position offset here everywhere is one other = offered_everywhere unit text position everywhere (subst (λ place. Offers Everywhere unit text place everywhere) is other)
 
 -- the request as the session takes it
-abbrev pub actions_requested_at : Client → ℕ → List ℕ → Position → ℤ → RequestedActions
-actions_requested_at client k uri position version =
-    record { id = number (unsigned k); client = client; uri = uri; version = version; range = empty_at position; only = None }
+abbrev pub actions_requested_at : Client → Data → List ℕ → Position → ℤ → RequestedActions
+actions_requested_at client id uri position version =
+    record { id = id; client = client; uri = uri; version = version; range = empty_at position; only = None }
 
 -- the request for actions in a range, of some kinds
-abbrev pub actions_requested_in : Client → ℕ → List ℕ → Range → Option (List (List ℕ)) → ℤ → RequestedActions
-actions_requested_in client k uri range only version =
-    record { id = number (unsigned k); client = client; uri = uri; version = version; range = range; only = only }
-
-inlined_in : (how : Inlining) (requested : List SentAsk) (k : ℕ) (uri : List ℕ) (position : Position) (range : Range) (only : Option (List (List ℕ))) (client : Client) (unit : Unit) (version : ℤ) (text : List ℕ) (sent : List (List ℕ))
-    → client.takes_document_changes ≡ true → client.takes_literal_actions ≡ true → allows_inlining only ≡ true → actions_offset unit text range ≡ place_at unit text position → IsAsk requested k uri (inlining_at how position)
-    → SaysReply (offers_actions unit (actions_requested_in client k uri range only version) text) sent → Answered requested k (inlining_at how position) unit (Some (InStep version text)) sent
-inlined_in how requested k uri position range only client unit version text sent takes literal allowed place of (message, (value, how_listed, is), sends) = go how_listed
-  where
-    request : RequestedActions
-    request = actions_requested_in client k uri range only version
-
-    with_edits : (edits : List Replacement) → edits_for (inlining_at how position) (result_message (number (unsigned k)) value) ≡ edits → AnswersFor unit text (inlining_at how position) edits
-        → Answered requested k (inlining_at how position) unit (Some (InStep version text)) sent
-    with_edits edits these answer_is =
-        let answer : Data = result_message (number (unsigned k)) value in
-        record {
-          edits = edits;
-          heard = heard_one requested sent answer (answers k edits) (subst (λ m. Sends m sent) is sends) (answered requested k uri (inlining_at how position) answer of ∙ ap (λ es. Some (answers k es)) these);
-          replies = answer_is;
-        }
-
-    -- this editor wants actions that aren't commands
-    wants : (b c : Bool) → b ≡ true → c ≡ true → (b && c) ≡ false → ⊥
-    wants true true is also not = let no : true ≡ false = not in cc
-    wants true false is also not = cc
-    wants false c is also not = cc
-
-    unfit : (wants_inlining request ≡ false) ⊎ ¬ IsWellTypedModule (utf8 text) → ¬ IsWellTypedModule (utf8 text)
-    unfit (inl unwanted) = absurd (wants client.takes_literal_actions (allows_inlining only) literal allowed unwanted)
-    unfit (inr ill_typed) = ill_typed
-
-    go : ListsActions unit request text value → Answered requested k (inlining_at how position) unit (Some (InStep version text)) sent
-    go (inl h) =
-        with_edits (edits_offered (requested_for how h.here h.everywhere))
-        (ap (λ v. edits_for (inlining_at how position) (result_message (number (unsigned k)) v)) h.listed ∙ actions_read_back how position request h.here h.everywhere takes)
-        (requested_offered how unit text position (actions_offset unit text range) h.here h.everywhere place h.offers_here h.offers_everywhere)
-    go (inr (why, listed)) =
-        with_edits [] (ap (λ v. edits_for (inlining_at how position) (result_message (number (unsigned k)) v)) listed ∙ none_read_back how position (number (unsigned k))) (unfit_answer unit text (inlining_at how position) (unfit why))
-
-inlined : (how : Inlining) (requested : List SentAsk) (k : ℕ) (uri : List ℕ) (position : Position) (client : Client) (unit : Unit) (version : ℤ) (text : List ℕ) (sent : List (List ℕ)) → client.takes_document_changes ≡ true → client.takes_literal_actions ≡ true
-    → IsAsk requested k uri (inlining_at how position)
-    → SaysReply (offers_actions unit (actions_requested_at client k uri position version) text) sent → Answered requested k (inlining_at how position) unit (Some (InStep version text)) sent
-inlined how requested k uri position client unit version text sent takes literal of saying =
-    inlined_in how requested k uri position (empty_at position) None client unit version text sent takes literal refl (place_is unit text position) of saying
-
--- ---- asks
-
-asks_served : (requested : List SentAsk) (k : ℕ) (uri : List ℕ) (ask : Ask) (before after : ServerState) (sent : List (List ℕ)) → IsRunning before → after ≡ before → Answered requested k ask before.held.unit (document_at before.held uri) sent
-    → Served requested (requests k uri ask) before after sent
-asks_served requested k uri ask before after sent running same answer =
-    subst (λ a. Served requested (requests k uri ask) before a sent) (sym same)
-    (record { running = running; held = refl; said = answers k answer.edits ∷ []; heard = answer.heard; replies = (answer.edits, answer.replies, refl, refl) })
-
--- an ask about a document, where its answer is known for the text of one that is in step
-about_document : (requested : List SentAsk) (k : ℕ) (uri : List ℕ) (ask : Ask) (say : ℤ → List ℕ → Reply) (before after : ServerState) (sent : List (List ℕ)) → IsRunning before → IsAsk requested k uri ask
-    → ((version : ℤ) (text : List ℕ) → SaysReply (say version text) sent → Answered requested k ask before.held.unit (Some (InStep version text)) sent)
-    → (o : Option Document) → document_at before.held uri ≡ o → after ≡ (answers_about before (number (unsigned k)) o say).after → SaysReply (answers_about before (number (unsigned k)) o say).say sent → Served requested (requests k uri ask) before after sent
-about_document requested k uri ask say before after sent running of in_step None at same saying =
-    asks_served requested k uri ask before after sent running same (refused requested k uri ask before.held.unit (document_at before.held uri) (minus 32803) (codes "unopened") sent of saying (subst (λ o. IsAnswer before.held.unit o ask []) (sym at) refl))
-about_document requested k uri ask say before after sent running of in_step (Some OutOfStep) at same saying =
-    asks_served requested k uri ask before after sent running same (refused requested k uri ask before.held.unit (document_at before.held uri) (minus 32803) (codes "out of step") sent of saying (subst (λ o. IsAnswer before.held.unit o ask []) (sym at) refl))
-about_document requested k uri ask say before after sent running of in_step (Some (InStep version text)) at same saying =
-    asks_served requested k uri ask before after sent running same (subst (λ o. Answered requested k ask before.held.unit o sent) (sym at) (in_step version text saying))
-
--- a request of the editor, while the session runs
-request_served : (requested : List SentAsk) (k : ℕ) (uri : List ℕ) (ask : Ask) (params : Data) (before after : ServerState) (sent : List (List ℕ)) → IsRunning before → IsAsk requested k uri ask → request_by_method (method_of ask) params ≡ Ok (call_for uri ask)
-    → after ≡ (answer_method before (number (unsigned k)) (method_of ask) params).after → SaysReply (answer_method before (number (unsigned k)) (method_of ask) params).say sent → Served requested (requests k uri ask) before after sent
-request_served requested k uri (rename position name) params before after sent running of call is saying =
-    let id : Data = number (unsigned k) in
-    let say : ℤ → List ℕ → Reply = λ version. renames before.held.unit (rename_requested before.client k uri position name version) in
-    let so : answer_method before id (method_of (rename position name)) params ≡ answers_about before id (document_at before.held uri) say = ap (answer_request before id) call in
-    about_document requested k uri (rename position name) say before after sent running of
-    (λ version text. renamed requested k uri position name before.client before.held.unit version text sent running.1 of) (document_at before.held uri) refl
-    (is ∙ ap (λ (x : Reaction). x.after) so) (subst (λ (x : Reaction). SaysReply x.say sent) so saying)
-request_served requested k uri (inline_here position) params before after sent running of call is saying =
-    let id : Data = number (unsigned k) in
-    let say : ℤ → List ℕ → Reply = λ version. offers_actions before.held.unit (actions_requested_at before.client k uri position version) in
-    let so : answer_method before id (method_of (inline_here position)) params ≡ answers_about before id (document_at before.held uri) say = ap (answer_request before id) call in
-    about_document requested k uri (inline_here position) say before after sent running of
-    (λ version text. inlined Here requested k uri position before.client before.held.unit version text sent running.1 running.2 of) (document_at before.held uri) refl
-    (is ∙ ap (λ (x : Reaction). x.after) so) (subst (λ (x : Reaction). SaysReply x.say sent) so saying)
-request_served requested k uri (inline_all position) params before after sent running of call is saying =
-    let id : Data = number (unsigned k) in
-    let say : ℤ → List ℕ → Reply = λ version. offers_actions before.held.unit (actions_requested_at before.client k uri position version) in
-    let so : answer_method before id (method_of (inline_all position)) params ≡ answers_about before id (document_at before.held uri) say = ap (answer_request before id) call in
-    about_document requested k uri (inline_all position) say before after sent running of
-    (λ version text. inlined Everywhere requested k uri position before.client before.held.unit version text sent running.1 running.2 of) (document_at before.held uri) refl
-    (is ∙ ap (λ (x : Reaction). x.after) so) (subst (λ (x : Reaction). SaysReply x.say sent) so saying)
-request_served requested k uri (format indent) params before after sent running of call is saying =
-    let id : Data = number (unsigned k) in
-    let say : ℤ → List ℕ → Reply = λ version. lays_out before.held.unit id (indent_read indent) in
-    let so : answer_method before id (method_of (format indent)) params ≡ answers_about before id (document_at before.held uri) say = ap (answer_request before id) call in
-    about_document requested k uri (format indent) say before after sent running of
-    (λ version text. formatted requested k uri indent before.held.unit version text sent of) (document_at before.held uri) refl
-    (is ∙ ap (λ (x : Reaction). x.after) so) (subst (λ (x : Reaction). SaysReply x.say sent) so saying)
-
--- a request for the actions in a range, where its place is that of the position
-pub inline_served : (how : Inlining) (requested : List SentAsk) (k : ℕ) (uri : List ℕ) (position : Position) (range : Range) (only : Option (List (List ℕ))) (params : Data) (before after : ServerState) (sent : List (List ℕ)) → IsRunning before
-    → IsAsk requested k uri (inlining_at how position) → allows_inlining only ≡ true → ((unit : Unit) (text : List ℕ) → actions_offset unit text range ≡ place_at unit text position) → request_by_method (codes "textDocument/codeAction") params ≡ Ok (code_action uri range only)
-    → after ≡ (answer_method before (number (unsigned k)) (codes "textDocument/codeAction") params).after → SaysReply (answer_method before (number (unsigned k)) (codes "textDocument/codeAction") params).say sent
-    → Served requested (requests k uri (inlining_at how position)) before after sent
-inline_served how requested k uri position range only params before after sent running of allowed place call is saying =
-    let id : Data = number (unsigned k) in
-    let say : ℤ → List ℕ → Reply = λ version. offers_actions before.held.unit (actions_requested_in before.client k uri range only version) in
-    let so : answer_method before id (codes "textDocument/codeAction") params ≡ answers_about before id (document_at before.held uri) say = ap (answer_request before id) call in
-    about_document requested k uri (inlining_at how position) say before after sent running of
-    (λ version text. inlined_in how requested k uri position range only before.client before.held.unit version text sent running.1 running.2 allowed (place before.held.unit text) of) (document_at before.held uri) refl
-    (is ∙ ap (λ (x : Reaction). x.after) so) (subst (λ (x : Reaction). SaysReply x.say sent) so saying)
-
--- ---- messages
-
--- the answers of a session that runs
-pub going_on : (before after : ServerState) (content : List ℕ) (sent : List (List ℕ)) → IsRunning before → Answers before content sent after → AnswersGoingOn before content sent after
-going_on before after content sent running h = subst (λ phase. AnswersInState phase before content sent after) running.0 h
-
--- what comes of a content with this meaning
-pub reacts_so : (before after : ServerState) (content : List ℕ) (sent : List (List ℕ)) (d : Data) → AnswersGoingOn before content sent after → ReadsContent content (Some d) → (after ≡ (react before (meaning_of d)).after) × SaysReply (react before (meaning_of d)).say sent
-reacts_so before after content sent d (json, reads, answer) known =
-    subst (λ j. (after ≡ (react before (meaning j)).after) × SaysReply (react before (meaning j)).say sent) (same_json content json d reads known) answer
+abbrev pub actions_requested_in : Client → Data → List ℕ → Range → Option (List (List ℕ)) → ℤ → RequestedActions
+actions_requested_in client id uri range only version =
+    record { id = id; client = client; uri = uri; version = version; range = range; only = only }
 
 -- a request of this editor is looked at by its method, while the session runs
-begun : (ask : Ask) (s : ServerState) (params : Data) (k : ℕ) → requested_in Running s (number (unsigned k)) (method_of ask) params ≡ answer_method s (number (unsigned k)) (method_of ask) params
-begun (rename position name) s params k = refl
-begun (inline_here position) s params k = refl
-begun (inline_all position) s params k = refl
-begun (format indent) s params k = refl
+begun : (ask : Ask) (s : ServerState) (params id : Data) → requested_in Running s id (method_of ask) params ≡ answer_method s id (method_of ask) params
+begun (rename position name) s params id = refl
+begun (inline_here position) s params id = refl
+begun (inline_all position) s params id = refl
+begun (format indent) s params id = refl
 
-pub request_reaction : (k : ℕ) (uri : List ℕ) (ask : Ask) (before after : ServerState) (content : List ℕ) (sent : List (List ℕ)) → IsRunning before → (is : heard_as.IsRequest k uri ask content) → Answers before content sent after
-    → (after ≡ (answer_method before (number (unsigned k)) (method_of ask) is.params).after) × SaysReply (answer_method before (number (unsigned k)) (method_of ask) is.params).say sent
-request_reaction k uri ask before after content sent running is h =
+pub request_reaction : (id : Data) (uri : List ℕ) (ask : Ask) (before after : ServerState) (content : List ℕ) (sent : List (List ℕ)) → before.phase ≡ Running → (is : heard_as.IsRequestWithId id uri ask content) → Answers before content sent after
+    → (after ≡ (answer_method before id (method_of ask) is.params).after) × SaysReply (answer_method before id (method_of ask) is.params).say sent
+request_reaction id uri ask before after content sent running is h =
     let answer = reacts_so before after content sent is.json (going_on before after content sent running h) is.reads in
-    let so : react before (meaning_of is.json) ≡ answer_method before (number (unsigned k)) (method_of ask) is.params =
-    ap (react before) is.means ∙ ap (λ phase. requested_in phase before (number (unsigned k)) (method_of ask) is.params) running.0 ∙ begun ask before is.params k in
+    let so : react before (meaning_of is.json) ≡ answer_method before id (method_of ask) is.params =
+    ap (react before) is.means ∙ ap (λ phase. requested_in phase before id (method_of ask) is.params) running ∙ begun ask before is.params id in
     (answer.0 ∙ ap (λ (x : Reaction). x.after) so, subst (λ (x : Reaction). SaysReply x.say sent) so answer.1)
 
-pub served : (requested : List SentAsk) (m : ToServer) (before after : ServerState) (content : List ℕ) (sent : List (List ℕ)) → IsRunning before → heard_as.SaysToServer requested m content → Answers before content sent after → Served requested m before after sent
-served requested (notifies note) before after content sent running is h =
-    let answer = reacts_so before after content sent is.json (going_on before after content sent running h) is.reads in
-    let so : react before (meaning_of is.json) ≡ apply_notification before (sent_as note) =
-    ap (react before) is.means ∙ ap (λ phase. react_to_notification phase before is.method is.params) running.0 ∙ ap (apply_notification before) is.reported in
-    note_served requested note before after sent running is.fits (answer.0 ∙ ap (λ (x : Reaction). x.after) so) (subst (λ (x : Reaction). SaysReply x.say sent) so answer.1)
+-- ---- what the editor reads
+
+module _ (number_of : Data → Option ℕ) (requested : List SentAsk) where
+  -- what the editor understands of the contents that were sent
+  pub record Heard (sent : List (List ℕ)) (said : List ToEditor) : Type 0 where
+    pub each : All (λ content. (m : ToEditor) × (read_so number_of requested content ≡ Some m)) sent
+    pub all : filter_map (read_so number_of requested) sent ≡ said
+    pub count : length sent ≡ length said
+
+  heard_none : (sent : List (List ℕ)) → sent ≡ [] → Heard sent []
+  heard_none sent none =
+      subst (λ s. Heard s []) (sym none) (record { each = All-nil (λ content. (m : ToEditor) × (read_so number_of requested content ≡ Some m)); all = refl; count = refl })
+
+  heard_one : (sent : List (List ℕ)) (message : Data) (m : ToEditor) → Sends message sent → value_read number_of requested message ≡ Some m → Heard sent (m ∷ [])
+  heard_one sent message m (content, is, writes) means =
+      let said : read_so number_of requested content ≡ Some m = read_as number_of requested content message writes.reads ∙ means in
+      subst (λ s. Heard s (m ∷ [])) (sym is)
+      (record {
+        each = All-push (λ c. (m : ToEditor) × (read_so number_of requested c ≡ Some m)) [] content (All-nil (λ c. (m : ToEditor) × (read_so number_of requested c ≡ Some m))) (m, said);
+        all = ap (λ o. cons_option o []) said;
+        count = refl;
+      })
+
+  -- ---- publications
+
+  -- what was sent of a notification
+  pub record Noted (held : OpenDocuments) (uri : List ℕ) (o : Option Document) (sent : List (List ℕ)) : Type 0 where
+    pub said : List ToEditor
+    pub heard : Heard sent said
+    pub replies : Publishes uri o said (option_to_list (made_first held said))
+
+  publishes_step : (held : OpenDocuments) (uri : List ℕ) (version : ℤ) (text : List ℕ) (sent : List (List ℕ)) → document_at held uri ≡ Some (InStep version text) → as_i64 (of_integer version) ≡ Some version
+      → SaysReply (published held.unit uri (Some (InStep version text))) sent → Noted held uri (Some (InStep version text)) sent
+  publishes_step held uri version text sent at fits (ds, diagnoses, sends) =
+      let empty : Bool = has_none (items_of (map diagnostic_value ds)) in
+      record {
+        said = publishes uri (Some version) empty ∷ [];
+        heard = heard_one sent (publication uri (Some version) ds) (publishes uri (Some version) empty) sends (ap (λ v. Some (publishes uri v empty)) fits);
+        replies = (empty, reports_right held.unit text ds diagnoses, refl, ap (λ o. option_to_list (option_and_then (made_of_document uri version empty) o)) at);
+      }
+
+  publishes_now : (held : OpenDocuments) (uri : List ℕ) (version : ℤ) (t : Option (List ℕ)) (sent : List (List ℕ)) → document_at held uri ≡ Some (document version t) → as_i64 (of_integer version) ≡ Some version
+      → SaysReply (published held.unit uri (Some (document version t))) sent → Noted held uri (Some (document version t)) sent
+  publishes_now held uri version (Some text) sent at fits saying = publishes_step held uri version text sent at fits saying
+  publishes_now held uri version None sent at fits saying = record { said = []; heard = heard_none sent saying; replies = (refl, refl) }
+
+  -- what is said of the document that is held now
+  noted_at : (held : OpenDocuments) (uri : List ℕ) (o : Option Document) (sent : List (List ℕ)) → document_at held uri ≡ o → (SaysReply (published held.unit uri o) sent → Noted held uri o sent)
+      → SaysReply (published held.unit uri (document_at held uri)) sent → Noted held uri (document_at held uri) sent
+  noted_at held uri o sent at then_noted saying =
+      subst (λ o. Noted held uri o sent) (sym at) (then_noted (subst (λ o. SaysReply (published held.unit uri o) sent) at saying))
+
+  -- ---- what may be sent
+
+  -- the server has taken a message, and sent this
+  pub record Served (m : ToServer) (before after : ServerState) (sent : List (List ℕ)) : Type 0 where
+    pub phase : after.phase ≡ Running
+    pub client : after.client ≡ before.client
+    pub held : after.held ≡ after_message before.held m
+    pub said : List ToEditor
+    pub heard : Heard sent said
+    pub replies : Replies before.held m said (option_to_list (made_first after.held said))
+
+  -- the reaction to a notification, and what it saying
+  note_served : (note : DocumentEvent) (before after : ServerState) (sent : List (List ℕ)) → before.phase ≡ Running → HasVersion note → after ≡ (apply_notification before (sent_as note)).after → SaysReply (apply_notification before (sent_as note)).say sent
+      → Served (notifies note) before after sent
+  note_served (Opened uri version text) before after sent running fits is saying =
+      let held : OpenDocuments = opened before.held uri version text in
+      let noted : Noted held uri (document_at held uri) sent =
+      noted_at held uri (Some (InStep version text)) sent (opened_at before.held uri version text) (publishes_step held uri version text sent (opened_at before.held uri version text) fits) saying in
+      subst (λ a. Served (notifies (Opened uri version text)) before a sent) (sym is)
+      (record { phase = running; client = refl; held = refl; said = noted.said; heard = noted.heard; replies = noted.replies })
+  note_served (Changed uri version how) before after sent running fits is saying =
+      let held : OpenDocuments = changed before.held uri version how in
+      let noted : Noted held uri (document_at held uri) sent = go held (document_at before.held uri) (changed_at before.held uri version how) saying in
+      subst (λ a. Served (notifies (Changed uri version how)) before a sent) (sym is)
+      (record { phase = running; client = refl; held = refl; said = noted.said; heard = noted.heard; replies = noted.replies })
+    where
+      go : (held : OpenDocuments) (o : Option Document) → document_at held uri ≡ option_map (changed_document before.held.unit version how) o → SaysReply (published held.unit uri (document_at held uri)) sent → Noted held uri (document_at held uri) sent
+      go held None at saying = noted_at held uri None sent at (λ saying. record { said = []; heard = heard_none sent saying; replies = (refl, refl) }) saying
+      go held (Some d) at saying =
+          let t : Option (List ℕ) = fold (changed_text before.held.unit) (text_of d) how in
+          noted_at held uri (Some (document version t)) sent at (publishes_now held uri version t sent at fits) saying
+  note_served (Lost uri) before after sent running fits is saying =
+      subst (λ a. Served (notifies (Lost uri)) before a sent) (sym is)
+      (record { phase = running; client = refl; held = refl; said = []; heard = heard_none sent saying; replies = (refl, refl) })
+  note_served (Closed uri) before after sent running fits is saying =
+      subst (λ a. Served (notifies (Closed uri)) before a sent) (sym is) (go (is_some (document_at before.held uri)) refl saying)
+    where
+      go : (b : Bool) → is_some (document_at before.held uri) ≡ b → SaysReply (cond b (says (publication uri None [])) answers_of.nothing) sent → Served (notifies (Closed uri)) before (apply_notification before (sent_as (Closed uri))).after sent
+      go true was saying = record {
+        phase = running;
+        client = refl;
+        held = refl;
+        said = publishes uri None true ∷ [];
+        heard = heard_one sent (publication uri None []) (publishes uri None true) saying refl;
+        replies = (sym (ap (λ b. cond b (publishes uri None true ∷ []) []) was), refl);
+      }
+      go false was saying = record { phase = running; client = refl; held = refl; said = []; heard = heard_none sent saying; replies = (sym (ap (λ b. cond b (publishes uri None true ∷ []) []) was), refl) }
+
+  -- ask k is this one, and has this id
+  record Asks (id : Data) (k : ℕ) (uri : List ℕ) (ask : Ask) : Type 0 where
+    numbered : number_of id ≡ Some k
+    is : IsAsk requested k uri ask
+
+  -- an answer with this id
+  answered : (id : Data) (k : ℕ) (uri : List ℕ) (ask : Ask) (answer : Data) → Asks id k uri ask → option_and_then (answer_to requested answer) (number_of id) ≡ Some (answers k (edits_for ask answer))
+  answered id k uri ask answer of =
+      ap (option_and_then (answer_to requested answer)) of.numbered
+      ∙ ap (option_map (λ (a : SentAsk). answers k (edits_for a.ask answer))) of.is.is ∙ ap (λ x. Some (answers k (edits_for x answer))) of.is.asks_this
+
+  -- the answer to an ask
+  record Answered (k : ℕ) (ask : Ask) (unit : Unit) (o : Option Document) (sent : List (List ℕ)) : Type 0 where
+    edits : List Replacement
+    heard : Heard sent (answers k edits ∷ [])
+    replies : IsAnswer unit o ask edits
+
+  -- a refusal has no edits
+  refused : (id : Data) (k : ℕ) (uri : List ℕ) (ask : Ask) (unit : Unit) (o : Option Document) (code : ℤ) (why : List ℕ) (sent : List (List ℕ)) → Asks id k uri ask → Sends (error_message id code why) sent
+      → IsAnswer unit o ask [] → Answered k ask unit o sent
+  refused id k uri ask unit o code why sent of sends none =
+      record {
+        edits = [];
+        heard = heard_one sent (error_message id code why) (answers k []) sends (answered id k uri ask (error_message id code why) of);
+        replies = none;
+      }
+
+  formatted : (id : Data) (k : ℕ) (uri : List ℕ) (indent : Indent) (unit : Unit) (version : ℤ) (text : List ℕ) (sent : List (List ℕ)) → Asks id k uri (format indent)
+      → SaysReply (lays_out unit id (indent_read indent) text) sent → Answered k (format indent) unit (Some (InStep version text)) sent
+  formatted id k uri indent unit version text sent of (message, how, sends) = go how
+    where
+      go : AnswersFormatting unit id (indent_read indent) text message → Answered k (format indent) unit (Some (InStep version text)) sent
+      go (inl (edits, laid, is)) =
+          let answer : Data = result_message id (edits_value edits) in
+          let these : edits_for (format indent) answer ≡ replacements edits = ap (λ o. unwrap_or o []) (edits_read_back edits) in
+          record {
+            edits = replacements edits;
+            heard = heard_one sent answer (answers k (replacements edits)) (subst (λ m. Sends m sent) is sends) (answered id k uri (format indent) answer of ∙ ap (λ es. Some (answers k es)) these);
+            replies = inl (edits, laid, refl);
+          }
+      go (inr (inl (long, is))) = refused id k uri (format indent) unit (Some (InStep version text)) (minus 32803) (refusal_text TooLong) sent of (subst (λ m. Sends m sent) is sends) (inr (inl long, refl))
+      go (inr (inr (unfit, is))) = refused id k uri (format indent) unit (Some (InStep version text)) (minus 32803) (codes "ill-typed") sent of (subst (λ m. Sends m sent) is sends) (unfit_answer unit text (format indent) unfit)
+
+  renamed : (id : Data) (k : ℕ) (uri : List ℕ) (position : Position) (name : List ℕ) (client : Client) (unit : Unit) (version : ℤ) (text : List ℕ) (sent : List (List ℕ)) → client.takes_document_changes ≡ true → Asks id k uri (rename position name)
+      → SaysReply (renames unit (rename_requested client id uri position name version) text) sent → Answered k (rename position name) unit (Some (InStep version text)) sent
+  renamed id k uri position name client unit version text sent takes of (message, how, sends) = go how
+    where
+      go : AnswersRenaming unit (rename_requested client id uri position name version) text message → Answered k (rename position name) unit (Some (InStep version text)) sent
+      go (inl (edits, found, is)) =
+          let answer : Data = result_message id (workspace_edit client uri version edits) in
+          let these : edits_for (rename position name) answer ≡ replacements edits = renames_read_back id position name uri version edits client takes in
+          record {
+            edits = replacements edits;
+            heard = heard_one sent answer (answers k (replacements edits)) (subst (λ m. Sends m sent) is sends) (answered id k uri (rename position name) answer of ∙ ap (λ es. Some (answers k es)) these);
+            replies = inl (edits, found, refl);
+          }
+      go (inr (inl (refusal, why, is))) = refused id k uri (rename position name) unit (Some (InStep version text)) (minus 32803) (refusal_text refusal) sent of (subst (λ m. Sends m sent) is sends) (inr (inl (refusal, why), refl))
+      go (inr (inr (unfit, is))) = refused id k uri (rename position name) unit (Some (InStep version text)) (minus 32803) (codes "ill-typed") sent of (subst (λ m. Sends m sent) is sends) (unfit_answer unit text (rename position name) unfit)
+
+  inlined_in : (how : Inlining) (id : Data) (k : ℕ) (uri : List ℕ) (position : Position) (range : Range) (only : Option (List (List ℕ))) (client : Client) (unit : Unit) (version : ℤ) (text : List ℕ) (sent : List (List ℕ))
+      → client.takes_document_changes ≡ true → client.takes_literal_actions ≡ true → allows_inlining only ≡ true → actions_offset unit text range ≡ place_at unit text position → Asks id k uri (inlining_at how position)
+      → SaysReply (offers_actions unit (actions_requested_in client id uri range only version) text) sent → Answered k (inlining_at how position) unit (Some (InStep version text)) sent
+  inlined_in how id k uri position range only client unit version text sent takes literal allowed place of (message, (value, how_listed, is), sends) = go how_listed
+    where
+      request : RequestedActions
+      request = actions_requested_in client id uri range only version
+
+      with_edits : (edits : List Replacement) → edits_for (inlining_at how position) (result_message id value) ≡ edits → AnswersFor unit text (inlining_at how position) edits
+          → Answered k (inlining_at how position) unit (Some (InStep version text)) sent
+      with_edits edits these answer_is =
+          let answer : Data = result_message id value in
+          record {
+            edits = edits;
+            heard = heard_one sent answer (answers k edits) (subst (λ m. Sends m sent) is sends) (answered id k uri (inlining_at how position) answer of ∙ ap (λ es. Some (answers k es)) these);
+            replies = answer_is;
+          }
+
+      -- this editor wants actions that aren't commands
+      wants : (b c : Bool) → b ≡ true → c ≡ true → (b && c) ≡ false → ⊥
+      wants true true is also not = let no : true ≡ false = not in cc
+      wants true false is also not = cc
+      wants false c is also not = cc
+
+      unfit : (wants_inlining request ≡ false) ⊎ ¬ IsWellTypedModule (utf8 text) → ¬ IsWellTypedModule (utf8 text)
+      unfit (inl unwanted) = absurd (wants client.takes_literal_actions (allows_inlining only) literal allowed unwanted)
+      unfit (inr ill_typed) = ill_typed
+
+      go : ListsActions unit request text value → Answered k (inlining_at how position) unit (Some (InStep version text)) sent
+      go (inl h) =
+          with_edits (edits_offered (requested_for how h.here h.everywhere))
+          (ap (λ v. edits_for (inlining_at how position) (result_message id v)) h.listed ∙ actions_read_back how position request h.here h.everywhere takes)
+          (requested_offered how unit text position (actions_offset unit text range) h.here h.everywhere place h.offers_here h.offers_everywhere)
+      go (inr (why, listed)) =
+          with_edits [] (ap (λ v. edits_for (inlining_at how position) (result_message id v)) listed ∙ none_read_back how position id) (unfit_answer unit text (inlining_at how position) (unfit why))
+
+  inlined : (how : Inlining) (id : Data) (k : ℕ) (uri : List ℕ) (position : Position) (client : Client) (unit : Unit) (version : ℤ) (text : List ℕ) (sent : List (List ℕ)) → client.takes_document_changes ≡ true → client.takes_literal_actions ≡ true
+      → Asks id k uri (inlining_at how position)
+      → SaysReply (offers_actions unit (actions_requested_at client id uri position version) text) sent → Answered k (inlining_at how position) unit (Some (InStep version text)) sent
+  inlined how id k uri position client unit version text sent takes literal of saying =
+      inlined_in how id k uri position (empty_at position) None client unit version text sent takes literal refl (place_is unit text position) of saying
+
+  -- ---- asks
+
+  asks_served : (k : ℕ) (uri : List ℕ) (ask : Ask) (before after : ServerState) (sent : List (List ℕ)) → before.phase ≡ Running → after ≡ before → Answered k ask before.held.unit (document_at before.held uri) sent
+      → Served (requests k uri ask) before after sent
+  asks_served k uri ask before after sent running same answer =
+      subst (λ a. Served (requests k uri ask) before a sent) (sym same)
+      (record { phase = running; client = refl; held = refl; said = answers k answer.edits ∷ []; heard = answer.heard; replies = (answer.edits, answer.replies, refl, refl) })
+
+  -- an ask about a document, where its answer is known for the text of one that is in step
+  about_document : (id : Data) (k : ℕ) (uri : List ℕ) (ask : Ask) (say : ℤ → List ℕ → Reply) (before after : ServerState) (sent : List (List ℕ)) → before.phase ≡ Running → Asks id k uri ask
+      → ((version : ℤ) (text : List ℕ) → SaysReply (say version text) sent → Answered k ask before.held.unit (Some (InStep version text)) sent)
+      → (o : Option Document) → document_at before.held uri ≡ o → after ≡ (answers_about before id o say).after → SaysReply (answers_about before id o say).say sent → Served (requests k uri ask) before after sent
+  about_document id k uri ask say before after sent running of in_step None at same saying =
+      asks_served k uri ask before after sent running same (refused id k uri ask before.held.unit (document_at before.held uri) (minus 32803) (codes "unopened") sent of saying (subst (λ o. IsAnswer before.held.unit o ask []) (sym at) refl))
+  about_document id k uri ask say before after sent running of in_step (Some OutOfStep) at same saying =
+      asks_served k uri ask before after sent running same (refused id k uri ask before.held.unit (document_at before.held uri) (minus 32803) (codes "out of step") sent of saying (subst (λ o. IsAnswer before.held.unit o ask []) (sym at) refl))
+  about_document id k uri ask say before after sent running of in_step (Some (InStep version text)) at same saying =
+      asks_served k uri ask before after sent running same (subst (λ o. Answered k ask before.held.unit o sent) (sym at) (in_step version text saying))
+
+  -- a request of the editor, while the session runs
+  request_served : (id : Data) (k : ℕ) (uri : List ℕ) (ask : Ask) (params : Data) (before after : ServerState) (sent : List (List ℕ)) → before.phase ≡ Running → TakesEdits before.client ask → Asks id k uri ask → request_by_method (method_of ask) params ≡ Ok (call_for uri ask)
+      → after ≡ (answer_method before id (method_of ask) params).after → SaysReply (answer_method before id (method_of ask) params).say sent → Served (requests k uri ask) before after sent
+  request_served id k uri (rename position name) params before after sent running takes of call is saying =
+      let say : ℤ → List ℕ → Reply = λ version. renames before.held.unit (rename_requested before.client id uri position name version) in
+      let so : answer_method before id (method_of (rename position name)) params ≡ answers_about before id (document_at before.held uri) say = ap (answer_request before id) call in
+      about_document id k uri (rename position name) say before after sent running of
+      (λ version text. renamed id k uri position name before.client before.held.unit version text sent takes of) (document_at before.held uri) refl
+      (is ∙ ap (λ (x : Reaction). x.after) so) (subst (λ (x : Reaction). SaysReply x.say sent) so saying)
+  request_served id k uri (inline_here position) params before after sent running takes of call is saying =
+      let say : ℤ → List ℕ → Reply = λ version. offers_actions before.held.unit (actions_requested_at before.client id uri position version) in
+      let so : answer_method before id (method_of (inline_here position)) params ≡ answers_about before id (document_at before.held uri) say = ap (answer_request before id) call in
+      about_document id k uri (inline_here position) say before after sent running of
+      (λ version text. inlined Here id k uri position before.client before.held.unit version text sent takes.0 takes.1 of) (document_at before.held uri) refl
+      (is ∙ ap (λ (x : Reaction). x.after) so) (subst (λ (x : Reaction). SaysReply x.say sent) so saying)
+  request_served id k uri (inline_all position) params before after sent running takes of call is saying =
+      let say : ℤ → List ℕ → Reply = λ version. offers_actions before.held.unit (actions_requested_at before.client id uri position version) in
+      let so : answer_method before id (method_of (inline_all position)) params ≡ answers_about before id (document_at before.held uri) say = ap (answer_request before id) call in
+      about_document id k uri (inline_all position) say before after sent running of
+      (λ version text. inlined Everywhere id k uri position before.client before.held.unit version text sent takes.0 takes.1 of) (document_at before.held uri) refl
+      (is ∙ ap (λ (x : Reaction). x.after) so) (subst (λ (x : Reaction). SaysReply x.say sent) so saying)
+  request_served id k uri (format indent) params before after sent running takes of call is saying =
+      let say : ℤ → List ℕ → Reply = λ version. lays_out before.held.unit id (indent_read indent) in
+      let so : answer_method before id (method_of (format indent)) params ≡ answers_about before id (document_at before.held uri) say = ap (answer_request before id) call in
+      about_document id k uri (format indent) say before after sent running of
+      (λ version text. formatted id k uri indent before.held.unit version text sent of) (document_at before.held uri) refl
+      (is ∙ ap (λ (x : Reaction). x.after) so) (subst (λ (x : Reaction). SaysReply x.say sent) so saying)
+
+  -- a request for the actions in a range, where its place is that of the position
+  inline_served : (how : Inlining) (id : Data) (k : ℕ) (uri : List ℕ) (position : Position) (range : Range) (only : Option (List (List ℕ))) (params : Data) (before after : ServerState) (sent : List (List ℕ)) → before.phase ≡ Running → TakesActions before.client
+      → Asks id k uri (inlining_at how position) → allows_inlining only ≡ true → ((unit : Unit) (text : List ℕ) → actions_offset unit text range ≡ place_at unit text position) → request_by_method (codes "textDocument/codeAction") params ≡ Ok (code_action uri range only)
+      → after ≡ (answer_method before id (codes "textDocument/codeAction") params).after → SaysReply (answer_method before id (codes "textDocument/codeAction") params).say sent
+      → Served (requests k uri (inlining_at how position)) before after sent
+  inline_served how id k uri position range only params before after sent running takes of allowed place call is saying =
+      let say : ℤ → List ℕ → Reply = λ version. offers_actions before.held.unit (actions_requested_in before.client id uri range only version) in
+      let so : answer_method before id (codes "textDocument/codeAction") params ≡ answers_about before id (document_at before.held uri) say = ap (answer_request before id) call in
+      about_document id k uri (inlining_at how position) say before after sent running of
+      (λ version text. inlined_in how id k uri position range only before.client before.held.unit version text sent takes.0 takes.1 allowed (place before.held.unit text) of) (document_at before.held uri) refl
+      (is ∙ ap (λ (x : Reaction). x.after) so) (subst (λ (x : Reaction). SaysReply x.say sent) so saying)
+
+  -- ---- contents
+
+  -- a notification about a document, while the session runs
+  pub note_answered : (note : DocumentEvent) (before after : ServerState) (content : List ℕ) (sent : List (List ℕ)) → before.phase ≡ Running → heard_as.IsNote note content → Answers before content sent after → Served (notifies note) before after sent
+  note_answered note before after content sent running is h =
+      let answer = reacts_so before after content sent is.json (going_on before after content sent running h) is.reads in
+      let so : react before (meaning_of is.json) ≡ apply_notification before (sent_as note) =
+      ap (react before) is.means ∙ ap (λ phase. react_to_notification phase before is.method is.params) running ∙ ap (apply_notification before) is.reported in
+      note_served note before after sent running is.fits (answer.0 ∙ ap (λ (x : Reaction). x.after) so) (subst (λ (x : Reaction). SaysReply x.say sent) so answer.1)
+
+  -- an ask
+  pub ask_answered : (id : Data) (k : ℕ) (uri : List ℕ) (ask : Ask) (before after : ServerState) (content : List ℕ) (sent : List (List ℕ)) → before.phase ≡ Running → TakesEdits before.client ask → number_of id ≡ Some k → IsAsk requested k uri ask
+      → heard_as.IsRequestWithId id uri ask content → Answers before content sent after → Served (requests k uri ask) before after sent
+  ask_answered id k uri ask before after content sent running takes numbered of is h =
+      let reaction = request_reaction id uri ask before after content sent running is h in
+      request_served id k uri ask is.params before after sent running takes (record { numbered = numbered; is = of }) is.calls reaction.0 reaction.1
+
+  -- a request for the actions in a range
+  pub actions_answered : (how : Inlining) (id : Data) (k : ℕ) (uri : List ℕ) (position : Position) (before after : ServerState) (content : List ℕ) (sent : List (List ℕ)) → before.phase ≡ Running → TakesActions before.client → number_of id ≡ Some k
+      → IsAsk requested k uri (inlining_at how position) → IsActionsRequest id uri position content → Answers before content sent after → Served (requests k uri (inlining_at how position)) before after sent
+  actions_answered how id k uri position before after content sent running takes numbered of is h =
+      let answer = reacts_so before after content sent is.json (going_on before after content sent running h) is.reads in
+      let so : react before (meaning_of is.json) ≡ answer_method before id (codes "textDocument/codeAction") is.params =
+      ap (react before) is.means ∙ ap (λ phase. requested_in phase before id (codes "textDocument/codeAction") is.params) running in
+      inline_served how id k uri position is.range is.only is.params before after sent running takes (record { numbered = numbered; is = of }) is.allowed (place_of_range is.range position is.from is.ordered) is.calls
+      (answer.0 ∙ ap (λ (x : Reaction). x.after) so) (subst (λ (x : Reaction). SaysReply x.say sent) so answer.1)
+
+-- ---- the model's editor
+
+-- a client that takes actions with edits takes the edits of each ask
+takes_all : (s : ServerState) (ask : Ask) → IsRunning s → TakesEdits s.client ask
+takes_all s (rename position name) running = running.1
+takes_all s (inline_here position) running = (running.1, running.2)
+takes_all s (inline_all position) running = (running.1, running.2)
+takes_all s (format indent) running = tt
+
+-- the ids of the model's editor are its numbers
+pub served : (requested : List SentAsk) (m : ToServer) (before after : ServerState) (content : List ℕ) (sent : List (List ℕ)) → IsRunning before → heard_as.SaysToServer requested m content → Answers before content sent after → Served request_number requested m before after sent
+served requested (notifies note) before after content sent running is h = note_answered request_number requested note before after content sent running.0 is h
 served requested (requests k uri ask) before after content sent running (is, of) h =
-    let reaction = request_reaction k uri ask before after content sent running is h in
-    request_served requested k uri ask is.params before after sent running of is.calls reaction.0 reaction.1
+    ask_answered request_number requested (number (unsigned k)) k uri ask before after content sent running.0 (takes_all before ask running) refl of is h
+
+-- the session runs with the same client
+pub runs_on : (requested : List SentAsk) (m : ToServer) (before after : ServerState) (sent : List (List ℕ)) → IsRunning before → Served request_number requested m before after sent → IsRunning after
+runs_on requested m before after sent running s =
+    (s.phase, ap (λ (c : Client). c.takes_document_changes) s.client ∙ running.1, ap (λ (c : Client). c.takes_literal_actions) s.client ∙ running.2)

@@ -1,8 +1,8 @@
 -- Proves that the model's editor and a session exchange messages as an editor that keeps ob0's rules does.
-use Rattle.std.proofs.Common.{◌≡◌, ◌∙◌, ℕ, arith, List, [], ◌∷◌, ◌++◌, map, append-nil, get_or, refl, sym, ap, subst, inl, inr}
-use Rattle.std.specs.Prelude.{◌⊎◌, Some, None, Ok, codes}
+use Rattle.std.proofs.Common.{◌≡◌, ◌∙◌, ℕ, zero, suc, ◌+◌, ◌≤◌, Bool, true, false, cond, arith, List, [], ◌∷◌, ◌++◌, map, length, append-nil, get_or, refl, sym, ap, subst, inl, inr}
+use Rattle.std.specs.Prelude.{◌⊎◌, ◌==◌, Option, Some, None, Ok, codes, option_and_then, slice_get}
 use Rattle.std.specs.Option.{option_to_list}
-use Rattle.serde_json.specs.Data.{number, unsigned}
+use Rattle.serde_json.specs.Data.{Data, null, boolean, number, string, array, object, unsigned, negative, float}
 use Rattle.ob0_text.specs.declared.position_types.Position.{Position}
 use Rattle.ob0_text.specs.declared.position_types.Unit.{Unit}
 use Rattle.ob0_text.specs.declared.position_types.Unit.TheVariants.{Utf16, Utf8}
@@ -13,29 +13,94 @@ use Rattle.ob0_session_server.specs.Answers as server
 use Rattle.ob0_session_server.specs.Answers.{begins}
 use Rattle.ob0_session_server.specs.Units.{unit_for}
 use Rattle.ob0_world_editor.specs.Beginning.{client_for}
-use Rattle.ob0_world_editor.specs.Heard.{call_for, IsRequest, SaysToServer}
+use Rattle.ob0_world_editor.specs.Heard.{request_number, call_for, IsRequestWithId, SaysToServer}
 use Rattle.ob0_world_editor.specs.Shapes.{method_of, empty_at}
-use Rattle.ob0_world_editor.specs.Understood.{understood}
+use Rattle.ob0_world_editor.specs.Understood.{understood, read_so}
 use Rattle.ob0_world_rules.specs.Asks.{Ask, rename, inline_here, inline_all, format}
-use Rattle.ob0_world_rules.specs.ClientAndServer.{SentAsk, Editor, ToServer, notifies, requests, ToEditor, Applied, ClientAndServer, start}
-use Rattle.ob0_world_rules.specs.Editing.{Act, Done, stays, done_by}
+use Rattle.ob0_world_rules.specs.ClientAndServer.{SentAsk, Editor, request_numbered, ToServer, notifies, requests, ToEditor, publishes, answers, Applied, ClientAndServer, start}
+use Rattle.ob0_world_rules.specs.Editing.{Act, Done, stays, done_by, reads}
 use Rattle.ob0_world_rules.specs.Happens.{Event, does, serve, take_message, after_act, after_taking, ServerTakes, Happens}
-use Rattle.ob0_world_rules.specs.Editors.{Move, May}
 use Rattle.ob0_world_rules.specs.EveryEditor.{Turn, editor_does, server_takes, editor_takes}
-use Rattle.ob0_world_rules.specs.MadeInOrder.{Announced}
-use Rattle.ob0_world_rules.proofs.ModelEditor.{act_may}
+use Rattle.ob0_world_rules.specs.MadeInOrder.{Announced, announced_in}
+use Rattle.ob0_world_rules.proofs.ModelEditor.{IsMove, act_may, knows_event}
 use Rattle.ob0_world.specs.Worlds.{Wire, Connection, Begins, TakesFirst, GetsFirst, MovesWire, AllSay, IsTied, ConnectionStep, ConnectionCourse}
-use Rattle.ob0_world.specs.Exchanges.{Exchange, BeginsExchange, IsActionsRequest, SaysToSession, EachSays, reads_meaning, GetsOne, with_contents, Exchanges, ExchangeLeads, ACourseIsAnExchange}
+use Rattle.ob0_world.specs.Exchanges.{SentId, number_id, sent_with, ask_with, NamesAsks, Exchange, BeginsExchange, IsActionsRequest, IsRequestFor, TakesActions, TakesEdits, SaysToSession, EachSays, read_by, reads_meaning, GetsOne, with_contents, ExchangeLeads, ACourseIsAnExchange}
 use Rattle.ob0_world.proofs.Conversing.{answered_once}
+use Rattle.std.proofs.lemmas.Bool.{eqb-true, eqb-false}
+use Rattle.std.proofs.lemmas.Option.{same_Some, none-some}
+use Rattle.ob0_rpc.specs.declared.clients.Client.{Client}
+use Rattle.ob0_world_rules.proofs.Acts.{of_each}
+use Rattle.ob0_world_rules.proofs.SameDocument.{Knows, knows_first}
+use Rattle.ob0_world.specs.Queues.{IsRunning}
+use Rattle.ob0_world.proofs.Answering.{served, runs_on}
+use Rattle.ob0_world.proofs.Waiting.{read_still}
+
+-- ---- the ids of the model's editor
+
+-- returns the ids of asks that have their numbers as ids; the first has this number
+abbrev ids_from : ℕ → List SentAsk → List SentId
+ids_from n [] = []
+ids_from n (a ∷ list) = record { id = number_id n; ask = Some n } ∷ ids_from (suc n) list
+
+ids_push : (list : List SentAsk) (n : ℕ) (a : SentAsk) → ids_from n (list ++ a ∷ []) ≡ ids_from n list ++ record { id = number_id (n + length list); ask = Some (n + length list) } ∷ []
+ids_push [] n a = ap (λ m. record { id = number_id m; ask = Some m } ∷ []) (omega arith)
+ids_push (b ∷ list) n a =
+    ap (λ ids. record { id = number_id n; ask = Some n } ∷ ids)
+    (ids_push list (suc n) a ∙ ap (λ m. ids_from (suc n) list ++ record { id = number_id m; ask = Some m } ∷ []) (omega arith))
+
+no_id : (list : List SentAsk) (n m : ℕ) → n + length list ≤ m → sent_with (ids_from n list) (number_id m) ≡ None
+no_id [] n m h = refl
+no_id (a ∷ list) n m h = go (n == m) refl (no_id list (suc n) m (omega (arith, h)))
+  where
+    go : (b : Bool) → (n == m) ≡ b → sent_with (ids_from (suc n) list) (number_id m) ≡ None → cond b (Some (Some n)) (sent_with (ids_from (suc n) list) (number_id m)) ≡ None
+    go true is later = let same : n ≡ m = eqb-true n m is in absurd (omega (arith, same, h))
+    go false is later = later
+
+has_id : (list : List SentAsk) (n i : ℕ) (a : SentAsk) → slice_get list i ≡ Some a → sent_with (ids_from n list) (number_id (n + i)) ≡ Some (Some (n + i))
+has_id [] n i a h = absurd (none-some a h)
+has_id (b ∷ list) n zero a h = go (n == n + zero) refl
+  where
+    here : n ≡ n + zero
+    here = omega arith
+
+    go : (b : Bool) → (n == n + zero) ≡ b → cond b (Some (Some n)) (sent_with (ids_from (suc n) list) (number_id (n + zero))) ≡ Some (Some (n + zero))
+    go true is = ap (λ m. Some (Some m)) here
+    go false is = absurd (eqb-false n (n + zero) is here)
+has_id (b ∷ list) n (suc i) a h = go (n == n + suc i) refl (has_id list (suc n) i a h)
+  where
+    on : suc n + i ≡ n + suc i
+    on = omega arith
+
+    go : (b : Bool) → (n == n + suc i) ≡ b → sent_with (ids_from (suc n) list) (number_id (suc n + i)) ≡ Some (Some (suc n + i)) → cond b (Some (Some n)) (sent_with (ids_from (suc n) list) (number_id (n + suc i))) ≡ Some (Some (n + suc i))
+    go true is later = let same : n ≡ n + suc i = eqb-true n (n + suc i) is in absurd (omega (arith, same))
+    go false is later = subst (λ m. sent_with (ids_from (suc n) list) (number_id m) ≡ Some (Some m)) on later
+
+-- an ask has its number as its id
+numbered_so : (requested : List SentAsk) (k : ℕ) (a : SentAsk) → request_numbered requested k ≡ Some a → ask_with (ids_from 1 requested) (number (unsigned k)) ≡ Some k
+numbered_so requested zero a h = absurd (none-some a h)
+numbered_so requested (suc k) a h = ap (option_and_then (λ ask. ask)) (subst (λ m. sent_with (ids_from 1 requested) (number_id m) ≡ Some (Some m)) (omega arith) (has_id requested 1 k a h))
+
+-- and so a number that is the id of an ask is read
+named_so : (requested : List SentAsk) (d : Data) (k : ℕ) (a : SentAsk) → request_numbered requested k ≡ Some a → request_number d ≡ Some k → ask_with (ids_from 1 requested) d ≡ Some k
+named_so requested (number (unsigned n)) k a h is =
+    let same : n ≡ k = same_Some n k is in
+    subst (λ j. ask_with (ids_from 1 requested) (number (unsigned n)) ≡ Some j) same (numbered_so requested n a (subst (λ j. request_numbered requested j ≡ Some a) (sym same) h))
+named_so requested (number (negative z)) k a h is = absurd (none-some k is)
+named_so requested (number (float x)) k a h is = absurd (none-some k is)
+named_so requested null k a h is = absurd (none-some k is)
+named_so requested (boolean b) k a h is = absurd (none-some k is)
+named_so requested (string text) k a h is = absurd (none-some k is)
+named_so requested (array ds) k a h is = absurd (none-some k is)
+named_so requested (object ms) k a h is = absurd (none-some k is)
 
 -- it may come to this editor, this wire and these applied edits
 record ComesTo (x : Exchange) (editor : Editor) (wire : Wire) (applied : List Applied) : Type 0 where
   turns : List Turn
   announced : List Announced
-  leads : ExchangeLeads x turns (record { editor = editor; wire = wire; announced = announced; applied = applied })
+  leads : ExchangeLeads x turns (record { editor = editor; ids = ids_from 1 editor.requested; wire = wire; announced = announced; applied = applied })
 
 abbrev exchange_of : Connection → List Announced → Exchange
-exchange_of c announced = record { editor = c.model.editor; wire = c.wire; announced = announced; applied = c.model.applied }
+exchange_of c announced = record { editor = c.model.editor; ids = ids_from 1 c.model.editor.requested; wire = c.wire; announced = announced; applied = c.model.applied }
 
 -- ---- what the editor writes
 
@@ -51,13 +116,14 @@ last_say requested now [] more (c ∷ contents) others h k = absurd h
 last_say requested now (m ∷ messages) more [] others h k = absurd h
 
 -- an inlining is asked for at an empty range, of all kinds
-inline_said : (k : ℕ) (uri : List ℕ) (position : Position) (ask : Ask) (content : List ℕ) → method_of ask ≡ codes "textDocument/codeAction" → call_for uri ask ≡ asked.code_action uri (empty_at position) None → IsRequest k uri ask content → IsActionsRequest k uri position content
-inline_said k uri position ask content method call is =
+inline_said : (id : Data) (uri : List ℕ) (position : Position) (ask : Ask) (content : List ℕ) → method_of ask ≡ codes "textDocument/codeAction" → call_for uri ask ≡ asked.code_action uri (empty_at position) None → IsRequestWithId id uri ask content
+    → IsActionsRequest id uri position content
+inline_said id uri position ask content method call is =
     record {
       json = is.json;
       reads = is.reads;
       params = is.params;
-      means = is.means ∙ ap (λ m. request (number (unsigned k)) m is.params) method;
+      means = is.means ∙ ap (λ m. request id m is.params) method;
       range = empty_at position;
       only = None;
       calls = sym (ap (λ m. request_by_method m is.params) method) ∙ is.calls ∙ ap Ok call;
@@ -66,59 +132,153 @@ inline_said k uri position ask content method call is =
       allowed = refl;
     }
 
-session_said : (requested : List SentAsk) (m : ToServer) (content : List ℕ) → SaysToServer requested m content → SaysToSession requested m content
-session_said requested (notifies note) content h = h
-session_said requested (requests k uri (rename position name)) content h = h
-session_said requested (requests k uri (inline_here position)) content h = (inline_said k uri position (inline_here position) content refl refl h.0, h.1)
-session_said requested (requests k uri (inline_all position)) content h = (inline_said k uri position (inline_all position) content refl refl h.0, h.1)
-session_said requested (requests k uri (format indent)) content h = h
+request_said : (id : Data) (uri : List ℕ) (ask : Ask) (content : List ℕ) → IsRequestWithId id uri ask content → IsRequestFor id uri ask content
+request_said id uri (rename position name) content is = is
+request_said id uri (inline_here position) content is = inline_said id uri position (inline_here position) content refl refl is
+request_said id uri (inline_all position) content is = inline_said id uri position (inline_all position) content refl refl is
+request_said id uri (format indent) content is = is
 
-each_says : (requested : List SentAsk) (messages : List ToServer) (contents : List (List ℕ)) → AllSay requested messages contents → EachSays requested (map Some messages) contents
-each_says requested [] [] h = tt
-each_says requested (m ∷ messages) (c ∷ contents) h = (session_said requested m c h.0, each_says requested messages contents h.1)
-each_says requested [] (c ∷ contents) h = absurd h
-each_says requested (m ∷ messages) [] h = absurd h
+module _ (client : Client) (takes : TakesActions client) where
+  takes_ask : (ask : Ask) → TakesEdits client ask
+  takes_ask (rename position name) = takes.0
+  takes_ask (inline_here position) = takes
+  takes_ask (inline_all position) = takes
+  takes_ask (format indent) = tt
 
-act_comes : (x : Exchange) (contents : List (List ℕ)) (act : Act) → AllSay (done_by x.editor act).editor.requested (done_by x.editor act).sent contents
-    → ComesTo x (done_by x.editor act).editor (with_contents x.wire contents) (x.applied ++ (done_by x.editor act).applied)
-act_comes x contents act say = go (act_may x.editor act)
-  where
-    still : (done : Done) → done ≡ stays x.editor → AllSay done.editor.requested done.sent contents → ComesTo x done.editor (with_contents x.wire contents) (x.applied ++ done.applied)
-    still done is says =
-        let none : contents ≡ [] = none_said x.editor.requested contents (subst (λ (d : Done). AllSay d.editor.requested d.sent contents) is says) in
-        record {
-          turns = [];
-          announced = x.announced;
-          leads = λ i. record x {
-            editor = (is i).editor;
-            wire = record x.wire { to_server = (ap (λ cs. x.wire.to_server ++ cs) none ∙ append-nil x.wire.to_server) i };
-            applied = (ap (λ (d : Done). x.applied ++ d.applied) is ∙ append-nil x.applied) i;
-          };
-        }
+  session_said : (requested : List SentAsk) (m : ToServer) (content : List ℕ) → SaysToServer requested m content → SaysToSession client (ids_from 1 requested) requested m content
+  session_said requested (notifies note) content h = h
+  session_said requested (requests k uri ask) content (is, of) =
+      (number (unsigned k), request_said (number (unsigned k)) uri ask content is, record { numbered = numbered_so requested k of.sent of.is; is = of }, takes_ask ask)
 
-    go : (done_by x.editor act ≡ stays x.editor) ⊎ ((move : Move) × (more : List Announced) × May x.editor move (done_by x.editor act) more)
-        → ComesTo x (done_by x.editor act).editor (with_contents x.wire contents) (x.applied ++ (done_by x.editor act).applied)
-    go (inl is) = still (done_by x.editor act) is say
-    go (inr (move, more, may)) =
-        let done : Done = done_by x.editor act in
-        let y : Exchange = record { editor = done.editor; wire = with_contents x.wire contents; announced = x.announced ++ more; applied = x.applied ++ done.applied } in
-        record { turns = editor_does move ∷ []; announced = x.announced ++ more; leads = (y, (done, more, contents, may, each_says done.editor.requested done.sent contents say, refl), refl) }
+  each_says : (requested : List SentAsk) (messages : List ToServer) (contents : List (List ℕ)) → AllSay requested messages contents → EachSays client (ids_from 1 requested) requested (map Some messages) contents
+  each_says requested [] [] h = tt
+  each_says requested (m ∷ messages) (c ∷ contents) h = (session_said requested m c h.0, each_says requested messages contents h.1)
+  each_says requested [] (c ∷ contents) h = absurd h
+  each_says requested (m ∷ messages) [] h = absurd h
+
+-- the asks that are sent have their numbers as ids
+sent_names : (e : Editor) (act : Act) → NamesAsks (ids_from 1 e.requested) (done_by e act).sent (ids_from 1 (done_by e act).editor.requested)
+sent_names e act =
+    of_each e (λ done. NamesAsks (ids_from 1 e.requested) done.sent (ids_from 1 done.editor.requested))
+    (record {
+      still = refl;
+      opened = λ uri text none. refl;
+      changed = λ uri d how text at makes. refl;
+      closed = λ uri d at. refl;
+      asked = λ uri ask d at. (
+        number_id (suc (length e.requested)),
+        no_id e.requested 1 (suc (length e.requested)) (omega arith),
+        ids_push e.requested 1 _ ∙ ap (λ m. ids_from 1 e.requested ++ record { id = number_id m; ask = Some m } ∷ []) (omega arith),
+      );
+      made = λ k edits a d text held numbered same makes. refl;
+      dropped = λ k. refl;
+    })
+    act
+
+-- ---- what is needed of a connection
+
+-- its contents are its messages, its session runs, and its editor knows its asks
+record Goes (c : Connection) : Type 0 where
+  says : AllSay c.model.editor.requested c.model.to_server c.wire.to_server
+  means : map (understood c.model.editor.requested) c.wire.to_editor ≡ map Some c.model.to_editor
+  running : IsRunning c.wire.session
+  knows : Knows c.model.editor
+
+taken_running : (requested : List SentAsk) (q : List ToServer) (contents : List (List ℕ)) (old new : Wire) → AllSay requested q contents → TakesFirst contents old new → IsRunning old.session → IsRunning new.session
+taken_running requested [] [] old new says is running = subst (λ (v : Wire). IsRunning v.session) (sym is) running
+taken_running requested (m ∷ q) (c ∷ rest) old new says (after, sent, answer, is) running =
+    subst (λ (v : Wire). IsRunning v.session) (sym is) (runs_on requested m old.session after sent running (served requested m old.session after c sent running says.0 answer))
+taken_running requested [] (c ∷ rest) old new says takes running = absurd says
+taken_running requested (m ∷ q) [] old new says takes running = absurd says
+
+got_running : (contents : List (List ℕ)) (old new : Wire) → GetsFirst contents old new → IsRunning old.session → IsRunning new.session
+got_running [] old new is running = subst (λ (v : Wire). IsRunning v.session) (sym is) running
+got_running (c ∷ rest) old new is running = subst (λ (v : Wire). IsRunning v.session) (sym is) running
+
+event_running : (event : Event) (old new : Connection) → Goes old → MovesWire event old.wire new.wire → IsRunning new.wire.session
+event_running (does act) old new goes (content, is) = subst (λ (v : Wire). IsRunning v.session) (sym is) goes.running
+event_running serve old new goes takes = taken_running old.model.editor.requested old.model.to_server old.wire.to_server old.wire new.wire goes.says takes goes.running
+event_running take_message old new goes gets = got_running old.wire.to_editor old.wire new.wire gets goes.running
+
+event_goes : (event : Event) (old new : Connection) → Goes old → ConnectionStep old event new → Goes new
+event_goes event old new goes step =
+    record { says = step.tied.says; means = step.tied.means; running = event_running event old new goes step.moves; knows = knows_event old.model event new.model goes.knows step.happens }
 
 -- ---- each event
+
+module _ (c : Connection) (announced : List Announced) (goes : Goes c) where
+  abbrev Comes : Editor → Wire → List Applied → Type 0
+  Comes editor wire applied = ComesTo (exchange_of c announced) editor wire applied
+
+  still : (contents : List (List ℕ)) (done : Done) → done ≡ stays c.model.editor → AllSay done.editor.requested done.sent contents → Comes done.editor (with_contents c.wire contents) (c.model.applied ++ done.applied)
+  still contents done is says =
+      let none : contents ≡ [] = none_said c.model.editor.requested contents (subst (λ (d : Done). AllSay d.editor.requested d.sent contents) is says) in
+      record {
+        turns = [];
+        announced = announced;
+        leads = λ i. record (exchange_of c announced) {
+          editor = (is i).editor;
+          ids = ids_from 1 (is i).editor.requested;
+          wire = record c.wire { to_server = (ap (λ cs. c.wire.to_server ++ cs) none ∙ append-nil c.wire.to_server) i };
+          applied = (ap (λ (d : Done). c.model.applied ++ d.applied) is ∙ append-nil c.model.applied) i;
+        };
+      }
+
+  act_comes : (contents : List (List ℕ)) (act : Act) → AllSay (done_by c.model.editor act).editor.requested (done_by c.model.editor act).sent contents
+      → Comes (done_by c.model.editor act).editor (with_contents c.wire contents) (c.model.applied ++ (done_by c.model.editor act).applied)
+  act_comes contents act say = go (act_may c.model.editor act goes.knows)
+    where
+      go : IsMove c.model.editor (done_by c.model.editor act)
+          → Comes (done_by c.model.editor act).editor (with_contents c.wire contents) (c.model.applied ++ (done_by c.model.editor act).applied)
+      go (inl is) = still contents (done_by c.model.editor act) is say
+      go (inr (move, may)) =
+          let done : Done = done_by c.model.editor act in
+          let more : List Announced = announced_in done.editor done.sent in
+          let ids : List SentId = ids_from 1 done.editor.requested in
+          let y : Exchange = record { editor = done.editor; ids = ids; wire = with_contents c.wire contents; announced = announced ++ more; applied = c.model.applied ++ done.applied } in
+          record {
+            turns = editor_does move ∷ [];
+            announced = announced ++ more;
+            leads = (
+              y,
+              (
+                done,
+                more,
+                ids,
+                contents,
+                may,
+                sent_names c.model.editor act,
+                each_says c.wire.session.client (goes.running.1, goes.running.2) done.editor.requested done.sent contents say,
+                refl,
+              ),
+              refl,
+            );
+          }
 
 serve_same : (w : ClientAndServer) (queue : List ToServer) (new : ClientAndServer) → ServerTakes w queue new → (new.editor ≡ w.editor) × (new.applied ≡ w.applied)
 serve_same w [] new is = (ap (λ (v : ClientAndServer). v.editor) is, ap (λ (v : ClientAndServer). v.applied) is)
 serve_same w (m ∷ rest) new (said, made, replies, is) = (ap (λ (v : ClientAndServer). v.editor) is, ap (λ (v : ClientAndServer). v.applied) is)
+
+reads_asks : (e : Editor) (m : ToEditor) → (reads e m).requested ≡ e.requested
+reads_asks e (publishes uri version empty) = refl
+reads_asks e (answers k []) = refl
+reads_asks e (answers k (edit ∷ edits)) = refl
+
+-- an answer of the model is read with the numbers as ids
+read_so_too : (requested : List SentAsk) (content : List ℕ) (m : ToEditor) → understood requested content ≡ Some m → read_by (ids_from 1 requested) requested content ≡ Some m
+read_so_too requested content m h = subst (λ asks. read_so (ask_with (ids_from 1 requested)) asks content ≡ Some m) (append-nil requested) (read_still request_number (ask_with (ids_from 1 requested)) requested [] (named_so requested) content m h)
 
 take_comes : (c : Connection) (announced : List Announced) (wire : Wire) (queue : List ToEditor) (contents : List (List ℕ)) → c.wire.to_editor ≡ contents
     → map (understood c.model.editor.requested) contents ≡ map Some queue → GetsFirst contents c.wire wire
     → ComesTo (exchange_of c announced) (after_taking c.model queue).editor wire (after_taking c.model queue).applied
 take_comes c announced wire [] [] waits means is = record { turns = []; announced = announced; leads = λ i. record (exchange_of c announced) { wire = is i } }
 take_comes c announced wire (m ∷ queue) (content ∷ rest) waits means is =
-    let first : understood c.model.editor.requested content ≡ Some m = ap (λ os. get_or os 0 None) means in
+    let e : Editor = c.model.editor in
+    let first : understood e.requested content ≡ Some m = ap (λ os. get_or os 0 None) means in
+    let so : read_by (ids_from 1 e.requested) e.requested content ≡ Some m = read_so_too e.requested content m first in
     let x : Exchange = exchange_of c announced in
-    let y : Exchange = record (exchange_of c announced) { editor = (after_taking c.model (m ∷ queue)).editor; wire = wire } in
-    let gets : GetsOne (content ∷ rest) x y = λ i. record x { editor = reads_meaning x.editor (sym first i); wire = is i } in
+    let y : Exchange = record { editor = reads e m; ids = ids_from 1 (reads e m).requested; wire = wire; announced = announced; applied = c.model.applied } in
+    let gets : GetsOne (content ∷ rest) x y = λ i. record x { editor = reads_meaning x.editor (sym so i); ids = ids_from 1 (reads_asks e m i); wire = is i } in
     record {
       turns = editor_takes ∷ [];
       announced = announced;
@@ -127,12 +287,8 @@ take_comes c announced wire (m ∷ queue) (content ∷ rest) waits means is =
 take_comes c announced wire [] (content ∷ rest) waits means is = absurd (cc)
 take_comes c announced wire (m ∷ queue) [] waits means is = absurd (cc)
 
--- what is needed of a connection: its contents say what waits
-abbrev Says : Connection → Type 0
-Says c = AllSay c.model.editor.requested c.model.to_server c.wire.to_server × (map (understood c.model.editor.requested) c.wire.to_editor ≡ map Some c.model.to_editor)
-
-event_comes : (event : Event) (old new : Connection) (announced : List Announced) → Says old → ConnectionStep old event new → ComesTo (exchange_of old announced) new.model.editor new.wire new.model.applied
-event_comes (does act) old new announced says step =
+event_comes : (event : Event) (old new : Connection) (announced : List Announced) → Goes old → ConnectionStep old event new → ComesTo (exchange_of old announced) new.model.editor new.wire new.model.applied
+event_comes (does act) old new announced goes step =
     let (content, is) = step.moves in
     let done : Done = done_by old.model.editor act in
     let contents : List (List ℕ) = option_to_list content in
@@ -141,18 +297,18 @@ event_comes (does act) old new announced says step =
     (subst (λ (w : ClientAndServer). AllSay w.editor.requested w.to_server new.wire.to_server) step.happens step.tied.says) in
     subst (λ (w : ClientAndServer). ComesTo (exchange_of old announced) w.editor new.wire w.applied) (sym step.happens)
     (subst (λ v. ComesTo (exchange_of old announced) done.editor v (old.model.applied ++ done.applied)) (sym is)
-    (act_comes (exchange_of old announced) contents act (last_say old.model.editor.requested done.editor.requested old.model.to_server done.sent old.wire.to_server contents says.0 all)))
-event_comes serve old new announced says step =
+    (act_comes old announced goes contents act (last_say old.model.editor.requested done.editor.requested old.model.to_server done.sent old.wire.to_server contents goes.says all)))
+event_comes serve old new announced goes step =
     let same = serve_same old.model old.model.to_server new.model step.happens in
-    let y : Exchange = record { editor = new.model.editor; wire = new.wire; announced = announced; applied = new.model.applied } in
+    let y : Exchange = exchange_of new announced in
     record {
       turns = server_takes ∷ [];
       announced = announced;
-      leads = (y, (new.wire, step.moves, λ i. record y { editor = same.0 i; applied = same.1 i }), refl);
+      leads = (y, (new.wire, step.moves, λ i. record y { editor = same.0 i; ids = ids_from 1 (same.0 i).requested; applied = same.1 i }), refl);
     }
-event_comes take_message old new announced says step =
+event_comes take_message old new announced goes step =
     subst (λ (w : ClientAndServer). ComesTo (exchange_of old announced) w.editor new.wire w.applied) (sym step.happens)
-    (take_comes old announced new.wire old.model.to_editor old.wire.to_editor refl says.1 step.moves)
+    (take_comes old announced new.wire old.model.to_editor old.wire.to_editor refl goes.means step.moves)
 
 -- ---- all events
 
@@ -160,16 +316,15 @@ leads_append : (turns more : List Turn) (x between y : Exchange) → ExchangeLea
 leads_append [] more x between y is leads = subst (λ v. ExchangeLeads v more y) is leads
 leads_append (turn ∷ turns) more x between y (mid, exchanges, rest) leads = (mid, exchanges, leads_append turns more mid between y rest leads)
 
-course_comes : (events : List Event) (begin end : Connection) (announced : List Announced) → Says begin → ConnectionCourse begin events end → ComesTo (exchange_of begin announced) end.model.editor end.wire end.model.applied
-course_comes [] begin end announced says is = record { turns = []; announced = announced; leads = ap (λ c. exchange_of c announced) is }
-course_comes (event ∷ events) begin end announced says (between, step, rest) =
-    let first : ComesTo (exchange_of begin announced) between.model.editor between.wire between.model.applied = event_comes event begin between announced says step in
-    let more : ComesTo (exchange_of between first.announced) end.model.editor end.wire end.model.applied = course_comes events between end first.announced (step.tied.says, step.tied.means) rest in
+course_comes : (events : List Event) (begin end : Connection) (announced : List Announced) → Goes begin → ConnectionCourse begin events end → ComesTo (exchange_of begin announced) end.model.editor end.wire end.model.applied
+course_comes [] begin end announced goes is = record { turns = []; announced = announced; leads = ap (λ c. exchange_of c announced) is }
+course_comes (event ∷ events) begin end announced goes (between, step, rest) =
+    let first : ComesTo (exchange_of begin announced) between.model.editor between.wire between.model.applied = event_comes event begin between announced goes step in
+    let more : ComesTo (exchange_of between first.announced) end.model.editor end.wire end.model.applied = course_comes events between end first.announced (event_goes event begin between goes step) rest in
     record {
       turns = first.turns ++ more.turns;
       announced = more.announced;
-      leads = leads_append first.turns more.turns (exchange_of begin announced) (exchange_of between first.announced)
-          (record { editor = end.model.editor; wire = end.wire; announced = more.announced; applied = end.model.applied }) first.leads more.leads;
+      leads = leads_append first.turns more.turns (exchange_of begin announced) (exchange_of between first.announced) (exchange_of end more.announced) first.leads more.leads;
     }
 
 same_unit : (unit : Unit) → unit_for (client_for unit) ≡ unit
@@ -178,20 +333,18 @@ same_unit Utf8 = refl
 
 pub a_course_is_an_exchange : ACourseIsAnExchange
 a_course_is_an_exchange unit begin end events b course =
-    let says : Says begin =
-    subst (λ (v : Wire). AllSay begin.model.editor.requested begin.model.to_server v.to_server × (map (understood begin.model.editor.requested) v.to_editor ≡ map Some begin.model.to_editor)) (sym b.wire)
-    (subst (λ (w : ClientAndServer). AllSay w.editor.requested w.to_server [] × (map (understood w.editor.requested) [] ≡ map Some w.to_editor)) (sym b.model) (tt, refl)) in
-    let c : ComesTo (exchange_of begin []) end.model.editor end.wire end.model.applied = course_comes events begin end [] says course in
-    let last : Exchange = record { editor = end.model.editor; wire = end.wire; announced = c.announced; applied = end.model.applied } in
+    let wire : Wire = record { session = begins (client_for unit); taken = b.content ∷ []; to_server = []; got = b.replies; to_editor = [] } in
+    let first_goes : Goes (record { model = start unit; wire = wire }) = record { says = tt; means = refl; running = (refl, refl, refl); knows = knows_first unit } in
+    let goes : Goes begin = subst Goes (λ i. record { model = sym b.model i; wire = sym b.wire i }) first_goes in
+    let c : ComesTo (exchange_of begin []) end.model.editor end.wire end.model.applied = course_comes events begin end [] goes course in
+    let last : Exchange = exchange_of end c.announced in
     let first : BeginsExchange unit (exchange_of begin []) =
     record {
       client = client_for unit;
       counts = same_unit unit;
-      takes_versions = refl;
-      takes_actions = refl;
       taken = b.content ∷ [];
       got = b.replies;
       initialized = answered_once server.start b.content b.replies (begins (client_for unit)) b.answers;
-      is = λ i. record { editor = (b.model i).editor; wire = b.wire i; announced = []; applied = (b.model i).applied };
+      is = λ i. record { editor = (b.model i).editor; ids = ids_from 1 (b.model i).editor.requested; wire = b.wire i; announced = []; applied = (b.model i).applied };
     } in
     (exchange_of begin [], c.turns, last, first, c.leads, refl, refl, refl)

@@ -1,19 +1,17 @@
 -- Proves that an exchange of a session and an editor that keeps ob0's rules follows the model, turn by turn.
-use Rattle.std.proofs.Common.{◌≡◌, ◌∙◌, ℕ, zero, suc, Bool, true, false, cond, List, [], ◌∷◌, ◌++◌, map, replicate, refl, sym, ap, subst, inl, inr}
-use Rattle.std.specs.Prelude.{⊤, pos, fold, All, Option, Some, None, MatchOption, Result, Ok, Err, is_some, filter_map, option_map, option_and_then, unwrap_or, codes}
+use Rattle.std.proofs.Common.{◌≡◌, ◌∙◌, ℕ, zero, suc, Bool, true, false, cond, List, [], ◌∷◌, ◌++◌, map, refl, sym, ap, subst, inl, inr}
+use Rattle.std.specs.Prelude.{⊤, ℤ, pos, fold, All, Option, Some, None, MatchOption, Result, Ok, Err, is_some, filter_map, option_map, option_and_then, codes}
 use Rattle.std.specs.List.{cons_option}
 use Rattle.std.specs.Option.{option_to_list}
 use Rattle.std.specs.Str.{bytes_eq, is_utf8}
 use Rattle.std.proofs.lemmas.List.{append-nil, append_assoc, map-append}
 use Rattle.std.proofs.lemmas.List.Elements.{All-head, All-tail}
-use Rattle.serde_json.specs.Data.{Data, number, unsigned}
+use Rattle.serde_json.specs.Data.{Data}
 use Rattle.serde_json.specs.Find.{get}
 use Rattle.serde_json.specs.Read.{read}
 use Rattle.ob0_text.specs.RefusalTexts.{refusal_text}
 use Rattle.ob0_text.specs.declared.edits.Indent.{Indent}
 use Rattle.ob0_text.specs.declared.refusals.EditRefusal.TheVariants.{TooLong}
-use Rattle.ob0_text.specs.declared.position_types.Position.{Position}
-use Rattle.ob0_text.specs.declared.position_types.Range.{Range}
 use Rattle.ob0_text.specs.declared.position_types.Unit.{Unit}
 use Rattle.ob0_text.specs.OpenDocuments.{OpenDocuments, Document, InStep, OutOfStep, Opened, Changed, Lost, Closed, after_event, none_open, document_at}
 use Rattle.ob0_rpc.specs.declared.incoming.RpcFault.{RpcFault}
@@ -23,65 +21,88 @@ use Rattle.ob0_rpc.specs.Notifications.{other, note_of}
 use Rattle.ob0_rpc.specs.Requesting as asked
 use Rattle.ob0_rpc.specs.Requesting.{At, ClientRequest, request_by_method}
 use Rattle.ob0_rpc.specs.Shapes.{result_message, error_message}
-use Rattle.ob0_session_answers.specs.Questions.{AnswersName, AnswersIn, NameQuestion, hover_asked, definition_asked, references_asked, renaming_asked, value_or_null, no_answer, hover_at, location_at, range_at}
-use Rattle.ob0_session_answers.specs.Actions.{RequestedActions, ListsActions}
-use Rattle.ob0_session_answers.specs.Formatted.{AnswersFormatting}
-use Rattle.ob0_session_json.specs.Shapes.{edits_value}
+use Rattle.ob0_session_answers.specs.Questions.{NameQuestion, hover_asked, definition_asked, references_asked, renaming_asked}
+use Rattle.ob0_session_answers.specs.Actions.{RequestedActions}
+use Rattle.ob0_session_json.specs.Shapes.{edits_value, workspace_edit}
 use Rattle.ob0_session_server.specs.Answers as server
-use Rattle.ob0_session_server.specs.Answers.{ServerState, begins, SaysReply, Sends, Reaction, react, react_to_request, react_to_notification, apply_notification, answer_request, answer_method, answers_about, answers_name, offers_actions, lays_out, refuses, Answers, Conversation}
-use Rattle.ob0_world_editor.specs.Heard.{request_number, request_read, notification_read, message_read, heard, IsAsk}
-use Rattle.ob0_world_editor.specs.Understood.{understood, value_understood, answer_understood, answer_to, publication_understood, workspace_items, edits_in, edits_for}
-use Rattle.ob0_world_editor.proofs.Hearing.{said, says_heard, understood_as}
+use Rattle.ob0_session_server.specs.Answers.{ServerState, begins, Reply, SaysReply, Sends, Reaction, react, react_to_request, react_to_notification, apply_notification, answer_request, answer_method, answers_about, answers_name, requests_name, renames, offers_actions, lays_out, refuses, Answers, Conversation}
+use Rattle.ob0_world_editor.specs.Heard.{request_number, request_read, notification_read, message_read, heard}
+use Rattle.ob0_world_editor.specs.Understood.{understood, notice_understood, answer_read, value_read, read_so, answer_to, edits_for}
+use Rattle.ob0_world_editor.proofs.Hearing.{said, says_heard, read_as}
 use Rattle.ob0_world_rules.specs.Asks.{Ask, rename, inline_here, inline_all, format}
 use Rattle.ob0_world_rules.specs.ClientAndServer.{Open, SentAsk, Editor, request_numbered, open_at, ToServer, notifies, requests, ToEditor, publishes, answers, Made, after_message}
 use Rattle.ob0_world_rules.specs.Editing.{Done, reads, without_answer}
 use Rattle.ob0_world_rules.specs.Editors.{Revision, Move, to_open, to_revise, to_close, to_ask, to_apply, to_drop, revised, with_document, Revises, May}
-use Rattle.ob0_world_rules.specs.EveryEditor.{EditorAndServer, nothing_yet, without_others, notes_among, no_ask, without_numbers, Turn, editor_does, editor_says, server_takes, editor_takes, MayHappen, MayLead, HoldsWithEditor}
-use Rattle.ob0_world_rules.specs.Answers.{Inlining, Here, Everywhere, IsEmptyIfCorrect}
+use Rattle.ob0_world_rules.specs.EveryEditor.{EditorAndServer, nothing_yet, without_others, notes_among, Turn, editor_does, editor_says, server_takes, editor_takes, MayHappen, MayLead, HoldsWithEditor}
+use Rattle.ob0_world_rules.specs.Answers.{Here, Everywhere, IsEmptyIfCorrect}
 use Rattle.ob0_world_rules.specs.Serving.{Publishes, Replies}
 use Rattle.ob0_world_rules.specs.Headline.{IsRight, last_publication}
 use Rattle.ob0_world_rules.specs.Mirror.{as_open}
 use Rattle.ob0_world_rules.specs.MadeInOrder.{Announced, AreMadeOf, versions_announced, named_in}
 use Rattle.ob0_world_rules.proofs.UriLaws.{mapped_choice}
-use Rattle.ob0_world_rules.proofs.SameDocument.{numbered_push}
 use Rattle.ob0_world_rules.proofs.EveryEditor.{with_every_editor}
 use Rattle.ob0_world.specs.Worlds.{Wire, TakesFirst}
-use Rattle.ob0_world.specs.Queues.{IsRunning, made_first}
-use Rattle.ob0_world.specs.Exchanges.{Exchange, BeginsExchange, IsActionsRequest, SaysToSession, IsQuestion, IsOwnNumber, IsOtherMessage, IsOther, reads_meaning, GetsOne, with_contents, Exchanges, ExchangeLeads, EachSays, BringsNothing, EachMeans, IsOfTheModel, EveryExchangeIsOfTheModel, Published, with_version, published_in, AreRightOf, last_published, notes_in, HoldsOfExchange, EveryExchangeHolds}
-use Rattle.ob0_world.proofs.Answering.{Served, served, inline_served, inlining_at, going_on, reacts_so}
-use Rattle.ob0_world.proofs.Places.{place_of_range}
-use Rattle.ob0_world.proofs.Waiting.{says_still, understood_still}
+use Rattle.ob0_session_server.specs.declared.session.Phase.TheVariants.{Running}
+use Rattle.ob0_world.specs.Queues.{made_first}
+use Rattle.ob0_world.specs.Exchanges.{Id, id_read, same_id, SentId, sent_with, ask_with, NamesAsks, with_other, IsOtherId, Exchange, BeginsExchange, SaysToSession, IsRequestFor, IsQuestion, IsOtherMessage, IsOther, read_by, reads_meaning, GetsOne, with_contents, Exchanges, ExchangeLeads, EachSays, EachMeans, IsOfTheModel, EveryExchangeIsOfTheModel, Published, with_version, published_in, AreRightOf, last_published, notes_in, HoldsOfExchange, EveryExchangeHolds}
+use Rattle.ob0_world.proofs.Answering.{Served, note_answered, ask_answered, actions_answered, going_on, reacts_so}
+use Rattle.ob0_world.proofs.Waiting.{read_still}
+use Rattle.ob0_world.proofs.Ending.{ends_well}
 use Rattle.ob0_world.proofs.Courses.{Conversed, takes_conversed, gets_conversed, written_conversed, initialized_conversed, as_conversation}
+use Rattle.ob0_session_answers.specs.Renamed.{RequestedRename}
+use Rattle.ob0_rpc.specs.declared.clients.Client.{Client}
+use Rattle.ob0_world_rules.proofs.Asked.{numbered_push}
+use Rattle.std.proofs.lemmas.Option.{none-some}
 
--- ---- more asks, and more contents
+-- ---- more requests, and more contents
 
-module _ (requested more : List SentAsk) where
-  number_still : (o : Option ℕ) → IsOwnNumber requested o → IsOwnNumber (requested ++ more) o
-  number_still None h = tt
-  number_still (Some zero) h = tt
-  number_still (Some (suc k)) h = numbered_push requested more (suc k) no_ask h
+sent_still : (ids later : List SentId) (id : Id) (o : Option ℕ) → sent_with ids id ≡ Some o → sent_with (ids ++ later) id ≡ Some o
+sent_still [] later id o h = absurd (none-some o h)
+sent_still (s ∷ ids) later id o h = go (same_id s.id id) h (sent_still ids later id o)
+  where
+    go : (b : Bool) → cond b (Some s.ask) (sent_with ids id) ≡ Some o → (sent_with ids id ≡ Some o → sent_with (ids ++ later) id ≡ Some o) → cond b (Some s.ask) (sent_with (ids ++ later) id) ≡ Some o
+    go true is next = is
+    go false is next = next is
 
-  message_still : (m : MessageMeaning) → IsOtherMessage requested m → IsOtherMessage (requested ++ more) m
+ask_with_still : (ids later : List SentId) (d : Data) (k : ℕ) → ask_with ids d ≡ Some k → ask_with (ids ++ later) d ≡ Some k
+ask_with_still ids later d k h = go (id_read d) h
+  where
+    at : (id : Id) (o : Option (Option ℕ)) → sent_with ids id ≡ o → option_and_then (λ ask. ask) o ≡ Some k → option_and_then (λ ask. ask) (sent_with (ids ++ later) id) ≡ Some k
+    at id None is h = absurd (none-some k h)
+    at id (Some o) is h = ap (option_and_then (λ ask. ask)) (sent_still ids later id o is) ∙ h
+
+    go : (o : Option Id) → option_and_then (λ ask. ask) (option_and_then (sent_with ids) o) ≡ Some k → option_and_then (λ ask. ask) (option_and_then (sent_with (ids ++ later)) o) ≡ Some k
+    go None h = absurd (none-some k h)
+    go (Some id) h = at id (sent_with ids id) refl h
+
+module _ (client : Client) (ids later : List SentId) (requested more : List SentAsk) where
+  id_still : (o : Option Id) → IsOtherId ids o → IsOtherId (ids ++ later) o
+  id_still None h = tt
+  id_still (Some id) h = sent_still ids later id None h
+
+  message_still : (m : MessageMeaning) → IsOtherMessage ids m → IsOtherMessage (ids ++ later) m
   message_still not_json h = h
   message_still not_a_message h = h
   message_still response h = h
-  message_still (request id method params) (first, question, own) = (first, question, number_still (request_number id) own)
+  message_still (request id method params) (first, question, own) = (first, question, id_still (id_read id) own)
   message_still (notice method params) h = h
 
-  other_still : (content : List ℕ) → IsOther requested content → IsOther (requested ++ more) content
+  other_still : (content : List ℕ) → IsOther ids content → IsOther (ids ++ later) content
   other_still content (json, reads_so, is) = (json, reads_so, message_still (meaning_of json) is)
 
-  ask_still : (k : ℕ) (uri : List ℕ) (ask : Ask) → IsAsk requested k uri ask → IsAsk (requested ++ more) k uri ask
-  ask_still k uri ask of = record { sent = of.sent; is = numbered_push requested more k of.sent of.is; about = of.about; asks_this = of.asks_this }
+  session_still : (m : ToServer) (content : List ℕ) → SaysToSession client ids requested m content → SaysToSession client (ids ++ later) (requested ++ more) m content
+  session_still (notifies note) content h = h
+  session_still (requests k uri ask) content (id, is, of, takes) = (
+    id,
+    is,
+    record {
+      numbered = ask_with_still ids later id k of.numbered;
+      is = record { sent = of.is.sent; is = numbered_push requested more k of.is.sent of.is.is; about = of.is.about; asks_this = of.is.asks_this };
+    },
+    takes,
+  )
 
-  session_still : (m : ToServer) (content : List ℕ) → SaysToSession requested m content → SaysToSession (requested ++ more) m content
-  session_still (notifies note) content h = says_still requested more (notifies note) content h
-  session_still (requests k uri (rename position name)) content h = says_still requested more (requests k uri (rename position name)) content h
-  session_still (requests k uri (inline_here position)) content h = (h.0, ask_still k uri (inline_here position) h.1)
-  session_still (requests k uri (inline_all position)) content h = (h.0, ask_still k uri (inline_all position) h.1)
-  session_still (requests k uri (format indent)) content h = says_still requested more (requests k uri (format indent)) content h
-
-  says_on : (q : List (Option ToServer)) (contents : List (List ℕ)) → EachSays requested q contents → EachSays (requested ++ more) q contents
+  says_on : (q : List (Option ToServer)) (contents : List (List ℕ)) → EachSays client ids requested q contents → EachSays client (ids ++ later) (requested ++ more) q contents
   says_on [] [] h = tt
   says_on (Some m ∷ q) (c ∷ contents) h = (session_still m c h.0, says_on q contents h.1)
   says_on (None ∷ q) (c ∷ contents) h = (other_still c h.0, says_on q contents h.1)
@@ -89,42 +110,43 @@ module _ (requested more : List SentAsk) where
   says_on (Some m ∷ q) [] h = absurd h
   says_on (None ∷ q) [] h = absurd h
 
-  means_on : (r : List (Option ToEditor)) (contents : List (List ℕ)) → EachMeans requested r contents → EachMeans (requested ++ more) r contents
+  means_on : (r : List (Option ToEditor)) (contents : List (List ℕ)) → EachMeans ids requested r contents → EachMeans (ids ++ later) (requested ++ more) r contents
   means_on [] [] h = tt
-  means_on (Some m ∷ r) (c ∷ contents) h = (understood_still requested more c m h.0, means_on r contents h.1)
-  means_on (None ∷ r) (c ∷ contents) h = (λ later. subst (λ asks. BringsNothing (understood asks c)) (sym (append_assoc requested more later)) (h.0 (more ++ later)), means_on r contents h.1)
+  means_on (Some m ∷ r) (c ∷ contents) h = (read_still (ask_with ids) (ask_with (ids ++ later)) requested more (λ d k a is named. ask_with_still ids later d k named) c m h.0, means_on r contents h.1)
+  means_on (None ∷ r) (c ∷ contents) h = (λ further all. subst (λ more. read_by more all c ≡ None) (sym (append_assoc ids later further)) (h.0 (later ++ further) all), means_on r contents h.1)
   means_on [] (c ∷ contents) h = absurd h
   means_on (Some m ∷ r) [] h = absurd h
   means_on (None ∷ r) [] h = absurd h
 
-says_append : (requested : List SentAsk) (q p : List (Option ToServer)) (contents others : List (List ℕ)) → EachSays requested q contents → EachSays requested p others → EachSays requested (q ++ p) (contents ++ others)
-says_append requested [] p [] others h k = k
-says_append requested (Some m ∷ q) p (c ∷ contents) others h k = (h.0, says_append requested q p contents others h.1 k)
-says_append requested (None ∷ q) p (c ∷ contents) others h k = (h.0, says_append requested q p contents others h.1 k)
-says_append requested [] p (c ∷ contents) others h k = absurd h
-says_append requested (Some m ∷ q) p [] others h k = absurd h
-says_append requested (None ∷ q) p [] others h k = absurd h
+module _ (client : Client) (ids : List SentId) (requested : List SentAsk) where
+  says_append : (q p : List (Option ToServer)) (contents others : List (List ℕ)) → EachSays client ids requested q contents → EachSays client ids requested p others → EachSays client ids requested (q ++ p) (contents ++ others)
+  says_append [] p [] others h k = k
+  says_append (Some m ∷ q) p (c ∷ contents) others h k = (h.0, says_append q p contents others h.1 k)
+  says_append (None ∷ q) p (c ∷ contents) others h k = (h.0, says_append q p contents others h.1 k)
+  says_append [] p (c ∷ contents) others h k = absurd h
+  says_append (Some m ∷ q) p [] others h k = absurd h
+  says_append (None ∷ q) p [] others h k = absurd h
 
-means_append : (requested : List SentAsk) (r p : List (Option ToEditor)) (contents others : List (List ℕ)) → EachMeans requested r contents → EachMeans requested p others → EachMeans requested (r ++ p) (contents ++ others)
-means_append requested [] p [] others h k = k
-means_append requested (Some m ∷ r) p (c ∷ contents) others h k = (h.0, means_append requested r p contents others h.1 k)
-means_append requested (None ∷ r) p (c ∷ contents) others h k = (h.0, means_append requested r p contents others h.1 k)
-means_append requested [] p (c ∷ contents) others h k = absurd h
-means_append requested (Some m ∷ r) p [] others h k = absurd h
-means_append requested (None ∷ r) p [] others h k = absurd h
+  means_append : (r p : List (Option ToEditor)) (contents others : List (List ℕ)) → EachMeans ids requested r contents → EachMeans ids requested p others → EachMeans ids requested (r ++ p) (contents ++ others)
+  means_append [] p [] others h k = k
+  means_append (Some m ∷ r) p (c ∷ contents) others h k = (h.0, means_append r p contents others h.1 k)
+  means_append (None ∷ r) p (c ∷ contents) others h k = (h.0, means_append r p contents others h.1 k)
+  means_append [] p (c ∷ contents) others h k = absurd h
+  means_append (Some m ∷ r) p [] others h k = absurd h
+  means_append (None ∷ r) p [] others h k = absurd h
 
-each_means : (requested : List SentAsk) (sent : List (List ℕ)) → All (λ content. (m : ToEditor) × (understood requested content ≡ Some m)) sent → EachMeans requested (map Some (filter_map (understood requested) sent)) sent
-each_means requested [] all = tt
-each_means requested (c ∷ sent) all =
-    let first : (m : ToEditor) × (understood requested c ≡ Some m) = All-head (λ content. (m : ToEditor) × (understood requested content ≡ Some m)) c sent all in
-    subst (λ o. EachMeans requested (map Some (cons_option o (filter_map (understood requested) sent))) (c ∷ sent)) (sym first.1)
-    (first.1, each_means requested sent (All-tail (λ content. (m : ToEditor) × (understood requested content ≡ Some m)) c sent all))
+  each_means : (sent : List (List ℕ)) → All (λ content. (m : ToEditor) × (read_by ids requested content ≡ Some m)) sent → EachMeans ids requested (map Some (filter_map (read_by ids requested) sent)) sent
+  each_means [] all = tt
+  each_means (c ∷ sent) all =
+      let first : (m : ToEditor) × (read_by ids requested c ≡ Some m) = All-head (λ content. (m : ToEditor) × (read_by ids requested content ≡ Some m)) c sent all in
+      subst (λ o. EachMeans ids requested (map Some (cons_option o (filter_map (read_by ids requested) sent))) (c ∷ sent)) (sym first.1)
+      (first.1, each_means sent (All-tail (λ content. (m : ToEditor) × (read_by ids requested content ≡ Some m)) c sent all))
 
 -- ---- what a move asks
 
 revises_asks : (revisions : List Revision) (e : Editor) (uri : List ℕ) (new : Editor) (announced : List Announced) → Revises e uri revisions new announced → new.requested ≡ e.requested
 revises_asks [] e uri new announced h = ap (λ (x : Editor). x.requested) h.0
-revises_asks (r ∷ more) e uri new announced (d, later, at, rises, makes, rest, is) = revises_asks more (with_document e uri (revised d r)) uri new later rest
+revises_asks (r ∷ more) e uri new announced (d, later, at, makes, rest, is) = revises_asks more (with_document e uri (revised d r)) uri new later rest
 
 abbrev AsksMore : Editor → Done → Type 0
 AsksMore e done = (more : List SentAsk) × (done.editor.requested ≡ e.requested ++ more)
@@ -133,152 +155,140 @@ asks_none : (e : Editor) (done : Done) → done.editor.requested ≡ e.requested
 asks_none e done same = ([], same ∙ sym (append-nil e.requested))
 
 asks_more : (e : Editor) (move : Move) (done : Done) (announced : List Announced) → May e move done announced → AsksMore e done
-asks_more e (to_open uri version text) done announced (none, is, are) = asks_none e done (ap (λ (x : Done). x.editor.requested) is)
+asks_more e (to_open uri version text) done announced (is, are) = asks_none e done (ap (λ (x : Done). x.editor.requested) is)
 asks_more e (to_revise uri revisions) done announced (new, revises, is) = asks_none e done (ap (λ (x : Done). x.editor.requested) is ∙ revises_asks revisions e uri new announced revises)
-asks_more e (to_close uri) done announced (d, at, is, are) = asks_none e done (ap (λ (x : Done). x.editor.requested) is)
-asks_more e (to_ask uri ask) done announced (d, at, is, are) = (record { ask = ask; uri = uri; opening = d.opening; version = d.version } ∷ [], ap (λ (x : Done). x.editor.requested) is)
+asks_more e (to_close uri) done announced (is, are) = asks_none e done (ap (λ (x : Done). x.editor.requested) is)
+asks_more e (to_ask uri ask) done announced (d, at, is, are) = (record { ask = ask; uri = uri; text = d.text; opening = d.opening; version = d.version } ∷ [], ap (λ (x : Done). x.editor.requested) is)
 asks_more e (to_apply k revisions) done announced a = asks_none e done (ap (λ (x : Done). x.editor.requested) a.is ∙ revises_asks revisions (without_answer e k) a.requested.uri a.new announced a.revises)
 asks_more e (to_drop k) done announced (is, are) = asks_none e done (ap (λ (x : Done). x.editor.requested) is)
 
+names_more : (ids : List SentId) (sent : List ToServer) (new : List SentId) → NamesAsks ids sent new → (later : List SentId) × (new ≡ ids ++ later)
+names_more ids [] new is = ([], is ∙ sym (append-nil ids))
+names_more ids (notifies note ∷ sent) new names = names_more ids sent new names
+names_more ids (requests k uri ask ∷ sent) new (id, fresh, names) =
+    let s : SentId = record { id = id; ask = Some k } in
+    let more : (later : List SentId) × (new ≡ (ids ++ s ∷ []) ++ later) = names_more (ids ++ s ∷ []) sent new names in
+    (s ∷ more.0, more.1 ∙ append_assoc ids (s ∷ []) more.0)
+
+-- the id of another request
+others_more : (ids : List SentId) (id : Option Id) → (later : List SentId) × (with_other ids id ≡ ids ++ later)
+others_more ids None = ([], sym (append-nil ids))
+others_more ids (Some id) = (record { id = id; ask = None } ∷ [], refl)
+
 -- ---- what is replied to other messages
 
-record OtherServed (requested : List SentAsk) (before after : ServerState) (sent : List (List ℕ)) : Type 0 where
+-- the message answers the request with this id
+abbrev IsReply : Data → Data → Type 0
+IsReply id message = (is_some (get (codes "method") message) ≡ false) × (get (codes "id") message ≡ Some id)
+
+-- a reply to another request is no answer to an ask
+no_answer_to : (ids : List SentId) (id message : Data) → IsReply id message → IsOtherId ids (id_read id) → (later : List SentId) (requested : List SentAsk) → value_read (ask_with (ids ++ later)) requested message ≡ None
+no_answer_to ids id message (no_method, has_id) own later requested =
+    ap (λ b. cond b (notice_understood message) (answer_read (ask_with (ids ++ later)) requested message)) no_method
+    ∙ ap (λ o. option_and_then (answer_to requested message) (option_and_then (ask_with (ids ++ later)) o)) has_id
+    ∙ go (id_read id) own
+  where
+    go : (o : Option Id) → IsOtherId ids o → option_and_then (answer_to requested message) (option_and_then (λ ask. ask) (option_and_then (sent_with (ids ++ later)) o)) ≡ None
+    go None h = refl
+    go (Some i) h = ap (λ x. option_and_then (answer_to requested message) (option_and_then (λ ask. ask) x)) (sent_still ids later i None h)
+
+record OtherServed (ids : List SentId) (requested : List SentAsk) (before after : ServerState) (sent : List (List ℕ)) : Type 0 where
   same : after ≡ before
   said : List (Option ToEditor)
   none : without_others said ≡ []
-  means : EachMeans requested said sent
+  means : EachMeans ids requested said sent
 
-no_reply : (requested : List SentAsk) (before after : ServerState) (sent : List (List ℕ)) → after ≡ before → sent ≡ [] → OtherServed requested before after sent
-no_reply requested before after sent same none = record { same = same; said = []; none = refl; means = subst (EachMeans requested []) (sym none) tt }
+module _ (ids : List SentId) (requested : List SentAsk) (before after : ServerState) (sent : List (List ℕ)) where
+  no_reply : after ≡ before → sent ≡ [] → OtherServed ids requested before after sent
+  no_reply same none = record { same = same; said = []; none = refl; means = subst (EachMeans ids requested []) (sym none) tt }
 
-one_reply : (requested : List SentAsk) (before after : ServerState) (sent : List (List ℕ)) (message : Data) → after ≡ before → Sends message sent → ((more : List SentAsk) → BringsNothing (value_understood (requested ++ more) message)) → OtherServed requested before after sent
-one_reply requested before after sent message same (content, is, writes) brings =
-    record {
-      same = same;
-      said = None ∷ [];
-      none = refl;
-      means = subst (EachMeans requested (None ∷ [])) (sym is) (λ more. subst BringsNothing (sym (understood_as (requested ++ more) content message writes.reads)) (brings more), tt);
-    }
+  -- it sends a reply to this request
+  abbrev Replied : Data → Type 0
+  Replied id = (message : Data) × Sends message sent × IsReply id message
 
--- an answer with this id, where that is the number of no ask, and without edits
-no_answer_to : (requested : List SentAsk) (id message : Data) → is_some (get (codes "method") message) ≡ false → get (codes "id") message ≡ Some id → edits_for no_ask.ask message ≡ [] → IsOwnNumber requested (request_number id)
-    → (more : List SentAsk) → BringsNothing (value_understood (requested ++ more) message)
-no_answer_to requested id message no_method has_id no_edits own more =
-    subst BringsNothing
-    (sym (ap (λ b. cond b (option_and_then publication_understood (get (codes "params") message)) (answer_understood (requested ++ more) message)) no_method
-    ∙ ap (λ o. option_and_then (answer_to (requested ++ more) message) (option_and_then request_number o)) has_id))
-    (go (request_number id) own)
-  where
-    go : (o : Option ℕ) → IsOwnNumber requested o → BringsNothing (option_and_then (answer_to (requested ++ more) message) o)
-    go None h = inl refl
-    go (Some zero) h = inl refl
-    go (Some (suc k)) h =
-        inr (suc k, ap (option_map (λ (a : SentAsk). answers (suc k) (edits_for a.ask message))) (numbered_push requested more (suc k) no_ask h) ∙ ap (λ edits. Some (answers (suc k) edits)) no_edits)
+  one_reply : (id : Data) → IsOtherId ids (id_read id) → after ≡ before → Replied id → OtherServed ids requested before after sent
+  one_reply id own same (message, (content, is, writes), reply) =
+      record {
+        same = same;
+        said = None ∷ [];
+        none = refl;
+        means = subst (EachMeans ids requested (None ∷ [])) (sym is)
+            (λ later all. read_as (ask_with (ids ++ later)) all content message writes.reads ∙ no_answer_to ids id message reply own later all, tt);
+      }
 
-refused_other : (requested : List SentAsk) (before after : ServerState) (id : Data) (code : _) (said : List ℕ) (sent : List (List ℕ)) → after ≡ before → Sends (error_message id code said) sent → IsOwnNumber requested (request_number id) → OtherServed requested before after sent
-refused_other requested before after id code said sent same sends own =
-    one_reply requested before after sent (error_message id code said) same sends (no_answer_to requested id (error_message id code said) refl refl refl own)
+  refused_other : (id : Data) (code : ℤ) (why : List ℕ) → IsOtherId ids (id_read id) → after ≡ before → Sends (error_message id code why) sent → OtherServed ids requested before after sent
+  refused_other id code why own same sends = one_reply id own same (error_message id code why, sends, (refl, refl))
 
--- a value that answers a question has no edits
-name_brings : (unit : Unit) (text : List ℕ) (at : At) (question : NameQuestion) (value : Data) → AnswersName unit text at question value → workspace_items value ≡ None
-name_brings unit text at question value (inr (unfit, is)) = ap workspace_items is ∙ go question
-  where
-    go : (q : NameQuestion) → workspace_items (no_answer q) ≡ None
-    go hover_asked = refl
-    go definition_asked = refl
-    go (references_asked include) = refl
-    go renaming_asked = refl
-name_brings unit text at hover_asked value (inl (names, fits, is)) = ap workspace_items is ∙ go _
-  where
-    go : (o : _) → workspace_items (value_or_null (option_map (hover_at unit text) o)) ≡ None
-    go None = refl
-    go (Some x) = refl
-name_brings unit text at definition_asked value (inl (names, fits, is)) = ap workspace_items is ∙ go _
-  where
-    go : (o : _) → workspace_items (value_or_null (option_map (location_at unit at.uri text) o)) ≡ None
-    go None = refl
-    go (Some x) = refl
-name_brings unit text at (references_asked include) value (inl (names, fits, (spans, are, is))) = ap workspace_items is
-name_brings unit text at renaming_asked value (inl (names, fits, is)) = ap workspace_items is ∙ go _
-  where
-    go : (o : _) → workspace_items (value_or_null (option_map (range_at unit text) o)) ≡ None
-    go None = refl
-    go (Some x) = refl
+  -- a request about a document
+  about_served : (id : Data) (say : ℤ → List ℕ → Reply) → IsOtherId ids (id_read id) → ((version : ℤ) (text : List ℕ) → SaysReply (say version text) sent → Replied id) → (o : Option Document)
+      → after ≡ (answers_about before id o say).after → SaysReply (answers_about before id o say).say sent → OtherServed ids requested before after sent
+  about_served id say own in_step None same saying = refused_other id (minus 32803) (codes "unopened") own same saying
+  about_served id say own in_step (Some OutOfStep) same saying = refused_other id (minus 32803) (codes "out of step") own same saying
+  about_served id say own in_step (Some (InStep version text)) same saying = one_reply id own same (in_step version text saying)
 
-name_served : (requested : List SentAsk) (before after : ServerState) (id : Data) (at : At) (question : NameQuestion) (sent : List (List ℕ)) → IsOwnNumber requested (request_number id) → (o : Option Document)
-    → after ≡ (answers_about before id o (λ version. answers_name before.held.unit id at question)).after → SaysReply (answers_about before id o (λ version. answers_name before.held.unit id at question)).say sent → OtherServed requested before after sent
-name_served requested before after id at question sent own None same saying = refused_other requested before after id (minus 32803) (codes "unopened") sent same saying own
-name_served requested before after id at question sent own (Some OutOfStep) same saying = refused_other requested before after id (minus 32803) (codes "out of step") sent same saying own
-name_served requested before after id at question sent own (Some (InStep version text)) same (value, answers_it, sends) =
-    one_reply requested before after sent (result_message id value) same sends
-    (no_answer_to requested id (result_message id value) refl refl (ap (λ o. unwrap_or (option_and_then edits_in o) []) (name_brings before.held.unit text at question value answers_it)) own)
+  named_replied : (unit : Unit) (id : Data) (at : At) (question : NameQuestion) (text : List ℕ) → SaysReply (answers_name unit id at question text) sent → Replied id
+  named_replied unit id at question text (value, answers_it, sends) = (result_message id value, sends, (refl, refl))
 
-actions_served : (requested : List SentAsk) (before after : ServerState) (id : Data) (uri : List ℕ) (range : Range) (only : Option (List (List ℕ))) (sent : List (List ℕ)) → IsOwnNumber requested (request_number id) → (o : Option Document)
-    → after ≡ (answers_about before id o (λ version. offers_actions before.held.unit (record { id = id; client = before.client; uri = uri; version = version; range = range; only = only }))).after
-    → SaysReply (answers_about before id o (λ version. offers_actions before.held.unit (record { id = id; client = before.client; uri = uri; version = version; range = range; only = only }))).say sent → OtherServed requested before after sent
-actions_served requested before after id uri range only sent own None same saying = refused_other requested before after id (minus 32803) (codes "unopened") sent same saying own
-actions_served requested before after id uri range only sent own (Some OutOfStep) same saying = refused_other requested before after id (minus 32803) (codes "out of step") sent same saying own
-actions_served requested before after id uri range only sent own (Some (InStep version text)) same (message, (value, how, is), sends) =
-    one_reply requested before after sent (result_message id value) same (subst (λ m. Sends m sent) is sends)
-    (no_answer_to requested id (result_message id value) refl refl (ap (λ o. unwrap_or (option_and_then edits_in o) []) (go how)) own)
-  where
-    asked_so : RequestedActions
-    asked_so = record { id = id; client = before.client; uri = uri; version = version; range = range; only = only }
+  rename_replied : (unit : Unit) (r : RequestedRename) (text : List ℕ) → SaysReply (renames unit r text) sent → Replied r.id
+  rename_replied unit r text (message, inl (edits, found, is), sends) = (result_message r.id (workspace_edit r.client r.at.uri r.version edits), subst (λ m. Sends m sent) is sends, (refl, refl))
+  rename_replied unit r text (message, inr (inl (refusal, why, is)), sends) = (error_message r.id (minus 32803) (refusal_text refusal), subst (λ m. Sends m sent) is sends, (refl, refl))
+  rename_replied unit r text (message, inr (inr (unfit, is)), sends) = (error_message r.id (minus 32803) (codes "ill-typed"), subst (λ m. Sends m sent) is sends, (refl, refl))
 
-    go : ListsActions before.held.unit asked_so text value → workspace_items value ≡ None
-    go (inl h) = ap workspace_items h.listed
-    go (inr (why, listed)) = ap workspace_items listed
+  actions_replied : (unit : Unit) (r : RequestedActions) (text : List ℕ) → SaysReply (offers_actions unit r text) sent → Replied r.id
+  actions_replied unit r text (message, (value, how, is), sends) = (result_message r.id value, subst (λ m. Sends m sent) is sends, (refl, refl))
 
-layout_served : (requested : List SentAsk) (before after : ServerState) (id : Data) (indent : Indent) (sent : List (List ℕ)) → IsOwnNumber requested (request_number id) → (o : Option Document)
-    → after ≡ (answers_about before id o (λ version. lays_out before.held.unit id indent)).after → SaysReply (answers_about before id o (λ version. lays_out before.held.unit id indent)).say sent → OtherServed requested before after sent
-layout_served requested before after id indent sent own None same saying = refused_other requested before after id (minus 32803) (codes "unopened") sent same saying own
-layout_served requested before after id indent sent own (Some OutOfStep) same saying = refused_other requested before after id (minus 32803) (codes "out of step") sent same saying own
-layout_served requested before after id indent sent own (Some (InStep version text)) same (message, how, sends) = go how
-  where
-    go : AnswersFormatting before.held.unit id indent text message → OtherServed requested before after sent
-    go (inl (edits, laid, is)) =
-        one_reply requested before after sent (result_message id (edits_value edits)) same (subst (λ m. Sends m sent) is sends) (no_answer_to requested id (result_message id (edits_value edits)) refl refl refl own)
-    go (inr (inl (long, is))) = refused_other requested before after id (minus 32803) (refusal_text TooLong) sent same (subst (λ m. Sends m sent) is sends) own
-    go (inr (inr (unfit, is))) = refused_other requested before after id (minus 32803) (codes "ill-typed") sent same (subst (λ m. Sends m sent) is sends) own
+  layout_replied : (unit : Unit) (id : Data) (indent : Indent) (text : List ℕ) → SaysReply (lays_out unit id indent text) sent → Replied id
+  layout_replied unit id indent text (message, inl (edits, laid, is), sends) = (result_message id (edits_value edits), subst (λ m. Sends m sent) is sends, (refl, refl))
+  layout_replied unit id indent text (message, inr (inl (long, is)), sends) = (error_message id (minus 32803) (refusal_text TooLong), subst (λ m. Sends m sent) is sends, (refl, refl))
+  layout_replied unit id indent text (message, inr (inr (unfit, is)), sends) = (error_message id (minus 32803) (codes "ill-typed"), subst (λ m. Sends m sent) is sends, (refl, refl))
 
-question_served : (requested : List SentAsk) (before after : ServerState) (id : Data) (sent : List (List ℕ)) → IsOwnNumber requested (request_number id) → (q : Result ClientRequest RpcFault) → IsQuestion q
-    → after ≡ (answer_request before id q).after → SaysReply (answer_request before id q).say sent → OtherServed requested before after sent
-question_served requested before after id sent own (Ok (asked.initialize client)) h same saying = absurd h
-question_served requested before after id sent own (Ok asked.shutdown) h same saying = absurd h
-question_served requested before after id sent own (Ok (asked.hover at)) h same saying = name_served requested before after id at hover_asked sent own (document_at before.held at.uri) same saying
-question_served requested before after id sent own (Ok (asked.definition at)) h same saying = name_served requested before after id at definition_asked sent own (document_at before.held at.uri) same saying
-question_served requested before after id sent own (Ok (asked.references at include)) h same saying = name_served requested before after id at (references_asked include) sent own (document_at before.held at.uri) same saying
-question_served requested before after id sent own (Ok (asked.prepare_rename at)) h same saying = name_served requested before after id at renaming_asked sent own (document_at before.held at.uri) same saying
-question_served requested before after id sent own (Ok (asked.rename at name)) h same saying = absurd h
-question_served requested before after id sent own (Ok (asked.code_action uri range only)) h same saying = actions_served requested before after id uri range only sent own (document_at before.held uri) same saying
-question_served requested before after id sent own (Ok (asked.formatting uri indent)) h same saying = layout_served requested before after id indent sent own (document_at before.held uri) same saying
-question_served requested before after id sent own (Err fault) h same saying = refused_other requested before after id (error_code fault) (error_text fault) sent same saying own
+  -- a question about the name at a position
+  name_served : (id : Data) (at : At) (question : NameQuestion) → IsOtherId ids (id_read id) → after ≡ (requests_name before id at question).after → SaysReply (requests_name before id at question).say sent → OtherServed ids requested before after sent
+  name_served id at question own same saying =
+      about_served id (λ version. answers_name before.held.unit id at question) own (λ version text. named_replied before.held.unit id at question text) (document_at before.held at.uri) same saying
 
-message_served : (requested : List SentAsk) (before after : ServerState) (sent : List (List ℕ)) → IsRunning before → (m : MessageMeaning) → IsOtherMessage requested m → after ≡ (react before m).after → SaysReply (react before m).say sent → OtherServed requested before after sent
-message_served requested before after sent running not_json h same saying = absurd h
-message_served requested before after sent running not_a_message h same saying = absurd h
-message_served requested before after sent running response h same saying = no_reply requested before after sent same saying
-message_served requested before after sent running (request id method params) (first, question, own) same saying =
-    let so : react before (request id method params) ≡ answer_method before id method params =
-    ap (λ phase. react_to_request phase before id method params) running.0
-    ∙ ap (λ b. cond b (refuses before id (minus 32600) (codes "already initialized")) (answer_method before id method params)) first in
-    question_served requested before after id sent own (request_by_method method params) question
-    (same ∙ ap (λ (x : Reaction). x.after) so) (subst (λ (x : Reaction). SaysReply x.say sent) so saying)
-message_served requested before after sent running (notice method params) h same saying =
-    let so : react before (notice method params) ≡ apply_notification before other =
-    ap (λ phase. react_to_notification phase before method params) running.0 ∙ ap (apply_notification before) h in
-    no_reply requested before after sent (same ∙ ap (λ (x : Reaction). x.after) so) (subst (λ (x : Reaction). SaysReply x.say sent) so saying)
+  question_served : (id : Data) → IsOtherId ids (id_read id) → (q : Result ClientRequest RpcFault) → IsQuestion q → after ≡ (answer_request before id q).after → SaysReply (answer_request before id q).say sent → OtherServed ids requested before after sent
+  question_served id own (Ok (asked.initialize client)) h same saying = absurd h
+  question_served id own (Ok asked.shutdown) h same saying = absurd h
+  question_served id own (Ok (asked.hover at)) h same saying = name_served id at hover_asked own same saying
+  question_served id own (Ok (asked.definition at)) h same saying = name_served id at definition_asked own same saying
+  question_served id own (Ok (asked.references at include)) h same saying = name_served id at (references_asked include) own same saying
+  question_served id own (Ok (asked.prepare_rename at)) h same saying = name_served id at renaming_asked own same saying
+  question_served id own (Ok (asked.rename at name)) h same saying =
+      about_served id (λ version. renames before.held.unit (record { id = id; client = before.client; at = at; version = version; new = name })) own
+      (λ version text. rename_replied before.held.unit (record { id = id; client = before.client; at = at; version = version; new = name }) text) (document_at before.held at.uri) same saying
+  question_served id own (Ok (asked.code_action uri range only)) h same saying =
+      about_served id (λ version. offers_actions before.held.unit (record { id = id; client = before.client; uri = uri; version = version; range = range; only = only })) own
+      (λ version text. actions_replied before.held.unit (record { id = id; client = before.client; uri = uri; version = version; range = range; only = only }) text) (document_at before.held uri) same saying
+  question_served id own (Ok (asked.formatting uri indent)) h same saying =
+      about_served id (λ version. lays_out before.held.unit id indent) own (λ version text. layout_replied before.held.unit id indent text) (document_at before.held uri) same saying
+  question_served id own (Err fault) h same saying = refused_other id (error_code fault) (error_text fault) own same saying
 
-other_served : (requested : List SentAsk) (before after : ServerState) (content : List ℕ) (sent : List (List ℕ)) → IsRunning before → IsOther requested content → Answers before content sent after → OtherServed requested before after sent
-other_served requested before after content sent running (json, reads_so, is) h =
-    let answer = reacts_so before after content sent json (going_on before after content sent running h) reads_so in
-    message_served requested before after sent running (meaning_of json) is answer.0 answer.1
+  message_served : before.phase ≡ Running → (m : MessageMeaning) → IsOtherMessage ids m → after ≡ (react before m).after → SaysReply (react before m).say sent → OtherServed ids requested before after sent
+  message_served running not_json h same saying = absurd h
+  message_served running not_a_message h same saying = absurd h
+  message_served running response h same saying = no_reply same saying
+  message_served running (request id method params) (first, question, own) same saying =
+      let so : react before (request id method params) ≡ answer_method before id method params =
+      ap (λ phase. react_to_request phase before id method params) running
+      ∙ ap (λ b. cond b (refuses before id (minus 32600) (codes "already initialized")) (answer_method before id method params)) first in
+      question_served id own (request_by_method method params) question
+      (same ∙ ap (λ (x : Reaction). x.after) so) (subst (λ (x : Reaction). SaysReply x.say sent) so saying)
+  message_served running (notice method params) h same saying =
+      let so : react before (notice method params) ≡ apply_notification before other =
+      ap (λ phase. react_to_notification phase before method params) running ∙ ap (apply_notification before) h in
+      no_reply (same ∙ ap (λ (x : Reaction). x.after) so) (subst (λ (x : Reaction). SaysReply x.say sent) so saying)
+
+  other_served : (content : List ℕ) → before.phase ≡ Running → IsOther ids content → Answers before content sent after → OtherServed ids requested before after sent
+  other_served content running (json, reads_so, is) h =
+      let answer = reacts_so before after content sent json (going_on before after content sent running h) reads_so in
+      message_served running (meaning_of json) is answer.0 answer.1
 
 -- ---- diagnostics
 
 -- what is published is understood whatever was asked
-answer_published : (requested : List SentAsk) (d : Data) → with_version (answer_understood requested d) ≡ []
-answer_published requested d = go (option_and_then request_number (get (codes "id") d))
+answer_published : (number_of : Data → Option ℕ) (requested : List SentAsk) (d : Data) → with_version (answer_read number_of requested d) ≡ []
+answer_published number_of requested d = go (option_and_then number_of (get (codes "id") d))
   where
     at : (k : ℕ) (o : Option SentAsk) → with_version (option_map (λ (a : SentAsk). answers k (edits_for a.ask d)) o) ≡ []
     at k None = refl
@@ -288,35 +298,31 @@ answer_published requested d = go (option_and_then request_number (get (codes "i
     go None = refl
     go (Some k) = at k (request_numbered requested k)
 
-any_published : (requested : List SentAsk) (content : List ℕ) → with_version (understood requested content) ≡ with_version (understood [] content)
-unfolding understood
-any_published requested content = go (is_utf8 content) (read content)
+any_published : (number_of : Data → Option ℕ) (requested : List SentAsk) (content : List ℕ) → with_version (read_so number_of requested content) ≡ with_version (understood [] content)
+unfolding read_so
+any_published number_of requested content = go (is_utf8 content) (read content)
   where
-    value : (d : Data) (b : Bool) → with_version (cond b (option_and_then publication_understood (get (codes "params") d)) (answer_understood requested d)) ≡ with_version (cond b (option_and_then publication_understood (get (codes "params") d)) (answer_understood [] d))
+    value : (d : Data) (b : Bool) → with_version (cond b (notice_understood d) (answer_read number_of requested d)) ≡ with_version (cond b (notice_understood d) (answer_read request_number [] d))
     value d true = refl
-    value d false = answer_published requested d ∙ sym (answer_published [] d)
+    value d false = answer_published number_of requested d ∙ sym (answer_published request_number [] d)
 
-    go : (b : Bool) (o : Option Data) → with_version (cond b (option_and_then (value_understood requested) o) None) ≡ with_version (cond b (option_and_then (value_understood []) o) None)
+    go : (b : Bool) (o : Option Data) → with_version (cond b (option_and_then (value_read number_of requested) o) None) ≡ with_version (cond b (option_and_then (value_read request_number []) o) None)
     go false o = refl
     go true None = refl
     go true (Some d) = value d (is_some (get (codes "method") d))
-
-nothing_published : (o : Option ToEditor) → BringsNothing o → with_version o ≡ []
-nothing_published o (inl none) = ap with_version none
-nothing_published o (inr (k, none)) = ap with_version none
 
 abbrev versions : List (Option ToEditor) → List Published
 versions [] = []
 versions (o ∷ r) = with_version o ++ versions r
 
-means_published : (requested : List SentAsk) (r : List (Option ToEditor)) (contents : List (List ℕ)) → EachMeans requested r contents → published_in contents ≡ versions r
-means_published requested [] [] h = refl
-means_published requested (Some m ∷ r) (c ∷ contents) h = λ i. (sym (any_published requested c) ∙ ap with_version h.0) i ++ means_published requested r contents h.1 i
-means_published requested (None ∷ r) (c ∷ contents) h =
-    λ i. (sym (any_published (requested ++ []) c) ∙ nothing_published (understood (requested ++ []) c) (h.0 [])) i ++ means_published requested r contents h.1 i
-means_published requested [] (c ∷ contents) h = absurd h
-means_published requested (Some m ∷ r) [] h = absurd h
-means_published requested (None ∷ r) [] h = absurd h
+means_published : (ids : List SentId) (requested : List SentAsk) (r : List (Option ToEditor)) (contents : List (List ℕ)) → EachMeans ids requested r contents → published_in contents ≡ versions r
+means_published ids requested [] [] h = refl
+means_published ids requested (Some m ∷ r) (c ∷ contents) h = λ i. (sym (any_published (ask_with ids) requested c) ∙ ap with_version h.0) i ++ means_published ids requested r contents h.1 i
+means_published ids requested (None ∷ r) (c ∷ contents) h =
+    λ i. (sym (any_published (ask_with (ids ++ [])) requested c) ∙ ap with_version (h.0 [] requested)) i ++ means_published ids requested r contents h.1 i
+means_published ids requested [] (c ∷ contents) h = absurd h
+means_published ids requested (Some m ∷ r) [] h = absurd h
+means_published ids requested (None ∷ r) [] h = absurd h
 
 published_append : (xs ys : List (List ℕ)) → published_in (xs ++ ys) ≡ published_in xs ++ published_in ys
 published_append [] ys = refl
@@ -371,22 +377,17 @@ shown_got got rest content wire made waits h =
 
 -- ---- what is replied to asks and notifications
 
-inline_replied : (how : Inlining) (requested : List SentAsk) (k : ℕ) (uri : List ℕ) (position : Position) (before after : ServerState) (content : List ℕ) (sent : List (List ℕ)) → IsRunning before → IsActionsRequest k uri position content
-    → IsAsk requested k uri (inlining_at how position) → Answers before content sent after → Served requested (requests k uri (inlining_at how position)) before after sent
-inline_replied how requested k uri position before after content sent running is of h =
-    let answer = reacts_so before after content sent is.json (going_on before after content sent running h) is.reads in
-    let id : Data = number (unsigned k) in
-    let so : react before (meaning_of is.json) ≡ answer_method before id (codes "textDocument/codeAction") is.params =
-    ap (react before) is.means ∙ ap (λ phase. react_to_request phase before id (codes "textDocument/codeAction") is.params) running.0 in
-    inline_served how requested k uri position is.range is.only is.params before after sent running of is.allowed (place_of_range is.range position is.from is.ordered) is.calls
-    (answer.0 ∙ ap (λ (x : Reaction). x.after) so) (subst (λ (x : Reaction). SaysReply x.say sent) so answer.1)
-
-session_served : (requested : List SentAsk) (m : ToServer) (before after : ServerState) (content : List ℕ) (sent : List (List ℕ)) → IsRunning before → SaysToSession requested m content → Answers before content sent after → Served requested m before after sent
-session_served requested (notifies note) before after content sent running h answered = served requested (notifies note) before after content sent running h answered
-session_served requested (requests k uri (rename position name)) before after content sent running h answered = served requested (requests k uri (rename position name)) before after content sent running h answered
-session_served requested (requests k uri (inline_here position)) before after content sent running h answered = inline_replied Here requested k uri position before after content sent running h.0 h.1 answered
-session_served requested (requests k uri (inline_all position)) before after content sent running h answered = inline_replied Everywhere requested k uri position before after content sent running h.0 h.1 answered
-session_served requested (requests k uri (format indent)) before after content sent running h answered = served requested (requests k uri (format indent)) before after content sent running h answered
+session_served : (ids : List SentId) (requested : List SentAsk) (m : ToServer) (before after : ServerState) (content : List ℕ) (sent : List (List ℕ)) → before.phase ≡ Running → SaysToSession before.client ids requested m content → Answers before content sent after
+    → Served (ask_with ids) requested m before after sent
+session_served ids requested (notifies note) before after content sent running is answered = note_answered (ask_with ids) requested note before after content sent running is answered
+session_served ids requested (requests k uri (rename position name)) before after content sent running (id, is, of, takes) answered =
+    ask_answered (ask_with ids) requested id k uri (rename position name) before after content sent running takes of.numbered of.is is answered
+session_served ids requested (requests k uri (inline_here position)) before after content sent running (id, is, of, takes) answered =
+    actions_answered (ask_with ids) requested Here id k uri position before after content sent running takes of.numbered of.is is answered
+session_served ids requested (requests k uri (inline_all position)) before after content sent running (id, is, of, takes) answered =
+    actions_answered (ask_with ids) requested Everywhere id k uri position before after content sent running takes of.numbered of.is is answered
+session_served ids requested (requests k uri (format indent)) before after content sent running (id, is, of, takes) answered =
+    ask_answered (ask_with ids) requested id k uri (format indent) before after content sent running takes of.numbered of.is is answered
 
 -- ---- turn by turn
 
@@ -404,9 +405,9 @@ model_of x q r made =
     }
 
 record Tied (got : List (List ℕ)) (x : Exchange) (q : List (Option ToServer)) (r : List (Option ToEditor)) (made : List Made) : Type 0 where
-  says : EachSays x.editor.requested q x.wire.to_server
-  means : EachMeans x.editor.requested r x.wire.to_editor
-  running : IsRunning x.wire.session
+  says : EachSays x.wire.session.client x.ids x.editor.requested q x.wire.to_server
+  means : EachMeans x.ids x.editor.requested r x.wire.to_editor
+  running : x.wire.session.phase ≡ Running
   conversed : Conversed x.wire
   shown : Shown got x.wire made
 
@@ -419,8 +420,11 @@ record Step (got : List (List ℕ)) (w : EditorAndServer) (turn : Turn) (y : Exc
 
 module _ (got : List (List ℕ)) (x : Exchange) (made : List Made) where
   does_step : (q : List (Option ToServer)) (r : List (Option ToEditor)) (move : Move) (y : Exchange) → Tied got x q r made → Exchanges x (editor_does move) y → Step got (model_of x q r made) (editor_does move) y
-  does_step q r move y tied (done, announced, contents, may, say, is) =
+  does_step q r move y tied (done, announced, ids, contents, may, names, say, is) =
+      let client : Client = x.wire.session.client in
+      let known : List SentAsk = x.editor.requested in
       let more : AsksMore x.editor done = asks_more x.editor move done announced may in
+      let later : (later : List SentId) × (ids ≡ x.ids ++ later) = names_more x.ids done.sent ids names in
       subst (Step got (model_of x q r made) (editor_does move)) (sym is)
       (record {
         q = q ++ map Some done.sent;
@@ -428,28 +432,37 @@ module _ (got : List (List ℕ)) (x : Exchange) (made : List Made) where
         made = made;
         happens = (done, announced, may, refl);
         tied = record {
-          says = says_append done.editor.requested q (map Some done.sent) x.wire.to_server contents
-              (subst (λ asks. EachSays asks q x.wire.to_server) (sym more.1) (says_on x.editor.requested more.0 q x.wire.to_server tied.says))
+          says = says_append client ids done.editor.requested q (map Some done.sent) x.wire.to_server contents
+              (subst (λ asks. EachSays client ids asks q x.wire.to_server) (sym more.1)
+              (subst (λ all. EachSays client all (known ++ more.0) q x.wire.to_server) (sym later.1) (says_on client x.ids later.0 known more.0 q x.wire.to_server tied.says)))
               say;
-          means = subst (λ asks. EachMeans asks r x.wire.to_editor) (sym more.1) (means_on x.editor.requested more.0 r x.wire.to_editor tied.means);
+          means = subst (λ asks. EachMeans ids asks r x.wire.to_editor) (sym more.1)
+              (subst (λ all. EachMeans all (known ++ more.0) r x.wire.to_editor) (sym later.1) (means_on client x.ids later.0 known more.0 r x.wire.to_editor tied.means));
           running = tied.running;
           conversed = written_conversed x.wire contents tied.conversed;
           shown = shown_written got contents x.wire made tied.shown;
         };
       })
 
-  says_step : (q : List (Option ToServer)) (r : List (Option ToEditor)) (numbers : ℕ) (y : Exchange) → Tied got x q r made → Exchanges x (editor_says numbers) y → Step got (model_of x q r made) (editor_says numbers) y
-  says_step q r numbers y tied (content, is_other, is) =
-      let more : List SentAsk = replicate numbers no_ask in
-      subst (Step got (model_of x q r made) (editor_says numbers)) (sym is)
+  says_step : (q : List (Option ToServer)) (r : List (Option ToEditor)) (y : Exchange) → Tied got x q r made → Exchanges x editor_says y → Step got (model_of x q r made) editor_says y
+  says_step q r y tied (id, content, is_other, is) =
+      let client : Client = x.wire.session.client in
+      let known : List SentAsk = x.editor.requested in
+      let ids : List SentId = with_other x.ids id in
+      let later : (later : List SentId) × (ids ≡ x.ids ++ later) = others_more x.ids id in
+      subst (Step got (model_of x q r made) editor_says) (sym is)
       (record {
         q = q ++ None ∷ [];
         r = r;
         made = made;
         happens = refl;
         tied = record {
-          says = says_append (x.editor.requested ++ more) q (None ∷ []) x.wire.to_server (content ∷ []) (says_on x.editor.requested more q x.wire.to_server tied.says) (is_other, tt);
-          means = means_on x.editor.requested more r x.wire.to_editor tied.means;
+          says = says_append client ids known q (None ∷ []) x.wire.to_server (content ∷ [])
+              (subst (λ asks. EachSays client ids asks q x.wire.to_server) (append-nil known)
+              (subst (λ all. EachSays client all (known ++ []) q x.wire.to_server) (sym later.1) (says_on client x.ids later.0 known [] q x.wire.to_server tied.says)))
+              (is_other, tt);
+          means = subst (λ asks. EachMeans ids asks r x.wire.to_editor) (append-nil known)
+              (subst (λ all. EachMeans all (known ++ []) r x.wire.to_editor) (sym later.1) (means_on client x.ids later.0 known [] r x.wire.to_editor tied.means));
           running = tied.running;
           conversed = written_conversed x.wire (content ∷ []) tied.conversed;
           shown = shown_written got (content ∷ []) x.wire made tied.shown;
@@ -466,11 +479,13 @@ module _ (got : List (List ℕ)) (x : Exchange) (made : List Made) where
         tied = subst (λ v. Tied got (record x { wire = v }) [] r made) (sym is) tied;
       }
   serve_step (Some m ∷ q) r (c ∷ rest) wire waits tied (after, sent, answered, is) =
-      let says : EachSays x.editor.requested (Some m ∷ q) (c ∷ rest) = subst (EachSays x.editor.requested (Some m ∷ q)) waits tied.says in
-      let s : Served x.editor.requested m x.wire.session after sent = session_served x.editor.requested m x.wire.session after c sent tied.running says.0 answered in
+      let client : Client = x.wire.session.client in
+      let known : List SentAsk = x.editor.requested in
+      let says : EachSays client x.ids known (Some m ∷ q) (c ∷ rest) = subst (EachSays client x.ids known (Some m ∷ q)) waits tied.says in
+      let s : Served (ask_with x.ids) known m x.wire.session after sent = session_served x.ids known m x.wire.session after c sent tied.running says.0 answered in
       let now : Wire = record x.wire { session = after; taken = x.wire.taken ++ c ∷ []; to_server = rest; to_editor = x.wire.to_editor ++ sent } in
       let more : List Made = option_to_list (made_first after.held s.said) in
-      let means : EachMeans x.editor.requested (map Some s.said) sent = subst (λ ms. EachMeans x.editor.requested (map Some ms) sent) s.heard.all (each_means x.editor.requested sent s.heard.each) in
+      let means : EachMeans x.ids known (map Some s.said) sent = subst (λ ms. EachMeans x.ids known (map Some ms) sent) s.heard.all (each_means client x.ids known sent s.heard.each) in
       let y : Exchange = record x { wire = now } in
       subst (λ v. Step got (model_of x (Some m ∷ q) r made) server_takes (record x { wire = v })) (sym is)
       (record {
@@ -479,17 +494,19 @@ module _ (got : List (List ℕ)) (x : Exchange) (made : List Made) where
         made = made ++ more;
         happens = (s.said, more, s.replies, λ i. record (model_of y q (r ++ map Some s.said) (made ++ more)) { held = s.held i });
         tied = record {
-          says = says.1;
-          means = means_append x.editor.requested r (map Some s.said) x.wire.to_editor sent tied.means means;
-          running = s.running;
+          says = subst (λ c. EachSays c x.ids known q rest) (sym s.client) says.1;
+          means = means_append client x.ids known r (map Some s.said) x.wire.to_editor sent tied.means means;
+          running = s.phase;
           conversed = takes_conversed (c ∷ rest) x.wire now (after, sent, answered, refl) tied.conversed;
           shown = shown_served got sent (x.wire.taken ++ c ∷ []) rest x.wire after made more tied.shown
-              (means_published x.editor.requested (map Some s.said) sent means ∙ replies_named x.wire.session.held m s.said more s.replies);
+              (means_published x.ids known (map Some s.said) sent means ∙ replies_named x.wire.session.held m s.said more s.replies);
         };
       })
   serve_step (None ∷ q) r (c ∷ rest) wire waits tied (after, sent, answered, is) =
-      let says : EachSays x.editor.requested (None ∷ q) (c ∷ rest) = subst (EachSays x.editor.requested (None ∷ q)) waits tied.says in
-      let s : OtherServed x.editor.requested x.wire.session after sent = other_served x.editor.requested x.wire.session after c sent tied.running says.0 answered in
+      let client : Client = x.wire.session.client in
+      let known : List SentAsk = x.editor.requested in
+      let says : EachSays client x.ids known (None ∷ q) (c ∷ rest) = subst (EachSays client x.ids known (None ∷ q)) waits tied.says in
+      let s : OtherServed x.ids known x.wire.session after sent = other_served x.ids known x.wire.session after sent c tied.running says.0 answered in
       let now : Wire = record x.wire { session = after; taken = x.wire.taken ++ c ∷ []; to_server = rest; to_editor = x.wire.to_editor ++ sent } in
       let y : Exchange = record x { wire = now } in
       subst (λ v. Step got (model_of x (None ∷ q) r made) server_takes (record x { wire = v })) (sym is)
@@ -499,34 +516,30 @@ module _ (got : List (List ℕ)) (x : Exchange) (made : List Made) where
         made = made;
         happens = (s.said, s.none, λ i. record (model_of y q (r ++ s.said) made) { held = (s.same i).held });
         tied = record {
-          says = says.1;
-          means = means_append x.editor.requested r s.said x.wire.to_editor sent tied.means s.means;
-          running = subst IsRunning (sym s.same) tied.running;
+          says = subst (λ (v : ServerState). EachSays v.client x.ids known q rest) (sym s.same) says.1;
+          means = means_append client x.ids known r s.said x.wire.to_editor sent tied.means s.means;
+          running = subst (λ (v : ServerState). v.phase ≡ Running) (sym s.same) tied.running;
           conversed = takes_conversed (c ∷ rest) x.wire now (after, sent, answered, refl) tied.conversed;
           shown = subst (Shown got now) (append-nil made)
-              (shown_served got sent (x.wire.taken ++ c ∷ []) rest x.wire after made [] tied.shown (means_published x.editor.requested s.said sent s.means ∙ others_published s.said s.none));
+              (shown_served got sent (x.wire.taken ++ c ∷ []) rest x.wire after made [] tied.shown (means_published x.ids known s.said sent s.means ∙ others_published s.said s.none));
         };
       })
-  serve_step [] r (c ∷ rest) wire waits tied takes = absurd (subst (EachSays x.editor.requested []) waits tied.says)
-  serve_step (Some m ∷ q) r [] wire waits tied takes = absurd (subst (EachSays x.editor.requested (Some m ∷ q)) waits tied.says)
-  serve_step (None ∷ q) r [] wire waits tied takes = absurd (subst (EachSays x.editor.requested (None ∷ q)) waits tied.says)
+  serve_step [] r (c ∷ rest) wire waits tied takes = absurd (subst (EachSays x.wire.session.client x.ids x.editor.requested []) waits tied.says)
+  serve_step (Some m ∷ q) r [] wire waits tied takes = absurd (subst (EachSays x.wire.session.client x.ids x.editor.requested (Some m ∷ q)) waits tied.says)
+  serve_step (None ∷ q) r [] wire waits tied takes = absurd (subst (EachSays x.wire.session.client x.ids x.editor.requested (None ∷ q)) waits tied.says)
 
   reads_asks : (e : Editor) (m : ToEditor) → (reads e m).requested ≡ e.requested
   reads_asks e (publishes uri version empty) = refl
   reads_asks e (answers k []) = refl
   reads_asks e (answers k (edit ∷ edits)) = refl
 
-  reads_nothing : (e : Editor) (o : Option ToEditor) → BringsNothing o → reads_meaning e o ≡ e
-  reads_nothing e o (inl none) = ap (reads_meaning e) none
-  reads_nothing e o (inr (k, none)) = ap (reads_meaning e) none
-
   -- once the editor is this one
-  got_so : (q : List (Option ToServer)) (r rest_meant : List (Option ToEditor)) (content : List ℕ) (rest : List (List ℕ)) (e : Editor) → x.wire.to_editor ≡ content ∷ rest → Tied got x q r made → e.requested ≡ x.editor.requested → EachMeans x.editor.requested rest_meant rest
+  got_so : (q : List (Option ToServer)) (r rest_meant : List (Option ToEditor)) (content : List ℕ) (rest : List (List ℕ)) (e : Editor) → x.wire.to_editor ≡ content ∷ rest → Tied got x q r made → e.requested ≡ x.editor.requested → EachMeans x.ids x.editor.requested rest_meant rest
       → Tied got (record x { editor = e; wire = record x.wire { got = x.wire.got ++ content ∷ []; to_editor = rest } }) q rest_meant made
   got_so q r rest_meant content rest e waits tied same means =
       record {
-        says = subst (λ asks. EachSays asks q x.wire.to_server) (sym same) tied.says;
-        means = subst (λ asks. EachMeans asks rest_meant rest) (sym same) means;
+        says = subst (λ asks. EachSays x.wire.session.client x.ids asks q x.wire.to_server) (sym same) tied.says;
+        means = subst (λ asks. EachMeans x.ids asks rest_meant rest) (sym same) means;
         running = tied.running;
         conversed = gets_conversed (content ∷ rest) x.wire (record x.wire { got = x.wire.got ++ content ∷ []; to_editor = rest }) waits refl tied.conversed;
         shown = shown_got got rest content x.wire made waits tied.shown;
@@ -536,23 +549,23 @@ module _ (got : List (List ℕ)) (x : Exchange) (made : List Made) where
   get_step q [] [] y waits tied is =
       record { q = q; r = []; made = made; happens = ap (λ v. model_of v q [] made) is; tied = subst (λ v. Tied got v q [] made) (sym is) tied }
   get_step q (Some m ∷ r) (c ∷ rest) y waits tied is =
-      let means : EachMeans x.editor.requested (Some m ∷ r) (c ∷ rest) = subst (EachMeans x.editor.requested (Some m ∷ r)) waits tied.means in
+      let means : EachMeans x.ids x.editor.requested (Some m ∷ r) (c ∷ rest) = subst (EachMeans x.ids x.editor.requested (Some m ∷ r)) waits tied.means in
       let now : Wire = record x.wire { got = x.wire.got ++ c ∷ []; to_editor = rest } in
       subst (Step got (model_of x q (Some m ∷ r) made) editor_takes) (sym (is ∙ (λ i. record x { editor = reads_meaning x.editor (means.0 i); wire = now })))
       (record { q = q; r = r; made = made; happens = refl; tied = got_so q (Some m ∷ r) r c rest (reads x.editor m) waits tied (reads_asks x.editor m) means.1 })
   get_step q (None ∷ r) (c ∷ rest) y waits tied is =
-      let means : EachMeans x.editor.requested (None ∷ r) (c ∷ rest) = subst (EachMeans x.editor.requested (None ∷ r)) waits tied.means in
+      let means : EachMeans x.ids x.editor.requested (None ∷ r) (c ∷ rest) = subst (EachMeans x.ids x.editor.requested (None ∷ r)) waits tied.means in
       let now : Wire = record x.wire { got = x.wire.got ++ c ∷ []; to_editor = rest } in
-      let none : BringsNothing (understood x.editor.requested c) = subst (λ asks. BringsNothing (understood asks c)) (append-nil x.editor.requested) (means.0 []) in
-      subst (Step got (model_of x q (None ∷ r) made) editor_takes) (sym (is ∙ (λ i. record x { editor = reads_nothing x.editor (understood x.editor.requested c) none i; wire = now })))
+      let none : read_by x.ids x.editor.requested c ≡ None = subst (λ all. read_by all x.editor.requested c ≡ None) (append-nil x.ids) (means.0 [] x.editor.requested) in
+      subst (Step got (model_of x q (None ∷ r) made) editor_takes) (sym (is ∙ (λ i. record x { editor = reads_meaning x.editor (none i); wire = now })))
       (record { q = q; r = r; made = made; happens = refl; tied = got_so q (None ∷ r) r c rest x.editor waits tied refl means.1 })
-  get_step q [] (c ∷ rest) y waits tied is = absurd (subst (EachMeans x.editor.requested []) waits tied.means)
-  get_step q (Some m ∷ r) [] y waits tied is = absurd (subst (EachMeans x.editor.requested (Some m ∷ r)) waits tied.means)
-  get_step q (None ∷ r) [] y waits tied is = absurd (subst (EachMeans x.editor.requested (None ∷ r)) waits tied.means)
+  get_step q [] (c ∷ rest) y waits tied is = absurd (subst (EachMeans x.ids x.editor.requested []) waits tied.means)
+  get_step q (Some m ∷ r) [] y waits tied is = absurd (subst (EachMeans x.ids x.editor.requested (Some m ∷ r)) waits tied.means)
+  get_step q (None ∷ r) [] y waits tied is = absurd (subst (EachMeans x.ids x.editor.requested (None ∷ r)) waits tied.means)
 
   turn_step : (q : List (Option ToServer)) (r : List (Option ToEditor)) (turn : Turn) (y : Exchange) → Tied got x q r made → Exchanges x turn y → Step got (model_of x q r made) turn y
   turn_step q r (editor_does move) y tied h = does_step q r move y tied h
-  turn_step q r (editor_says numbers) y tied h = says_step q r numbers y tied h
+  turn_step q r editor_says y tied h = says_step q r y tied h
   turn_step q r server_takes y tied (wire, takes, is) = subst (Step got (model_of x q r made) server_takes) (sym is) (serve_step q r x.wire.to_server wire refl tied takes)
   turn_step q r editor_takes y tied h = get_step q r x.wire.to_editor y refl tied h
 
@@ -579,7 +592,7 @@ begun_led unit begin now turns b leads =
     (record {
       says = tt;
       means = tt;
-      running = (refl, b.takes_versions, b.takes_actions);
+      running = refl;
       conversed = initialized_conversed b.client b.taken b.got b.initialized;
       shown = record { since = []; sent = refl; published = refl };
     }) in
@@ -650,17 +663,17 @@ unfolding heard
 request_unheard content json id params method reads_so means =
     said (λ d. message_read [] (meaning_of d)) content json reads_so ∙ ap (message_read []) means ∙ none_read (request_number id)
 
-ask_unheard : (requested : List SentAsk) (k : ℕ) (uri : List ℕ) (ask : Ask) (content : List ℕ) → SaysToSession requested (requests k uri ask) content → heard [] content ≡ None
-ask_unheard requested k uri (rename position name) content (is, of) = request_unheard content is.json (number (unsigned k)) is.params (codes "textDocument/rename") is.reads is.means
-ask_unheard requested k uri (inline_here position) content (is, of) = request_unheard content is.json (number (unsigned k)) is.params (codes "textDocument/codeAction") is.reads is.means
-ask_unheard requested k uri (inline_all position) content (is, of) = request_unheard content is.json (number (unsigned k)) is.params (codes "textDocument/codeAction") is.reads is.means
-ask_unheard requested k uri (format indent) content (is, of) = request_unheard content is.json (number (unsigned k)) is.params (codes "textDocument/formatting") is.reads is.means
+ask_unheard : (id : Data) (uri : List ℕ) (ask : Ask) (content : List ℕ) → IsRequestFor id uri ask content → heard [] content ≡ None
+ask_unheard id uri (rename position name) content is = request_unheard content is.json id is.params (codes "textDocument/rename") is.reads is.means
+ask_unheard id uri (inline_here position) content is = request_unheard content is.json id is.params (codes "textDocument/codeAction") is.reads is.means
+ask_unheard id uri (inline_all position) content is = request_unheard content is.json id is.params (codes "textDocument/codeAction") is.reads is.means
+ask_unheard id uri (format indent) content is = request_unheard content is.json id is.params (codes "textDocument/formatting") is.reads is.means
 
-other_unheard : (requested : List SentAsk) (content : List ℕ) → IsOther requested content → heard [] content ≡ None
+other_unheard : (ids : List SentId) (content : List ℕ) → IsOther ids content → heard [] content ≡ None
 unfolding heard
-other_unheard requested content (json, reads_so, is) = said (λ d. message_read [] (meaning_of d)) content json reads_so ∙ go (meaning_of json) is
+other_unheard ids content (json, reads_so, is) = said (λ d. message_read [] (meaning_of d)) content json reads_so ∙ go (meaning_of json) is
   where
-    go : (m : MessageMeaning) → IsOtherMessage requested m → message_read [] m ≡ None
+    go : (m : MessageMeaning) → IsOtherMessage ids m → message_read [] m ≡ None
     go not_json is = refl
     go not_a_message is = refl
     go response is = refl
@@ -668,14 +681,14 @@ other_unheard requested content (json, reads_so, is) = said (λ d. message_read 
     go (notice method params) is = ap notification_read is
 
 -- what the contents that wait say about documents is what the model's messages say
-notes_waiting : (requested : List SentAsk) (q : List (Option ToServer)) (contents : List (List ℕ)) → EachSays requested q contents → notes_in contents ≡ notes_among (without_others q)
-notes_waiting requested [] [] h = refl
-notes_waiting requested (Some (notifies note) ∷ q) (c ∷ contents) h = λ i. cons_option (says_heard [] (notifies note) c h.0 i) (notes_waiting requested q contents h.1 i)
-notes_waiting requested (Some (requests k uri ask) ∷ q) (c ∷ contents) h = λ i. cons_option (ask_unheard requested k uri ask c h.0 i) (notes_waiting requested q contents h.1 i)
-notes_waiting requested (None ∷ q) (c ∷ contents) h = λ i. cons_option (other_unheard requested c h.0 i) (notes_waiting requested q contents h.1 i)
-notes_waiting requested [] (c ∷ contents) h = absurd h
-notes_waiting requested (Some m ∷ q) [] h = absurd h
-notes_waiting requested (None ∷ q) [] h = absurd h
+notes_waiting : (client : Client) (ids : List SentId) (requested : List SentAsk) (q : List (Option ToServer)) (contents : List (List ℕ)) → EachSays client ids requested q contents → notes_in contents ≡ notes_among (without_others q)
+notes_waiting client ids requested [] [] h = refl
+notes_waiting client ids requested (Some (notifies note) ∷ q) (c ∷ contents) h = λ i. cons_option (says_heard [] (notifies note) c h.0 i) (notes_waiting client ids requested q contents h.1 i)
+notes_waiting client ids requested (Some (requests k uri ask) ∷ q) (c ∷ contents) ((id, is, of, takes), h) = λ i. cons_option (ask_unheard id uri ask c is i) (notes_waiting client ids requested q contents h i)
+notes_waiting client ids requested (None ∷ q) (c ∷ contents) h = λ i. cons_option (other_unheard ids c h.0 i) (notes_waiting client ids requested q contents h.1 i)
+notes_waiting client ids requested [] (c ∷ contents) h = absurd h
+notes_waiting client ids requested (Some m ∷ q) [] h = absurd h
+notes_waiting client ids requested (None ∷ q) [] h = absurd h
 
 -- requests announce no document, and change none
 notes_named : (q : List ToServer) → named_in q ≡ named_in (notes_among q)
@@ -695,7 +708,7 @@ every_exchange_holds unit begin now turns b leads =
     let holds : HoldsWithEditor w = with_every_editor unit turns w led.leads in
     let shown : Shown begin.wire.got now.wire led.made = led.tied.shown in
     let waiting : List ToServer = without_others led.q in
-    let notes : notes_in now.wire.to_server ≡ notes_among waiting = notes_waiting now.editor.requested led.q now.wire.to_server led.tied.says in
+    let notes : notes_in now.wire.to_server ≡ notes_among waiting = notes_waiting now.wire.session.client now.ids now.editor.requested led.q now.wire.to_server led.tied.says in
     record {
       applied = holds.holds.applied;
       since = shown.since;
@@ -713,4 +726,5 @@ every_exchange_holds unit begin now turns b leads =
       mirrors = λ uri.
           ap (λ held. document_at held uri) (ap (fold after_message now.wire.session.held) notes ∙ notes_change now.wire.session.held waiting) ∙ holds.mirrors uri;
       conversation = as_conversation now.wire led.tied.conversed;
+      ends = λ id shutdown exit is_shutdown is_exit sent end talked. ends_well id now.wire.session shutdown exit sent end led.tied.running is_shutdown is_exit talked;
     }

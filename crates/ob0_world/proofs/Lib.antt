@@ -6,8 +6,9 @@ mod Counting
 mod Courses
 mod Tied
 mod Stepping
-mod Conversing
+pub mod Conversing
 mod Versions
+mod Ending
 mod Exchanges
 mod Exchanged
 mod Places

@@ -7,7 +7,7 @@ use Rattle.std.proofs.lemmas.List.{map-append, length-map, length-append}
 use Rattle.std.proofs.lemmas.List.Elements.{All-nil, All-cons, All-head, All-tail}
 use Rattle.ob0_text.specs.OpenDocuments.{OpenDocuments}
 use Rattle.ob0_session_server.specs.Answers.{ServerState, Answers, AnswersInState}
-use Rattle.ob0_world_editor.specs.Heard.{heard, SaysToServer}
+use Rattle.ob0_world_editor.specs.Heard.{request_number, heard, SaysToServer}
 use Rattle.ob0_world_editor.specs.Understood.{understood}
 use Rattle.ob0_world_editor.specs.declared.applied.Applied as applied
 use Rattle.ob0_world_editor.proofs.Hearing.{says_heard}
@@ -19,7 +19,7 @@ use Rattle.ob0_world.specs.declared.played.Made as made
 use Rattle.ob0_world.specs.Code.{publication_of}
 use Rattle.ob0_world.specs.Queues.{Contents, bytes, all_heard, all_understood, IsHeard, IsUnderstood, Sound, IsRunning, IsRunningOrFailed, model_from, wire_from, made_first, made_for, made_sent}
 use Rattle.ob0_world.specs.Worlds.{GetsFirst, TakesFirst}
-use Rattle.ob0_world.proofs.Answering.{Served, served}
+use Rattle.ob0_world.proofs.Answering.{Served, served, runs_on}
 use Rattle.ob0_world.proofs.Waiting.{said_append, said_first, all_appended}
 
 -- all contents that were sent are understood
@@ -45,15 +45,19 @@ not_failed s s' content sent (inr over) answers = absurd (subst (λ phase. Answe
 pub record Turn (e : Editor) (q rest : Contents) (s s' : ServerState) (content : Vec ℕ Global) (sent : Contents) : Type 0 where
   pub message : ToServer
   pub says : SaysToServer e.requested message content.items
-  pub served_so : Served e.requested message s s' (bytes sent)
+  pub served_so : Served request_number e.requested message s s' (bytes sent)
+  pub running : IsRunning s'
 
 pub turn : (e : Editor) (q rest r : Contents) (s s' : ServerState) (content : Vec ℕ Global) (sent : Contents) → q ≡ content ∷ rest → Sound e.requested q r s → Answers s content.items (bytes sent) s' → Turn e q rest s s' content sent
 turn e q rest r s s' content sent first sound h =
     let heard_first : IsHeard e.requested content = All-head (IsHeard e.requested) content rest (subst (All (IsHeard e.requested)) first sound.heard_all) in
+    let running : IsRunning s = not_failed s s' content.items (bytes sent) sound.running h in
+    let so : Served request_number e.requested heard_first.0 s s' (bytes sent) = served e.requested heard_first.0 s s' content.items (bytes sent) running heard_first.1 h in
     record {
       message = heard_first.0;
       says = heard_first.1;
-      served_so = served e.requested heard_first.0 s s' content.items (bytes sent) (not_failed s s' content.items (bytes sent) sound.running h) heard_first.1 h;
+      served_so = so;
+      running = runs_on e.requested heard_first.0 s s' (bytes sent) running so;
     }
 
 pub rest_sound : (requested : List SentAsk) (q rest r : Contents) (s s' : ServerState) (content : Vec ℕ Global) → q ≡ content ∷ rest → Sound requested q r s → IsRunningOrFailed s' → Sound requested rest r s'
@@ -61,7 +65,7 @@ rest_sound requested q rest r s s' content first sound running =
     record { heard_all = All-tail (IsHeard requested) content rest (subst (All (IsHeard requested)) first sound.heard_all); understood_all = sound.understood_all; running = running }
 
 pub turn_running : (e : Editor) (q rest : Contents) (s s' : ServerState) (content : Vec ℕ Global) (sent : Contents) → Turn e q rest s s' content sent → IsRunningOrFailed s'
-turn_running e q rest s s' content sent t = inl t.served_so.running
+turn_running e q rest s s' content sent t = inl t.running
 
 pub turn_sound : (e : Editor) (q rest r r' : Contents) (s s' : ServerState) (content : Vec ℕ Global) (sent : Contents) (b : Bool) → q ≡ content ∷ rest → Sound e.requested q r s → Turn e q rest s s' content sent → r' ≡ cond b (r ++ sent) r → Sound e.requested rest r' s'
 turn_sound e q rest r r' s s' content sent b first sound t grown =

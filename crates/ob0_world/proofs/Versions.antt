@@ -40,11 +40,11 @@ use Rattle.ob0_world_rules.specs.ClientAndServer.{Open, SentAsk, request_numbere
 use Rattle.ob0_world_rules.specs.Happens.{Event, does, serve, take_message, after_taking, ServerTakes}
 use Rattle.ob0_world_rules.specs.Mirror.{as_open, Mirrors}
 use Rattle.ob0_world_rules.proofs.Acts.{of_each}
-use Rattle.ob0_world_rules.proofs.SameDocument.{numbered_push, slice_get_last}
+use Rattle.ob0_world_rules.proofs.Asked.{numbered_push, slice_get_last}
 use Rattle.ob0_world.specs.Queues.{IsReached, IsRunning}
 use Rattle.ob0_world.specs.Versions.{named_in, named_by_edit, NamesAsked, NamesItsAsk, IsLayout, VersionsAreNamed, VersionsSuffice}
 use Rattle.ob0_world.specs.Worlds.{Wire, Connection, Begins, TakesFirst, GetsFirst, AllSay, IsTied, ConnectionStep, ConnectionCourse}
-use Rattle.ob0_world.proofs.Answering.{reacts_so, request_reaction, served, inlining_at, none_read_back, actions_requested_at}
+use Rattle.ob0_world.proofs.Answering.{reacts_so, request_reaction, served, runs_on, inlining_at, none_read_back, actions_requested_at}
 use Rattle.ob0_world.proofs.Stepping.{reached_start, reached_more, reached_mirrors}
 
 -- ---- what the server holds as it takes a request
@@ -117,7 +117,7 @@ module _ (w : ClientAndServer) (contents : List (List ℕ)) (mirrors : Mirrors w
         opened = λ uri text none. (noted (Opened uri (pos 1) text), named);
         changed = λ uri d how text at made. (noted (Changed uri (pos (d.version + 1)) how), named);
         closed = λ uri d at. (noted (Closed uri), named);
-        asked = λ uri ask d at. asks_now uri ask d at (record { ask = ask; uri = uri; opening = d.opening; version = d.version }) refl;
+        asked = λ uri ask d at. asks_now uri ask d at (record { ask = ask; uri = uri; text = d.text; opening = d.opening; version = d.version }) refl;
         made = λ k edits a d text held numbered same makes. (noted (Changed a.uri (pos (d.version + 1)) (whole_text text ∷ [])), named);
         dropped = λ k. (quiet, named);
       })
@@ -208,11 +208,11 @@ module _ (requested : List SentAsk) (k : ℕ) (uri : List ℕ) (sent : List (Lis
       go (inr (inr (unfit, is))) = refusal_names (rename position name) of (minus 32803) (codes "ill-typed") message sends is
 
   inline_names : (how : Inlining) (position : Position) (of : IsAsk requested k uri (inlining_at how position)) (client : Client) (unit : Unit) (text : List ℕ) → client.takes_document_changes ≡ true
-      → SaysReply (offers_actions unit (actions_requested_at client k uri position (pos of.sent.version)) text) sent → All (NamesItsAsk requested) sent
+      → SaysReply (offers_actions unit (actions_requested_at client (number (unsigned k)) uri position (pos of.sent.version)) text) sent → All (NamesItsAsk requested) sent
   inline_names how position of client unit text takes (message, (value, listed, is), sends) = go listed
     where
       request : RequestedActions
-      request = actions_requested_at client k uri position (pos of.sent.version)
+      request = actions_requested_at client (number (unsigned k)) uri position (pos of.sent.version)
 
       names_edit : (edits : List Edit) → named_by_edit (workspace_edit client uri (pos of.sent.version) edits) ≡ Some (uri, pos of.sent.version)
       names_edit edits = edit_names client uri (pos of.sent.version) edits takes
@@ -251,12 +251,12 @@ module _ (requested : List SentAsk) (k : ℕ) (uri : List ℕ) (sent : List (Lis
       rename_names position name of before.client before.held.unit text running.1 (subst (λ (x : Reaction). SaysReply x.say sent) (so ∙ ap (λ o. answers_about before id o say) holds) saying)
   request_names (inline_here position) of params before text running holds call saying =
       let id : Data = number (unsigned k) in
-      let say : ℤ → List ℕ → Reply = λ version. offers_actions before.held.unit (actions_requested_at before.client k uri position version) in
+      let say : ℤ → List ℕ → Reply = λ version. offers_actions before.held.unit (actions_requested_at before.client (number (unsigned k)) uri position version) in
       let so : answer_method before id (method_of (inline_here position)) params ≡ answers_about before id (document_at before.held uri) say = ap (answer_request before id) call in
       inline_names Here position of before.client before.held.unit text running.1 (subst (λ (x : Reaction). SaysReply x.say sent) (so ∙ ap (λ o. answers_about before id o say) holds) saying)
   request_names (inline_all position) of params before text running holds call saying =
       let id : Data = number (unsigned k) in
-      let say : ℤ → List ℕ → Reply = λ version. offers_actions before.held.unit (actions_requested_at before.client k uri position version) in
+      let say : ℤ → List ℕ → Reply = λ version. offers_actions before.held.unit (actions_requested_at before.client (number (unsigned k)) uri position version) in
       let so : answer_method before id (method_of (inline_all position)) params ≡ answers_about before id (document_at before.held uri) say = ap (answer_request before id) call in
       inline_names Everywhere position of before.client before.held.unit text running.1 (subst (λ (x : Reaction). SaysReply x.say sent) (so ∙ ap (λ o. answers_about before id o say) holds) saying)
   request_names (format indent) of params before text running holds call saying =
@@ -274,7 +274,7 @@ content_names requested (notifies note) before after content sent running is h m
     ap (react before) is.means ∙ ap (λ phase. react_to_notification phase before is.method is.params) running.0 ∙ ap (apply_notification before) is.reported in
     note_names requested note before sent (subst (λ (x : Reaction). SaysReply x.say sent) so answer.1)
 content_names requested (requests k uri ask) before after content sent running (is, of) h (meets, none) =
-    let answer = request_reaction k uri ask before after content sent running is h in
+    let answer = request_reaction (number (unsigned k)) uri ask before after content sent running.0 is h in
     let same : meets.sent ≡ of.sent = same_Some meets.sent of.sent (sym meets.is ∙ of.is) in
     let holds : document_at before.held uri ≡ Some (InStep (pos of.sent.version) meets.text) = subst (λ (a : SentAsk). document_at before.held uri ≡ Some (InStep (pos a.version) meets.text)) same meets.holds in
     request_names requested k uri sent ask of is.params before meets.text running holds is.calls answer.1
@@ -309,7 +309,7 @@ serve_known old new (m ∷ rest) (content ∷ contents) waits (says_this, others
     record {
       reached = reached;
       tied = tied;
-      running = subst IsRunning (sym (ap (λ (x : Wire). x.session) wire_is)) (served r m before after content sent k.running says_this answer).running;
+      running = subst IsRunning (sym (ap (λ (x : Wire). x.session) wire_is)) (runs_on r m before after sent k.running (served r m before after content sent k.running says_this answer));
       asks = subst AsksOf (sym is_new) see.1;
       named = subst (λ (x : ClientAndServer). All (NamesItsAsk x.editor.requested) new.wire.to_editor) (sym is_new)
           (subst (λ (x : Wire). All (NamesItsAsk r) x.to_editor) (sym wire_is) (All-append (NamesItsAsk r) old.wire.to_editor sent k.named names));

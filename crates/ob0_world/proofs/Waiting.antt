@@ -11,43 +11,50 @@ use Rattle.serde_json.specs.Data.{Data}
 use Rattle.serde_json.specs.Find.{get}
 use Rattle.serde_json.specs.Read.{read}
 use Rattle.ob0_world_editor.specs.Heard.{heard, SaysToServer, request_number}
-use Rattle.ob0_world_editor.specs.Understood.{understood, value_understood, answer_understood, answer_to, publication_understood}
+use Rattle.ob0_world_editor.specs.Understood.{understood, notice_understood, answer_read, value_read, read_so, answer_to, edits_for}
 use Rattle.ob0_world_editor.proofs.Hearing.{says_heard}
-use Rattle.ob0_world_rules.specs.ClientAndServer.{SentAsk, request_numbered, ToServer, notifies, requests, ToEditor}
-use Rattle.ob0_world_rules.proofs.SameDocument.{numbered_push}
+use Rattle.ob0_world_rules.specs.ClientAndServer.{SentAsk, request_numbered, ToServer, notifies, requests, ToEditor, answers}
+use Rattle.ob0_world_rules.proofs.Asked.{numbered_push}
 use Rattle.ob0_world.specs.Queues.{Contents, bytes, all_heard, all_understood, IsHeard, IsUnderstood}
 
 -- ---- more asks
+
+-- a content is read the same after further asks, and with other ids for the same asks
+module _ (f g : Data → Option ℕ) (requested more : List SentAsk) (grows : (d : Data) (k : ℕ) (a : SentAsk) → request_numbered requested k ≡ Some a → f d ≡ Some k → g d ≡ Some k) where
+  answer_still : (d : Data) (o : Option Data) (m : ToEditor) → option_and_then (answer_to requested d) (option_and_then f o) ≡ Some m → option_and_then (answer_to (requested ++ more) d) (option_and_then g o) ≡ Some m
+  answer_still d None m h = absurd (none-some m h)
+  answer_still d (Some id) m h = go (f id) refl h
+    where
+      at : (k : ℕ) (o : Option SentAsk) → f id ≡ Some k → request_numbered requested k ≡ o → option_map (λ (a : SentAsk). answers k (edits_for a.ask d)) o ≡ Some m → option_and_then (answer_to (requested ++ more) d) (g id) ≡ Some m
+      at k None named is h = absurd (none-some m h)
+      at k (Some a) named is h =
+          ap (option_and_then (answer_to (requested ++ more) d)) (grows id k a is named)
+          ∙ ap (option_map (λ (a : SentAsk). answers k (edits_for a.ask d))) (numbered_push requested more k a is) ∙ h
+
+      go : (o : Option ℕ) → f id ≡ o → option_and_then (answer_to requested d) o ≡ Some m → option_and_then (answer_to (requested ++ more) d) (g id) ≡ Some m
+      go None named h = absurd (none-some m h)
+      go (Some k) named h = at k (request_numbered requested k) named refl h
+
+  value_still : (d : Data) (b : Bool) (m : ToEditor) → cond b (notice_understood d) (answer_read f requested d) ≡ Some m → cond b (notice_understood d) (answer_read g (requested ++ more) d) ≡ Some m
+  value_still d true m h = h
+  value_still d false m h = answer_still d (get (codes "id") d) m h
+
+  pub read_still : (content : List ℕ) (m : ToEditor) → read_so f requested content ≡ Some m → read_so g (requested ++ more) content ≡ Some m
+  unfolding read_so
+  read_still content m h = go (is_utf8 content) (read content) h
+    where
+      go : (b : Bool) (o : Option Data) → cond b (option_and_then (value_read f requested) o) None ≡ Some m → cond b (option_and_then (value_read g (requested ++ more)) o) None ≡ Some m
+      go false o h = h
+      go true None h = h
+      go true (Some d) h = value_still d (is_some (get (codes "method") d)) m h
 
 module _ (requested more : List SentAsk) where
   pub says_still : (m : ToServer) (content : List ℕ) → SaysToServer requested m content → SaysToServer (requested ++ more) m content
   says_still (notifies note) content is = is
   says_still (requests k uri ask) content (is, of) = (is, record { sent = of.sent; is = numbered_push requested more k of.sent of.is; about = of.about; asks_this = of.asks_this })
 
-  still_answers : {X : Type 0} (f : SentAsk → X) (k : ℕ) (x : X) → option_map f (request_numbered requested k) ≡ Some x → option_map f (request_numbered (requested ++ more) k) ≡ Some x
-  still_answers f k x h = go (request_numbered requested k) refl h
-    where
-      go : (o : Option SentAsk) → request_numbered requested k ≡ o → option_map f o ≡ Some x → option_map f (request_numbered (requested ++ more) k) ≡ Some x
-      go None is h = absurd (none-some x h)
-      go (Some a) is h = ap (option_map f) (numbered_push requested more k a is) ∙ h
-
-  answer_still : (d : Data) (o : Option ℕ) (m : ToEditor) → option_and_then (answer_to requested d) o ≡ Some m → option_and_then (answer_to (requested ++ more) d) o ≡ Some m
-  answer_still d None m h = h
-  answer_still d (Some k) m h = still_answers _ k m h
-
-  value_still : (d : Data) (b : Bool) (m : ToEditor) → cond b (option_and_then publication_understood (get (codes "params") d)) (answer_understood requested d) ≡ Some m
-      → cond b (option_and_then publication_understood (get (codes "params") d)) (answer_understood (requested ++ more) d) ≡ Some m
-  value_still d true m h = h
-  value_still d false m h = answer_still d (option_and_then request_number (get (codes "id") d)) m h
-
   pub understood_still : (content : List ℕ) (m : ToEditor) → understood requested content ≡ Some m → understood (requested ++ more) content ≡ Some m
-  unfolding understood
-  understood_still content m h = go (is_utf8 content) (read content) h
-    where
-      go : (b : Bool) (o : Option Data) → cond b (option_and_then (value_understood requested) o) None ≡ Some m → cond b (option_and_then (value_understood (requested ++ more)) o) None ≡ Some m
-      go false o h = h
-      go true None h = h
-      go true (Some d) h = value_still d (is_some (get (codes "method") d)) m h
+  understood_still content m h = read_still request_number request_number requested more (λ d k a is named. named) content m h
 
   pub all_heard_still : (q : Contents) → All (IsHeard requested) q → All (IsHeard (requested ++ more)) q
   all_heard_still q all = All-weaker (IsHeard requested) (IsHeard (requested ++ more)) (λ c h. (h.0, says_still h.0 c.items h.1)) q all

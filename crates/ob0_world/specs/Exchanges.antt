@@ -1,9 +1,9 @@
--- An editor that keeps ob0's rules, and a session: what passes between them. No server of the model
--- is in it: what the session sends is by the protocol alone (`Answers`).
+-- Defines what an editor that keeps ob0's rules and a session exchange, and states what then holds. The
+-- session is any that the protocol (`Answers`) allows: no server of the model is part of it.
 -- Rule: LSP 3.17; for a law of every editor with a session.
-use Rattle.std.specs.Prelude.{◌≡◌, ◌⊎◌, ◌<◌, ◌≤◌, map, filter_map, ⊤, ℕ, zero, suc, ℤ, pos, List, [], ◌∷◌, ◌++◌, All, fold, Bool, true, false, Option, Some, None, MatchOption, option_map, Result, Ok, Err, if◌then◌else◌, codes}
+use Rattle.std.specs.Prelude.{◌≡◌, ◌⊎◌, ◌<◌, ◌≤◌, ◌==◌, map, filter_map, ⊤, ℕ, ℤ, pos, List, [], ◌∷◌, ◌++◌, All, fold, Bool, true, false, Option, Some, None, MatchOption, option_map, option_and_then, Result, Ok, Err, if◌then◌else◌, codes}
 use Rattle.std.specs.Str.{bytes_eq}
-use Rattle.serde_json.specs.Data.{Data, number, unsigned}
+use Rattle.serde_json.specs.Data.{Data, null, boolean, number, string, array, object, unsigned, negative, float}
 use Rattle.ob0_text.specs.declared.position_types.Position.{Position}
 use Rattle.ob0_text.specs.declared.position_types.Range.{Range}
 use Rattle.ob0_text.specs.declared.position_types.Unit.{Unit}
@@ -12,19 +12,21 @@ use Rattle.ob0_rpc.specs.declared.clients.Client.{Client}
 use Rattle.ob0_rpc.specs.declared.incoming.RpcFault.{RpcFault}
 use Rattle.ob0_rpc.specs.Messages.{ReadsContent, MessageMeaning, not_json, not_a_message, response, request, notice, meaning_of}
 use Rattle.ob0_rpc.specs.Notifications.{other, note_of}
+use Rattle.ob0_rpc.specs.Shapes.{result_message}
 use Rattle.ob0_rpc.specs.Requesting as asked
 use Rattle.ob0_rpc.specs.Requesting.{ClientRequest, request_by_method}
 use Rattle.ob0_session_answers.specs.Actions.{allows_inlining}
 use Rattle.ob0_session_server.specs.Answers as server
-use Rattle.ob0_session_server.specs.Answers.{begins, Conversation}
+use Rattle.ob0_session_server.specs.Answers.{ServerState, begins, Sends, Conversation}
+use Rattle.ob0_session_server.specs.declared.session.Phase.TheVariants.{Ended}
 use Rattle.ob0_session_server.specs.Units.{unit_for}
-use Rattle.ob0_world_editor.specs.Heard.{request_number, heard, IsAsk, SaysToServer}
-use Rattle.ob0_world_editor.specs.Understood.{understood}
-use Rattle.ob0_world_rules.specs.Asks.{rename, inline_here, inline_all, format}
-use Rattle.ob0_world_rules.specs.ClientAndServer.{Open, SentAsk, Editor, new_editor, request_numbered, open_at, ToServer, notifies, requests, ToEditor, publishes, answers, Applied, after_message}
+use Rattle.ob0_world_editor.specs.Heard.{heard, IsNote, IsRequestWithId, IsAsk}
+use Rattle.ob0_world_editor.specs.Understood.{understood, read_so}
+use Rattle.ob0_world_rules.specs.Asks.{Ask, rename, inline_here, inline_all, format}
+use Rattle.ob0_world_rules.specs.ClientAndServer.{Open, SentAsk, Editor, new_editor, open_at, ToServer, notifies, requests, ToEditor, publishes, answers, Applied, after_message}
 use Rattle.ob0_world_rules.specs.Editing.{Done, reads}
 use Rattle.ob0_world_rules.specs.Editors.{Move, May}
-use Rattle.ob0_world_rules.specs.EveryEditor.{EditorAndServer, nothing_yet, no_ask, without_numbers, Turn, editor_does, editor_says, server_takes, editor_takes, MayLead, HoldsWithEditor}
+use Rattle.ob0_world_rules.specs.EveryEditor.{EditorAndServer, nothing_yet, Turn, editor_does, editor_says, server_takes, editor_takes, MayLead, HoldsWithEditor}
 use Rattle.ob0_world_rules.specs.Answers.{IsEmptyIfCorrect}
 use Rattle.ob0_world_rules.specs.Headline.{KeepsTheRun}
 use Rattle.ob0_world_rules.specs.Mirror.{as_open}
@@ -32,28 +34,87 @@ use Rattle.ob0_world_rules.specs.MadeInOrder.{Announced, named_in, versioned_uri
 use Rattle.ob0_world_rules.specs.Happens.{Event}
 use Rattle.ob0_world.specs.Worlds.{Wire, Connection, Begins, ConnectionCourse, TakesFirst}
 
--- an editor and a session, with the contents that pass; the documents that the editor announced, and
--- the edits that it applied
+-- ---- the ids of requests
+
+-- an id of a request: a whole number that isn't negative, or a text (JSON-RPC 2.0, request object)
+pub data Id : Type 0 where
+  number_id : ℕ → Id
+  text_id : List ℕ → Id
+
+-- returns the id that a JSON value is, if it is such an id
+abbrev pub id_read : Data → Option Id
+id_read (number (unsigned n)) = Some (number_id n)
+id_read (number (negative z)) = None
+id_read (number (float x)) = None
+id_read null = None
+id_read (boolean b) = None
+id_read (string text) = Some (text_id text)
+id_read (array ds) = None
+id_read (object ms) = None
+
+-- returns whether two ids are the same
+abbrev pub same_id : Id → Id → Bool
+same_id (number_id n) (number_id m) = n == m
+same_id (number_id n) (text_id t) = false
+same_id (text_id s) (number_id m) = false
+same_id (text_id s) (text_id t) = bytes_eq s t
+
+-- a request that the editor sent: its id, and the number of its ask, if it is one
+pub record SentId : Type 0 where
+  pub id : Id
+  pub ask : Option ℕ
+
+-- finds the first request with this id, and returns the number of its ask, if it is one
+abbrev pub sent_with : List SentId → Id → Option (Option ℕ)
+sent_with [] id = None
+sent_with (s ∷ sent) id = if same_id s.id id then Some s.ask else sent_with sent id
+
+-- returns the number of the ask that has this id
+abbrev pub ask_with : List SentId → Data → Option ℕ
+ask_with sent id = option_and_then (λ ask. ask) (option_and_then (sent_with sent) (id_read id))
+
+-- states that each ask that is sent has an id that no request had before
+abbrev pub NamesAsks : List SentId → List ToServer → List SentId → Type 0
+NamesAsks ids [] new = new ≡ ids
+NamesAsks ids (notifies note ∷ sent) new = NamesAsks ids sent new
+NamesAsks ids (requests k uri ask ∷ sent) new =
+    (id : Id)
+    × (sent_with ids id ≡ None)
+    × NamesAsks (ids ++ record { id = id; ask = Some k } ∷ []) sent new
+
+-- returns the ids after another request with this id, if it is such an id
+abbrev pub with_other : List SentId → Option Id → List SentId
+with_other ids None = ids
+with_other ids (Some id) = ids ++ record { id = id; ask = None } ∷ []
+
+-- states that it is the id of another request, and of no ask
+abbrev pub IsOtherId : List SentId → Option Id → Type 0
+IsOtherId ids None = ⊤
+IsOtherId ids (Some id) = sent_with ids id ≡ Some None
+
+-- ---- an editor and a session
+
+-- an editor and a session, with the contents that pass; the ids of the requests that the editor
+-- sent, the documents that it announced, and the edits that it applied
 pub record Exchange : Type 0 where
   pub editor : Editor
+  pub ids : List SentId
   pub wire : Wire
   pub announced : List Announced
   pub applied : List Applied
 
--- The session was initialized by a client that takes edits of documents with versions, and code
--- actions with edits, and that counts positions in this unit. No document was opened yet, and nothing
--- waits.
+-- States that the session was initialized by a client that counts positions in this unit. No document
+-- is open and nothing waits, so the ids used until now may be used again.
 pub record BeginsExchange (unit : Unit) (x : Exchange) : Type 0 where
   pub client : Client
   pub counts : unit_for client ≡ unit
-  pub takes_versions : client.takes_document_changes ≡ true
-  pub takes_actions : client.takes_literal_actions ≡ true
   pub taken : List (List ℕ)
   pub got : List (List ℕ)
   pub initialized : Conversation server.start taken got (begins client)
   pub is : x
       ≡ record {
         editor = new_editor unit;
+        ids = [];
         wire = record {
           session = begins client;
           taken = taken;
@@ -67,8 +128,8 @@ pub record BeginsExchange (unit : Unit) (x : Exchange) : Type 0 where
 
 -- ---- other messages
 
--- a request that changes nothing: a question; one for actions or a layout whose answer the editor
--- drops; or one that the server doesn't know or can't read
+-- States that a request changes nothing: it is a question, a request for edits that the editor drops,
+-- or a request that the server doesn't know or can't read.
 abbrev pub IsQuestion : Result ClientRequest RpcFault → Type 0
 IsQuestion (Ok (asked.initialize client)) = ⊥
 IsQuestion (Ok asked.shutdown) = ⊥
@@ -76,49 +137,43 @@ IsQuestion (Ok (asked.hover at)) = ⊤
 IsQuestion (Ok (asked.definition at)) = ⊤
 IsQuestion (Ok (asked.references at include)) = ⊤
 IsQuestion (Ok (asked.prepare_rename at)) = ⊤
-IsQuestion (Ok (asked.rename at name)) = ⊥
+IsQuestion (Ok (asked.rename at name)) = ⊤
 IsQuestion (Ok (asked.code_action uri range only)) = ⊤
 IsQuestion (Ok (asked.formatting uri indent)) = ⊤
 IsQuestion (Err fault) = ⊤
 
--- if an id is a number, no ask has it; the first ask has number 1
-abbrev pub IsOwnNumber : List SentAsk → Option ℕ → Type 0
-IsOwnNumber requested (Some zero) = ⊤
-IsOwnNumber requested (Some (suc k)) = request_numbered requested (suc k) ≡ Some no_ask
-IsOwnNumber requested None = ⊤
-
--- it says nothing of documents, and asks for no edit that is applied: a request that changes nothing,
--- a notification that is ignored, or a response
-abbrev pub IsOtherMessage : List SentAsk → MessageMeaning → Type 0
-IsOtherMessage requested not_json = ⊥
-IsOtherMessage requested not_a_message = ⊥
-IsOtherMessage requested response = ⊤
-IsOtherMessage requested (request id method params) =
+-- States that a message opens, changes and closes no document, and requests no edit that is applied: it
+-- is a request that changes nothing, a notification that the server ignores, or a response.
+abbrev pub IsOtherMessage : List SentId → MessageMeaning → Type 0
+IsOtherMessage ids not_json = ⊥
+IsOtherMessage ids not_a_message = ⊥
+IsOtherMessage ids response = ⊤
+IsOtherMessage ids (request id method params) =
     (bytes_eq method (codes "initialize") ≡ false)
     × IsQuestion (request_by_method method params)
-    × IsOwnNumber requested (request_number id)
-IsOtherMessage requested (notice method params) = note_of method params ≡ other
+    × IsOtherId ids (id_read id)
+IsOtherMessage ids (notice method params) = note_of method params ≡ other
 
--- a content that says such a thing
-abbrev pub IsOther : List SentAsk → List ℕ → Type 0
-IsOther requested content =
-    (json : Data) × ReadsContent content (Some json) × IsOtherMessage requested (meaning_of json)
+-- states that a content is such a message
+abbrev pub IsOther : List SentId → List ℕ → Type 0
+IsOther ids content =
+    (json : Data) × ReadsContent content (Some json) × IsOtherMessage ids (meaning_of json)
 
 -- ---- asks and notifications
 
--- a position isn't after another
+-- states that a position isn't after another
 abbrev pub IsNotAfter : Position → Position → Type 0
 IsNotAfter p q = (p.line < q.line) ⊎ ((p.line ≡ q.line) × (p.character ≤ q.character))
 
--- the content is a request with this number for the code actions in a range that begins at this
--- position, of all kinds or of some that inlining is of
-pub record IsActionsRequest (k : ℕ) (uri : List ℕ) (position : Position) (content : List ℕ)
+-- States that the content is a request with this id for the code actions in a range that begins at this
+-- position, of all kinds or of some that include inlining.
+pub record IsActionsRequest (id : Data) (uri : List ℕ) (position : Position) (content : List ℕ)
     : Type 0 where
   pub json : Data
   pub reads : ReadsContent content (Some json)
   pub params : Data
   pub means : meaning_of json
-      ≡ request (number (unsigned k)) (codes "textDocument/codeAction") params
+      ≡ request id (codes "textDocument/codeAction") params
   pub range : Range
   pub only : Option (List (List ℕ))
   pub calls : request_by_method (codes "textDocument/codeAction") params
@@ -127,71 +182,113 @@ pub record IsActionsRequest (k : ℕ) (uri : List ℕ) (position : Position) (co
   pub ordered : IsNotAfter range.start range.end
   pub allowed : allows_inlining only ≡ true
 
--- the content says this to a session: of what is inlined it asks for the actions
-abbrev pub SaysToSession : List SentAsk → ToServer → List ℕ → Type 0
-SaysToSession requested (notifies note) content = SaysToServer requested (notifies note) content
-SaysToSession requested (requests k uri (rename position name)) content =
-    SaysToServer requested (requests k uri (rename position name)) content
-SaysToSession requested (requests k uri (inline_here position)) content =
-    IsActionsRequest k uri position content × IsAsk requested k uri (inline_here position)
-SaysToSession requested (requests k uri (inline_all position)) content =
-    IsActionsRequest k uri position content × IsAsk requested k uri (inline_all position)
-SaysToSession requested (requests k uri (format indent)) content =
-    SaysToServer requested (requests k uri (format indent)) content
+-- states that the content is the request with this id for this ask; an inlining requests code actions
+abbrev pub IsRequestFor : Data → List ℕ → Ask → List ℕ → Type 0
+IsRequestFor id uri (rename position name) content =
+    IsRequestWithId id uri (rename position name) content
+IsRequestFor id uri (inline_here position) content = IsActionsRequest id uri position content
+IsRequestFor id uri (inline_all position) content = IsActionsRequest id uri position content
+IsRequestFor id uri (format indent) content = IsRequestWithId id uri (format indent) content
 
--- each content says its message to the server; to another message there is another content
-abbrev pub EachSays : List SentAsk → List (Option ToServer) → List (List ℕ) → Type 0
-EachSays requested [] [] = ⊤
-EachSays requested (Some m ∷ messages) (content ∷ contents) =
-    SaysToSession requested m content × EachSays requested messages contents
-EachSays requested (None ∷ messages) (content ∷ contents) =
-    IsOther requested content × EachSays requested messages contents
-EachSays requested [] (content ∷ contents) = ⊥
-EachSays requested (Some m ∷ messages) [] = ⊥
-EachSays requested (None ∷ messages) [] = ⊥
+-- states that the client takes code actions with edits, and edits of documents with versions
+abbrev pub TakesActions : Client → Type 0
+TakesActions client =
+    (client.takes_document_changes ≡ true) × (client.takes_literal_actions ≡ true)
+
+-- states that the client takes the edits of such an ask
+abbrev pub TakesEdits : Client → Ask → Type 0
+TakesEdits client (rename position name) = client.takes_document_changes ≡ true
+TakesEdits client (inline_here position) = TakesActions client
+TakesEdits client (inline_all position) = TakesActions client
+TakesEdits client (format indent) = ⊤
+
+-- states that ask k has this id
+pub record IsAskWithId (ids : List SentId) (requested : List SentAsk) (id : Data) (k : ℕ)
+    (uri : List ℕ) (ask : Ask) : Type 0 where
+  pub numbered : ask_with ids id ≡ Some k
+  pub is : IsAsk requested k uri ask
+
+-- states that the content is this message to the session of this client
+abbrev pub SaysToSession : Client
+    → List SentId
+    → List SentAsk
+    → ToServer
+    → List ℕ
+    → Type 0
+SaysToSession client ids requested (notifies note) content = IsNote note content
+SaysToSession client ids requested (requests k uri ask) content =
+    (id : Data)
+    × IsRequestFor id uri ask content
+    × IsAskWithId ids requested id k uri ask
+    × TakesEdits client ask
+
+-- states that each content is its message to the session, or another message for `None`
+abbrev pub EachSays : Client
+    → List SentId
+    → List SentAsk
+    → List (Option ToServer)
+    → List (List ℕ)
+    → Type 0
+EachSays client ids requested [] [] = ⊤
+EachSays client ids requested (Some m ∷ messages) (content ∷ contents) =
+    SaysToSession client ids requested m content
+    × EachSays client ids requested messages contents
+EachSays client ids requested (None ∷ messages) (content ∷ contents) =
+    IsOther ids content × EachSays client ids requested messages contents
+EachSays client ids requested [] (content ∷ contents) = ⊥
+EachSays client ids requested (Some m ∷ messages) [] = ⊥
+EachSays client ids requested (None ∷ messages) [] = ⊥
 
 -- ---- what may happen
 
--- what the editor makes of a content: an answer with edits to an ask of its own is kept
+-- returns the message that the editor reads in a content
+abbrev pub read_by : List SentId → List SentAsk → List ℕ → Option ToEditor
+read_by ids requested content = read_so (ask_with ids) requested content
+
+-- returns the editor after it has read a message: it keeps an answer with edits to one of its asks
 abbrev pub reads_meaning : Editor → Option ToEditor → Editor
 reads_meaning e None = e
 reads_meaning e (Some message) = reads e message
 
--- the editor gets the first content that waits for it
+-- states that the editor gets the first content that waits for it
 abbrev pub GetsOne : List (List ℕ) → Exchange → Exchange → Type 0
 GetsOne [] old new = new ≡ old
 GetsOne (content ∷ rest) old new =
     new
     ≡ record old {
-      editor = reads_meaning old.editor (understood old.editor.requested content);
+      editor = reads_meaning old.editor (read_by old.ids old.editor.requested content);
       wire = record old.wire { got = old.wire.got ++ content ∷ []; to_editor = rest };
     }
 
--- the editor writes these contents
+-- returns the wire after the editor has written these contents
 abbrev pub with_contents : Wire → List (List ℕ) → Wire
 with_contents wire contents = record wire { to_server = wire.to_server ++ contents }
 
--- at `old` this may happen, and leave `new`
+-- states that this turn may lead from `old` to `new`
 abbrev pub Exchanges : Exchange → Turn → Exchange → Type 0
 Exchanges old (editor_does move) new =
     (done : Done)
     × (announced : List Announced)
+    × (ids : List SentId)
     × (contents : List (List ℕ))
     × May old.editor move done announced
-    × EachSays done.editor.requested (map Some done.sent) contents
+    × NamesAsks old.ids done.sent ids
+    × EachSays old.wire.session.client ids done.editor.requested (map Some done.sent) contents
     × (new
     ≡ record {
       editor = done.editor;
+      ids = ids;
       wire = with_contents old.wire contents;
       announced = old.announced ++ announced;
       applied = old.applied ++ done.applied;
     })
-Exchanges old (editor_says numbers) new =
-    (content : List ℕ)
-    × IsOther (without_numbers numbers old.editor).requested content
+Exchanges old editor_says new =
+    (id : Option Id)
+    × (content : List ℕ)
+    × IsOther (with_other old.ids id) content
     × (new
     ≡ record old {
-      editor = without_numbers numbers old.editor;
+      ids = with_other old.ids id;
       wire = with_contents old.wire (content ∷ []);
     })
 Exchanges old server_takes new =
@@ -200,7 +297,7 @@ Exchanges old server_takes new =
     × (new ≡ record old { wire = wire })
 Exchanges old editor_takes new = GetsOne old.wire.to_editor old new
 
--- these, one after another, may lead from one to the other
+-- states that these turns, one after another, may lead from one to the other
 abbrev pub ExchangeLeads : Exchange → List Turn → Exchange → Type 0
 ExchangeLeads old [] new = new ≡ old
 ExchangeLeads old (turn ∷ turns) new =
@@ -208,21 +305,26 @@ ExchangeLeads old (turn ∷ turns) new =
 
 -- ---- the law
 
--- it brings no edits and no diagnostics
-abbrev pub BringsNothing : Option ToEditor → Type 0
-BringsNothing meaning = (meaning ≡ None) ⊎ ((k : ℕ) × (meaning ≡ Some (answers k [])))
+-- states that the editor reads no message in the content, whatever is requested later
+abbrev pub BringsNothing : List SentId → List ℕ → Type 0
+BringsNothing ids content =
+    (later : List SentId) (requested : List SentAsk)
+    → read_by (ids ++ later) requested content ≡ None
 
--- each content says its message to the editor; another one brings nothing, whatever is asked later
-abbrev pub EachMeans : List SentAsk → List (Option ToEditor) → List (List ℕ) → Type 0
-EachMeans requested [] [] = ⊤
-EachMeans requested (Some m ∷ messages) (content ∷ contents) =
-    (understood requested content ≡ Some m) × EachMeans requested messages contents
-EachMeans requested (None ∷ messages) (content ∷ contents) =
-    ((more : List SentAsk) → BringsNothing (understood (requested ++ more) content))
-    × EachMeans requested messages contents
-EachMeans requested [] (content ∷ contents) = ⊥
-EachMeans requested (Some m ∷ messages) [] = ⊥
-EachMeans requested (None ∷ messages) [] = ⊥
+-- states that the editor reads its message in each content, and none in another content
+abbrev pub EachMeans : List SentId
+    → List SentAsk
+    → List (Option ToEditor)
+    → List (List ℕ)
+    → Type 0
+EachMeans ids requested [] [] = ⊤
+EachMeans ids requested (Some m ∷ messages) (content ∷ contents) =
+    (read_by ids requested content ≡ Some m) × EachMeans ids requested messages contents
+EachMeans ids requested (None ∷ messages) (content ∷ contents) =
+    BringsNothing ids content × EachMeans ids requested messages contents
+EachMeans ids requested [] (content ∷ contents) = ⊥
+EachMeans ids requested (Some m ∷ messages) [] = ⊥
+EachMeans ids requested (None ∷ messages) [] = ⊥
 
 -- States that an exchange follows the model of every editor, turn by turn: its editor has the documents
 -- and answers of the model's editor, its session has the documents of the model's server, and its unread
@@ -234,14 +336,15 @@ pub record IsOfTheModel (unit : Unit) (turns : List Turn) (x : Exchange) : Type 
   pub held : model.held ≡ x.wire.session.held
   pub announced : model.announced ≡ x.announced
   pub applied : model.applied ≡ x.applied
-  pub says : EachSays x.editor.requested model.to_server x.wire.to_server
-  pub means : EachMeans x.editor.requested model.to_editor x.wire.to_editor
+  pub says : EachSays x.wire.session.client x.ids x.editor.requested model.to_server
+      x.wire.to_server
+  pub means : EachMeans x.ids x.editor.requested model.to_editor x.wire.to_editor
   pub holds : HoldsWithEditor model
   -- and all of it is one conversation of a session
   pub conversation : Conversation server.start x.wire.taken (x.wire.got ++ x.wire.to_editor)
       x.wire.session
 
--- so it is with every editor that keeps ob0's rules, and every session
+-- states that it holds with every editor that keeps ob0's rules, and every session
 abbrev pub EveryExchangeIsOfTheModel : Type 0
 EveryExchangeIsOfTheModel =
     (unit : Unit) (begin now : Exchange) (turns : List Turn)
@@ -249,15 +352,39 @@ EveryExchangeIsOfTheModel =
     → ExchangeLeads begin turns now
     → IsOfTheModel unit turns now
 
+-- ---- the end
+
+-- states that the content is the request `shutdown`, with this id
+pub record IsShutdown (id : Data) (content : List ℕ) : Type 0 where
+  pub json : Data
+  pub reads : ReadsContent content (Some json)
+  pub params : Data
+  pub means : meaning_of json ≡ request id (codes "shutdown") params
+
+-- states that the content is the notification `exit`
+pub record IsExit (content : List ℕ) : Type 0 where
+  pub json : Data
+  pub reads : ReadsContent content (Some json)
+  pub params : Data
+  pub means : meaning_of json ≡ notice (codes "exit") params
+
+-- States that a session has sent the answer to `shutdown` and nothing else, has ended with status 0,
+-- and has the same documents.
+pub record EndsSession (id : Data) (before : ServerState) (sent : List (List ℕ)) (end : ServerState)
+    : Type 0 where
+  pub answer : Sends (result_message id null) sent
+  pub ended : end.phase ≡ Ended 0
+  pub held : end.held ≡ before.held
+
 -- ---- the headline of every exchange, without a model
 
--- a list of diagnostics with a version: its uri, its version, and whether none is in it
+-- a list of diagnostics with a version: its uri, its version, and whether it is empty
 pub record Published : Type 0 where
   pub uri : List ℕ
   pub version : ℤ
   pub empty : Bool
 
--- where this is one
+-- returns the message if it is such a list
 abbrev pub with_version : Option ToEditor → List Published
 with_version (Some (publishes uri (Some version) empty)) =
     record { uri = uri; version = version; empty = empty } ∷ []
@@ -265,13 +392,13 @@ with_version (Some (publishes uri None empty)) = []
 with_version (Some (answers k edits)) = []
 with_version None = []
 
--- those that these contents are
+-- returns the lists of diagnostics with a version among these contents
 abbrev pub published_in : List (List ℕ) → List Published
 published_in [] = []
 published_in (content ∷ contents) = with_version (understood [] content) ++ published_in contents
 
--- each is of a document, one for each and in this order: it has its uri and version, and is empty
--- exactly when its text is a well-typed module
+-- States that there are as many lists as documents, and that the n-th list has the uri and version of
+-- the n-th document and is empty exactly when its text is a well-typed module.
 abbrev pub AreRightOf : List Published → List Announced → Type 0
 AreRightOf [] [] = ⊤
 AreRightOf (p ∷ published) (t ∷ announced) =
@@ -282,44 +409,49 @@ AreRightOf (p ∷ published) (t ∷ announced) =
 AreRightOf [] (t ∷ announced) = ⊥
 AreRightOf (p ∷ published) [] = ⊥
 
--- the last one for a uri
+-- returns the last list for a uri
 abbrev pub last_published : List ℕ → List Published → Option Published
 last_published uri published =
     fold (λ last p. if bytes_eq p.uri uri then Some p else last) None published
 
--- The messages about documents in these contents. (No ask is known here, so a request has none.)
+-- Returns the messages in these contents that open, change or close documents.
 abbrev pub notes_in : List (List ℕ) → List ToServer
 notes_in contents = filter_map (heard []) contents
 
--- This holds of an editor that keeps ob0's rules and a session, whatever has passed between them.
+-- States what holds of an editor that keeps ob0's rules and a session, whatever they have exchanged.
 pub record HoldsOfExchange (begin now : Exchange) : Type 0 where
   -- each edit that the editor applied keeps the run
   pub applied : All KeepsTheRun now.applied
-  -- of what the session has sent since the beginning, the lists of diagnostics with a version are of
-  -- the documents that the editor announced, and right
+  -- the lists of diagnostics with a version that the session has sent since the beginning are right,
+  -- and are for the first documents that the editor announced, in order
   pub since : List (List ℕ)
   pub sent : now.wire.got ++ now.wire.to_editor ≡ begin.wire.got ++ since
   pub published_of : List Announced
   pub not_yet : List Announced
   pub announced : now.announced ≡ published_of ++ not_yet
   pub right : AreRightOf (published_in since) published_of
-  -- the others are announced by contents that still wait for the session
+  -- contents that still wait for the session announce the other documents
   pub still_wait : map versioned_uri not_yet ≡ named_in (notes_in now.wire.to_server)
-  -- when no content that waits says anything about documents, the latest list of each open document
-  -- is of its present version and text
+  -- when no content that waits opens, changes or closes a document, the latest list of each open
+  -- document is for its present version and text
   pub latest : notes_in now.wire.to_server ≡ [] → (uri : List ℕ) (d : Open)
       → open_at now.editor uri ≡ Some d
       → MatchOption (last_published uri (published_in since)) ⊥
       (λ p. (p.version ≡ pos d.version) × IsEmptyIfCorrect d.text p.empty)
-  -- the session's documents, once it has taken the waiting contents, are the editor's
+  -- the session's documents, after it has taken the waiting contents, are the editor's
   pub mirrors : (uri : List ℕ)
       → document_at (fold after_message now.wire.session.held (notes_in now.wire.to_server)) uri
       ≡ option_map as_open (open_at now.editor uri)
-  -- all that passed is one conversation of a session, by the protocol
+  -- everything that was exchanged is one conversation of a session, by the protocol
   pub conversation : Conversation server.start now.wire.taken
       (now.wire.got ++ now.wire.to_editor) now.wire.session
+  -- the session ends well when it then takes `shutdown` and `exit`
+  pub ends : (id : Data) (shutdown exit : List ℕ) → IsShutdown id shutdown → IsExit exit
+      → (sent : List (List ℕ)) (end : ServerState)
+      → Conversation now.wire.session (shutdown ∷ exit ∷ []) sent end
+      → EndsSession id now.wire.session sent end
 
--- so it is with every editor that keeps ob0's rules, and every session
+-- states that it holds with every editor that keeps ob0's rules, and every session
 abbrev pub EveryExchangeHolds : Type 0
 EveryExchangeHolds =
     (unit : Unit) (begin now : Exchange) (turns : List Turn)

@@ -1,11 +1,9 @@
--- What the code stores of client and server, and what it means: the view of the code, what it keeps
--- from step to step, and the clauses of private functions.
--- No promise of a public function names these.
--- A queue of contents is a function of it (`all_heard`, `all_understood`); the invariant says that each content says
--- something. A content keeps its meaning when more is requested (`Waiting`). `IsRunning` says of the session's state
--- that it serves this editor: its client takes edits of versioned documents, and code actions as literals, as the
--- editor's `initialize` says. So a WorkspaceEdit is always written as `documentChanges`, and the editor reads that form
--- alone.
+-- Defines the meaning of the stored client and server: the view of the code, its invariant, and the
+-- clauses of private functions. No contract of a public function mentions these.
+-- A queue of contents is a function of it (`all_heard`, `all_understood`); the invariant states that each content is
+-- a message. A content keeps its meaning when more is requested (`Waiting`). `IsRunning` states that the session serves
+-- this editor: its client takes edits of versioned documents, and code actions as literals, as the editor's
+-- `initialize` says. So a WorkspaceEdit is always written as `documentChanges`, and the editor reads only that form.
 -- Rule: none; for contracts: contents that wait, and what they say.
 use Rattle.std.specs.Prelude.{◌≡◌, ◌≤◌, ◌⊎◌, ℕ, ℤ, List, [], ◌∷◌, ◌++◌, map, length, All, Bool, true, Option, Some, None, Vec, option_and_then, filter_map}
 use Rattle.std.specs.declared.alloc.Global.{Global}
@@ -30,66 +28,66 @@ use Rattle.ob0_world.specs.Worlds.{Wire, Connection}
 abbrev pub Contents : Type 0
 Contents = List (Vec ℕ Global)
 
--- what these contents say to the server, and to the editor, where these asks were sent
+-- returns the messages to the server in these contents, when these asks were sent
 abbrev pub all_heard : List SentAsk → Contents → List ToServer
 all_heard requested contents = filter_map (heard requested) (bytes contents)
 
--- what the contents that wait say to the editor
+-- returns the messages to the editor in these contents, when these asks were sent
 abbrev pub all_understood : List SentAsk → Contents → List ToEditor
 all_understood requested contents = filter_map (understood requested) (bytes contents)
 
--- each content says something
+-- states that a content is a message to the server
 abbrev pub IsHeard : List SentAsk → Vec ℕ Global → Type 0
 IsHeard requested content = (m : ToServer) × SaysToServer requested m content.items
 
--- a content says something to the editor
+-- states that a content is a message to the editor
 abbrev pub IsUnderstood : List SentAsk → Vec ℕ Global → Type 0
 IsUnderstood requested content = (m : ToEditor) × (understood requested content.items ≡ Some m)
 
 -- ---- the session
 
--- A session that has begun with this editor and isn't at its end: it writes the edits of a
--- workspace with the versions of their documents, and offers code actions as literals.
+-- States that a session has begun with this editor and hasn't ended: it writes the edits of a workspace
+-- with the versions of their documents, and offers code actions as literals.
 abbrev pub IsRunning : ServerState → Type 0
 IsRunning s =
     (s.phase ≡ Running)
     × (s.client.takes_document_changes ≡ true)
     × (s.client.takes_literal_actions ≡ true)
 
--- the session runs with this editor, or has failed
+-- states that the session runs with this editor, or has failed
 abbrev pub IsRunningOrFailed : ServerState → Type 0
 IsRunningOrFailed s = IsRunning s ⊎ (s.phase ≡ Failed)
 
 -- ---- publications
 
--- what a publication with a version was made for: the present text of the document
+-- returns the publication with the document's present text, for which it was made
 abbrev pub made_of_document : List ℕ → ℤ → Bool → Document → Option Made
 made_of_document uri version empty (InStep held text) =
     Some (record { uri = uri; version = version; text = text; empty = empty })
 made_of_document uri version empty OutOfStep = None
 
--- the document that a publication was made for
+-- returns the publication with the text that it was made for, if it has a version
 abbrev pub made_for : OpenDocuments → ToEditor → Option Made
 made_for held (publishes uri (Some version) empty) =
     option_and_then (made_of_document uri version empty) (document_at held uri)
 made_for held (publishes uri None empty) = None
 made_for held (answers k edits) = None
 
--- a server replies with one message at most
+-- returns this for the first message: a server replies with one message at most
 abbrev pub made_first : OpenDocuments → List ToEditor → Option Made
 made_first held [] = None
 made_first held (m ∷ ms) = made_for held m
 
 -- ---- the whole
 
--- what waits says something, and the session serves unless an allocation has failed
+-- states that the contents that wait are messages, and that the session runs unless an allocation failed
 pub record Sound (requested : List SentAsk) (to_server to_editor : Contents)
     (session : ServerState) : Type 0 where
   pub heard_all : All (IsHeard requested) to_server
   pub understood_all : All (IsUnderstood requested) to_editor
   pub running : IsRunningOrFailed session
 
--- client and server, from what the code stores of them
+-- returns client and server of the model from the stored parts
 abbrev pub model_from : Editor
     → Contents
     → ServerState
@@ -107,7 +105,7 @@ model_from e to_server session to_editor applied made =
       made = map publication_of made;
     }
 
--- the session, and the contents that the code keeps
+-- returns the session and the contents from the stored parts
 abbrev pub wire_from : ServerState → Contents → Contents → Contents → Contents → Wire
 wire_from session taken to_server got to_editor =
     record {
@@ -118,7 +116,7 @@ wire_from session taken to_server got to_editor =
       to_editor = bytes to_editor;
     }
 
--- client and server from what the code keeps
+-- returns client and server with their contents from the stored parts
 abbrev pub connection_from : Editor
     → Contents
     → ServerState
@@ -136,30 +134,30 @@ connection_from e to_server session to_editor applied made taken got =
 
 -- ---- what a world keeps
 
--- what is counted has risen by one a step at most
+-- states that no count is above the number of steps
 pub record Within (n : ℕ) (e : Editor) : Type 0 where
   pub openings : e.openings ≤ n
   pub asks : length e.requested ≤ n
   pub versions : (uri : List ℕ) (d : Open) → open_at e uri ≡ Some d → d.version ≤ n
 
--- some events lead from the beginning to this
+-- states that some events lead from the beginning to this state
 abbrev pub IsReached : ClientAndServer → Type 0
 IsReached w = (unit : Unit) × (events : List Event) × Course (start unit) events w
 
 -- ---- the steps of the server's event
 
--- the publication with a version that the first of these contents is
+-- returns the publication with a version that the first of these contents is
 abbrev pub made_sent : OpenDocuments → List SentAsk → Contents → Option Made
 made_sent held requested [] = None
 made_sent held requested (content ∷ contents) =
     option_and_then (made_for held) (understood requested content.items)
 
--- a content, if there is one, waits after the others
+-- states that a content, if there is one, waits after the others
 abbrev pub IsSent : Contents → Option (Vec ℕ Global) → seen.Seen → Contents → Type 0
 IsSent old None seen new = (seen_of seen ≡ nothing) × (new ≡ old)
 IsSent old (Some content) seen new = (seen_of seen ≡ sent) × (new ≡ old ++ content ∷ [])
 
--- the first content that waited, if one did, is now the last of those that were got
+-- states that the first content that waited, if one did, is now the last of those that were got
 abbrev pub MovesFirst : Contents → Contents → Contents → Contents → Type 0
 MovesFirst [] got waiting' got' = (waiting' ≡ []) × (got' ≡ got)
 MovesFirst (content ∷ rest) got waiting' got' =

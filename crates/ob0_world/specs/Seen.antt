@@ -1,4 +1,4 @@
--- What is seen of each event.
+-- Defines what a caller sees of each event.
 -- Rule: none; for contracts of `World::step`: what a caller is shown of an event.
 use Rattle.std.specs.Prelude.{◌≡◌, ℕ, ◌-◌, List, [], ◌∷◌, Bool, length, is_some, string_bytes, if◌then◌else◌}
 use Rattle.ob0_world.specs.declared.events.Seen as seen
@@ -7,11 +7,11 @@ use Rattle.ob0_world_rules.specs.ClientAndServer.{Editor, ToServer, ToEditor, pu
 use Rattle.ob0_world_rules.specs.Editing.{Act, open_document, change_document, close_document, ask_about, apply, discard, Done, done_by, kept_answer}
 use Rattle.ob0_world_rules.specs.Happens.{Event, does, serve, take_message, Happens}
 
--- what is seen of an event
+-- the report on an event
 pub data Seen : Type 0 where
   nothing : Seen
   sent : Seen
-  -- how many messages the server sent
+  -- the number of messages that the server sent
   served : ℕ → Seen
   published : List ℕ → Bool → Seen
   -- the ask's number, and whether there were edits
@@ -19,16 +19,16 @@ pub data Seen : Type 0 where
   applies : ℕ → Seen
   drops : ℕ → Seen
 
--- the first of two where a list has an element, else the second
+-- returns the first of two if a list has an element, and the second otherwise
 abbrev pub if_any : {A : Type 0} → List A → Seen → Seen → Seen
 if_any [] some none = none
 if_any (x ∷ xs) some none = some
 
--- whether a message was sent
+-- reports whether a message was sent
 abbrev pub sent_of : Done → Seen
 sent_of done = if_any done.sent sent nothing
 
--- what is seen of an act
+-- returns the report on an act
 abbrev pub act_seen : Editor → Act → Seen
 act_seen e (open_document uri text) = sent_of (done_by e (open_document uri text))
 act_seen e (change_document uri how) = sent_of (done_by e (change_document uri how))
@@ -40,28 +40,28 @@ act_seen e (apply k) =
     else nothing
 act_seen e (discard k) = if is_some (kept_answer k e.answers) then drops k else nothing
 
--- how many messages the server has sent, where one waited for it
+-- reports the number of messages that the server has sent, if one waited for it
 abbrev pub served_seen : List ToServer → List ToEditor → List ToEditor → Seen
 served_seen [] before after = nothing
 served_seen (message ∷ rest) before after = served (length after - length before)
 
--- what the editor has read, where a message waited for it
+-- reports the message that the editor has read, if one waited for it
 abbrev pub taken_seen : List ToEditor → Seen
 taken_seen [] = nothing
 taken_seen (publishes uri version empty ∷ rest) = published uri empty
 taken_seen (answers k edits ∷ rest) = answered k (has_edits edits)
 
--- what is seen of an event that leads from one state to another
+-- returns the report on an event that leads from one state to another
 abbrev pub event_seen : ClientAndServer → Event → ClientAndServer → Seen
 event_seen old (does act) new = act_seen old.editor act
 event_seen old serve new = served_seen old.to_server old.to_editor new.to_editor
 event_seen old take_message new = taken_seen old.to_editor
 
--- the event happens, and this is seen of it
+-- states that the event happens, and that this is the report on it
 abbrev pub Shows : ClientAndServer → Event → Seen → ClientAndServer → Type 0
 Shows old event seen new = Happens old event new × (seen ≡ event_seen old event new)
 
--- what is seen, of the code
+-- returns the report that a value of the code is
 abbrev pub seen_of : seen.Seen → Seen
 seen_of seen.TheVariants.Nothing = nothing
 seen_of seen.TheVariants.Sent = sent

@@ -1,6 +1,6 @@
--- The versions that answers name: what they are, and what a client does that goes by them.
--- An editor can't compare openings with a client that has none. This says why a version is enough: an answer names the
--- document that was asked about, with the version that it had then.
+-- States which versions answers mention, and what a client does that compares them.
+-- A client has no numbers of openings. A version is enough, because an answer mentions the document that was asked about
+-- with the version that it had then.
 -- Rule: none; laws of client and server, on LSP 3.17, OptionalVersionedTextDocumentIdentifier.
 use Rattle.std.specs.Prelude.{◌≡◌, ◌⊎◌, ⊤, ℕ, ℤ, pos, negsuc, List, [], ◌∷◌, ◌==◌, All, Bool, false, Option, Some, None, option_and_then, option_map, if◌then◌else◌, codes}
 use Rattle.serde_json.specs.Data.{Data}
@@ -17,9 +17,9 @@ use Rattle.ob0_world_rules.specs.ClientAndServer.{Open, SentAsk, Editor, request
 use Rattle.ob0_world_rules.specs.Happens.{Event}
 use Rattle.ob0_world.specs.Worlds.{Connection, Begins, ConnectionCourse}
 
--- ---- what an answer names
+-- ---- the versions in answers
 
--- the uri and the version in a document's identifier
+-- returns the uri and the version in a document's identifier
 abbrev pub identified : Data → Option (List ℕ × ℤ)
 identified d =
     option_and_then
@@ -27,46 +27,46 @@ identified d =
     (option_and_then as_integer (option_and_then as_number (get (codes "version") d))))
     (text_member (codes "uri") d)
 
--- those of the first document of a WorkspaceEdit
+-- returns the uri and the version of the first document of a WorkspaceEdit
 abbrev pub named_by_edit : Data → Option (List ℕ × ℤ)
 named_by_edit edit =
     option_and_then identified (option_and_then (get (codes "textDocument"))
     (option_and_then (at 0) (get (codes "documentChanges") edit)))
 
--- the WorkspaceEdit of the action with this title
+-- returns the WorkspaceEdit of the action with this title
 abbrev pub edit_of_action : List ℕ → Data → Option Data
 edit_of_action title value =
     option_and_then (get (codes "edit")) (option_and_then (titled_action title) (as_array value))
 
--- the WorkspaceEdit in a result: that of a rename is one, and that of an inlining has actions, each
--- with one; a layout has none, but a list of edits
+-- Returns the WorkspaceEdit in a result. The result of a rename is one, the result of an inlining is a
+-- list of actions with one each. The result for a layout is a list of edits, and has none.
 abbrev pub edit_in_result : Ask → Data → Option Data
 edit_in_result (rename position name) value = Some value
 edit_in_result (inline_here position) value = edit_of_action (codes "Inline here") value
 edit_in_result (inline_all position) value = edit_of_action (codes "Inline everywhere") value
 edit_in_result (format indent) value = None
 
--- the uri and the version that an answer names
+-- returns the uri and the version that an answer mentions
 abbrev pub named_in : Ask → Data → Option (List ℕ × ℤ)
 named_in ask answer =
     option_and_then named_by_edit
     (option_and_then (edit_in_result ask) (get (codes "result") answer))
 
--- a request for a layout
+-- states that an ask is for a layout
 abbrev pub IsLayout : Ask → Type 0
 IsLayout (rename position name) = ⊥
 IsLayout (inline_here position) = ⊥
 IsLayout (inline_all position) = ⊥
 IsLayout (format indent) = ⊤
 
--- An answer names the document that was asked about, with the version that it had then, where it has
--- edits; one about a layout names none.
+-- States that an answer with edits mentions the document that was asked about, with the version that it
+-- had then. An answer about a layout mentions none.
 abbrev pub NamesAsked : SentAsk → Data → Type 0
 NamesAsked a answer =
     (named_in a.ask answer ≡ Some (a.uri, pos a.version))
     ⊎ ((edits_for a.ask answer ≡ []) ⊎ IsLayout a.ask)
 
--- where this content is an answer, it answers one of these requests and names what that was about
+-- states that this content, if it is an answer, answers one of these requests and mentions its document
 abbrev pub NamesItsAsk : List SentAsk → List ℕ → Type 0
 NamesItsAsk requested content =
     (answer : Data) (k : ℕ)
@@ -74,8 +74,8 @@ NamesItsAsk requested content =
     → option_and_then request_number (get (codes "id") answer) ≡ Some k
     → (a : SentAsk) × (request_numbered requested k ≡ Some a) × NamesAsked a answer
 
--- The law: whatever happened, so does each content that waits for the editor. Each that it gets has
--- waited.
+-- States that each content that waits for the editor does so, whatever happened. (The editor gets only
+-- contents that have waited.)
 abbrev pub VersionsAreNamed : Type 0
 VersionsAreNamed =
     (unit : Unit) (begin : Connection) (events : List Event) (now : Connection)
@@ -83,15 +83,15 @@ VersionsAreNamed =
     → ConnectionCourse begin events now
     → All (NamesItsAsk now.model.editor.requested) now.wire.to_editor
 
--- ---- a client that goes by them
+-- ---- a client that compares versions
 
--- a document has this version
+-- states that a document has this version
 abbrev pub has_version : ℤ → Open → Bool
 has_version (pos v) d = d.version == v
 has_version (negsuc v) d = false
 
--- What a client makes of the edits of an answer that goes by the uri and the version in it: they are
--- made of the document that is open under this uri, where it has this version and no two of them
+-- Returns what a client makes of the edits of an answer if it compares the uri and the version in it: it
+-- makes them in the document that is open under this uri, if that has this version and no two edits
 -- share a character.
 abbrev pub applies_by_version : Editor → List ℕ → ℤ → List Replacement → Option Done
 applies_by_version e uri version edits =
@@ -102,12 +102,12 @@ applies_by_version e uri version edits =
     (if has_version version d then edited e.unit d.text edits else None))
     (open_at e uri)
 
--- the document hasn't been opened again since it was asked about: it is closed, or in that opening
+-- states that the document hasn't been opened again since the request: it is closed, or in that opening
 abbrev pub IsNotReopened : Editor → SentAsk → Type 0
 IsNotReopened e a = (d : Open) → open_at e a.uri ≡ Some d → d.opening ≡ a.opening
 
--- The law: where its document wasn't opened again, a client that goes by the version that an answer
--- names makes of the edits what this editor makes.
+-- States that a client that compares the version in an answer makes of the edits what the model's editor
+-- makes, if the document wasn't opened again.
 abbrev pub VersionsSuffice : Type 0
 VersionsSuffice =
     (e : Editor) (k : ℕ) (a : SentAsk) (edits : List Replacement)

@@ -1,15 +1,15 @@
-//! What holds of client and server together.
+//! States laws of client and server together.
 ghost use Rattle.ob0_world.specs.Exchanges.{ACourseIsAnExchange, EveryExchangeHolds, EveryExchangeIsOfTheModel};
 ghost use Rattle.ob0_world.specs.Versions.{VersionsAreNamed, VersionsSuffice};
 
-/// An answer with edits names the document that was asked about, with the version that it had then, as
-/// `documentChanges` has it. (That to a request for a layout is a list of edits, and names none.)
+/// States that an answer with edits mentions the document that was asked about, with the version that it had then, in
+/// `documentChanges`. (The answer to a request for a layout is a list of edits, and mentions none.)
 pub fn versions_are_named()
     ensures { VersionsAreNamed }
 {}
 
-/// A client that goes by the version that an answer names, and drops what it asked about a document before this was
-/// opened again, makes of each answer what the editor of the model makes of it.
+/// States that a client that compares the version in an answer, and drops its requests about a document that was opened
+/// again, makes of each answer what the editor of the model makes of it.
 pub fn versions_suffice()
     ensures { VersionsSuffice }
 {}
@@ -20,9 +20,9 @@ pub fn every_exchange_is_of_the_model()
     ensures { EveryExchangeIsOfTheModel }
 {}
 
-/// Whatever an editor that keeps ob0's rules and a session have exchanged, each edit that the editor applied keeps the
-/// run, each list of diagnostics with a version is right and of a document that the editor announced, in order, and when
-/// nothing waits for the session, its documents are the editor's.
+/// States what holds of a session and an editor that keeps ob0's rules, whatever they have exchanged. Each edit that the
+/// editor applied keeps the run. Each list of diagnostics with a version is right and for a document that the editor
+/// announced, in order. The session's documents, after it has taken the waiting contents, are the editor's.
 pub fn every_exchange_holds()
     ensures { EveryExchangeHolds }
 {}

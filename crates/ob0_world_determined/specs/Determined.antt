@@ -1,5 +1,5 @@
--- What the server sends is determined by what it has read: the diagnostics of a text, the replies
--- to a message, the bytes that are written.
+-- States that the server's input determines its output: the diagnostics of a text, the replies to a
+-- message, the written bytes.
 -- Rule: none; laws of the session.
 use Rattle.std.specs.Prelude.{◌≡◌, ◌≢◌, ◌≤◌, ◌++◌, ◌⊎◌, ℕ, List, [], length, All, Bool, Result, Ok, Err, ⊤}
 use Rattle.std.specs.List.{flat_map}
@@ -15,18 +15,18 @@ use Rattle.ob0_session.specs.declared.serving.ServeFault.TheVariants.{BadHead, T
 
 -- ---- diagnostics
 
--- two readings of one module have the same tokens, and the same tree over them
+-- states that two readings of a module have the same tokens, and the same tree over them
 abbrev pub AreOneModule : Parsed → Parsed → Type 0
 AreOneModule m n = (m.source ≡ n.source) × (tree_of m ≡ tree_of n)
 
--- in one module each token has one ordinal, or none
+-- states that each token of a module has one ordinal, or none
 abbrev pub OneTable : Type 0
 OneTable =
     (r q : Resolution) → IsResolution r → IsResolution q
     → AreOneModule r.module_read q.module_read
     → (token : ℕ) → ordinal_in r.ordinals token ≡ ordinal_in q.ordinals token
 
--- a text has one list of diagnostics
+-- states that a text has one list of diagnostics
 abbrev pub OneDiagnosis : Type 0
 OneDiagnosis =
     (text : List ℕ) (found other : List Complaint)
@@ -34,20 +34,20 @@ OneDiagnosis =
 
 -- ---- replies
 
--- a reply is sent in one way
+-- states that a reply is sent in one way
 abbrev pub OneReply : Type 0
 OneReply =
     (reply : Reply) (sent other : List (List ℕ))
     → SaysReply reply sent → SaysReply reply other → sent ≡ other
 
--- in one state, one content has one list of replies, and leaves one state
+-- states that a content has one list of replies in a state, and leads to one state
 abbrev pub OneAnswer : Type 0
 OneAnswer =
     (before : ServerState) (content : List ℕ) (sent other : List (List ℕ)) (after end : ServerState)
     → Answers before content sent after → Answers before content other end
     → (sent ≡ other) × (after ≡ end)
 
--- the same of contents one after the other
+-- states the same of several contents, one after another
 abbrev pub OneConversation : Type 0
 OneConversation =
     (before : ServerState) (contents sent other : List (List ℕ)) (after end : ServerState)
@@ -56,17 +56,18 @@ OneConversation =
 
 -- ---- bytes
 
--- `serve` may return this, having read and written these bytes, whatever its devices did
+-- states that `serve` may return this after it has read and written these bytes, whatever its devices
+-- did
 abbrev pub MayServe : Result ℕ ServeFault → List ℕ → List ℕ → Type 0
 MayServe result taken put =
     (reader_failed : Bool) × (writer_failed : Bool)
     × Serves result taken put ⊤ ⊤ reader_failed writer_failed ⊤
 
--- it is neither `Memory` nor `Write`
+-- states that a result is neither `Memory` nor `Write`
 abbrev pub IsWritten : Result ℕ ServeFault → Type 0
 IsWritten result = (result ≢ Err Memory) × (result ≢ Err Write)
 
--- the bytes read led to it: an `exit`, the end of the input, or a bad head
+-- states that the bytes read led to a result: an `exit`, the end of the input, or a bad head
 abbrev pub IsOfBytes : Result ℕ ServeFault → Type 0
 IsOfBytes (Ok status) = ⊤
 IsOfBytes (Err BadHead) = ⊤
@@ -76,7 +77,7 @@ IsOfBytes (Err TooManyReads) = ⊥
 IsOfBytes (Err Write) = ⊥
 IsOfBytes (Err Memory) = ⊥
 
--- an `exit` came, or a bad head: what comes after it makes no difference
+-- states that an `exit` came, or a bad head, so later bytes make no difference
 abbrev pub IsDecided : Result ℕ ServeFault → List ℕ → List ℕ → Type 0
 IsDecided (Ok status) taken put = EndsWith status taken put
 IsDecided (Err BadHead) taken put = ⊤
@@ -86,9 +87,9 @@ IsDecided (Err TooManyReads) taken put = ⊥
 IsDecided (Err Write) taken put = ⊥
 IsDecided (Err Memory) taken put = ⊥
 
--- What is written for the first bytes of an input begins what is written for more of it, unless
--- the call for more returns `Memory` or `Write`. It is all of that for the same bytes, and after an
--- `exit` or a bad head, unless the one call returns either.
+-- States that the output for the first bytes of an input begins the output for more of it, unless the
+-- call for more returns `Memory` or `Write`. The two are equal for the same bytes, and after an `exit`
+-- or a bad head, unless the first call returns either.
 abbrev pub OneOutput : Type 0
 OneOutput =
     (taken more put all : List ℕ) (result end : Result ℕ ServeFault) → IsWritten end
@@ -96,8 +97,8 @@ OneOutput =
     → (unwritten : List ℕ) × (all ≡ put ++ unwritten)
     × (IsWritten result → IsDecided result taken put ⊎ (more ≡ []) → unwritten ≡ [])
 
--- And the result is the same for the same bytes, and after an `exit` or a bad head, unless one of
--- the two is `Read`, `TooManyReads`, `Write` or `Memory`.
+-- States that the result is the same for the same bytes, and after an `exit` or a bad head, unless one
+-- of the two is `Read`, `TooManyReads`, `Write` or `Memory`.
 abbrev pub OneResult : Type 0
 OneResult =
     (taken more put all : List ℕ) (result end : Result ℕ ServeFault)
@@ -105,7 +106,7 @@ OneResult =
     → MayServe result taken put → MayServe end (taken ++ more) all
     → IsDecided result taken put ⊎ (more ≡ []) → result ≡ end
 
--- each stream has a list of contents: it can't be that none fits
+-- states that it can't be that no list of contents fits a stream
 abbrev pub AListFits : Type 0
 AListFits =
     (bytes : List ℕ)
@@ -113,8 +114,8 @@ AListFits =
 
 -- ---- a conversation, as bytes
 
--- For the frames of what a session took in a conversation `serve` writes the frames of what it
--- sent, unless `serve` returns `Memory` or `Write`.
+-- States that `serve`, fed with the frames of the contents that a session took in a conversation, writes
+-- the frames of the contents that the session sent, unless `serve` returns `Memory` or `Write`.
 abbrev pub ConversationIsServed : Type 0
 ConversationIsServed =
     (taken sent : List (List ℕ)) (after : ServerState)
@@ -124,7 +125,7 @@ ConversationIsServed =
     → MayServe result (flat_map frame taken) put
     → put ≡ flat_map frame sent
 
--- For a longer input, one that begins with these frames, it writes the same first.
+-- States that for a longer input that begins with these frames `serve` writes the same first.
 abbrev pub ConversationIsServedFirst : Type 0
 ConversationIsServedFirst =
     (taken sent : List (List ℕ)) (after : ServerState)

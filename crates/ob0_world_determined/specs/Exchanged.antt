@@ -1,6 +1,6 @@
 -- States the headline in bytes, for `serve` and an editor that keeps ob0's rules.
 -- Rule: docs/PROMISES.md, Client and server.
-use Rattle.std.specs.Prelude.{◌≡◌, ◌≤◌, ◌++◌, ℕ, List, length, All, Result}
+use Rattle.std.specs.Prelude.{◌≡◌, ◌≤◌, ◌++◌, ℕ, List, [], ◌∷◌, length, All, Result}
 use Rattle.std.specs.List.{flat_map}
 use Rattle.ob0_text.specs.declared.position_types.Unit.{Unit}
 use Rattle.ob0_frame.specs.Frames.{frame}
@@ -8,14 +8,17 @@ use Rattle.ob0_frame.specs.Head.{max_content}
 use Rattle.ob0_session.specs.Serving.{PrefixServed}
 use Rattle.ob0_session.specs.declared.serving.ServeFault.{ServeFault}
 use Rattle.ob0_world_rules.specs.EveryEditor.{Turn}
-use Rattle.ob0_world.specs.Exchanges.{Exchange, BeginsExchange, ExchangeLeads, HoldsOfExchange}
+use Rattle.serde_json.specs.Data.{Data}
+use Rattle.ob0_session_server.specs.Answers.{ServerState, Conversation}
+use Rattle.ob0_world.specs.Exchanges.{Exchange, BeginsExchange, ExchangeLeads, IsShutdown, IsExit, EndsSession, HoldsOfExchange}
 use Rattle.ob0_world_determined.specs.Determined.{MayServe, IsWritten}
 
--- Relates the exchange of a session and an editor that keeps ob0's rules to the bytes that `serve` writes.
+-- Relates the exchange of a session and an editor that keeps ob0's rules to the bytes that `serve`
+-- writes.
 pub record ServedExchange (begin now : Exchange) : Type 0 where
   pub holds : HoldsOfExchange begin now
-  -- for the frames of the contents that the session took it writes the frames of those that the
-  -- editor got and of those that wait for it, unless it returns `Memory` or `Write`
+  -- for the frames of the contents that the session took, `serve` writes the frames of the contents
+  -- that it sent, unless it returns `Memory` or `Write`
   pub written : All (λ content. length content ≤ max_content) now.wire.taken
       → (put : List ℕ) (result : Result ℕ ServeFault) → IsWritten result
       → MayServe result (flat_map frame now.wire.taken) put
@@ -25,13 +28,23 @@ pub record ServedExchange (begin now : Exchange) : Type 0 where
       → (more put : List ℕ) (result : Result ℕ ServeFault) → IsWritten result
       → MayServe result (flat_map frame now.wire.taken ++ more) put
       → (later : List ℕ) × (put ≡ flat_map frame (now.wire.got ++ now.wire.to_editor) ++ later)
-  -- where it returns `Memory` it has answered the first contents that it read: where these are what
-  -- the session took, it has written the same
+  -- when the session then takes `shutdown` and `exit`, it writes one frame more: the answer to
+  -- `shutdown`
+  pub ended : (id : Data) (shutdown exit : List ℕ) → IsShutdown id shutdown → IsExit exit
+      → (sent : List (List ℕ)) (end : ServerState)
+      → Conversation now.wire.session (shutdown ∷ exit ∷ []) sent end
+      → All (λ content. length content ≤ max_content) (now.wire.taken ++ shutdown ∷ exit ∷ [])
+      → (put : List ℕ) (result : Result ℕ ServeFault) → IsWritten result
+      → MayServe result (flat_map frame (now.wire.taken ++ shutdown ∷ exit ∷ [])) put
+      → EndsSession id now.wire.session sent end
+      × (put ≡ flat_map frame ((now.wire.got ++ now.wire.to_editor) ++ sent))
+  -- if it returns `Memory`, it has answered the first contents that it read; if these are the contents
+  -- that the session took, it has written the same
   pub in_part : (taken put : List ℕ) (part : PrefixServed taken put)
       → part.answered ≡ now.wire.taken
       → put ≡ flat_map frame (now.wire.got ++ now.wire.to_editor)
 
--- so it is with every editor that keeps ob0's rules, and every session
+-- states that it holds with every editor that keeps ob0's rules, and every session
 abbrev pub EveryExchangeIsServed : Type 0
 EveryExchangeIsServed =
     (unit : Unit) (begin now : Exchange) (turns : List Turn)

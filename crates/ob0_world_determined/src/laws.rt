@@ -1,4 +1,4 @@
-//! What holds of the definitions that the contracts cite.
+//! States laws of the definitions that the contracts cite.
 ghost use Rattle.ob0_world_determined.specs.Determined.{AListFits, ConversationIsServed, ConversationIsServedFirst, OneAnswer, OneConversation, OneDiagnosis, OneOutput, OneReply, OneResult, OneTable};
 ghost use Rattle.ob0_world_determined.specs.Exchanged.{EveryExchangeIsServed};
 
@@ -7,12 +7,12 @@ use ob0_frame::laws::{feeding_is_determined, nothing_is_fed, written_is_read};
 use ob0_scan::laws::{one_report, one_scan};
 use ob0_world::laws::every_exchange_holds;
 
-/// A module has one table of ordinals.
+/// States that a module has one table of ordinals.
 pub fn one_table()
     ensures { OneTable }
 {}
 
-/// The diagnostics of a text are a function of the text.
+/// States that a text determines its diagnostics.
 pub fn one_diagnosis()
     ensures { OneDiagnosis }
 {
@@ -22,7 +22,7 @@ pub fn one_diagnosis()
     one_refusal();
 }
 
-/// A reply is sent in one way.
+/// States that a reply is sent in one way.
 pub fn one_reply()
     ensures { OneReply }
 {
@@ -30,23 +30,23 @@ pub fn one_reply()
     one_diagnosis();
 }
 
-/// The replies to a content, and the state after it, are a function of the state before it and of the content.
+/// States that a content and the state before it determine the replies and the state after it.
 pub fn one_answer()
     ensures { OneAnswer }
 {
     one_reply();
 }
 
-/// The replies to the contents of a conversation, and the state after it, are a function of the contents.
+/// States that the contents of a conversation determine the replies and the state after it.
 pub fn one_conversation()
     ensures { OneConversation }
 {
     one_answer();
 }
 
-/// What `serve` writes for the first bytes of an input begins what it writes for more of it, unless the call for more
-/// returns `Memory` or `Write`. It is all of that for the same bytes, and after an `exit` or a bad head, unless the one
-/// call returns either: so how an input is cut into pieces makes no difference.
+/// States that the output for the first bytes of an input begins the output for more of it, unless the call for more
+/// returns `Memory` or `Write`. The two are equal for the same bytes, and after an `exit` or a bad head, unless the first
+/// call returns either. So it makes no difference how an input is cut into pieces.
 pub fn one_output()
     ensures { OneOutput }
 {
@@ -54,8 +54,8 @@ pub fn one_output()
     feeding_is_determined();
 }
 
-/// What `serve` returns is the same for the same bytes, and after an `exit` or a bad head for more of the input, unless
-/// one of the two is `Read`, `TooManyReads`, `Write` or `Memory`.
+/// States that `serve` returns the same for the same bytes, and for more of the input after an `exit` or a bad head,
+/// unless one of the two results is `Read`, `TooManyReads`, `Write` or `Memory`.
 pub fn one_result()
     ensures { OneResult }
 {
@@ -63,13 +63,13 @@ pub fn one_result()
     feeding_is_determined();
 }
 
-/// Each stream has a list of contents, so what is said of all that fit it is said of one.
+/// States that each stream has a list of contents, so a law of all lists that fit it is a law of one.
 pub fn a_list_fits()
     ensures { AListFits }
 {}
 
-/// Fed with the frames of what a session took in a conversation, `serve` writes the frames of what the session sent,
-/// unless it returns `Memory` or `Write`.
+/// States that `serve`, fed with the frames of the contents that a session took in a conversation, writes the frames of
+/// the contents that the session sent, unless it returns `Memory` or `Write`.
 pub fn a_conversation_is_served()
     ensures { ConversationIsServed }
 {
@@ -79,7 +79,7 @@ pub fn a_conversation_is_served()
     written_is_read();
 }
 
-/// Fed with a longer input that begins with these frames, `serve` writes the frames of what the session sent first.
+/// States that `serve`, fed with a longer input that begins with these frames, first writes the same frames.
 pub fn a_conversation_is_served_first()
     ensures { ConversationIsServedFirst }
 {
@@ -89,9 +89,9 @@ pub fn a_conversation_is_served_first()
     written_is_read();
 }
 
-/// The headline, with every editor that keeps ob0's rules, of what `serve` writes: what the editor and a session have
-/// exchanged has what is said of it, and for the frames of what the session took `serve` writes the frames of what the
-/// session sent, unless it returns `Memory` or `Write`; at `Memory` it has written so for the contents that it answered.
+/// States the headline for `serve` and every editor that keeps ob0's rules: `HoldsOfExchange` holds, and for the frames
+/// of the contents that the session took `serve` writes the frames of the contents that it sent, unless it returns
+/// `Memory` or `Write`. At `Memory` it has written them for the contents that it answered.
 pub fn every_exchange_is_served()
     ensures { EveryExchangeIsServed }
 {

@@ -8,24 +8,27 @@ use Rattle.serde_json.specs.Read.{read}
 use Rattle.ob0_text.specs.OpenDocuments.{DocumentEvent, Opened, Changed, Lost, Closed}
 use Rattle.ob0_rpc.specs.Messages.{ReadsContent, meaning_of}
 use Rattle.ob0_world_rules.specs.ClientAndServer.{SentAsk, ToServer, notifies, requests}
-use Rattle.ob0_world_editor.specs.Heard.{heard, message_read, notification_read, sent_as, SaysToServer}
-use Rattle.ob0_world_editor.specs.Understood.{understood, value_understood}
+use Rattle.ob0_world_editor.specs.Heard.{request_number, heard, message_read, notification_read, sent_as, SaysToServer}
+use Rattle.ob0_world_editor.specs.Understood.{understood, value_read, read_so}
 
 -- what a content says that is UTF-8, once its JSON value is known
 pub said : {M : Type 0} (f : Data → Option M) (content : List ℕ) (d : Data) → ReadsContent content (Some d) → cond (is_utf8 content) (option_and_then f (read content)) None ≡ f d
 said f content d reads = ap (λ b. cond b (option_and_then f (read content)) None) (is_utf8-from_IsUtf8 content reads.0) ∙ ap (option_and_then f) reads.1
 
 -- what the editor understands of a content whose JSON value is known, and of one that has none
-pub understood_as : (requested : List SentAsk) (content : List ℕ) (d : Data) → ReadsContent content (Some d) → understood requested content ≡ value_understood requested d
-unfolding understood
-understood_as requested content d reads = said (value_understood requested) content d reads
+pub read_as : (number_of : Data → Option ℕ) (requested : List SentAsk) (content : List ℕ) (d : Data) → ReadsContent content (Some d) → read_so number_of requested content ≡ value_read number_of requested d
+unfolding read_so
+read_as number_of requested content d reads = said (value_read number_of requested) content d reads
+
+pub understood_as : (requested : List SentAsk) (content : List ℕ) (d : Data) → ReadsContent content (Some d) → understood requested content ≡ value_read request_number requested d
+understood_as requested content d reads = read_as request_number requested content d reads
 
 pub not_understood : (requested : List SentAsk) (content : List ℕ) → ReadsContent content None → understood requested content ≡ None
-unfolding understood
+unfolding read_so
 not_understood requested content reads = go (is_utf8 content) refl
   where
-    go : (b : Bool) → is_utf8 content ≡ b → cond b (option_and_then (value_understood requested) (read content)) None ≡ None
-    go true is = ap (option_and_then (value_understood requested)) (reads (IsUtf8-from_is_utf8 content is))
+    go : (b : Bool) → is_utf8 content ≡ b → cond b (option_and_then (value_read request_number requested) (read content)) None ≡ None
+    go true is = ap (option_and_then (value_read request_number requested)) (reads (IsUtf8-from_is_utf8 content is))
     go false is = refl
 
 -- a content that says something to a server is heard so

@@ -119,10 +119,10 @@ slice_get_last (y ∷ xs) x = slice_get_last xs x
 
 -- the editor has sent one more request, and the content is that request
 pub asks_once_more : (e new : Editor) (uri : List ℕ) (ask : Ask) (d : Open) (content : Vec ℕ Global) (n : ℕ) (older : List requested.SentAsk) (this : requested.SentAsk) → open_at e uri ≡ Some d → map requested_of older ≡ e.requested → n ≡ length older
-    → requested_of this ≡ record { ask = ask; uri = uri; opening = d.opening; version = d.version } → new ≡ record e { requested = map requested_of (older ++ this ∷ []) } → IsRequest (n + 1) uri ask content.items
+    → requested_of this ≡ record { ask = ask; uri = uri; text = d.text; opening = d.opening; version = d.version } → new ≡ record e { requested = map requested_of (older ++ this ∷ []) } → IsRequest (n + 1) uri ask content.items
     → Acts (done_by e (ask_about uri ask)) (Some content) new
 asks_once_more e new uri ask d content n older this at were count is is_new request =
-    let a : SentAsk = record { ask = ask; uri = uri; opening = d.opening; version = d.version } in
+    let a : SentAsk = record { ask = ask; uri = uri; text = d.text; opening = d.opening; version = d.version } in
     let grown : map requested_of (older ++ this ∷ []) ≡ e.requested ++ a ∷ [] = map-append requested_of older (this ∷ []) ∙ (λ i. were i ++ is i ∷ []) in
     let now : new ≡ record e { requested = e.requested ++ a ∷ [] } = is_new ∙ (λ i. record e { requested = grown i }) in
     let number : n + 1 ≡ suc (length e.requested) = rw add-one (ap suc (count ∙ sym (length-map older requested_of) ∙ ap length were)) in

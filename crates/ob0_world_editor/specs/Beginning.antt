@@ -50,7 +50,7 @@ initialize_message unit =
     (object (member (codes "capabilities") (object (capabilities_for unit)) no_members))
     no_members))))
 
--- what the server knows of this editor then
+-- returns the client that the server then knows
 abbrev pub client_for : Unit → Client
 client_for unit =
     record {

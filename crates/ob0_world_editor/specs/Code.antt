@@ -1,4 +1,4 @@
--- What the values of the code mean.
+-- Defines the meaning of the code's values.
 -- Rule: none; for contracts: what values of the code mean.
 use Rattle.std.specs.Prelude.{string_bytes}
 use Rattle.std.specs.Str.{chars}
@@ -21,8 +21,13 @@ ask_of (ask.TheVariants.Format indent) = format indent
 -- a request that was sent, of the code
 abbrev pub requested_of : requested.SentAsk → SentAsk
 requested_of a =
-    record
-    { ask = ask_of a.ask; uri = string_bytes a.uri; opening = a.opening; version = a.version }
+    record {
+      ask = ask_of a.ask;
+      uri = string_bytes a.uri;
+      text = chars (string_bytes a.text);
+      opening = a.opening;
+      version = a.version;
+    }
 
 -- an answer with edits, of the code
 abbrev pub answer_of : answer.HeldAnswer → Answer

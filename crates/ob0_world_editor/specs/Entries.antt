@@ -1,4 +1,4 @@
--- What the stored documents mean.
+-- Defines the meaning of the stored documents.
 -- Rule: none; for contracts: what values of the code mean.
 use Rattle.std.specs.Prelude.{ℕ, List, map, string_bytes, String, refl}
 use Rattle.std.specs.Str.{chars}

@@ -1,4 +1,4 @@
--- What a call of the editor did.
+-- Defines what a call of the editor did.
 -- Rule: none; for contracts: what a call of the editor did.
 use Rattle.std.specs.Prelude.{◌≡◌, ◌<◌, ◌-◌, ◌^◌, ⊤, ℕ, Bool, true, false, pos, List, [], ◌∷◌, Vec, Option, Some, None, length, map, option_map, slice_get}
 use Rattle.std.specs.List.{remove}
@@ -15,7 +15,7 @@ use Rattle.ob0_world_editor.specs.declared.applied.Applying as applying
 use Rattle.ob0_world_editor.specs.declared.editor.HeldAnswer as answer
 use Rattle.ob0_world_editor.specs.declared.editor.Rewritten as rewritten
 
--- one more of all that is counted can be counted
+-- states that each count can rise by one
 pub record AreFew (e : Editor) : Type 0 where
   pub openings : e.openings < 2 ^ 63 - 1
   pub asks : length e.requested < 2 ^ 63 - 1
@@ -51,7 +51,7 @@ ComesOf done held (applying.TheVariants.Made applied content) new =
 
 -- ---- the steps of applying
 
--- where the first answer to ask k is, and what is left without it
+-- states that this is the index of the first answer to ask k, and that the others are left without it
 abbrev pub IsPlaceOf : List answer.HeldAnswer → ℕ → Option ℕ → Type 0
 IsPlaceOf answers k (Some i) =
     (i < length answers)

@@ -1,4 +1,4 @@
-//! What comes of an answer.
+//! The result of applying an answer.
 ghost use Rattle.std.specs.Prelude.{◌≡◌, IfOk, string_bytes};
 ghost use Rattle.std.specs.Str.{chars};
 ghost use Rattle.ob0_world_editor.specs.Code.{applied_of};
@@ -13,7 +13,7 @@ pub struct Applied {
     pub after: String,
 }
 
-/// What became of an answer that was to be applied.
+/// The result of applying an answer.
 #[derive(Drop)]
 pub enum Applying {
     /// No such answer is stored.

@@ -1,11 +1,11 @@
-//! What an editor requests.
+//! The requests of an editor.
 ghost use Rattle.std.specs.Prelude.{◌≡◌, IfOk};
 ghost use Rattle.ob0_world_editor.specs.Code.{ask_of};
 
 use ob0_text::{Indent, Position};
 use std::alloc::{AllocError, Global};
 
-/// What an editor requests of a server.
+/// A request about a document whose answer the editor may apply.
 #[derive(Debug, Drop)]
 pub enum Ask {
     Rename { position: Position, name: String },

@@ -1,4 +1,4 @@
-//! How an editor begins.
+//! The first message of an editor.
 ghost use Rattle.std.specs.Prelude.{◌≡◌, [], ◌∷◌, ◌++◌, Some, IfOk, OnOk};
 ghost use Rattle.serde_json.specs.Data.{no_members, object};
 ghost use Rattle.ob0_rpc.specs.Messages.{ReadsContent};

@@ -1,9 +1,8 @@
-//! What an editor keeps, and what it does.
+//! An editor of a server: its documents, its requests and the answers that it has.
 //!
-//! What fails in the editor leaves it as it was: contents and copies are made before anything is changed, the entry of
-//! the map is the last that can fail, and the count of openings rises after it. `apply` drops its answer first, and an
-//! error leaves the editor without it and otherwise the same. The text is a `String`; a store is made for a change or
-//! an edit, so no invariant on units is needed.
+//! An error leaves the editor unchanged: contents and copies are made first, the entry of the map is the last step that
+//! can fail, and the count of openings rises after it. `apply` drops its answer first, so an error leaves the editor
+//! without it. The text is a `String`; a store is made for a change or an edit, so no invariant on units is needed.
 ghost use Rattle.std.specs.Prelude.{◌≡◌, IfOk, OnOk, OnErr, map, option_map, is_some, ◌<◌, ◌-◌, ◌^◌, string_bytes};
 ghost use Rattle.std.specs.Str.{chars};
 ghost use Rattle.ob0_text.specs.OpenDocuments.{change_in_text};
@@ -26,11 +25,12 @@ use ob0_text::{Change, Edit, Unit, Whole};
 use std::alloc::{AllocError, Global};
 use std::marker::Model;
 
-/// What was requested, and the state of the document then.
+/// A request that was sent, and the state of the document then.
 #[derive(Drop)]
 pub struct SentAsk {
     pub ask: Ask,
     pub uri: String,
+    pub text: String,
     pub opening: u64,
     pub version: u64,
 }
@@ -82,7 +82,7 @@ impl Model for Editor {
 }
 
 impl Editor {
-    /// An editor with no document, whose positions are counted in this unit.
+    /// Returns an editor without documents that counts positions in this unit.
     pub fn new(alloc: Global, unit: Unit) -> Editor
         ensures { result ≡ new_editor unit }
     {
@@ -96,7 +96,7 @@ impl Editor {
         }
     }
 
-    /// Opens a document; the content is the notification. None where it is open already.
+    /// Opens a document, and returns the content of the notification, or None if it is open already.
     pub fn open(&mut self, uri: &str, text: &str) -> Result<Option<Vec<u8>>, AllocError>
         requires { AreFew self.old }
         ensures ok { IfOk result (λ content. Acts
@@ -114,7 +114,7 @@ impl Editor {
         Ok(Some(content))
     }
 
-    /// Changes a document; the content is the notification. None where it isn't open.
+    /// Changes a document, and returns the content of the notification, or None if it isn't open.
     pub fn change(&mut self, uri: &str, changes: &[Change]) -> Result<Option<Vec<u8>>, AllocError>
         requires { AreFew self.old }
         ensures ok { IfOk result (λ content. Acts
@@ -138,7 +138,7 @@ impl Editor {
         Ok(Some(content))
     }
 
-    /// Closes a document; the content is the notification. None where it isn't open.
+    /// Closes a document, and returns the content of the notification, or None if it isn't open.
     pub fn close(&mut self, uri: &str) -> Result<Option<Vec<u8>>, AllocError>
         ensures ok { IfOk result
             (λ content. Acts (done_by self.old (close_document uri.now)) content self.new) }
@@ -152,7 +152,7 @@ impl Editor {
         Ok(Some(content))
     }
 
-    /// Requests this about a document; the content is the request. None where it isn't open.
+    /// Requests this about a document, and returns the content of the request, or None if it isn't open.
     pub fn ask(&mut self, uri: &str, ask: &Ask) -> Result<Option<Vec<u8>>, AllocError>
         requires { AreFew self.old }
         ensures ok { IfOk result (λ content. Acts
@@ -162,15 +162,14 @@ impl Editor {
         let Some(open) = self.documents.get(uri) else {
             return Ok(None);
         };
-        let (version, opening) = (open.version, open.opening);
         let number = self.requested.len() as u64 + 1;
         let content = request(self.alloc, number, uri, ask)?;
-        let sent = sent_ask(self.alloc, ask, uri, opening, version)?;
+        let sent = sent_ask(self.alloc, ask, uri, open)?;
         self.requested.push(sent)?;
         Ok(Some(content))
     }
 
-    /// Reads a content that came from the server; None where it isn't a message for this editor.
+    /// Reads a content of the server. Returns None if it isn't a message for this editor.
     pub fn read(&self, content: &[u8]) -> Result<Option<Message>, AllocError>
         ensures { IfOk result
             (λ found. option_map message_of found ≡ understood self.now.requested content.now) }
@@ -178,7 +177,7 @@ impl Editor {
         read_message(self.alloc, self.requested.as_slice(), content)
     }
 
-    /// Keeps an answer, if it has edits, and says whether it has.
+    /// Keeps an answer if it has edits, and returns whether it has.
     pub fn keep(&mut self, number: u64, edits: Vec<Edit>) -> Result<bool, AllocError>
         ensures kept { OnOk result
             (self.new ≡ reads self.old (answers number (replacements edits.items))) }
@@ -192,8 +191,8 @@ impl Editor {
         Ok(true)
     }
 
-    /// Makes the edits of answer `k`, where the document is the same opening with the same version as when it was
-    /// requested about; the content is the notification. Else, and on an error, the answer is dropped.
+    /// Makes the edits of answer `k` if the document is still the opening and the version that was asked about, and
+    /// returns the content of the notification. Otherwise, and on an error, the answer is dropped.
     pub fn apply(&mut self, k: u64) -> Result<Applying, AllocError>
         requires { AreFew self.old }
         ensures ok { IfOk result (λ applying. ComesOf (done_by self.old (apply k))
@@ -229,8 +228,8 @@ impl Editor {
         Some(answer.edits)
     }
 
-    /// The document of the request, with these edits made; None where it isn't the same any more, or the edits can't be
-    /// made.
+    /// Returns the document of the request with these edits made, or None if it isn't the same opening and version any
+    /// more or the edits can't be made.
     fn rewrite(&self, k: u64, edits: &[Edit]) -> Result<Option<Rewritten>, AllocError>
         requires { AreFew self.now }
         ensures { IfOk result (λ rewritten.
@@ -248,7 +247,7 @@ impl Editor {
         self.rewrite_document(requested.uri.as_str(), document, edits)
     }
 
-    /// A document with these edits made; None where they can't be made.
+    /// Returns a document with these edits made, or None if they can't be made.
     fn rewrite_document(
         &self,
         uri: &str,
@@ -274,7 +273,7 @@ impl Editor {
         }))
     }
 
-    /// Takes a document's new text, and notifies the server.
+    /// Stores a document's new text, and returns the applied edit with the content of the notification.
     fn make(&mut self, rewritten: Rewritten) -> Result<Applying, AllocError>
         requires { rewritten.version < 2 ^ 63 }
         ensures ok { IfOk result (λ applying. IsAppliedAs self.old rewritten applying self.new) }
@@ -287,7 +286,7 @@ impl Editor {
         })
     }
 
-    /// Takes a copy of a document's new text; the content is the notification.
+    /// Stores a copy of a document's new text, and returns the content of the notification.
     fn take_text(&mut self, rewritten: &Rewritten) -> Result<Vec<u8>, AllocError>
         requires { rewritten.now.version < 2 ^ 63 }
         ensures ok { IfOk result
@@ -304,28 +303,29 @@ impl Editor {
     }
 }
 
-/// What is requested of a document.
-fn sent_ask(
-    alloc: Global,
-    ask: &Ask,
-    uri: &str,
-    opening: u64,
-    version: u64,
-) -> Result<SentAsk, AllocError>
-    ensures { IfOk result (λ sent. requested_of sent ≡ record
-        { ask = ask_of ask.now; uri = uri.now; opening = opening; version = version }) }
+/// Returns the request about a document, with the document's present state.
+fn sent_ask(alloc: Global, ask: &Ask, uri: &str, document: &Open) -> Result<SentAsk, AllocError>
+    ensures { IfOk result (λ sent. requested_of sent ≡ record {
+      ask = ask_of ask.now;
+      uri = uri.now;
+      text = chars (string_bytes document.now.text);
+      opening = document.now.opening;
+      version = document.now.version;
+    }) }
 {
     let uri = String::from_str(alloc, uri)?;
+    let text = String::from_str(alloc, document.text.as_str())?;
     let ask = copy_of(alloc, ask)?;
     Ok(SentAsk {
         ask,
         uri,
-        opening,
-        version,
+        text,
+        opening: document.opening,
+        version: document.version,
     })
 }
 
-/// Where the first answer to ask `k` is.
+/// Returns the index of the first answer to ask `k`.
 fn place_of(answers: &[HeldAnswer], k: u64) -> Option<usize>
     ensures { IsPlaceOf answers.now k result }
 {

@@ -1,4 +1,4 @@
-//! The messages of a server, as the editor reads them.
+//! Reads the messages of a server.
 ghost use Rattle.std.specs.Prelude.{◌≡◌, IfOk, codes, option_map, option_and_then, map};
 ghost use Rattle.serde_json.specs.Find.{get, as_number, as_i64, as_array};
 ghost use Rattle.serde_json.specs.View.{view, items_view};
@@ -6,7 +6,7 @@ ghost use Rattle.ob0_rpc.specs.Members.{text_member};
 ghost use Rattle.ob0_world_editor.specs.Code.{message_of, ask_of, requested_of};
 ghost use Rattle.ob0_world_rules.specs.Edited.{replacement_of, replacements};
 ghost use Rattle.ob0_world_editor.specs.Heard.{request_number};
-ghost use Rattle.ob0_world_editor.specs.Understood.{understood, value_understood, publication_understood, answer_understood, has_none, edit_in, edits_in, workspace_items, is_titled, titled_action, action_items, items_for as items_of_answer, edits_for};
+ghost use Rattle.ob0_world_editor.specs.Understood.{understood, value_read, publication_understood, answer_read, has_none, edit_in, edits_in, workspace_items, is_text, titled_action, action_items, items_for as items_of_answer, edits_for};
 ghost use Rattle.ob0_world_rules.specs.ClientAndServer.{request_numbered};
 
 use crate::asks::Ask;
@@ -24,14 +24,14 @@ pub enum Message {
         version: Option<i64>,
         empty: bool,
     },
-    /// The answer to an ask; a refusal has no edits.
+    /// The answer to an ask. A refusal has no edits.
     Answered {
         number: u64,
         edits: Vec<Edit>,
     },
 }
 
-/// Reads a content, where these asks were sent; None where it isn't a message that a server sends for them.
+/// Reads a content when these asks were sent. Returns None if it isn't a message that a server sends for them.
 pub fn read_message(
     alloc: Global,
     requested: &[SentAsk],
@@ -57,10 +57,13 @@ fn read_value(
     message: &Value,
 ) -> Result<Option<Message>, AllocError>
     ensures { IfOk result (λ found. option_map message_of found
-        ≡ value_understood (map requested_of requested.now) (view message.now)) }
+        ≡ value_read request_number (map requested_of requested.now) (view message.now)) }
 {
     if message.get("method").is_none() {
         return read_answer(alloc, requested, message);
+    }
+    if !has_text(message, "method", "textDocument/publishDiagnostics") {
+        return Ok(None);
     }
     match message.get("params") {
         Some(params) => read_publication(alloc, params),
@@ -121,7 +124,7 @@ fn read_answer(
     answer: &Value,
 ) -> Result<Option<Message>, AllocError>
     ensures { IfOk result (λ found. option_map message_of found
-        ≡ answer_understood (map requested_of requested.now) (view answer.now)) }
+        ≡ answer_read request_number (map requested_of requested.now) (view answer.now)) }
 {
     let Some(number) = answer_number(answer) else {
         return Ok(None);
@@ -139,7 +142,7 @@ fn answer_number(answer: &Value) -> Option<u64>
     answer.get("id")?.as_u64()
 }
 
-/// Ask `number`; the first has number 1.
+/// Returns ask `number`. The first has number 1.
 pub fn numbered_ask(requested: &[SentAsk], number: u64) -> Option<&SentAsk>
     ensures { option_map (λ a. requested_of a.now) result
         ≡ request_numbered (map requested_of requested.now) number }
@@ -155,7 +158,7 @@ pub fn numbered_ask(requested: &[SentAsk], number: u64) -> Option<&SentAsk>
     }
 }
 
-/// The edits in the answer to an ask; none where there are no such.
+/// Returns the edits in the answer to an ask, or none if it has no readable edits.
 fn read_edits(alloc: Global, ask: &Ask, answer: &Value) -> Result<Vec<Edit>, AllocError>
     ensures { IfOk result
         (λ edits. replacements edits.items ≡ edits_for (ask_of ask.now) (view answer.now)) }
@@ -190,7 +193,7 @@ fn answered_values<'v>(ask: &Ask, answer: &'v Value) -> Option<&'v Vec<Value>>
     }
 }
 
-/// The edits of the first document of a WorkspaceEdit.
+/// Returns the edits of the first document of a WorkspaceEdit.
 fn workspace_values(edit: &Value) -> Option<&Vec<Value>>
     ensures { option_map (λ v. items_view v.now.items) result ≡ workspace_items (view edit.now) }
 {
@@ -198,7 +201,7 @@ fn workspace_values(edit: &Value) -> Option<&Vec<Value>>
     first.get("edits")?.as_array()
 }
 
-/// The edits of the action with this title.
+/// Returns the edits of the action with this title.
 fn action_values<'v>(actions: &'v Value, title: &str) -> Option<&'v Vec<Value>>
     ensures { option_map (λ v. items_view v.now.items) result
         ≡ action_items title.now (view actions.now) }
@@ -212,25 +215,26 @@ fn action_with_title<'v>(actions: &'v [Value], title: &str) -> Option<&'v Value>
         ≡ titled_action title.now (items_view actions.now) }
 {
     for action in actions {
-        if has_title(action, title) {
+        if has_text(action, "title", title) {
             return Some(action);
         }
     }
     None
 }
 
-fn has_title(action: &Value, title: &str) -> bool
-    ensures { result ≡ is_titled title.now (text_member (codes "title") (view action.now)) }
+/// Returns whether a value has a member of this name with this text.
+fn has_text(value: &Value, name: &str, text: &str) -> bool
+    ensures { result ≡ is_text text.now (text_member name.now (view value.now)) }
 {
-    match text_in(action, "title") {
-        Some(found) => found == title,
+    match text_in(value, name) {
+        Some(found) => found == text,
         None => false,
     }
 }
 
 // ---- edits
 
-/// The edits of a list; none where one of them can't be read.
+/// Returns the edits of a list, or None if one of them can't be read.
 fn edits_of(alloc: Global, values: &[Value]) -> Result<Option<Vec<Edit>>, AllocError>
     ensures { IfOk result (λ found. option_map (λ edits. replacements edits.items) found
         ≡ edits_in (items_view values.now)) }

@@ -1,4 +1,4 @@
-//! What changes and edits make of a text.
+//! Makes changes and edits in a text.
 ghost use Rattle.std.specs.Prelude.{◌≡◌, Some, map, IfOk, OnOk, string_bytes};
 ghost use Rattle.std.specs.Option.{option_map};
 ghost use Rattle.std.specs.Str.{chars};

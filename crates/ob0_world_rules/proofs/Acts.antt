@@ -1,5 +1,5 @@
 -- What an act of the editor leaves, by cases: to prove something of all of them it is enough to prove it of each of these seven.
-use Rattle.std.proofs.Common.{◌≡◌, ◌∙◌, ℕ, Bool, true, false, cond, List, [], ◌∷◌, refl, sym, ap, subst}
+use Rattle.std.proofs.Common.{◌≡◌, ℕ, cond, List, [], ◌∷◌, refl, sym, subst}
 use Rattle.std.specs.Prelude.{Option, Some, None, is_some, unwrap_or, option_and_then}
 use Rattle.std.proofs.lemmas.Option.{same_Some, none-some}
 use Rattle.ob0_text.specs.OpenDocuments.{TextChange}

@@ -1,5 +1,5 @@
 -- What holds with every editor that keeps ob0's rules. Other messages apart, its moves keep what the model's acts keep.
-use Rattle.std.proofs.Common.{◌≡◌, ◌∙◌, ℕ, suc, ◌+◌, cond, List, [], ◌∷◌, ◌++◌, map, length, replicate, append-nil, append_assoc, refl, sym, ap, subst}
+use Rattle.std.proofs.Common.{◌≡◌, ◌∙◌, ℕ, suc, ◌+◌, cond, List, [], ◌∷◌, ◌++◌, map, length, append-nil, append_assoc, refl, sym, ap, subst}
 use Rattle.std.specs.Prelude.{pos, All, Option, Some, None, option_map}
 use Rattle.std.specs.FinMap as map_of
 use Rattle.std.proofs.lemmas.Option.{same_Some}
@@ -9,7 +9,7 @@ use Rattle.ob0_text.specs.declared.position_types.Unit.{Unit}
 use Rattle.ob0_text.specs.OpenDocuments.{OpenDocuments, Opened, Changed, Closed, document_at}
 use Rattle.ob0_world_rules.specs.Language.{WellTypedText, SameRun}
 use Rattle.ob0_world_rules.specs.Edited.{edited}
-use Rattle.ob0_world_rules.specs.ClientAndServer.{Open, Editor, open_at, ToServer, notifies, requests, ToEditor, Applied, ClientAndServer, after_message}
+use Rattle.ob0_world_rules.specs.ClientAndServer.{Open, SentAsk, Editor, open_at, ToServer, notifies, requests, ToEditor, Applied, ClientAndServer, after_message}
 use Rattle.ob0_world_rules.specs.Editing.{Done, stays, closes, asks, without_answer}
 use Rattle.ob0_world_rules.specs.Happens.{after_act, ServerTakes}
 use Rattle.ob0_world_rules.specs.Mirror.{will_have, as_open}
@@ -17,9 +17,9 @@ use Rattle.ob0_world_rules.specs.Headline.{KeepsTheRun}
 use Rattle.ob0_world_rules.specs.Laws.{EditsPreserveRun}
 use Rattle.ob0_world_rules.specs.MadeInOrder.{Announced, AreMadeOf, versions_announced, versioned_uri}
 use Rattle.ob0_world_rules.specs.Editors.{Revision, Move, to_open, to_revise, to_close, to_ask, to_apply, to_drop, revised, with_document, Revises, told, AppliesAnswer, opened_as, May}
-use Rattle.ob0_world_rules.specs.EveryEditor.{EditorAndServer, nothing_yet, without_others, notes_among, as_model, no_ask, without_numbers, Turn, editor_does, editor_says, server_takes, editor_takes, after_move, TakesNext, after_one, MayHappen, MayLead, HoldsWithEditor, WithEveryEditor}
+use Rattle.ob0_world_rules.specs.EveryEditor.{EditorAndServer, nothing_yet, without_others, notes_among, as_model, Turn, editor_does, editor_says, server_takes, editor_takes, after_move, TakesNext, after_one, MayHappen, MayLead, HoldsWithEditor, WithEveryEditor}
 use Rattle.ob0_world_rules.proofs.UriLaws.{get_put, uri_itself}
-use Rattle.ob0_world_rules.proofs.SameDocument.{Known, Same, later_answers, later_ask}
+use Rattle.ob0_world_rules.proofs.Asked.{Known}
 use Rattle.ob0_world_rules.proofs.Keeping.{AnswerFits, Kept, acts_kept, revise_kept, held_known}
 use Rattle.ob0_world_rules.proofs.Interleavings.{opened_kept, close_kept, ask_kept, still_kept, take_kept, without_kept, serve_kept, start_kept, up_to_date, AreLatest, Both}
 use Rattle.ob0_world_rules.proofs.Pending.{Awaits, Pending, pending_push, pending_named, Next, serve_next}
@@ -117,15 +117,15 @@ module _ (unit : Unit) where
       subst (λ ts. Good (after_move w (record { editor = new; sent = []; applied = applied }) ts)) (sym none)
       (none_sent w new applied good
       (subst (λ e. Kept unit (after_act (as_model w) (record { editor = e; sent = []; applied = applied }))) (sym is)
-      (acts_kept unit (as_model w) (record { editor = w.editor; sent = []; applied = applied }) good.kept (later_answers w.editor w.editor.answers) good.kept.openings refl refl good.kept.mirror tt keeps)))
-  revisions_good (r ∷ more) w uri new announced applied good (d, later, at, rises, makes, rest, is) keeps =
+      (acts_kept unit (as_model w) (record { editor = w.editor; sent = []; applied = applied }) good.kept (λ k a same. same) refl refl good.kept.mirror tt keeps)))
+  revisions_good (r ∷ more) w uri new announced applied good (d, later, at, makes, rest, is) keeps =
       let m : ToServer = notifies (Changed uri (pos r.version) r.how) in
       let first : Done = record { editor = with_document w.editor uri (revised d r); sent = m ∷ []; applied = [] } in
       let one : List Announced = record { uri = uri; document = revised d r } ∷ [] in
       let between : EditorAndServer = after_move w first one in
       let so : Good between =
       one_sent w first.editor m one [] good
-      (revise_kept unit (as_model w) uri d (revised d r) r.how [] good.kept refl rises at makes (All-nil KeepsTheRun))
+      (revise_kept unit (as_model w) uri d (revised d r) r.how [] good.kept at makes (All-nil KeepsTheRun))
       (λ held mirror. (Some (revised d r), put_there held w.editor uri (revised d r) m mirror, refl))
       refl in
       let last : Good (after_move between (record { editor = new; sent = told uri more; applied = applied }) later) = revisions_good more between uri new later applied so rest keeps in
@@ -141,10 +141,10 @@ module _ (unit : Unit) where
   apply_good : (w : EditorAndServer) (k : ℕ) (revisions : List Revision) (done : Done) (announced : List Announced) → Good w → AppliesAnswer w.editor k revisions done announced → Good (after_move w done announced)
   apply_good w k revisions done announced good a =
       let e : Editor = without_answer w.editor k in
-      let known : Known w.editor k (λ d. EditsPreserveRun unit d.text a.edits) = held_known unit w.editor k w.editor.answers a.edits a.answered good.kept.answers_held in
+      let known : Known w.editor.requested k (λ text. EditsPreserveRun unit text a.edits) = held_known unit w.editor.requested k w.editor.answers a.edits a.answered good.kept.answers_held in
       let asked : known.requested ≡ a.requested = same_Some known.requested a.requested (sym known.is ∙ a.numbered) in
-      let same : Same w.editor a.requested a.document = record { at = a.is_open; opening = a.same_opening; version = a.same_version } in
-      let keep : EditsPreserveRun unit a.document.text a.edits = subst (λ x. (d : Open) → Same w.editor x d → EditsPreserveRun unit d.text a.edits) asked known.still a.document same in
+      let same : known.requested.text ≡ a.document.text = ap (λ (x : SentAsk). x.text) asked ∙ sym a.same_text in
+      let keep : EditsPreserveRun unit a.document.text a.edits = subst (λ text. EditsPreserveRun unit text a.edits) same known.holds in
       let is : keep.after ≡ a.text = same_Some keep.after a.text (sym keep.makes ∙ ap (λ u. edited u a.document.text a.edits) (sym good.kept.counts) ∙ a.makes) in
       let applied : Applied = record { uri = a.requested.uri; before = a.document.text; after = a.text } in
       let keeps : KeepsTheRun applied = record { before_fits = keep.before_fits; after_fits = subst WellTypedText is keep.after_fits; same = subst (SameRun a.document.text) is keep.same } in
@@ -163,12 +163,12 @@ module _ (unit : Unit) where
       (revisions_good revisions without a.requested.uri a.new announced (applied ∷ []) so a.revises (All-push KeepsTheRun [] applied (All-nil KeepsTheRun) keeps))
 
   move_good : (w : EditorAndServer) (move : Move) (done : Done) (announced : List Announced) → Good w → May w.editor move done announced → Good (after_move w done announced)
-  move_good w (to_open uri version text) done announced good (none, is, are) =
+  move_good w (to_open uri version text) done announced good (is, are) =
       subst (λ x. Good (after_move w x announced)) (sym is)
       (subst (λ ts. Good (after_move w (opened_as (record { version = version; text = text; opening = w.editor.openings + 1 }) w.editor uri) ts)) (sym are) (open_good w uri text version good))
   move_good w (to_revise uri revisions) done announced good (new, revises, is) =
       subst (λ x. Good (after_move w x announced)) (sym is) (revisions_good revisions w uri new announced [] good revises (All-nil KeepsTheRun))
-  move_good w (to_close uri) done announced good (d, at, is, are) =
+  move_good w (to_close uri) done announced good (is, are) =
       subst (λ x. Good (after_move w x announced)) (sym is)
       (subst (λ ts. Good (after_move w (closes w.editor uri) ts)) (sym are)
       (one_sent w (closes w.editor uri).editor (notifies (Closed uri)) [] [] good (close_kept unit (as_model w) uri good.kept) (λ held mirror. refl) refl))
@@ -197,19 +197,11 @@ module _ (unit : Unit) where
         pending = subst (λ (x : ClientAndServer). Pending x.held x.to_server good.waiting) same good.pending;
       }
 
-  says_good : (w : EditorAndServer) (numbers : ℕ) → Good w → Good (record w { editor = without_numbers numbers w.editor; to_server = w.to_server ++ None ∷ [] })
-  says_good w numbers good =
-      let e : Editor = without_numbers numbers w.editor in
-      let done : Done = record { editor = e; sent = []; applied = [] } in
-      let quiet : Good (after_move w done []) =
-      none_sent w e [] good (acts_kept unit (as_model w) done good.kept (later_ask w.editor (replicate numbers no_ask)) good.kept.openings refl refl good.kept.mirror tt (All-nil KeepsTheRun)) in
-      let new : EditorAndServer = record w { editor = e; to_server = w.to_server ++ None ∷ [] } in
-      unmoved (after_move w done []) new quiet
-      (λ i. record (as_model new) {
-        to_server = (others_append w.to_server [] ∙ sym (others_append w.to_server (None ∷ []))) i;
-        applied = append-nil w.applied i;
-      })
-      (append-nil w.announced)
+  says_good : (w : EditorAndServer) → Good w → Good (record w { to_server = w.to_server ++ None ∷ [] })
+  says_good w good =
+      unmoved w (record w { to_server = w.to_server ++ None ∷ [] }) good
+      (λ i. record (as_model w) { to_server = (sym (append-nil (without_others w.to_server)) ∙ sym (others_append w.to_server (None ∷ []))) i })
+      refl
 
   serve_good : (w : EditorAndServer) (queue : List (Option ToServer)) (new : EditorAndServer) → w.to_server ≡ queue → Good w → TakesNext w queue new → Good new
   serve_good w [] new waits good is = subst Good (sym is) good
@@ -247,7 +239,7 @@ module _ (unit : Unit) where
   take_good w (Some m ∷ rest) waits good =
       let queue : List ToEditor = m ∷ without_others rest in
       record {
-        kept = take_kept unit (as_model w) queue good.kept (subst (All (AnswerFits unit w.editor)) (ap without_others waits) good.kept.answered);
+        kept = take_kept unit (as_model w) queue good.kept (subst (All (AnswerFits unit w.editor.requested)) (ap without_others waits) good.kept.answered);
         latest = good.latest;
         published = good.published;
         waiting = good.waiting;
@@ -260,7 +252,7 @@ module _ (unit : Unit) where
 
   turn_good : (w : EditorAndServer) (turn : Turn) (new : EditorAndServer) → Good w → MayHappen w turn new → Good new
   turn_good w (editor_does move) new good (done, announced, may, is) = subst Good (sym is) (move_good w move done announced good may)
-  turn_good w (editor_says numbers) new good is = subst Good (sym is) (says_good w numbers good)
+  turn_good w editor_says new good is = subst Good (sym is) (says_good w good)
   turn_good w server_takes new good takes = serve_good w w.to_server new refl good takes
   turn_good w editor_takes new good is = subst Good (sym is) (take_good w w.to_editor refl good)
 

@@ -1,5 +1,5 @@
 -- Each move of an editor and each turn of the server keeps what client and server keep.
-use Rattle.std.proofs.Common.{◌≡◌, ◌∙◌, ℕ, suc, ◌+◌, ◌≤◌, Bool, true, false, cond, List, [], ◌∷◌, ◌++◌, length, refl, sym, ap, subst, arith, inl, inr}
+use Rattle.std.proofs.Common.{◌≡◌, ◌∙◌, ℕ, suc, ◌+◌, Bool, true, false, cond, List, [], ◌∷◌, ◌++◌, length, refl, sym, ap, subst, inl, inr}
 use Rattle.std.specs.Prelude.{ℤ, pos, fold, All, Option, Some, None, is_some, option_map, ◌==◌}
 use Rattle.std.specs.Str.{bytes_eq}
 use Rattle.std.specs.Ordering.{nat_cmp}
@@ -14,7 +14,7 @@ use Rattle.ob0_text.proofs.EntryLaws.{updated-some, updated-none}
 use Rattle.ob0_world_rules.specs.Edited.{Replacement}
 use Rattle.ob0_world_rules.specs.Asks.{Ask}
 use Rattle.ob0_world_rules.specs.Answers.{IsAnswer}
-use Rattle.ob0_world_rules.specs.ClientAndServer.{Open, SentAsk, Answer, Editor, open_at, ToServer, notifies, requests, ToEditor, publishes, answers, Made, ClientAndServer, start, after_message}
+use Rattle.ob0_world_rules.specs.ClientAndServer.{Open, SentAsk, Answer, open_at, ToServer, notifies, requests, ToEditor, publishes, answers, Made, ClientAndServer, start, after_message}
 use Rattle.ob0_world_rules.specs.Editing.{stays, closes, asks, all_but, without_answer}
 use Rattle.ob0_world_rules.specs.Serving.{Publishes, RepliesToNotification, Replies}
 use Rattle.ob0_world_rules.specs.Happens.{after_act, after_taking, ServerTakes}
@@ -25,9 +25,9 @@ use Rattle.ob0_world_rules.specs.Headline.{KeepsTheRun, IsRight, last_publicatio
 use Rattle.ob0_world_rules.specs.Laws.{EditsPreserveRun}
 use Rattle.ob0_world_rules.proofs.UriLaws.{get_put, get_removed, same_uri, uri_itself}
 use Rattle.ob0_world_rules.proofs.Latest.{IsMadeFor, latest_push}
-use Rattle.ob0_world_rules.proofs.SameDocument.{Known, later_answers, later_open, later_close, later_ask, slice_get_last, found, left}
+use Rattle.ob0_world_rules.proofs.Asked.{Known, numbered_push, slice_get_last}
 use Rattle.ob0_world_rules.proofs.KeptRuns.{answer_keeps}
-use Rattle.ob0_world_rules.proofs.Keeping.{Fits, AnswerFits, HeldFits, AsksSee, Kept, message_unit, acts_kept, put_mirrors, remove_mirrors, answers_kept}
+use Rattle.ob0_world_rules.proofs.Keeping.{Fits, AnswerFits, HeldFits, HasText, AsksSee, Kept, message_unit, acts_kept, put_mirrors, remove_mirrors, answers_kept}
 
 -- messages that say nothing about documents leave the server's as they are
 quiet_stays : (held : OpenDocuments) (q : List ToServer) → notes_among q ≡ [] → fold after_message held q ≡ held
@@ -41,63 +41,52 @@ module _ (unit : Unit) where
   pub opened_kept : (w : ClientAndServer) (uri text : List ℕ) (version : ℕ) → Kept unit w → Kept unit (after_act w (opened_as (record { version = version; text = text; opening = w.editor.openings + 1 }) w.editor uri))
   opened_kept w uri text version kept =
       let d : Open = record { version = version; text = text; opening = w.editor.openings + 1 } in
-      acts_kept unit w (opened_as d w.editor uri) kept (later_open w.editor uri d refl)
-      (λ q x at. found w.editor.documents uri q d x (x.opening ≤ w.editor.openings + 1) at
-      (λ same is. subst (λ y. y.opening ≤ w.editor.openings + 1) is (omega arith))
-      (λ was. let known : x.opening ≤ w.editor.openings = kept.openings q x was in omega arith))
-      refl refl (put_mirrors w uri d kept.mirror) tt (All-nil KeepsTheRun)
+      acts_kept unit w (opened_as d w.editor uri) kept (λ k a is. is) refl refl (put_mirrors w uri d kept.mirror) tt (All-nil KeepsTheRun)
 
   pub close_kept : (w : ClientAndServer) (uri : List ℕ) → Kept unit w → Kept unit (after_act w (closes w.editor uri))
   close_kept w uri kept =
-      acts_kept unit w (closes w.editor uri) kept (later_close w.editor uri)
-      (λ q x at. kept.openings q x (left w.editor.documents uri q x at))
-      refl refl (remove_mirrors w uri kept.mirror) tt (All-nil KeepsTheRun)
+      acts_kept unit w (closes w.editor uri) kept (λ k a is. is) refl refl (remove_mirrors w uri kept.mirror) tt (All-nil KeepsTheRun)
 
   pub ask_kept : (w : ClientAndServer) (uri : List ℕ) (ask : Ask) (d : Open) → open_at w.editor uri ≡ Some d → Kept unit w → Kept unit (after_act w (asks w.editor uri ask d))
   ask_kept w uri ask d is kept =
-      let a : SentAsk = record { ask = ask; uri = uri; opening = d.opening; version = d.version } in
-      let e : Editor = record w.editor { requested = w.editor.requested ++ a ∷ [] } in
-      let known : Known e (suc (length w.editor.requested)) (λ x. document_at (will_have w) uri ≡ Some (as_open x)) =
+      let a : SentAsk = record { ask = ask; uri = uri; text = d.text; opening = d.opening; version = d.version } in
+      let known : Known (w.editor.requested ++ a ∷ []) (suc (length w.editor.requested)) (HasText (will_have w) uri) =
       record {
         requested = a;
         is = slice_get_last w.editor.requested a;
-        past = record {
-          known = kept.openings uri d is;
-          risen = λ x at opening. subst (λ y. d.version ≤ y.version) (same_Some d x (sym is ∙ at)) (omega arith);
-        };
-        still = λ x same. kept.mirror uri ∙ ap (option_map as_open) same.at;
+        holds = (pos d.version, kept.mirror uri ∙ ap (option_map as_open) is);
       } in
-      acts_kept unit w (asks w.editor uri ask d) kept (later_ask w.editor (a ∷ []))
-      kept.openings refl refl kept.mirror (known, tt) (All-nil KeepsTheRun)
+      acts_kept unit w (asks w.editor uri ask d) kept (numbered_push w.editor.requested (a ∷ [])) refl refl kept.mirror (known, tt) (All-nil KeepsTheRun)
 
   -- nothing is sent
   pub still_kept : (w : ClientAndServer) → Kept unit w → Kept unit (after_act w (stays w.editor))
   still_kept w kept =
-      acts_kept unit w (stays w.editor) kept (later_answers w.editor w.editor.answers) kept.openings refl refl kept.mirror tt (All-nil KeepsTheRun)
+      acts_kept unit w (stays w.editor) kept (λ k a is. is) refl refl kept.mirror tt (All-nil KeepsTheRun)
 
   -- a message that the editor has taken is no more in the queue
-  rest_kept : (w : ClientAndServer) (rest : List ToEditor) → Kept unit w → All (AnswerFits unit w.editor) rest → Kept unit (record w { to_editor = rest })
+  rest_kept : (w : ClientAndServer) (rest : List ToEditor) → Kept unit w → All (AnswerFits unit w.editor.requested) rest → Kept unit (record w { to_editor = rest })
   rest_kept w rest kept fit =
-      record { counts = kept.counts; holds = kept.holds; mirror = kept.mirror; openings = kept.openings; requested = kept.requested; answered = fit; answers_held = kept.answers_held; applied = kept.applied; made = kept.made }
+      record { counts = kept.counts; holds = kept.holds; mirror = kept.mirror; requested = kept.requested; answered = fit; answers_held = kept.answers_held; applied = kept.applied; made = kept.made }
 
-  -- an answer with edits fits the document of its request
-  with_edits : (e : Editor) (k : ℕ) (edit : Replacement) (edits : List Replacement) → Known e k (Fits unit (edit ∷ edits)) → Known e k (λ d. EditsPreserveRun unit d.text (edit ∷ edits))
-  with_edits e k edit edits known = record { requested = known.requested; is = known.is; past = known.past; still = λ d same. go d (known.still d same) }
+  -- an answer with edits fits the text of its request
+  with_edits : (asked : List SentAsk) (k : ℕ) (edit : Replacement) (edits : List Replacement) → Known asked k (Fits unit (edit ∷ edits)) → Known asked k (λ text. EditsPreserveRun unit text (edit ∷ edits))
+  with_edits asked k edit edits known = record { requested = known.requested; is = known.is; holds = go known.requested.text known.holds }
     where
-      go : (d : Open) → Fits unit (edit ∷ edits) d → EditsPreserveRun unit d.text (edit ∷ edits)
-      go d (inl none) = absurd (cc)
-      go d (inr keep) = keep
+      go : (text : List ℕ) → Fits unit (edit ∷ edits) text → EditsPreserveRun unit text (edit ∷ edits)
+      go text (inl none) = absurd (cc)
+      go text (inr keep) = keep
 
-  pub take_kept : (w : ClientAndServer) (queue : List ToEditor) → Kept unit w → All (AnswerFits unit w.editor) queue → Kept unit (after_taking w queue)
+  pub take_kept : (w : ClientAndServer) (queue : List ToEditor) → Kept unit w → All (AnswerFits unit w.editor.requested) queue → Kept unit (after_taking w queue)
   take_kept w [] kept fit = kept
-  take_kept w (publishes uri version empty ∷ rest) kept fit = rest_kept w rest kept (All-tail (AnswerFits unit w.editor) (publishes uri version empty) rest fit)
-  take_kept w (answers k [] ∷ rest) kept fit = rest_kept w rest kept (All-tail (AnswerFits unit w.editor) (answers k []) rest fit)
+  take_kept w (publishes uri version empty ∷ rest) kept fit = rest_kept w rest kept (All-tail (AnswerFits unit w.editor.requested) (publishes uri version empty) rest fit)
+  take_kept w (answers k [] ∷ rest) kept fit = rest_kept w rest kept (All-tail (AnswerFits unit w.editor.requested) (answers k []) rest fit)
   take_kept w (answers k (edit ∷ edits) ∷ rest) kept fit =
+      let asked : List SentAsk = w.editor.requested in
       let a : Answer = record { number = k; edits = edit ∷ edits } in
-      let known : Known w.editor k (Fits unit (edit ∷ edits)) = All-head (AnswerFits unit w.editor) (answers k (edit ∷ edits)) rest fit in
+      let known : Known asked k (Fits unit (edit ∷ edits)) = All-head (AnswerFits unit asked) (answers k (edit ∷ edits)) rest fit in
       answers_kept unit w (w.editor.answers ++ a ∷ []) rest kept
-      (All-push (HeldFits unit w.editor) w.editor.answers a kept.answers_held (with_edits w.editor k edit edits known))
-      (All-tail (AnswerFits unit w.editor) (answers k (edit ∷ edits)) rest fit)
+      (All-push (HeldFits unit asked) w.editor.answers a kept.answers_held (with_edits asked k edit edits known))
+      (All-tail (AnswerFits unit asked) (answers k (edit ∷ edits)) rest fit)
 
   -- ---- applying
 
@@ -111,7 +100,7 @@ module _ (unit : Unit) where
 
   pub without_kept : (w : ClientAndServer) (k : ℕ) → Kept unit w → Kept unit (record w { editor = without_answer w.editor k })
   without_kept w k kept =
-      answers_kept unit w (all_but k w.editor.answers) w.to_editor kept (All-all_but (HeldFits unit w.editor) k w.editor.answers kept.answers_held) kept.answered
+      answers_kept unit w (all_but k w.editor.answers) w.to_editor kept (All-all_but (HeldFits unit w.editor.requested) k w.editor.answers kept.answers_held) kept.answered
 
   -- ---- the server's events
 
@@ -151,37 +140,37 @@ module _ (unit : Unit) where
       go false is = others q version text (subst (λ u. bytes_eq u q ≡ false) named is) found_at
 
   -- what is sent fits, and the publications among it are right and the latest
-  record Sound (e : Editor) (held : OpenDocuments) (said : List ToEditor) (made more : List Made) : Type 0 where
-    fit : All (AnswerFits unit e) said
+  record Sound (asked : List SentAsk) (held : OpenDocuments) (said : List ToEditor) (made more : List Made) : Type 0 where
+    fit : All (AnswerFits unit asked) said
     right : All IsRight more
     now : AreLatest held (made ++ more)
 
-  silent : (e : Editor) (held : OpenDocuments) (made : List Made) (said : List ToEditor) (more : List Made) → said ≡ [] → more ≡ [] → AreLatest held made → Sound e held said made more
-  silent e held made said more none none_made now =
-      subst (λ s. Sound e held s made more) (sym none)
-      (subst (λ m. Sound e held [] made m) (sym none_made)
-      (record { fit = All-nil (AnswerFits unit e); right = All-nil IsRight; now = subst (AreLatest held) (sym (append-nil made)) now }))
+  silent : (asked : List SentAsk) (held : OpenDocuments) (made : List Made) (said : List ToEditor) (more : List Made) → said ≡ [] → more ≡ [] → AreLatest held made → Sound asked held said made more
+  silent asked held made said more none none_made now =
+      subst (λ s. Sound asked held s made more) (sym none)
+      (subst (λ m. Sound asked held [] made m) (sym none_made)
+      (record { fit = All-nil (AnswerFits unit asked); right = All-nil IsRight; now = subst (AreLatest held) (sym (append-nil made)) now }))
 
-  publish_sound : (e : Editor) (held : OpenDocuments) (uri : List ℕ) (o : Option Document) (said : List ToEditor) (made more : List Made) → document_at held uri ≡ o → Others held uri made → Publishes uri o said more → Sound e held said made more
-  publish_sound e held uri (Some (InStep version text)) said made more at others (empty, right, is_said, is_made) =
+  publish_sound : (asked : List SentAsk) (held : OpenDocuments) (uri : List ℕ) (o : Option Document) (said : List ToEditor) (made more : List Made) → document_at held uri ≡ o → Others held uri made → Publishes uri o said more → Sound asked held said made more
+  publish_sound asked held uri (Some (InStep version text)) said made more at others (empty, right, is_said, is_made) =
       let m : Made = record { uri = uri; version = version; text = text; empty = empty } in
-      subst (λ s. Sound e held s made more) (sym is_said)
-      (subst (λ ms. Sound e held (publishes uri (Some version) empty ∷ []) made ms) (sym is_made)
+      subst (λ s. Sound asked held s made more) (sym is_said)
+      (subst (λ ms. Sound asked held (publishes uri (Some version) empty ∷ []) made ms) (sym is_made)
       (record {
-        fit = All-push (AnswerFits unit e) [] (publishes uri (Some version) empty) (All-nil (AnswerFits unit e)) tt;
+        fit = All-push (AnswerFits unit asked) [] (publishes uri (Some version) empty) (All-nil (AnswerFits unit asked)) tt;
         right = All-push IsRight [] m (All-nil IsRight) right;
         now = publish_latest held uri m made refl at others;
       }))
-  publish_sound e held uri (Some OutOfStep) said made more at others h =
-      silent e held made said more h.0 h.1
+  publish_sound asked held uri (Some OutOfStep) said made more at others h =
+      silent asked held made said more h.0 h.1
       (others_and_this held uri made others (λ q version text same found_at. absurd (let other : OutOfStep ≡ InStep version text = same_Some _ _ (sym at ∙ ap (document_at held) same ∙ found_at) in cc)))
-  publish_sound e held uri None said made more at others h =
-      silent e held made said more h.0 h.1
+  publish_sound asked held uri None said made more at others h =
+      silent asked held made said more h.0 h.1
       (others_and_this held uri made others (λ q version text same found_at. absurd (none-some (InStep version text) (sym at ∙ ap (document_at held) same ∙ found_at))))
 
-  taken_back_fits : (e : Editor) (uri : List ℕ) (b : Bool) → All (AnswerFits unit e) (cond b (publishes uri None true ∷ []) [])
-  taken_back_fits e uri true = All-push (AnswerFits unit e) [] (publishes uri None true) (All-nil (AnswerFits unit e)) tt
-  taken_back_fits e uri false = All-nil (AnswerFits unit e)
+  taken_back_fits : (asked : List SentAsk) (uri : List ℕ) (b : Bool) → All (AnswerFits unit asked) (cond b (publishes uri None true ∷ []) [])
+  taken_back_fits asked uri true = All-push (AnswerFits unit asked) [] (publishes uri None true) (All-nil (AnswerFits unit asked)) tt
+  taken_back_fits asked uri false = All-nil (AnswerFits unit asked)
 
   put_others : (held : OpenDocuments) (uri : List ℕ) (d : Document) (made : List Made) → AreLatest held made → Others (record { unit = held.unit; by_uri = map_of.insert held.by_uri uri d }) uri made
   put_others held uri d made now q version text differ at = go (bytes_eq q uri) refl (sym (get_put held.by_uri uri d q) ∙ at)
@@ -221,40 +210,37 @@ module _ (unit : Unit) where
       go true h = absurd (none-some (InStep version text) h)
       go false h = now q version text h
 
-  note_sound : (e : Editor) (held : OpenDocuments) (note : DocumentEvent) (said : List ToEditor) (made more : List Made) → AreLatest held made → RepliesToNotification held note said more → Sound e (after_event held note) said made more
-  note_sound e held (Opened uri version text) said made more now h =
-      publish_sound e (after_event held (Opened uri version text)) uri (document_at (after_event held (Opened uri version text)) uri) said made more refl (put_others held uri (InStep version text) made now) h
-  note_sound e held (Changed uri version how) said made more now h =
-      publish_sound e (after_event held (Changed uri version how)) uri (document_at (after_event held (Changed uri version how)) uri) said made more refl
+  note_sound : (asked : List SentAsk) (held : OpenDocuments) (note : DocumentEvent) (said : List ToEditor) (made more : List Made) → AreLatest held made → RepliesToNotification held note said more → Sound asked (after_event held note) said made more
+  note_sound asked held (Opened uri version text) said made more now h =
+      publish_sound asked (after_event held (Opened uri version text)) uri (document_at (after_event held (Opened uri version text)) uri) said made more refl (put_others held uri (InStep version text) made now) h
+  note_sound asked held (Changed uri version how) said made more now h =
+      publish_sound asked (after_event held (Changed uri version how)) uri (document_at (after_event held (Changed uri version how)) uri) said made more refl
       (update_others held uri (changed_document held.unit version how) made now) h
-  note_sound e held (Lost uri) said made more now h = silent e (after_event held (Lost uri)) made said more h.0 h.1 (lost_latest held uri made now)
-  note_sound e held (Closed uri) said made more now h =
-      let quiet : Sound e (after_event held (Closed uri)) [] made more = silent e (after_event held (Closed uri)) made [] more refl h.1 (remove_latest held uri made now) in
+  note_sound asked held (Lost uri) said made more now h = silent asked (after_event held (Lost uri)) made said more h.0 h.1 (lost_latest held uri made now)
+  note_sound asked held (Closed uri) said made more now h =
+      let quiet : Sound asked (after_event held (Closed uri)) [] made more = silent asked (after_event held (Closed uri)) made [] more refl h.1 (remove_latest held uri made now) in
       record {
-        fit = subst (All (AnswerFits unit e)) (sym h.0) (taken_back_fits e uri (is_some (document_at held uri)));
+        fit = subst (All (AnswerFits unit asked)) (sym h.0) (taken_back_fits asked uri (is_some (document_at held uri)));
         right = quiet.right;
         now = quiet.now;
       }
 
-  -- an ask is answered for the document that the editor meant, where that is still the same
-  ask_fits : (e : Editor) (held : OpenDocuments) (k : ℕ) (uri : List ℕ) (ask : Ask) (edits : List Replacement) → held.unit ≡ unit → Known e k (λ d. document_at held uri ≡ Some (as_open d)) → IsAnswer held.unit (document_at held uri) ask edits
-      → Known e k (Fits unit edits)
-  ask_fits e held k uri ask edits same_unit known may =
-      record { requested = known.requested; is = known.is; past = known.past; still = λ d same. go (document_at held uri) d (known.still d same) (subst (λ u. IsAnswer u (document_at held uri) ask edits) same_unit may) }
-    where
-      go : (o : Option Document) (d : Open) → o ≡ Some (as_open d) → IsAnswer unit o ask edits → Fits unit edits d
-      go o d is may = answer_keeps unit d.text ask edits (subst (λ x. IsAnswer unit x ask edits) is may)
+  -- an ask is answered for the text that it was about
+  ask_fits : (asked : List SentAsk) (held : OpenDocuments) (k : ℕ) (uri : List ℕ) (ask : Ask) (edits : List Replacement) → held.unit ≡ unit → Known asked k (HasText held uri) → IsAnswer held.unit (document_at held uri) ask edits
+      → Known asked k (Fits unit edits)
+  ask_fits asked held k uri ask edits same_unit known may =
+      record { requested = known.requested; is = known.is; holds = answer_keeps unit known.requested.text ask edits (subst (λ o. IsAnswer unit o ask edits) known.holds.1 (subst (λ u. IsAnswer u (document_at held uri) ask edits) same_unit may)) }
 
-  -- the server, as it takes this message, meets the document of the request
-  abbrev Meets : Editor → OpenDocuments → ToServer → Type 0
-  Meets e held m = AsksSee e held (m ∷ [])
+  -- the server, as it takes this message, meets the text of the request
+  abbrev Meets : List SentAsk → OpenDocuments → ToServer → Type 0
+  Meets asked held m = AsksSee asked held (m ∷ [])
 
-  message_sound : (e : Editor) (held : OpenDocuments) (m : ToServer) (said : List ToEditor) (made more : List Made) → held.unit ≡ unit → Meets e held m → AreLatest held made → Replies held m said more → Sound e (after_message held m) said made more
-  message_sound e held (notifies note) said made more same_unit meets now h = note_sound e held note said made more now h
-  message_sound e held (requests k uri ask) said made more same_unit meets now (edits, may, is_said, is_made) =
-      let quiet : Sound e held [] made more = silent e held made [] more refl is_made now in
+  message_sound : (asked : List SentAsk) (held : OpenDocuments) (m : ToServer) (said : List ToEditor) (made more : List Made) → held.unit ≡ unit → Meets asked held m → AreLatest held made → Replies held m said more → Sound asked (after_message held m) said made more
+  message_sound asked held (notifies note) said made more same_unit meets now h = note_sound asked held note said made more now h
+  message_sound asked held (requests k uri ask) said made more same_unit meets now (edits, may, is_said, is_made) =
+      let quiet : Sound asked held [] made more = silent asked held made [] more refl is_made now in
       record {
-        fit = subst (All (AnswerFits unit e)) (sym is_said) (All-push (AnswerFits unit e) [] (answers k edits) (All-nil (AnswerFits unit e)) (ask_fits e held k uri ask edits same_unit meets.0 may));
+        fit = subst (All (AnswerFits unit asked)) (sym is_said) (All-push (AnswerFits unit asked) [] (answers k edits) (All-nil (AnswerFits unit asked)) (ask_fits asked held k uri ask edits same_unit meets.0 may));
         right = quiet.right;
         now = quiet.now;
       }
@@ -263,23 +249,23 @@ module _ (unit : Unit) where
   Both w = Kept unit w × AreLatest w.held w.made
 
   -- the first message, and those after it
-  sees_first : (e : Editor) (held : OpenDocuments) (m : ToServer) (rest : List ToServer) → AsksSee e held (m ∷ rest) → Meets e held m × AsksSee e (after_message held m) rest
+  sees_first : (e : List SentAsk) (held : OpenDocuments) (m : ToServer) (rest : List ToServer) → AsksSee e held (m ∷ rest) → Meets e held m × AsksSee e (after_message held m) rest
   sees_first e held (notifies note) rest h = (tt, h)
   sees_first e held (requests k uri ask) rest h = ((h.0, tt), h.1)
 
   pub serve_kept : (w : ClientAndServer) (queue : List ToServer) (new : ClientAndServer) → w.to_server ≡ queue → Both w → ServerTakes w queue new → Both new
   serve_kept w [] new is both h = subst Both (sym h) both
   serve_kept w (m ∷ rest) new is (kept, now) (said, more, may, is_new) =
-      let see : Meets w.editor w.held m × AsksSee w.editor (after_message w.held m) rest = sees_first w.editor w.held m rest (subst (AsksSee w.editor w.held) is kept.requested) in
-      let sound : Sound w.editor (after_message w.held m) said w.made more = message_sound w.editor w.held m said w.made more kept.holds see.0 now may in
+      let asked : List SentAsk = w.editor.requested in
+      let see : Meets asked w.held m × AsksSee asked (after_message w.held m) rest = sees_first asked w.held m rest (subst (AsksSee asked w.held) is kept.requested) in
+      let sound : Sound asked (after_message w.held m) said w.made more = message_sound asked w.held m said w.made more kept.holds see.0 now may in
       subst Both (sym is_new) (
         record {
           counts = kept.counts;
           holds = message_unit w.held m ∙ kept.holds;
           mirror = subst (λ q. (uri : List ℕ) → document_at (fold after_message w.held q) uri ≡ option_map as_open (open_at w.editor uri)) is kept.mirror;
-          openings = kept.openings;
           requested = see.1;
-          answered = All-append (AnswerFits unit w.editor) w.to_editor said kept.answered sound.fit;
+          answered = All-append (AnswerFits unit asked) w.to_editor said kept.answered sound.fit;
           answers_held = kept.answers_held;
           applied = kept.applied;
           made = All-append IsRight w.made more kept.made sound.right;
@@ -303,10 +289,9 @@ module _ (unit : Unit) where
       counts = refl;
       holds = refl;
       mirror = λ q. map_of.get-empty (slice_cmp nat_cmp) q ∙ sym (ap (option_map as_open) (map_of.get-empty (slice_cmp nat_cmp) q));
-      openings = λ uri d at. nothing_at uri d (d.opening ≤ 0) at;
       requested = tt;
-      answered = All-nil (AnswerFits unit (start unit).editor);
-      answers_held = All-nil (HeldFits unit (start unit).editor);
+      answered = All-nil (AnswerFits unit []);
+      answers_held = All-nil (HeldFits unit []);
       applied = All-nil KeepsTheRun;
       made = All-nil IsRight;
     },

@@ -1,6 +1,6 @@
 -- What client and server keep, whatever happens.
-use Rattle.std.proofs.Common.{◌≡◌, ◌∙◌, ℕ, ◌≤◌, ◌<◌, Bool, true, false, cond, List, [], ◌∷◌, ◌++◌, refl, sym, ap, subst}
-use Rattle.std.specs.Prelude.{◌⊎◌, ⊤, pos, fold, All, Some, None, option_map, ◌==◌}
+use Rattle.std.proofs.Common.{◌≡◌, ◌∙◌, ℕ, Bool, true, false, cond, List, [], ◌∷◌, ◌++◌, refl, sym, ap, subst}
+use Rattle.std.specs.Prelude.{◌⊎◌, ⊤, ℤ, pos, fold, All, Some, None, option_map, ◌==◌}
 use Rattle.std.specs.Str.{bytes_eq}
 use Rattle.std.specs.FinMap as map_of
 use Rattle.std.proofs.lemmas.Bool.{eqb-true}
@@ -8,49 +8,49 @@ use Rattle.std.proofs.lemmas.Option.{same_Some, none-some}
 use Rattle.std.proofs.lemmas.List.Elements.{All-head, All-tail, All-weaker, All-append}
 use Rattle.std.proofs.lemmas.List.Sums.{fold-append}
 use Rattle.ob0_text.specs.declared.position_types.Unit.{Unit}
-use Rattle.ob0_text.specs.OpenDocuments.{OpenDocuments, document, DocumentEvent, Opened, Changed, Lost, Closed, TextChange, after_event, changed_document, document_at}
+use Rattle.ob0_text.specs.OpenDocuments.{OpenDocuments, InStep, document, DocumentEvent, Opened, Changed, Lost, Closed, TextChange, after_event, changed_document, document_at}
 use Rattle.ob0_text.proofs.EntryLaws.{updated-some}
 use Rattle.ob0_world_rules.specs.Edited.{Replacement, after_changes}
-use Rattle.ob0_world_rules.specs.ClientAndServer.{Open, Answer, Editor, open_at, ToServer, notifies, requests, ToEditor, publishes, answers, Applied, ClientAndServer, after_message}
+use Rattle.ob0_world_rules.specs.ClientAndServer.{Open, SentAsk, Answer, open_at, ToServer, notifies, requests, ToEditor, publishes, answers, Applied, ClientAndServer, after_message}
 use Rattle.ob0_world_rules.specs.Editing.{Done, kept_answer}
 use Rattle.ob0_world_rules.specs.Happens.{after_act}
 use Rattle.ob0_world_rules.specs.Mirror.{will_have, as_open, Mirrors}
 use Rattle.ob0_world_rules.specs.Headline.{KeepsTheRun, IsRight}
 use Rattle.ob0_world_rules.specs.Laws.{EditsPreserveRun}
 use Rattle.ob0_world_rules.proofs.UriLaws.{get_put, get_removed, mapped_choice}
-use Rattle.ob0_world_rules.proofs.SameDocument.{Known, Later, still_known, later_answers, later_revise, found}
+use Rattle.ob0_world_rules.proofs.Asked.{Known, Later, still_known}
 
--- no edits, or edits that keep the run of this document
-abbrev pub Fits : Unit → List Replacement → Open → Type 0
-Fits unit edits d = (edits ≡ []) ⊎ EditsPreserveRun unit d.text edits
+-- no edits, or edits that keep the run of this text
+abbrev pub Fits : Unit → List Replacement → List ℕ → Type 0
+Fits unit edits text = (edits ≡ []) ⊎ EditsPreserveRun unit text edits
 
--- an answer on its way fits the document of its request, where that is still the same
-abbrev pub AnswerFits : Unit → Editor → ToEditor → Type 0
-AnswerFits unit e (publishes uri version empty) = ⊤
-AnswerFits unit e (answers k edits) = Known e k (Fits unit edits)
+-- an answer on its way fits the text of its request
+abbrev pub AnswerFits : Unit → List SentAsk → ToEditor → Type 0
+AnswerFits unit asked (publishes uri version empty) = ⊤
+AnswerFits unit asked (answers k edits) = Known asked k (Fits unit edits)
 
--- and so does one that the editor holds, which has edits
-abbrev pub HeldFits : Unit → Editor → Answer → Type 0
-HeldFits unit e a = Known e a.number (λ d. EditsPreserveRun unit d.text a.edits)
+-- and so does an answer that the editor has, with edits
+abbrev pub HeldFits : Unit → List SentAsk → Answer → Type 0
+HeldFits unit asked a = Known asked a.number (λ text. EditsPreserveRun unit text a.edits)
 
--- the server, as it takes an ask, will hold the document of the request, where that is still the same
-abbrev pub AsksSee : Editor → OpenDocuments → List ToServer → Type 0
-AsksSee e held [] = ⊤
-AsksSee e held (notifies note ∷ rest) = AsksSee e (after_event held note) rest
-AsksSee e held (requests k uri ask ∷ rest) = Known e k (λ d. document_at held uri ≡ Some (as_open d)) × AsksSee e held rest
+-- the document is open in the server with this text
+abbrev pub HasText : OpenDocuments → List ℕ → List ℕ → Type 0
+HasText held uri text = (version : ℤ) × (document_at held uri ≡ Some (InStep version text))
 
-abbrev pub KnowsOpenings : Editor → Type 0
-KnowsOpenings e = (uri : List ℕ) (d : Open) → open_at e uri ≡ Some d → d.opening ≤ e.openings
+-- the server, as it takes an ask, will have the text of the request
+abbrev pub AsksSee : List SentAsk → OpenDocuments → List ToServer → Type 0
+AsksSee asked held [] = ⊤
+AsksSee asked held (notifies note ∷ rest) = AsksSee asked (after_event held note) rest
+AsksSee asked held (requests k uri ask ∷ rest) = Known asked k (HasText held uri) × AsksSee asked held rest
 
 pub record Kept (unit : Unit) (w : ClientAndServer) : Type 0 where
   -- client and server count positions in this unit
   pub counts : w.editor.unit ≡ unit
   pub holds : w.held.unit ≡ unit
   pub mirror : Mirrors w
-  pub openings : KnowsOpenings w.editor
-  pub requested : AsksSee w.editor w.held w.to_server
-  pub answered : All (AnswerFits unit w.editor) w.to_editor
-  pub answers_held : All (HeldFits unit w.editor) w.editor.answers
+  pub requested : AsksSee w.editor.requested w.held w.to_server
+  pub answered : All (AnswerFits unit w.editor.requested) w.to_editor
+  pub answers_held : All (HeldFits unit w.editor.requested) w.editor.answers
   pub applied : All KeepsTheRun w.applied
   pub made : All IsRight w.made
 
@@ -72,41 +72,41 @@ will_unit held (m ∷ q) = will_unit (after_message held m) q ∙ message_unit h
 
 -- ---- later on
 
-answer_later : (unit : Unit) (e e' : Editor) → Later e e' → (m : ToEditor) → AnswerFits unit e m → AnswerFits unit e' m
-answer_later unit e e' later (publishes uri version empty) h = h
-answer_later unit e e' later (answers k edits) h = still_known e e' k (Fits unit edits) later h
+module _ (unit : Unit) (asked now : List SentAsk) (later : Later asked now) where
+  answer_later : (m : ToEditor) → AnswerFits unit asked m → AnswerFits unit now m
+  answer_later (publishes uri version empty) h = h
+  answer_later (answers k edits) h = still_known asked now k (Fits unit edits) later h
 
-pub answers_later : (unit : Unit) (e e' : Editor) → Later e e' → (ms : List ToEditor) → All (AnswerFits unit e) ms → All (AnswerFits unit e') ms
-answers_later unit e e' later ms h = All-weaker (AnswerFits unit e) (AnswerFits unit e') (answer_later unit e e' later) ms h
+  answers_later : (ms : List ToEditor) → All (AnswerFits unit asked) ms → All (AnswerFits unit now) ms
+  answers_later ms h = All-weaker (AnswerFits unit asked) (AnswerFits unit now) answer_later ms h
 
-pub held_later : (unit : Unit) (e e' : Editor) → Later e e' → (list : List Answer) → All (HeldFits unit e) list → All (HeldFits unit e') list
-held_later unit e e' later list h =
-    All-weaker (HeldFits unit e) (HeldFits unit e') (λ a known. still_known e e' a.number (λ d. EditsPreserveRun unit d.text a.edits) later known) list h
+  held_later : (list : List Answer) → All (HeldFits unit asked) list → All (HeldFits unit now) list
+  held_later list h = All-weaker (HeldFits unit asked) (HeldFits unit now) (λ a known. still_known asked now a.number (λ text. EditsPreserveRun unit text a.edits) later known) list h
 
-pub asks_later : (e e' : Editor) → Later e e' → (held : OpenDocuments) (q : List ToServer) → AsksSee e held q → AsksSee e' held q
-asks_later e e' later held [] h = h
-asks_later e e' later held (notifies note ∷ rest) h = asks_later e e' later (after_event held note) rest h
-asks_later e e' later held (requests k uri ask ∷ rest) h =
-    (still_known e e' k (λ d. document_at held uri ≡ Some (as_open d)) later h.0, asks_later e e' later held rest h.1)
+asks_later : (asked now : List SentAsk) → Later asked now → (held : OpenDocuments) (q : List ToServer) → AsksSee asked held q → AsksSee now held q
+asks_later asked now later held [] h = h
+asks_later asked now later held (notifies note ∷ rest) h = asks_later asked now later (after_event held note) rest h
+asks_later asked now later held (requests k uri ask ∷ rest) h = (still_known asked now k (HasText held uri) later h.0, asks_later asked now later held rest h.1)
 
-asks_append : (e : Editor) (held : OpenDocuments) (q more : List ToServer) → AsksSee e held q → AsksSee e (fold after_message held q) more → AsksSee e held (q ++ more)
-asks_append e held [] more h k = k
-asks_append e held (notifies note ∷ rest) more h k = asks_append e (after_event held note) rest more h k
-asks_append e held (requests n uri ask ∷ rest) more h k = (h.0, asks_append e held rest more h.1 k)
+asks_append : (asked : List SentAsk) (held : OpenDocuments) (q more : List ToServer) → AsksSee asked held q → AsksSee asked (fold after_message held q) more → AsksSee asked held (q ++ more)
+asks_append asked held [] more h k = k
+asks_append asked held (notifies note ∷ rest) more h k = asks_append asked (after_event held note) rest more h k
+asks_append asked held (requests n uri ask ∷ rest) more h k = (h.0, asks_append asked held rest more h.1 k)
 
 -- ---- the editor acts
 
-pub acts_kept : (unit : Unit) (w : ClientAndServer) (done : Done) → Kept unit w → Later w.editor done.editor → KnowsOpenings done.editor → done.editor.unit ≡ w.editor.unit → done.editor.answers ≡ w.editor.answers
-    → ((uri : List ℕ) → document_at (fold after_message (will_have w) done.sent) uri ≡ option_map as_open (open_at done.editor uri)) → AsksSee done.editor (will_have w) done.sent → All KeepsTheRun done.applied → Kept unit (after_act w done)
-acts_kept unit w done kept later openings same_unit same mirror see keeps =
+pub acts_kept : (unit : Unit) (w : ClientAndServer) (done : Done) → Kept unit w → Later w.editor.requested done.editor.requested → done.editor.unit ≡ w.editor.unit → done.editor.answers ≡ w.editor.answers
+    → ((uri : List ℕ) → document_at (fold after_message (will_have w) done.sent) uri ≡ option_map as_open (open_at done.editor uri)) → AsksSee done.editor.requested (will_have w) done.sent → All KeepsTheRun done.applied → Kept unit (after_act w done)
+acts_kept unit w done kept later same_unit same mirror see keeps =
+    let asked : List SentAsk = w.editor.requested in
+    let now : List SentAsk = done.editor.requested in
     record {
       counts = same_unit ∙ kept.counts;
       holds = kept.holds;
       mirror = λ uri. ap (λ held. document_at held uri) (fold-append after_message w.held w.to_server done.sent) ∙ mirror uri;
-      openings = openings;
-      requested = asks_append done.editor w.held w.to_server done.sent (asks_later w.editor done.editor later w.held w.to_server kept.requested) see;
-      answered = answers_later unit w.editor done.editor later w.to_editor kept.answered;
-      answers_held = subst (λ list. All (HeldFits unit done.editor) list) (sym same) (held_later unit w.editor done.editor later w.editor.answers kept.answers_held);
+      requested = asks_append now w.held w.to_server done.sent (asks_later asked now later w.held w.to_server kept.requested) see;
+      answered = answers_later unit asked now later w.to_editor kept.answered;
+      answers_held = subst (λ list. All (HeldFits unit now) list) (sym same) (held_later unit asked now later w.editor.answers kept.answers_held);
       applied = All-append KeepsTheRun w.applied done.applied kept.applied keeps;
       made = kept.made;
     }
@@ -140,44 +140,38 @@ change_mirrors w uri d new how mirror same_unit was_open is q =
     ∙ ap (λ text. map_of.get (map_of.insert (will_have w).by_uri uri (document (pos new.version) text)) q) (ap (λ u. after_changes u (Some d.text) how) same_unit ∙ is)
     ∙ put_mirror w uri new mirror q
 
--- an open document gets another text and a greater version, and the server is sent how
-pub revise_kept : (unit : Unit) (w : ClientAndServer) (uri : List ℕ) (d new : Open) (how : List TextChange) (applied : List Applied) → Kept unit w → new.opening ≡ d.opening → d.version < new.version → open_at w.editor uri ≡ Some d
+-- an open document gets another version and text, and the server is sent how
+pub revise_kept : (unit : Unit) (w : ClientAndServer) (uri : List ℕ) (d new : Open) (how : List TextChange) (applied : List Applied) → Kept unit w → open_at w.editor uri ≡ Some d
     → after_changes w.editor.unit (Some d.text) how ≡ Some new.text → All KeepsTheRun applied
     → Kept unit (after_act w (record { editor = record w.editor { documents = map_of.insert w.editor.documents uri new }; sent = notifies (Changed uri (pos new.version) how) ∷ []; applied = applied }))
-revise_kept unit w uri d new how applied kept same_opening rises was_open is keeps =
-    acts_kept unit w (record { editor = record w.editor { documents = map_of.insert w.editor.documents uri new }; sent = notifies (Changed uri (pos new.version) how) ∷ []; applied = applied }) kept (later_revise w.editor uri d new same_opening rises was_open)
-    (λ q x at. found w.editor.documents uri q new x (x.opening ≤ w.editor.openings) at
-    (λ same is. subst (λ y. y.opening ≤ w.editor.openings) is (subst (λ n. n ≤ w.editor.openings) (sym same_opening) (kept.openings uri d was_open)))
-    (λ was. kept.openings q x was))
+revise_kept unit w uri d new how applied kept was_open is keeps =
+    acts_kept unit w (record { editor = record w.editor { documents = map_of.insert w.editor.documents uri new }; sent = notifies (Changed uri (pos new.version) how) ∷ []; applied = applied }) kept (λ k a is. is)
     refl refl (change_mirrors w uri d new how kept.mirror (will_unit w.held w.to_server ∙ kept.holds ∙ sym kept.counts) was_open is) tt keeps
 
 -- ---- answers in the editor
 
 -- the editor holds other answers, and takes them from the queue
-pub answers_kept : (unit : Unit) (w : ClientAndServer) (list : List Answer) (queue : List ToEditor) → Kept unit w → All (HeldFits unit w.editor) list → All (AnswerFits unit w.editor) queue
+pub answers_kept : (unit : Unit) (w : ClientAndServer) (list : List Answer) (queue : List ToEditor) → Kept unit w → All (HeldFits unit w.editor.requested) list → All (AnswerFits unit w.editor.requested) queue
     → Kept unit (record w { editor = record w.editor { answers = list }; to_editor = queue })
 answers_kept unit w list queue kept held fit =
-    let e : Editor = record w.editor { answers = list } in
-    let later : Later w.editor e = later_answers w.editor list in
     record {
       counts = kept.counts;
       holds = kept.holds;
       mirror = kept.mirror;
-      openings = kept.openings;
-      requested = asks_later w.editor e later w.held w.to_server kept.requested;
-      answered = answers_later unit w.editor e later queue fit;
-      answers_held = held_later unit w.editor e later list held;
+      requested = kept.requested;
+      answered = fit;
+      answers_held = held;
       applied = kept.applied;
       made = kept.made;
     }
 
-pub held_known : (unit : Unit) (e : Editor) (k : ℕ) (list : List Answer) (edits : List Replacement) → kept_answer k list ≡ Some edits → All (HeldFits unit e) list → Known e k (λ d. EditsPreserveRun unit d.text edits)
-held_known unit e k [] edits h all = absurd (none-some edits h)
-held_known unit e k (a ∷ rest) edits h all =
-    go (a.number == k) refl h (λ later. held_known unit e k rest edits later (All-tail (HeldFits unit e) a rest all))
+pub held_known : (unit : Unit) (asked : List SentAsk) (k : ℕ) (list : List Answer) (edits : List Replacement) → kept_answer k list ≡ Some edits → All (HeldFits unit asked) list → Known asked k (λ text. EditsPreserveRun unit text edits)
+held_known unit asked k [] edits h all = absurd (none-some edits h)
+held_known unit asked k (a ∷ rest) edits h all =
+    go (a.number == k) refl h (λ later. held_known unit asked k rest edits later (All-tail (HeldFits unit asked) a rest all))
   where
-    go : (b : Bool) → a.number == k ≡ b → cond b (Some a.edits) (kept_answer k rest) ≡ Some edits → (kept_answer k rest ≡ Some edits → Known e k (λ d. EditsPreserveRun unit d.text edits)) → Known e k (λ d. EditsPreserveRun unit d.text edits)
+    go : (b : Bool) → a.number == k ≡ b → cond b (Some a.edits) (kept_answer k rest) ≡ Some edits → (kept_answer k rest ≡ Some edits → Known asked k (λ text. EditsPreserveRun unit text edits)) → Known asked k (λ text. EditsPreserveRun unit text edits)
     go true is h next =
-        subst (λ n. Known e n (λ d. EditsPreserveRun unit d.text edits)) (eqb-true a.number k is)
-        (subst (λ es. Known e a.number (λ d. EditsPreserveRun unit d.text es)) (same_Some a.edits edits h) (All-head (HeldFits unit e) a rest all))
+        subst (λ n. Known asked n (λ text. EditsPreserveRun unit text edits)) (eqb-true a.number k is)
+        (subst (λ es. Known asked a.number (λ text. EditsPreserveRun unit text es)) (same_Some a.edits edits h) (All-head (HeldFits unit asked) a rest all))
     go false is h next = next h

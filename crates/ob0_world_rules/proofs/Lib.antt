@@ -13,8 +13,8 @@ mod CourseFits
 mod Keeping
 pub mod Interleavings
 pub mod MadeFor
-pub mod MadeInOrder
 pub mod UriLaws
+pub mod Asked
 pub mod SameDocument
 pub mod Acts
 pub mod EditedTexts

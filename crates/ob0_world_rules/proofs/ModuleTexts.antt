@@ -1,5 +1,5 @@
 -- A text's tree by its lexemes alone, and by the tokens that the parser has of it, are the same.
-use Rattle.std.proofs.Common.{◌≡◌, ◌∙◌, ℕ, List, [], ◌∷◌, ◌++◌, map, refl, sym, ap, subst}
+use Rattle.std.proofs.Common.{◌≡◌, ◌∙◌, ℕ, List, [], ◌∷◌, ◌++◌, map, refl, sym, subst}
 use Rattle.std.specs.Prelude.{◌≤◌, length}
 use Rattle.std.specs.List.{flat_map}
 use Rattle.std.specs.Str.{IsUtf8}
@@ -8,8 +8,7 @@ use Rattle.ob0_scan.specs.declared.lexeme.LexemeKind.{LexemeKind}
 use Rattle.ob0_scan.specs.declared.lexeme.LexemeKind.TheVariants as lexeme
 use Rattle.ob0_scan.specs.Lexed.{Lexeme, Lexed}
 use Rattle.ob0_scan.specs.Scanned.{Scanned, IsScan, word_of, words, tokens_from, comments_from, max_text}
-use Rattle.ob0_tree.specs.Module.{ModuleOf, text_lexemes}
-use Rattle.ob0_tree.specs.Tree.{Tree, module_text, spell}
+use Rattle.ob0_tree.specs.Tree.{Tree, module_text}
 use Rattle.ob0_language_names.specs.Names.{Name}
 use Rattle.ob0_layout.proofs.Named.{named_lexeme, text_words}
 use Rattle.ob0_edits.specs.Diagnosed.{IsTextOf, IsWellTypedModule}

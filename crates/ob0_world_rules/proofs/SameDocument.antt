@@ -1,19 +1,25 @@
 -- The hard step: a document that is the same opening with the same version as at its request has the text
--- that it had then. No event makes such a document of another one, since opening numbers are fresh and versions rise.
-use Rattle.std.proofs.Common.{◌≡◌, ◌∙◌, ℕ, zero, suc, ◌+◌, ◌≤◌, ◌<◌, Bool, true, false, cond, List, [], ◌∷◌, ◌++◌, length, refl, sym, ap, arith, ◌&&◌}
-use Rattle.std.specs.Prelude.{Option, Some, None, option_and_then, slice_get, ◌==◌}
+-- that it had then. No act makes such a document of another one, since opening numbers are fresh and versions rise.
+use Rattle.std.proofs.Common.{◌≡◌, ◌∙◌, ℕ, zero, suc, ◌+◌, ◌≤◌, ◌<◌, Bool, true, false, cond, List, [], ◌∷◌, ◌++◌, refl, sym, ap, subst, arith, ◌&&◌}
+use Rattle.std.specs.Prelude.{Option, Some, None, All, option_and_then, slice_get, ◌==◌}
 use Rattle.std.specs.Str.{bytes_eq}
+use Rattle.std.specs.Ordering.{nat_cmp}
+use Rattle.std.specs.Cmp.Lexicographic.{slice_cmp}
 use Rattle.std.specs.FinMap as map_of
 use Rattle.std.proofs.lemmas.Bool.{eqb-true, and_parts}
 use Rattle.std.proofs.lemmas.Option.{cond_some, same_Some, none-some}
-use Rattle.ob0_world_rules.specs.ClientAndServer.{Open, EditorDocuments, SentAsk, Answer, Editor, request_numbered, open_at}
-use Rattle.ob0_world_rules.specs.Editing.{if_same}
+use Rattle.std.proofs.lemmas.List.Elements.{All-nil, All-head, All-tail, All-weaker, All-push}
+use Rattle.ob0_text.specs.declared.position_types.Unit.{Unit}
+use Rattle.ob0_text.specs.OpenDocuments.{TextChange}
+use Rattle.ob0_world_rules.specs.ClientAndServer.{Open, EditorDocuments, SentAsk, Answer, Editor, new_editor, request_numbered, open_at, Applied}
+use Rattle.ob0_world_rules.specs.Asks.{Ask}
+use Rattle.ob0_world_rules.specs.Editing.{opens, rewrites, closes, asks, if_same}
 use Rattle.ob0_world_rules.proofs.UriLaws.{get_put, get_removed, same_uri}
 
--- an ask of the past: its opening's number isn't fresh any more, and in that opening the version only rose
-pub record Past (e : Editor) (a : SentAsk) : Type 0 where
-  pub known : a.opening ≤ e.openings
-  pub risen : (d : Open) → open_at e a.uri ≡ Some d → d.opening ≡ a.opening → a.version ≤ d.version
+-- an earlier ask: its opening's number isn't fresh any more, and in that opening the version only rose
+record Past (e : Editor) (a : SentAsk) : Type 0 where
+  known : a.opening ≤ e.openings
+  risen : (d : Open) → open_at e a.uri ≡ Some d → d.opening ≡ a.opening → a.version ≤ d.version
 
 -- the document of the request is d, the same opening with the same version
 pub record Same (e : Editor) (a : SentAsk) (d : Open) : Type 0 where
@@ -35,58 +41,12 @@ same_from e a d h = go (open_at e a.uri) refl h
           version = ap (λ y. y.version) (sym both.1) ∙ eqb-true _ _ tests.1;
         }
 
--- an editor, and what it is later on
-pub record Later (e e' : Editor) : Type 0 where
-  pub requested : (k : ℕ) (a : SentAsk) → request_numbered e.requested k ≡ Some a → request_numbered e'.requested k ≡ Some a
-  pub past : (a : SentAsk) → Past e a → Past e' a
-  pub same : (a : SentAsk) (d : Open) → Past e a → Same e' a d → Same e a d
-
--- what holds of the document of ask k, where it is still the same
-pub record Known (e : Editor) (k : ℕ) (P : Open → Type 0) : Type 0 where
-  pub requested : SentAsk
-  pub is : request_numbered e.requested k ≡ Some requested
-  pub past : Past e requested
-  pub still : (d : Open) → Same e requested d → P d
-
-pub still_known : (e e' : Editor) (k : ℕ) (P : Open → Type 0) → Later e e' → Known e k P → Known e' k P
-still_known e e' k P later known =
-    record {
-      requested = known.requested;
-      is = later.requested k known.requested known.is;
-      past = later.past known.requested known.past;
-      still = λ d same. known.still d (later.same known.requested d known.past same);
-    }
+-- an editor, and its later state, in which an earlier ask has the same document only if it had it before
+record Later (e e' : Editor) : Type 0 where
+  past : (a : SentAsk) → Past e a → Past e' a
+  same : (a : SentAsk) (d : Open) → Past e a → Same e' a d → Same e a d
 
 -- ---- each change of the editor
-
-pub later_answers : (e : Editor) (answers : List Answer) → Later e (record e { answers = answers })
-later_answers e answers =
-    record {
-      requested = λ k a is. is;
-      past = λ a past. record { known = past.known; risen = past.risen };
-      same = λ a d past same. record { at = same.at; opening = same.opening; version = same.version };
-    }
-
-slice_get_push : {A : Type 0} (xs ys : List A) (k : ℕ) (x : A) → slice_get xs k ≡ Some x → slice_get (xs ++ ys) k ≡ Some x
-slice_get_push [] ys k x h = absurd (none-some x h)
-slice_get_push (y ∷ xs) ys zero x h = h
-slice_get_push (y ∷ xs) ys (suc k) x h = slice_get_push xs ys k x h
-
-pub slice_get_last : {A : Type 0} (xs : List A) (x : A) → slice_get (xs ++ x ∷ []) (length xs) ≡ Some x
-slice_get_last [] x = refl
-slice_get_last (y ∷ xs) x = slice_get_last xs x
-
-pub numbered_push : (requested more : List SentAsk) (k : ℕ) (a : SentAsk) → request_numbered requested k ≡ Some a → request_numbered (requested ++ more) k ≡ Some a
-numbered_push requested more zero a h = h
-numbered_push requested more (suc k) a h = slice_get_push requested more k a h
-
-pub later_ask : (e : Editor) (more : List SentAsk) → Later e (record e { requested = e.requested ++ more })
-later_ask e more =
-    record {
-      requested = numbered_push e.requested more;
-      past = λ a past. record { known = past.known; risen = past.risen };
-      same = λ a d past same. record { at = same.at; opening = same.opening; version = same.version };
-    }
 
 -- a document that is found after one was put in is that one or was there before
 pub found : (docs : EditorDocuments) (uri q : List ℕ) (new d : Open) (P : Type 0) → map_of.get (map_of.insert docs uri new) q ≡ Some d
@@ -105,11 +65,18 @@ left docs uri q d h = go (bytes_eq q uri) (sym (get_removed docs uri q) ∙ h)
     go true h = absurd (none-some d h)
     go false h = h
 
--- a fresh opening is the same as that of no request
-pub later_open : (e : Editor) (uri : List ℕ) (new : Open) → new.opening ≡ e.openings + 1 → Later e (record e { documents = map_of.insert e.documents uri new; openings = e.openings + 1 })
+-- other asks or answers
+later_documents : (e : Editor) (list : List SentAsk) (kept : List Answer) → Later e (record e { requested = list; answers = kept })
+later_documents e list kept =
+    record {
+      past = λ a past. record { known = past.known; risen = past.risen };
+      same = λ a d past same. record { at = same.at; opening = same.opening; version = same.version };
+    }
+
+-- no request has a fresh opening
+later_open : (e : Editor) (uri : List ℕ) (new : Open) → new.opening ≡ e.openings + 1 → Later e (record e { documents = map_of.insert e.documents uri new; openings = e.openings + 1 })
 later_open e uri new fresh =
     record {
-      requested = λ k a is. is;
       past = λ a past. record {
         known = let known : a.opening ≤ e.openings = past.known in omega arith;
         risen = λ d at opening. found e.documents uri a.uri new d (a.version ≤ d.version) at (λ same is. absurd (not_fresh a past d is opening)) (λ was. past.risen d was opening);
@@ -123,11 +90,10 @@ later_open e uri new fresh =
         let equal : e.openings + 1 ≡ a.opening = sym fresh ∙ ap (λ y. y.opening) is ∙ opening in
         omega arith
 
--- a version that rose is the same as that of no request
-pub later_revise : (e : Editor) (uri : List ℕ) (d new : Open) → new.opening ≡ d.opening → d.version < new.version → open_at e uri ≡ Some d → Later e (record e { documents = map_of.insert e.documents uri new })
+-- no request has a version that rose
+later_revise : (e : Editor) (uri : List ℕ) (d new : Open) → new.opening ≡ d.opening → d.version < new.version → open_at e uri ≡ Some d → Later e (record e { documents = map_of.insert e.documents uri new })
 later_revise e uri d new same_opening rises was_open =
     record {
-      requested = λ k a is. is;
       past = λ a past. record {
         known = past.known;
         risen = λ x at opening. found e.documents uri a.uri new x (a.version ≤ x.version) at
@@ -145,10 +111,83 @@ later_revise e uri d new same_opening rises was_open =
     risen_before : (a : SentAsk) → Past e a → (x : Open) → a.uri ≡ uri → new ≡ x → x.opening ≡ a.opening → a.version ≤ d.version
     risen_before a past x same is opening = past.risen d (ap (open_at e) same ∙ was_open) (sym same_opening ∙ ap (λ y. y.opening) is ∙ opening)
 
-pub later_close : (e : Editor) (uri : List ℕ) → Later e (record e { documents = map_of.remove e.documents uri })
+later_close : (e : Editor) (uri : List ℕ) → Later e (record e { documents = map_of.remove e.documents uri })
 later_close e uri =
     record {
-      requested = λ k a is. is;
       past = λ a past. record { known = past.known; risen = λ d at opening. past.risen d (left e.documents uri a.uri d at) opening };
       same = λ a d past same. record { at = left e.documents uri a.uri d same.at; opening = same.opening; version = same.version };
+    }
+
+-- ---- what the model's editor keeps
+
+-- an earlier ask, whose document has the same text while it is the same
+record IsKnown (e : Editor) (a : SentAsk) : Type 0 where
+  past : Past e a
+  same_text : (d : Open) → Same e a d → d.text ≡ a.text
+
+pub record Knows (e : Editor) : Type 0 where
+  openings : (uri : List ℕ) (d : Open) → open_at e uri ≡ Some d → d.opening ≤ e.openings
+  asks : All (IsKnown e) e.requested
+
+later_asks : (e e' : Editor) → Later e e' → (list : List SentAsk) → All (IsKnown e) list → All (IsKnown e') list
+later_asks e e' later list all =
+    All-weaker (IsKnown e) (IsKnown e') (λ a known. record { past = later.past a known.past; same_text = λ d same. known.same_text d (later.same a d known.past same) }) list all
+
+known_numbered : (e : Editor) (list : List SentAsk) (k : ℕ) (a : SentAsk) → All (IsKnown e) list → slice_get list k ≡ Some a → IsKnown e a
+known_numbered e [] k a all h = absurd (none-some a h)
+known_numbered e (x ∷ list) zero a all h = subst (IsKnown e) (same_Some x a h) (All-head (IsKnown e) x list all)
+known_numbered e (x ∷ list) (suc k) a all h = known_numbered e list k a (All-tail (IsKnown e) x list all) h
+
+-- so the text is the request's
+pub same_text : (e : Editor) (k : ℕ) (a : SentAsk) (d : Open) → Knows e → request_numbered e.requested k ≡ Some a → Same e a d → d.text ≡ a.text
+same_text e zero a d knows h same = absurd (none-some a h)
+same_text e (suc k) a d knows h same = (known_numbered e e.requested k a knows.asks h).same_text d same
+
+pub knows_first : (unit : Unit) → Knows (new_editor unit)
+knows_first unit = record { openings = λ uri d at. absurd (none-some d (sym (map_of.get-empty (slice_cmp nat_cmp) uri) ∙ at)); asks = All-nil (IsKnown (new_editor unit)) }
+
+pub knows_other : (e : Editor) (list : List Answer) → Knows e → Knows (record e { answers = list })
+knows_other e list knows = record { openings = knows.openings; asks = later_asks e (record e { answers = list }) (later_documents e e.requested list) e.requested knows.asks }
+
+pub knows_open : (e : Editor) (uri text : List ℕ) → Knows e → Knows (opens e uri text).editor
+knows_open e uri text knows =
+    let d : Open = record { version = 1; text = text; opening = e.openings + 1 } in
+    record {
+      openings = λ q x at. found e.documents uri q d x (x.opening ≤ e.openings + 1) at
+          (λ same is. subst (λ y. y.opening ≤ e.openings + 1) is (omega arith))
+          (λ was. let known : x.opening ≤ e.openings = knows.openings q x was in omega arith);
+      asks = later_asks e (opens e uri text).editor (later_open e uri d refl) e.requested knows.asks;
+    }
+
+pub knows_rewrite : (e : Editor) (uri : List ℕ) (d : Open) (text : List ℕ) (how : List TextChange) (applied : List Applied) → open_at e uri ≡ Some d → Knows e → Knows (rewrites e uri d text how applied).editor
+knows_rewrite e uri d text how applied was_open knows =
+    let new : Open = record d { version = d.version + 1; text = text } in
+    record {
+      openings = λ q x at. found e.documents uri q new x (x.opening ≤ e.openings) at
+          (λ same is. subst (λ y. y.opening ≤ e.openings) is (knows.openings uri d was_open))
+          (λ was. knows.openings q x was);
+      asks = later_asks e (rewrites e uri d text how applied).editor (later_revise e uri d new refl (omega arith) was_open) e.requested knows.asks;
+    }
+
+pub knows_close : (e : Editor) (uri : List ℕ) → Knows e → Knows (closes e uri).editor
+knows_close e uri knows =
+    record {
+      openings = λ q x at. knows.openings q x (left e.documents uri q x at);
+      asks = later_asks e (closes e uri).editor (later_close e uri) e.requested knows.asks;
+    }
+
+pub knows_ask : (e : Editor) (uri : List ℕ) (ask : Ask) (d : Open) → open_at e uri ≡ Some d → Knows e → Knows (asks e uri ask d).editor
+knows_ask e uri ask d was_open knows =
+    let a : SentAsk = record { ask = ask; uri = uri; text = d.text; opening = d.opening; version = d.version } in
+    let new : Editor = (asks e uri ask d).editor in
+    record {
+      openings = knows.openings;
+      asks = All-push (IsKnown new) e.requested a (later_asks e new (later_documents e (e.requested ++ a ∷ []) e.answers) e.requested knows.asks)
+          (record {
+            past = record {
+              known = knows.openings uri d was_open;
+              risen = λ x at opening. subst (λ y. d.version ≤ y.version) (same_Some d x (sym was_open ∙ at)) (omega arith);
+            };
+            same_text = λ x same. ap (λ y. y.text) (same_Some x d (sym same.at ∙ was_open));
+          });
     }

@@ -1,4 +1,4 @@
--- Client and server, and the messages between them.
+-- Defines the states of a client and a server, and the messages between them.
 -- Rule: LSP 3.17: a model of client and server.
 use Rattle.std.specs.Prelude.{ℕ, zero, suc, ℤ, List, [], Bool, Option, None, slice_get}
 use Rattle.std.specs.Ordering.{nat_cmp}
@@ -22,10 +22,11 @@ abbrev pub EditorDocuments : Type 0
 EditorDocuments = map_of.FinMap (slice_cmp nat_cmp) Open
 
 -- a request that was sent: what is requested, the document,
--- and its opening and version at that time
+-- and its text, opening and version at that time
 pub record SentAsk : Type 0 where
   pub ask : Ask
   pub uri : List ℕ
+  pub text : List ℕ
   pub opening : ℕ
   pub version : ℕ
 
@@ -36,10 +37,10 @@ pub record Answer : Type 0 where
 
 -- an editor: its documents, what it requested, and the answers that it has
 pub record Editor : Type 0 where
-  -- what positions are counted in
+  -- the unit of positions
   pub unit : Unit
   pub documents : EditorDocuments
-  -- how many documents were opened so far
+  -- the number of openings so far
   pub openings : ℕ
   -- the asks that were sent; the first has number 1
   pub requested : List SentAsk
@@ -75,7 +76,7 @@ pub data ToEditor : Type 0 where
   -- the ask's number and the edits; a refusal has none
   answers : ℕ → List Replacement → ToEditor
 
--- ---- what has come of the events so far
+-- ---- results
 
 -- an edit that the editor applied
 pub record Applied : Type 0 where
@@ -92,7 +93,7 @@ pub record Made : Type 0 where
 
 -- ---- the whole
 
--- client and server: the editor, the server's documents, the two queues, and what has come of it
+-- client and server: the editor, the server's documents, the two queues, and the results so far
 pub record ClientAndServer : Type 0 where
   pub editor : Editor
   pub to_server : List ToServer
@@ -102,7 +103,7 @@ pub record ClientAndServer : Type 0 where
   pub applied : List Applied
   pub made : List Made
 
--- nothing was opened yet, and both count positions in this unit
+-- the state before the first event, in which both count positions in this unit
 abbrev pub start : Unit → ClientAndServer
 start unit =
     record {
@@ -114,7 +115,7 @@ start unit =
       made = [];
     }
 
--- the server's documents once it has taken a message
+-- returns the server's documents after it has taken a message
 abbrev pub after_message : OpenDocuments → ToServer → OpenDocuments
 after_message held (notifies note) = after_event held note
 after_message held (requests number uri ask) = held

@@ -1,4 +1,4 @@
--- What edits and changes make of a text.
+-- Defines the text that edits and changes make of a text.
 -- Rule: LSP 3.17, TextEdit[].
 use Rattle.std.specs.Prelude.{◌≡◌, ℕ, List, map, fold, Option, None, string_bytes}
 use Rattle.std.specs.Str.{chars}
@@ -9,7 +9,7 @@ use Rattle.ob0_text.specs.Units.{width_of}
 use Rattle.ob0_text.specs.Patches.{cut_at, patched_by_cuts, patched}
 use Rattle.ob0_text.specs.OpenDocuments.{TextChange, changed_text}
 
--- a range of a text, and the characters that take its place
+-- a range of a text, and the characters that replace it
 pub record Replacement : Type 0 where
   pub range : Range
   pub text : List ℕ
@@ -22,7 +22,7 @@ replacement_of e = record { range = e.range; text = chars (string_bytes e.text) 
 abbrev pub replacements : List Edit → List Replacement
 replacements edits = map replacement_of edits
 
--- the text with all edits made, which is defined where no two of them share a character
+-- returns the text with all edits made, or None if two of them share a character
 unfoldable pub edited : Unit → List ℕ → List Replacement → Option (List ℕ)
 edited unit text edits =
     patched_by_cuts text (map (λ e. cut_at (width_of unit) text e.range e.text) edits)

@@ -1,4 +1,4 @@
--- What the editor does, and what it sends.
+-- Defines the acts of the model's editor, and the messages that it sends.
 -- Rule: LSP 3.17, versioned documents: a model of a client.
 use Rattle.std.specs.Prelude.{ℕ, suc, ◌+◌, pos, List, [], ◌∷◌, ◌++◌, ◌&&◌, ◌==◌, length, Option, Some, None, is_some, unwrap_or, if◌then◌else◌}
 use Rattle.std.specs.FinMap as map_of
@@ -8,7 +8,7 @@ use Rattle.ob0_world_rules.specs.Edited.{Replacement, edited, whole_text, after_
 use Rattle.ob0_world_rules.specs.Asks.{Ask}
 use Rattle.ob0_world_rules.specs.ClientAndServer.{Open, SentAsk, Answer, Editor, request_numbered, open_at, ToServer, notifies, requests, ToEditor, publishes, answers, Applied}
 
--- what the editor may do
+-- an act of the editor
 pub data Act : Type 0 where
   -- the uri and the text
   open_document : List ℕ → List ℕ → Act
@@ -19,53 +19,58 @@ pub data Act : Type 0 where
   apply : ℕ → Act
   discard : ℕ → Act
 
--- what an act leaves: the editor, the messages that it sends, and the edits that it applies
+-- the result of an act: the editor, the messages that it sends, and the edits that it applies
 pub record Done : Type 0 where
   pub editor : Editor
   pub sent : List ToServer
   pub applied : List Applied
 
--- nothing is sent or applied
+-- sends and applies nothing
 abbrev pub stays : Editor → Done
 stays e = record { editor = e; sent = []; applied = [] }
 
--- a message is sent
+-- sends a message
 abbrev pub sends : Editor → ToServer → List Applied → Done
 sends e message applied = record { editor = e; sent = message ∷ []; applied = applied }
 
--- a document is opened, with version 1 and an opening number of its own
+-- opens a document, with version 1 and a new opening number
 abbrev pub opens : Editor → List ℕ → List ℕ → Done
 opens e uri text =
     let d : Open = record { version = 1; text = text; opening = e.openings + 1 } in
     sends (record e { documents = map_of.insert e.documents uri d; openings = e.openings + 1 })
     (notifies (Opened uri (pos 1) text)) []
 
--- an open document gets this text, one version later, and the server is sent how
+-- gives an open document this text and the next version, and tells the server the changes
 abbrev pub rewrites : Editor → List ℕ → Open → List ℕ → List TextChange → List Applied → Done
 rewrites e uri d text how applied =
     let new : Open = record d { version = d.version + 1; text = text } in
     sends (record e { documents = map_of.insert e.documents uri new })
     (notifies (Changed uri (pos new.version) how)) applied
 
--- an open document is closed
+-- closes an open document
 abbrev pub closes : Editor → List ℕ → Done
 closes e uri =
     sends (record e { documents = map_of.remove e.documents uri }) (notifies (Closed uri)) []
 
--- something is requested of an open document, with the next number
+-- requests something about an open document, with the next number
 abbrev pub asks : Editor → List ℕ → Ask → Open → Done
 asks e uri ask d =
-    let a : SentAsk
-    = record { ask = ask; uri = uri; opening = d.opening; version = d.version } in
+    let a : SentAsk = record {
+      ask = ask;
+      uri = uri;
+      text = d.text;
+      opening = d.opening;
+      version = d.version;
+    } in
     sends (record e { requested = e.requested ++ a ∷ [] })
     (requests (suc (length e.requested)) uri ask) []
 
--- the edits of the answer with this number
+-- returns the edits of the answer with this number, if the editor has it
 abbrev pub kept_answer : ℕ → List Answer → Option (List Replacement)
 kept_answer k [] = None
 kept_answer k (a ∷ rest) = if a.number == k then Some a.edits else kept_answer k rest
 
--- all answers but the one that `kept_answer` finds
+-- returns all answers except the one that `kept_answer` finds
 abbrev pub all_but : ℕ → List Answer → List Answer
 all_but k [] = []
 all_but k (a ∷ rest) = if a.number == k then rest else a ∷ all_but k rest
@@ -74,12 +79,12 @@ all_but k (a ∷ rest) = if a.number == k then rest else a ∷ all_but k rest
 abbrev pub without_answer : Editor → ℕ → Editor
 without_answer e k = record e { answers = all_but k e.answers }
 
--- the document that was asked about, where it is the same opening with the same version
+-- returns the document if it is the opening and the version that was asked about
 abbrev pub if_same : SentAsk → Open → Option Open
 if_same a d = if d.opening == a.opening && d.version == a.version then Some d else None
 
--- edits that answer request k are made of its document, where that is still the same and no two of
--- them share a character
+-- makes the edits that answer request k in its document, if that is still the same opening and version
+-- and no two edits share a character
 abbrev pub applies : Editor → ℕ → List Replacement → Option Done
 applies e k edits = do
   a ← request_numbered e.requested k
@@ -88,8 +93,8 @@ applies e k edits = do
   let made : Applied = record { uri = a.uri; before = d.text; after = text }
   Some (rewrites e a.uri d text (whole_text text ∷ []) (made ∷ []))
 
--- What an act leaves. A document that is open isn't opened, and one that isn't is neither changed,
--- closed nor asked about; an answer is no longer kept, applied or not.
+-- Returns the result of an act. It does nothing if it opens an open document, or changes, closes or
+-- asks about one that isn't open. `apply` and `discard` remove the answer in any case.
 abbrev pub done_by : Editor → Act → Done
 done_by e (open_document uri text) =
     if is_some (open_at e uri) then stays e else opens e uri text
@@ -107,7 +112,7 @@ done_by e (apply k) =
     unwrap_or (kept_answer k e.answers >>= applies rest k) (stays rest)
 done_by e (discard k) = stays (without_answer e k)
 
--- the editor has read a message: it keeps an answer that has edits
+-- returns the editor after it has read a message: it keeps an answer with edits
 abbrev pub reads : Editor → ToEditor → Editor
 reads e (publishes uri version empty) = e
 reads e (answers number []) = e

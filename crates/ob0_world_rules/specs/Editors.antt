@@ -1,7 +1,7 @@
--- Editors that keep ob0's rules: what such an editor may do, and what it sends.
+-- States the rules that an editor keeps: what it may do, and what it sends.
 -- The model's editor (`done_by`) is one of them: it does each thing in one way.
 -- Rule: LSP 3.17, Text Document Synchronization, versioned documents.
-use Rattle.std.specs.Prelude.{◌≡◌, ◌<◌, ◌+◌, ℕ, pos, List, [], ◌∷◌, ◌++◌, map, Some, None}
+use Rattle.std.specs.Prelude.{◌≡◌, ◌+◌, ℕ, pos, List, [], ◌∷◌, ◌++◌, map, Some}
 use Rattle.std.specs.FinMap as map_of
 use Rattle.ob0_text.specs.OpenDocuments.{TextChange, Opened, Changed}
 use Rattle.ob0_world_rules.specs.Edited.{Replacement, edited, after_changes}
@@ -16,7 +16,7 @@ pub record Revision : Type 0 where
   pub text : List ℕ
   pub how : List TextChange
 
--- what the editor may do
+-- a move of the editor
 pub data Move : Type 0 where
   -- the uri, the version and the text
   to_open : List ℕ → ℕ → List ℕ → Move
@@ -30,42 +30,41 @@ pub data Move : Type 0 where
 
 -- ---- revisions
 
--- the document after a revision
+-- returns the document after a revision
 abbrev pub revised : Open → Revision → Open
 revised d r = record d { version = r.version; text = r.text }
 
--- the editor with this document open
+-- returns the editor with this document open
 abbrev pub with_document : Editor → List ℕ → Open → Editor
 with_document e uri d = record e { documents = map_of.insert e.documents uri d }
 
--- The open document is revised, again and again: each time its version rises, by one or more, and
--- the changes that are sent make the new text of the old one, whole or by ranges, in the unit that
--- was agreed on. These documents are announced.
+-- States that the open document is revised one revision after another, and that these documents are
+-- announced. The changes of each revision, ranges or whole texts in the agreed unit, make its text of
+-- the text before. Its version may be any.
 abbrev pub Revises : Editor → List ℕ → List Revision → Editor → List Announced → Type 0
 Revises e uri [] new announced = (new ≡ e) × (announced ≡ [])
 Revises e uri (r ∷ more) new announced =
     (d : Open)
     × (later : List Announced)
     × (open_at e uri ≡ Some d)
-    × (d.version < r.version)
     × (after_changes e.unit (Some d.text) r.how ≡ Some r.text)
     × Revises (with_document e uri (revised d r)) uri more new later
     × (announced ≡ record { uri = uri; document = revised d r } ∷ later)
 
--- what the server is sent of revisions
+-- returns the messages that tell the server of revisions
 abbrev pub told : List ℕ → List Revision → List ToServer
 told uri revisions = map (λ r. notifies (Changed uri (pos r.version) r.how)) revisions
 
--- the changes that are sent of revisions, one after another
+-- returns the changes of all revisions, in order
 abbrev pub changes_of : List Revision → List TextChange
 changes_of [] = []
 changes_of (r ∷ more) = r.how ++ changes_of more
 
 -- ---- answers
 
--- The edits of answer k are made at once, in the document that was asked about, while it is the same
--- opening with the same version. The first of the changes that are then sent make the edited text;
--- the others are what the user did next, which an editor may send together with the edits.
+-- States that the edits of answer k are made at once in the document that was asked about, which still
+-- has the text that was asked about. The first of the changes that are sent make the edited text. The
+-- others are the user's next changes, which an editor may send together with the edits.
 pub record AppliesAnswer (e : Editor) (k : ℕ) (revisions : List Revision) (done : Done)
     (announced : List Announced) : Type 0 where
   pub edits : List Replacement
@@ -74,8 +73,7 @@ pub record AppliesAnswer (e : Editor) (k : ℕ) (revisions : List Revision) (don
   pub numbered : request_numbered e.requested k ≡ Some requested
   pub document : Open
   pub is_open : open_at e requested.uri ≡ Some document
-  pub same_opening : document.opening ≡ requested.opening
-  pub same_version : document.version ≡ requested.version
+  pub same_text : document.text ≡ requested.text
   pub text : List ℕ
   pub makes : edited e.unit document.text edits ≡ Some text
   pub new : Editor
@@ -93,26 +91,24 @@ pub record AppliesAnswer (e : Editor) (k : ℕ) (revisions : List Revision) (don
 
 -- ---- every move
 
--- a document is opened, with any version
+-- a document is opened, with any version; an open one is opened again
 abbrev pub opened_as : Open → Editor → List ℕ → Done
 opened_as d e uri =
     sends (record (with_document e uri d) { openings = d.opening })
     (notifies (Opened uri (pos d.version) d.text)) []
 
--- What a move may leave, and the documents that it announces to the server. A document that is open
--- isn't opened, and one that isn't is neither changed, closed nor asked about.
+-- States that a move may have this result and announce these documents to the server. Only an open
+-- document is changed or asked about.
 abbrev pub May : Editor → Move → Done → List Announced → Type 0
 May e (to_open uri version text) done announced =
     let d : Open = record { version = version; text = text; opening = e.openings + 1 } in
-    (open_at e uri ≡ None)
-    × (done ≡ opened_as d e uri)
+    (done ≡ opened_as d e uri)
     × (announced ≡ record { uri = uri; document = d } ∷ [])
 May e (to_revise uri revisions) done announced =
     (new : Editor)
     × Revises e uri revisions new announced
     × (done ≡ record { editor = new; sent = told uri revisions; applied = [] })
-May e (to_close uri) done announced =
-    (d : Open) × (open_at e uri ≡ Some d) × (done ≡ closes e uri) × (announced ≡ [])
+May e (to_close uri) done announced = (done ≡ closes e uri) × (announced ≡ [])
 May e (to_ask uri ask) done announced =
     (d : Open) × (open_at e uri ≡ Some d) × (done ≡ asks e uri ask d) × (announced ≡ [])
 May e (to_apply k revisions) done announced = AppliesAnswer e k revisions done announced

@@ -1,10 +1,9 @@
--- What holds with every editor that keeps ob0's rules, in every interleaving.
+-- States what holds with every editor that keeps ob0's rules, in every interleaving.
 -- Rule: docs/PROMISES.md, Client and server.
-use Rattle.std.specs.Prelude.{◌≡◌, ℕ, List, [], ◌∷◌, ◌++◌, map, replicate, Option, Some, None}
+use Rattle.std.specs.Prelude.{◌≡◌, List, [], ◌∷◌, ◌++◌, map, Option, Some, None}
 use Rattle.ob0_text.specs.declared.position_types.Unit.{Unit}
 use Rattle.ob0_text.specs.OpenDocuments.{OpenDocuments, none_open}
-use Rattle.ob0_world_rules.specs.Asks.{rename}
-use Rattle.ob0_world_rules.specs.ClientAndServer.{SentAsk, Editor, new_editor, ToServer, notifies, requests, ToEditor, Applied, Made, ClientAndServer, start, after_message}
+use Rattle.ob0_world_rules.specs.ClientAndServer.{Editor, new_editor, ToServer, notifies, requests, ToEditor, Applied, Made, ClientAndServer, start, after_message}
 use Rattle.ob0_world_rules.specs.Editing.{Done, reads}
 use Rattle.ob0_world_rules.specs.Serving.{Replies}
 use Rattle.ob0_world_rules.specs.Happens.{Event, Course}
@@ -15,8 +14,8 @@ use Rattle.ob0_world_rules.specs.Editors.{Move, May}
 
 -- ---- an editor and the server
 
--- An editor and the server. In the queues there may be other messages (`None`): requests that change
--- nothing, as for a hover, and what is answered; notifications that are ignored.
+-- An editor and the server. The queues may have other messages (`None`): requests that change nothing,
+-- such as a hover, their answers, and notifications that the server ignores.
 pub record EditorAndServer : Type 0 where
   pub editor : Editor
   pub to_server : List (Option ToServer)
@@ -28,7 +27,7 @@ pub record EditorAndServer : Type 0 where
   pub applied : List Applied
   pub made : List Made
 
--- nothing was opened yet, and both count positions in this unit
+-- the state before the first turn, in which both count positions in this unit
 abbrev pub nothing_yet : Unit → EditorAndServer
 nothing_yet unit =
     record {
@@ -41,19 +40,19 @@ nothing_yet unit =
       made = [];
     }
 
--- the messages of a queue, but the other ones
+-- returns the messages of a queue without the other messages
 abbrev pub without_others : {A : Type 0} → List (Option A) → List A
 without_others [] = []
 without_others (None ∷ queue) = without_others queue
 without_others (Some message ∷ queue) = message ∷ without_others queue
 
--- the messages of a queue that say something about documents
+-- returns the messages of a queue that open, change or close documents
 abbrev pub notes_among : List ToServer → List ToServer
 notes_among [] = []
 notes_among (notifies note ∷ queue) = notifies note ∷ notes_among queue
 notes_among (requests k uri ask ∷ queue) = notes_among queue
 
--- what the model says of client and server: all but the other messages
+-- returns the state of client and server in the model, without the other messages
 abbrev pub as_model : EditorAndServer → ClientAndServer
 as_model w =
     record {
@@ -67,28 +66,18 @@ as_model w =
 
 -- ---- what may happen
 
--- one thing that may happen
+-- a turn
 pub data Turn : Type 0 where
-  -- the editor does something
+  -- the editor makes a move
   editor_does : Move → Turn
-  -- the editor sends another message; so many numbers are then those of other requests
-  editor_says : ℕ → Turn
+  -- the editor sends another message
+  editor_says : Turn
   -- the server takes one message, and sends what it replies
   server_takes : Turn
   -- the editor takes one message
   editor_takes : Turn
 
--- what has the number of another request: nothing that was asked
-abbrev pub no_ask : SentAsk
-no_ask =
-    record
-    { ask = rename (record { line = 0; character = 0 }) []; uri = []; opening = 0; version = 0 }
-
--- the next numbers, so many, are those of other requests
-abbrev pub without_numbers : ℕ → Editor → Editor
-without_numbers numbers e = record e { requested = e.requested ++ replicate numbers no_ask }
-
--- the editor has moved
+-- returns the state after a move of the editor
 abbrev pub after_move : EditorAndServer → Done → List Announced → EditorAndServer
 after_move w done announced =
     record w {
@@ -98,8 +87,8 @@ after_move w done announced =
       applied = w.applied ++ done.applied;
     }
 
--- The server takes the first message that waits for it. Another one changes no document, and brings
--- other messages alone, if any.
+-- States that the server takes the first message that waits for it. Another message changes no
+-- document, and only other messages answer it, if any.
 abbrev pub TakesNext : EditorAndServer → List (Option ToServer) → EditorAndServer → Type 0
 TakesNext w [] new = new ≡ w
 TakesNext w (None ∷ rest) new =
@@ -118,30 +107,25 @@ TakesNext w (Some message ∷ rest) new =
       made = w.made ++ made;
     })
 
--- the editor takes the first message that waits for it
+-- returns the state after the editor has taken the first message that waits for it
 abbrev pub after_one : EditorAndServer → List (Option ToEditor) → EditorAndServer
 after_one w [] = w
 after_one w (None ∷ rest) = record w { to_editor = rest }
 after_one w (Some message ∷ rest) =
     record w { editor = reads w.editor message; to_editor = rest }
 
--- at w this may happen, and leave `new`
+-- states that this turn may lead from w to `new`
 abbrev pub MayHappen : EditorAndServer → Turn → EditorAndServer → Type 0
 MayHappen w (editor_does move) new =
     (done : Done)
     × (announced : List Announced)
     × May w.editor move done announced
     × (new ≡ after_move w done announced)
-MayHappen w (editor_says numbers) new =
-    new
-    ≡ record w {
-      editor = without_numbers numbers w.editor;
-      to_server = w.to_server ++ None ∷ [];
-    }
+MayHappen w editor_says new = new ≡ record w { to_server = w.to_server ++ None ∷ [] }
 MayHappen w server_takes new = TakesNext w w.to_server new
 MayHappen w editor_takes new = new ≡ after_one w w.to_editor
 
--- these, one after another, may lead from one state to the other
+-- states that these turns, one after another, may lead from one state to the other
 abbrev pub MayLead : EditorAndServer → List Turn → EditorAndServer → Type 0
 MayLead w [] new = new ≡ w
 MayLead w (turn ∷ turns) new =
@@ -149,32 +133,33 @@ MayLead w (turn ∷ turns) new =
 
 -- ---- the laws
 
--- what holds of each state that is reached so
+-- states what holds in each state that turns lead to
 pub record HoldsWithEditor (w : EditorAndServer) : Type 0 where
   -- each applied edit keeps the run; each list of diagnostics is empty exactly when the text that it
   -- was made for is a well-typed module; the latest ones are of the present text, when no message
   -- about a document waits for the server
   pub holds : Holds (as_model w)
-  -- so they are even if asks and other messages wait
+  -- the latest diagnostics are of the present text even if asks and other messages wait
   pub latest : notes_among (without_others w.to_server) ≡ [] → AreUpToDate w.editor w.made
   -- the server's documents, after the messages that wait for it, are the editor's documents
   pub mirrors : Mirrors (as_model w)
-  -- publications were made for the documents that the editor announced, one for each and in this
-  -- order; after them are those of the messages that still wait for the server
+  -- the publications are for the first documents that the editor announced, one for each, in order;
+  -- messages that still wait for the server announce the other documents
   pub published : List Announced
   pub waiting : List Announced
   pub all : w.announced ≡ published ++ waiting
   pub made_of : AreMadeOf w.made published
   pub still_wait : map versioned_uri waiting ≡ named_in (without_others w.to_server)
 
--- so it is with every editor that keeps ob0's rules, in every interleaving
+-- states that it holds with every editor that keeps ob0's rules, in every interleaving
 abbrev pub WithEveryEditor : Type 0
 WithEveryEditor =
     (unit : Unit) (turns : List Turn) (w : EditorAndServer)
     → MayLead (nothing_yet unit) turns w
     → HoldsWithEditor w
 
--- The model's editor keeps ob0's rules: whatever its events lead to may be so.
+-- States that the model's editor keeps ob0's rules: turns may lead to each state that its events lead
+-- to.
 abbrev pub TheModelIsOne : Type 0
 TheModelIsOne =
     (unit : Unit) (events : List Event) (end : ClientAndServer)

@@ -1,11 +1,11 @@
--- What may happen at client and server, and what it leaves.
+-- Defines the events at client and server, and their results.
 -- Rule: LSP 3.17: a model of client and server.
 use Rattle.std.specs.Prelude.{◌≡◌, List, [], ◌∷◌, ◌++◌}
 use Rattle.ob0_world_rules.specs.ClientAndServer.{ToServer, ToEditor, Made, ClientAndServer, after_message}
 use Rattle.ob0_world_rules.specs.Editing.{Act, Done, done_by, reads}
 use Rattle.ob0_world_rules.specs.Serving.{Replies}
 
--- what may happen
+-- an event
 pub data Event : Type 0 where
   -- the editor does something
   does : Act → Event
@@ -14,7 +14,7 @@ pub data Event : Type 0 where
   -- the editor takes one message
   take_message : Event
 
--- what an act of the editor leaves
+-- returns the state after an act of the editor
 abbrev pub after_act : ClientAndServer → Done → ClientAndServer
 after_act w done =
     record w {
@@ -23,7 +23,7 @@ after_act w done =
       applied = w.applied ++ done.applied;
     }
 
--- the server takes the first message that waits for it, and sends what it replies
+-- the server takes the first message that waits for it, and sends its replies
 abbrev pub ServerTakes : ClientAndServer → List ToServer → ClientAndServer → Type 0
 ServerTakes w [] new = new ≡ w
 ServerTakes w (message ∷ rest) new =
@@ -38,13 +38,13 @@ ServerTakes w (message ∷ rest) new =
       made = w.made ++ made;
     })
 
--- the editor takes the first message that waits for it
+-- returns the state after the editor has taken the first message that waits for it
 abbrev pub after_taking : ClientAndServer → List ToEditor → ClientAndServer
 after_taking w [] = w
 after_taking w (message ∷ rest) =
     record w { editor = reads w.editor message; to_editor = rest }
 
--- at w this event happens, and leaves `new`
+-- this event leads from w to `new`
 abbrev pub Happens : ClientAndServer → Event → ClientAndServer → Type 0
 Happens w (does act) new = new ≡ after_act w (done_by w.editor act)
 Happens w serve new = ServerTakes w w.to_server new

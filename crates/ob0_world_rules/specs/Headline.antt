@@ -1,6 +1,6 @@
--- What holds of every list of events: the headline.
+-- States the headline: what holds of every list of events.
 -- Rule: docs/PROMISES.md, Client and server.
-use Rattle.std.specs.Prelude.{◌≡◌, ℕ, ℤ, pos, List, [], ◌++◌, All, Option, Some, None, MatchOption, fold, if◌then◌else◌}
+use Rattle.std.specs.Prelude.{◌≡◌, ℕ, pos, List, [], ◌++◌, All, Option, Some, None, MatchOption, fold, if◌then◌else◌}
 use Rattle.std.specs.Str.{bytes_eq}
 use Rattle.ob0_text.specs.declared.position_types.Unit.{Unit}
 use Rattle.ob0_world_rules.specs.Language.{WellTypedText, SameRun}
@@ -10,7 +10,7 @@ use Rattle.ob0_world_rules.specs.Happens.{Event, Course}
 
 -- ---- an applied edit
 
--- of a well-typed module it leaves a well-typed module with the same run
+-- the edit leaves a well-typed module with the same run as the well-typed module before
 pub record KeepsTheRun (a : Applied) : Type 0 where
   pub before_fits : WellTypedText a.before
   pub after_fits : WellTypedText a.after
@@ -18,12 +18,12 @@ pub record KeepsTheRun (a : Applied) : Type 0 where
 
 -- ---- a publication with a version
 
--- its list is empty exactly when the text that it was made for is a well-typed module
+-- the list is empty exactly when the text that it was made for is a well-typed module
 abbrev pub IsRight : Made → Type 0
 IsRight m = IsEmptyIfCorrect m.text m.empty
 
--- at some moment, when the first of the events have happened and the others haven't, the editor has
--- the document open, with the version that it names and the text that it was made for
+-- States that after some of the first events the editor has the document open, with the version that
+-- the publication has and the text that it was made for.
 pub record WasMadeFor (unit : Unit) (events : List Event) (m : Made) : Type 0 where
   pub before : List Event
   pub following : List Event
@@ -35,13 +35,12 @@ pub record WasMadeFor (unit : Unit) (events : List Event) (m : Made) : Type 0 wh
   pub version_is : pos document.version ≡ m.version
   pub text_is : document.text ≡ m.text
 
--- the last publication for a uri
+-- returns the last publication for a uri
 abbrev pub last_publication : List ℕ → List Made → Option Made
 last_publication uri made =
     fold (λ last m. if bytes_eq m.uri uri then Some m else last) None made
 
--- for each open document there is a publication, and the last one was made for its present version
--- and text
+-- each open document has a publication, and the last one was made for its present version and text
 abbrev pub AreUpToDate : Editor → List Made → Type 0
 AreUpToDate e made =
     (uri : List ℕ) (d : Open)
@@ -51,18 +50,18 @@ AreUpToDate e made =
 
 -- ---- the headline
 
--- What holds of each state that events lead to.
+-- States what holds in each state that events lead to.
 pub record Holds (w : ClientAndServer) : Type 0 where
   -- each applied edit keeps the run
   pub applied : All KeepsTheRun w.applied
   -- diagnostics are empty exactly when the text that they were made for is a well-typed module
   pub made : All IsRight w.made
-  -- when no message waits for the server, the latest diagnostics of each open document are
-  -- those of its present text
+  -- when no message waits for the server, the latest diagnostics of each open document were made for
+  -- its present text
   pub latest_made : w.to_server ≡ [] → AreUpToDate w.editor w.made
 
--- What a list of events leaves, from the beginning on: these edits were applied and these
--- publications made, in this order.
+-- States that a list of events, from the beginning, leads to these applied edits and these
+-- publications, in this order.
 pub record Headline (unit : Unit) (events : List Event) (applied : List Applied)
     (made : List Made) : Type 0 where
   pub end : ClientAndServer

@@ -1,4 +1,4 @@
--- What a text means as a module: whether it is well-typed, and whether two texts have the same run.
+-- Defines well-typed texts, and texts with the same run.
 -- Rule: docs/LANGUAGE.md, Types 8, Runs.
 use Rattle.std.specs.Prelude.{◌≡◌, ◌≤◌, ℕ, List, [], ◌∷◌, length}
 use Rattle.std.specs.List.{flat_map}
@@ -30,7 +30,7 @@ pub record IsModuleText (tree : Tree Name module_text) (bytes : List ℕ) : Type
   pub short : length bytes ≤ max_text
   pub shallow : nesting tree ≤ max_nesting
 
--- A text is from here on the list of its characters.
+-- In the rest of this file a text is a list of characters.
 
 -- the text is a module, and its tree is well-typed (LANGUAGE.md, Scopes and Types)
 pub record WellTypedText (text : List ℕ) : Type 0 where

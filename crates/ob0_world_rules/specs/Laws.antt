@@ -1,4 +1,4 @@
--- Laws of the definitions of client and server.
+-- States laws of the definitions of client and server.
 -- Rule: none; laws of the model of client and server.
 use Rattle.std.specs.Prelude.{◌≡◌, ◌↔◌, ⊤, ℕ, List, All, Some}
 use Rattle.ob0_text.specs.declared.edits.Edit.{Edit}
@@ -18,7 +18,7 @@ use Rattle.ob0_world_rules.specs.Mirror.{Mirrors}
 
 -- ---- texts
 
--- a text has a tree by its lexemes exactly where it has that by the tokens that are parsed
+-- states that a text has a tree by its lexemes exactly if it has it by the parsed tokens
 abbrev pub OneReading : Type 0
 OneReading =
     (tree : Tree Name module_text) (bytes : List ℕ)
@@ -26,7 +26,8 @@ OneReading =
 
 -- ---- answers
 
--- the edits, at positions of a unit, leave of this text a well-typed module with the same run
+-- states that the edits, at positions of a unit, make a well-typed module with the same run of this
+-- text
 pub record EditsPreserveRun (unit : Unit) (text : List ℕ) (edits : List Replacement) : Type 0 where
   pub before_fits : WellTypedText text
   pub after : List ℕ
@@ -34,14 +35,14 @@ pub record EditsPreserveRun (unit : Unit) (text : List ℕ) (edits : List Replac
   pub after_fits : WellTypedText after
   pub same : SameRun text after
 
--- edits that answer an ask keep the run of the text
+-- states that edits that answer an ask keep the run of the text
 abbrev pub EditsKeepTheRun : Type 0
 EditsKeepTheRun =
     (unit : Unit) (text : List ℕ) (ask : Ask) (edits : List Edit)
     → GivesEdits unit text ask edits
     → EditsPreserveRun unit text (replacements edits)
 
--- an ask about a text has one answer
+-- states that an ask about a text has one answer
 abbrev pub AnswersAreOne : Type 0
 AnswersAreOne =
     (unit : Unit) (text : List ℕ) (ask : Ask) (given other : List Replacement)
@@ -51,7 +52,7 @@ AnswersAreOne =
 
 -- ---- events
 
--- an event does one thing: what it leaves is determined
+-- states that an event leads to one state
 abbrev pub OneStep : Type 0
 OneStep =
     (w : ClientAndServer) (event : Event) (new other : ClientAndServer)
@@ -59,7 +60,8 @@ OneStep =
     → Happens w event other
     → new ≡ other
 
--- two courses of one list of events have one end: documents, queues, edits applied and publications
+-- states that two courses of one list of events have one end: documents, queues, applied edits and
+-- publications
 abbrev pub OneCourse : Type 0
 OneCourse =
     (w : ClientAndServer) (events : List Event) (end other : ClientAndServer)
@@ -67,13 +69,13 @@ OneCourse =
     → Course w events other
     → end ≡ other
 
--- of each text, something answers this ask: it can't be that nothing does
+-- states that for each text it can't be that nothing answers this ask
 abbrev pub HasAnswers : Ask → Type 0
 HasAnswers ask =
     (unit : Unit) (text : List ℕ)
     → ¬ ((given : List Replacement) → ¬ AnswersFor unit text ask given)
 
--- what is asked in this event, if it is a request, has answers
+-- states that the ask of this event, if it is one, has answers
 abbrev pub IsAnswerable : Event → Type 0
 IsAnswerable (does (open_document uri text)) = ⊤
 IsAnswerable (does (change_document uri how)) = ⊤
@@ -84,25 +86,26 @@ IsAnswerable (does (discard k)) = ⊤
 IsAnswerable serve = ⊤
 IsAnswerable take_message = ⊤
 
--- A list of events has a course, where what it asks has answers: it can't be that none fits. So what
--- is said of every course is said of one.
+-- States that it can't be that a list of events has no course, if its asks have answers. So a law of
+-- every course is a law of at least one.
 abbrev pub ACourseFits : Type 0
 ACourseFits =
     (unit : Unit) (events : List Event)
     → All IsAnswerable events
     → ¬ ((end : ClientAndServer) → ¬ Course (start unit) events end)
 
--- what every list of events leaves has what is said of every interleaving
+-- states that `Holds` is true of each state that a list of events leads to
 abbrev pub InEveryInterleaving : Type 0
 InEveryInterleaving =
     (u : Unit) (events : List Event) (w : ClientAndServer) → Course (start u) events w → Holds w
 
--- and the server's documents, once it has taken all messages that wait for it, are the editor's
+-- states that the server's documents, after it has taken all messages that wait for it, are the
+-- editor's
 abbrev pub ServerMirrors : Type 0
 ServerMirrors =
     (u : Unit) (events : List Event) (w : ClientAndServer) → Course (start u) events w → Mirrors w
 
--- each publication was made for a text that the editor had
+-- states that each publication was made for a text that the editor had
 abbrev pub MadeForTheEditor : Type 0
 MadeForTheEditor =
     (unit : Unit) (events : List Event) (end : ClientAndServer)

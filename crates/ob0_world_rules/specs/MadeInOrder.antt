@@ -11,17 +11,17 @@ use Rattle.ob0_world_rules.specs.Happens.{Event, does, serve, take_message, Happ
 
 -- ---- the documents that the editor announced
 
--- a document of the editor, as it was when the editor announced it to the server
+-- a document with the state in which the editor announced it to the server
 pub record Announced : Type 0 where
   pub uri : List ℕ
   pub document : Open
 
--- the document at this uri, where it is open
+-- returns the document at this uri, if it is open
 abbrev pub announced_at : List ℕ → Option Open → List Announced
 announced_at uri (Some d) = record { uri = uri; document = d } ∷ []
 announced_at uri None = []
 
--- the document of this editor whose text the message announces
+-- returns the editor's document whose text the message announces, if there is one
 abbrev pub announced_by : Editor → ToServer → List Announced
 announced_by e (notifies (Opened uri version text)) = announced_at uri (open_at e uri)
 announced_by e (notifies (Changed uri version how)) = announced_at uri (open_at e uri)
@@ -29,18 +29,18 @@ announced_by e (notifies (Lost uri)) = []
 announced_by e (notifies (Closed uri)) = []
 announced_by e (requests number uri ask) = []
 
--- the documents that messages of this editor announce
+-- returns the documents that messages of this editor announce
 abbrev pub announced_in : Editor → List ToServer → List Announced
 announced_in e messages = flat_map (announced_by e) messages
 
--- the documents that are announced as this event happens
+-- returns the documents that this event announces
 abbrev pub announced_at_event : ClientAndServer → Event → List Announced
 announced_at_event w (does act) =
     let done : Done = done_by w.editor act in announced_in done.editor done.sent
 announced_at_event w serve = []
 announced_at_event w take_message = []
 
--- in the course of these events exactly these documents are announced, in this order
+-- states that the course of these events announces exactly these documents, in this order
 abbrev pub AreAnnounced : ClientAndServer → List Event → List Announced → Type 0
 AreAnnounced w [] announced = announced ≡ []
 AreAnnounced w (event ∷ events) announced =
@@ -52,18 +52,18 @@ AreAnnounced w (event ∷ events) announced =
 
 -- ---- what is published
 
--- the publication is made for this document: its uri, version and text
+-- states that the publication is made for this document: its uri, version and text
 abbrev pub IsMadeOf : Made → Announced → Type 0
 IsMadeOf m t = (m.uri ≡ t.uri) × (m.version ≡ pos t.document.version) × (m.text ≡ t.document.text)
 
--- as many publications as documents, the first made for the first of them, and so on
+-- states that there are as many publications as documents, the n-th made for the n-th
 abbrev pub AreMadeOf : List Made → List Announced → Type 0
 AreMadeOf [] [] = ⊤
 AreMadeOf (m ∷ made) (t ∷ announced) = IsMadeOf m t × AreMadeOf made announced
 AreMadeOf [] (t ∷ announced) = ⊥
 AreMadeOf (m ∷ made) [] = ⊥
 
--- the uri and the version of the document that a message announces
+-- returns the uri and the version of the document that a message announces
 abbrev pub versions_announced : ToServer → List (List ℕ × ℤ)
 versions_announced (notifies (Opened uri version text)) = (uri, version) ∷ []
 versions_announced (notifies (Changed uri version how)) = (uri, version) ∷ []
@@ -71,18 +71,17 @@ versions_announced (notifies (Lost uri)) = []
 versions_announced (notifies (Closed uri)) = []
 versions_announced (requests number uri ask) = []
 
--- the uris and versions of the documents that these messages announce
+-- returns the uris and versions of the documents that these messages announce
 abbrev pub named_in : List ToServer → List (List ℕ × ℤ)
 named_in [] = []
 named_in (message ∷ queue) = versions_announced message ++ named_in queue
 
--- the uri and the version of a document
+-- returns the uri and the version of a document
 abbrev pub versioned_uri : Announced → List ℕ × ℤ
 versioned_uri t = (t.uri, pos t.document.version)
 
--- The documents that the editor announced are those that the publications were made for, one for
--- each and in this order, and after them those of the messages that still wait for the server,
--- one for each that announces a document.
+-- States that the publications were made for the first documents that the editor announced, one for
+-- each, in order. The messages that still wait for the server announce the other documents.
 pub record AreMadeInOrder (unit : Unit) (events : List Event) (made : List Made) : Type 0 where
   pub announced : List Announced
   pub waiting : List Announced
@@ -94,7 +93,7 @@ pub record AreMadeInOrder (unit : Unit) (events : List Event) (made : List Made)
 
 -- ---- the law
 
--- publications are made for the announced documents, in their order
+-- states that publications are made for the announced documents, in their order
 abbrev pub MadeInOrder : Type 0
 MadeInOrder =
     (unit : Unit) (events : List Event) (end : ClientAndServer)

@@ -1,19 +1,18 @@
--- What the server will have once it has taken what waits for it: the editor's documents.
+-- States that the server, after it has taken the messages that wait for it, has the editor's documents.
 -- Rule: none; a law of the model of client and server.
 use Rattle.std.specs.Prelude.{◌≡◌, ℕ, pos, List, option_map, fold}
 use Rattle.ob0_text.specs.OpenDocuments.{OpenDocuments, Document, InStep, document_at}
 use Rattle.ob0_world_rules.specs.ClientAndServer.{Open, open_at, ClientAndServer, after_message}
 
--- the server's documents, once it has taken what waits for it
+-- returns the server's documents after it has taken the messages that wait for it
 abbrev pub will_have : ClientAndServer → OpenDocuments
 will_have w = fold after_message w.held w.to_server
 
--- a document of the editor, as the server has it
+-- returns a document of the editor as the server has it
 abbrev pub as_open : Open → Document
 as_open d = InStep (pos d.version) d.text
 
--- The mirror: the server's documents, after the messages that wait for it,
--- are the editor's documents.
+-- States the mirror: the server's documents, after the messages that wait for it, are the editor's.
 abbrev pub Mirrors : ClientAndServer → Type 0
 Mirrors w =
     (uri : List ℕ) → document_at (will_have w) uri ≡ option_map as_open (open_at w.editor uri)

@@ -1,5 +1,5 @@
--- What the server sends for each message that it takes. It has no choice:
--- for each message there is one list.
+-- Defines the messages that the server sends for each message that it takes. Each message has one list
+-- of replies.
 -- Rule: docs/PROTOCOL.md, Documents, Publishing, Requests on documents.
 use Rattle.std.specs.Prelude.{◌≡◌, ℕ, List, [], ◌∷◌, Bool, true, Option, Some, None, is_some, if◌then◌else◌}
 use Rattle.ob0_text.specs.OpenDocuments.{OpenDocuments, Document, InStep, OutOfStep, DocumentEvent, Opened, Changed, Lost, Closed, document_at, after_event}
@@ -7,7 +7,7 @@ use Rattle.ob0_world_rules.specs.Edited.{Replacement}
 use Rattle.ob0_world_rules.specs.Answers.{IsAnswer, IsEmptyIfCorrect}
 use Rattle.ob0_world_rules.specs.ClientAndServer.{ToServer, notifies, requests, ToEditor, publishes, answers, Made}
 
--- diagnostics are published of a document in step, with its version
+-- a document in step is published, with its version
 abbrev pub Publishes : List ℕ → Option Document → List ToEditor → List Made → Type 0
 Publishes uri (Some (InStep version text)) sent made =
     (empty : Bool) × IsEmptyIfCorrect text empty × (sent ≡ publishes uri (Some version) empty ∷ [])
@@ -15,8 +15,8 @@ Publishes uri (Some (InStep version text)) sent made =
 Publishes uri (Some OutOfStep) sent made = (sent ≡ []) × (made ≡ [])
 Publishes uri None sent made = (sent ≡ []) × (made ≡ [])
 
--- what is sent for a notification, and the publications with a version among it,
--- when these documents were open before; closing an open document clears its diagnostics
+-- States which messages, and which publications with a version among them, answer a notification when
+-- these documents were open before. Closing an open document clears its diagnostics.
 abbrev pub RepliesToNotification : OpenDocuments
     → DocumentEvent
     → List ToEditor
@@ -31,7 +31,7 @@ RepliesToNotification held (Closed uri) sent made =
     (sent ≡ (if is_some (document_at held uri) then publishes uri None true ∷ [] else []))
     × (made ≡ [])
 
--- what is sent for a message, and the publications with a version among it
+-- states which messages, and which publications with a version among them, answer a message
 abbrev pub Replies : OpenDocuments → ToServer → List ToEditor → List Made → Type 0
 Replies held (notifies note) sent made = RepliesToNotification held note sent made
 Replies held (requests number uri ask) sent made =

@@ -1,8 +1,9 @@
-use Rattle.std.specs.Prelude.{◌++◌}
+use Rattle.std.specs.Prelude.{[], ◌∷◌, ◌++◌}
 use Rattle.std.proofs.Common.{◌∙◌, ap, subst}
 use Rattle.std.specs.List.{flat_map}
 use Rattle.ob0_frame.specs.Frames.{frame}
 use Rattle.ob0_session_server.specs.Answers.{start, Conversation}
+use Rattle.ob0_world.proofs.Conversing.{conversation_then}
 use Rattle.ob0_world_determined.proofs.laws.every_exchange_is_served.Goals as goal
 
 pub returns : goal.returns
@@ -12,6 +13,11 @@ returns c unit begin now turns begins leads =
       holds = holds;
       written = λ short put result written served. c.a_conversation_is_served.ensures now.wire.taken (now.wire.got ++ now.wire.to_editor) now.wire.session short holds.conversation put result written served;
       written_first = λ short more put result written served. c.a_conversation_is_served_first.ensures now.wire.taken (now.wire.got ++ now.wire.to_editor) now.wire.session short holds.conversation more put result written served;
+      ended = λ id shutdown exit is_shutdown is_exit sent end talked short put result written served. (
+        holds.ends id shutdown exit is_shutdown is_exit sent end talked,
+        c.a_conversation_is_served.ensures (now.wire.taken ++ shutdown ∷ exit ∷ []) ((now.wire.got ++ now.wire.to_editor) ++ sent) end short
+        (conversation_then start now.wire.taken (now.wire.got ++ now.wire.to_editor) now.wire.session (shutdown ∷ exit ∷ []) sent end holds.conversation talked) put result written served,
+      );
       in_part = λ taken put part are.
           part.frames
           ∙ ap (flat_map frame)
