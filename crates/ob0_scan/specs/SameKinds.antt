@@ -6,8 +6,8 @@ use Rattle.ob0_scan.specs.declared.tokens.SameTokens.{SameTokens}
 use Rattle.ob0_scan.specs.Reused.{kinds, words_in}
 use Rattle.ob0_scan.specs.Scanned.{Scanned}
 
--- The first tokens of a text have the same kinds as before. So do the last tokens: those starting
--- at `new_suffix`, which started at `old_suffix` before.
+-- The first tokens of a text have the same kinds as before. The same holds for the last tokens,
+-- those starting at `new_suffix`, which started at `old_suffix` before.
 pub record HasSameTokens (s : SameTokens) (old new : List Token) : Type 0 where
   pub front_inside : s.prefix ≤ length new
   pub back_inside : s.new_suffix ≤ length new
