@@ -1,5 +1,5 @@
--- If a text differs from the previous one in one body, the rest of its module is the same, because
--- only one tree has this spelling.
+-- If a text differs from the previous one in one body, the rest of its module is the same. The
+-- reason is that only one tree has this spelling.
 use Rattle.std.proofs.Common.{◌≡◌, ◌<◌, ◌≤◌, ◌+◌, ◌-◌, ℕ, zero, suc, Bool, true, false, nat_lt, if◌then◌else◌, Option, Some, List, [], ◌∷◌, ◌++◌, map, take, drop, length, slice_get, refl, sym, ap, ◌∙◌, subst, arith, append_assoc, length-append, ⊎_elim}
 use Rattle.std.proofs.lemmas.List.{drop-drop, drop_at, map-append, take-take, take_at}
 use Rattle.ob0_scan.specs.declared.lexeme.TokenKind.{TokenKind}
@@ -166,7 +166,7 @@ module _ (s : SameTokens) (old_range : s.prefix ≤ s.old_suffix) (new_range : s
       ∙ way_less s.prefix (way_to s.prefix (tree_of old)) (tree_of old)))
 
 module _ (old new : Parsed) (s : SameTokens) (tokens : HasSameTokens s old.source.tokens new.source.tokens) (old_range : s.prefix ≤ s.old_suffix) (new_range : s.prefix ≤ s.new_suffix) where
-  -- the module without the body is the old one without it, moved
+  -- without its body the new module equals the old one without its body, moved
   without_same : (way new_way : Way) (first closing now_closing : ℕ) → Halves old way first closing → Halves new new_way first now_closing → first < s.prefix → s.old_suffix < closing → now_closing + s.old_suffix ≡ closing + s.new_suffix
       → without new_way (tree_of new) ≡ mapped (moved s) (moved s) (without way (tree_of old))
   without_same way new_way first closing now_closing was is front_side back_side same_closing =

@@ -15,7 +15,7 @@
 //! - All tokens have the same kinds as before: the tree is kept. It consists of token indexes, so
 //!   it also spells the new tokens (`tree_stays` of `ob0_parse`). Bindings are kept if the
 //!   identifiers have the same spelling and no name has a fault. If the tokens that may differ in
-//!   spelling lie in one body, only that body's names are bound again, and the types are checked
+//!   spelling lie in one body, only that body's names are bound again. The types are then checked
 //!   with the help of the old results (`one_body.rt`). Otherwise all names are bound and all types
 //!   are checked again.
 //! - All tokens have the same kinds as in a text that the parser refused: the refusal is kept
@@ -25,9 +25,9 @@
 //! - A kind has changed: procedures of the module's own block and its body are reused
 //!   (`tree_after`). If the tokens that differ lie in one body of both modules, after its first
 //!   identifier, all other results are moved (`new_body.rt`). Without that body both modules have
-//!   the same spelling, because a body begins at the last BEGIN before its first identifier, and
-//!   only one tree spells given tokens (`body_replaced` in `proofs/NewBody.antt`). Texts that the
-//!   parser refuses may lie between these two modules: the results for the earlier module are kept
+//!   the same spelling, because a body begins at the last BEGIN before its first identifier. Only
+//!   one tree spells given tokens (`body_replaced` in `proofs/NewBody.antt`). Texts that the parser
+//!   refuses may lie between these two modules: the results for the earlier module are kept
 //!   meanwhile (`last_module.rt`).
 //!
 //! If all tokens have the same spelling (`words_in`), for example after a change of blanks, line

@@ -5,9 +5,9 @@
 //! its first identifier, and before the END of its block. When the text has a tree again, only that
 //! body is bound and checked (`module_after`).
 //!
-//! From the first of these texts, the whole body counts as different (`around`), because the tree
-//! is dropped then and the body's place couldn't be found later. A further change must lie in the
-//! same body (`after`).
+//! From the first of these texts, the whole body counts as different (`around`). The tree is
+//! dropped then, so the body's place couldn't be found later. A further change must lie in the same
+//! body (`after`).
 
 ghost use Rattle.std.specs.Prelude.{◌≡◌, ◌≤◌, IfOk, IfSome, Some};
 ghost use Rattle.ob0_analysis.specs.LastModule.{HadModule, IsStillSame, StaysLast, WasLast};
@@ -19,7 +19,8 @@ use ob0_types::ModuleTypes;
 use std::alloc::AllocError;
 
 /// The names and types of the last text that was a module, the tokens that the current text shares
-/// with it, and the old place of the body that contains all differences.
+/// The names and types of the last text that was a module. `same` has the tokens that the current
+/// text shares with it, and `place` is the old place of the body that contains all differences.
 #[derive(Drop)]
 pub(crate) struct LastModule {
     pub(crate) bindings: Bindings,

@@ -74,7 +74,7 @@ back_moves old new same from at next here end t h in_at to_here in_next to_end p
     there_again old new from at next here end t p (ap (λ n. take n (drop at (kinds old))) count ∙ ap (take (end - here)) dropped)
     (omega (arith, in_at, to_here, in_next, to_end, p.forward)) (omega (arith, both, in_next, to_end, p.within, h.back_inside, h.old_back_inside))
 
--- ---- by the code's values
+-- ---- procedures as values of the code
 
 pub procedure_parts : (p : Procedure) → procedure_of p ≡ declares_procedure (out-Procedure p).name (formals_of (out-Procedure p).formals) (block_of (out-Procedure p).block) (out-Procedure p).closing
 procedure_parts p = sym (ap procedure_of (roll-out-Procedure p)) ∙ procedure_made (out-Procedure p)

@@ -1,4 +1,4 @@
--- A text whose tokens have the same kinds as before, one by one, has the same tree over token
+-- A text whose tokens have the same kinds as before, one by one. It has the same tree over token
 -- indexes, or the parser refuses it at the same token.
 use Rattle.std.proofs.Common.{◌≡◌, ℕ, ◌+◌, ◌≤◌, List, [], ◌∷◌, ◌++◌, map, take, length, refl, sym, ap, ◌∙◌, subst}
 use Rattle.std.proofs.lemmas.List.{map-append, length-map, take-map}

@@ -45,7 +45,7 @@ pub record IsThere {s : Sort} (ts : List Token) (from at next : ℕ) (t : Tree �
 abbrev pub IsInPlace : {s : Sort} → List Token → ℕ → ℕ → Tree ℕ s → Type 0
 IsInPlace ts at next t = IsThere ts at at next t
 
--- the procedure's leaves are in place
+-- the leaves of a made procedure are in place
 abbrev pub IsMade : List Token → Procedure → Type 0
 IsMade ts p = IsInPlace ts (first_of (procedure_of p)) (end_of (procedure_of p)) (procedure_of p)
 

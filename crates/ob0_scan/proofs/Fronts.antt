@@ -56,7 +56,7 @@ module _ (place s : ℕ) (l : Lexeme) (ls : List Lexeme) where
   no_bytes : (r : Front place (s + length l.text) ls) → r.front ≡ [] → s + length l.text ≡ r.at
   no_bytes r e = let none : length (joined r.front) ≡ 0 = ap (λ t. length (joined t)) e in omega (arith, r.at_is, none)
 
-  -- only white space is before it
+  -- before an empty front, white space leaves the front empty
   blank : (r : Front place (s + length l.text) ls) → r.front ≡ [] → l.kind ≡ lexeme.Space → Front place s (l ∷ ls)
   blank r e white =
       let rest : ls ≡ r.back = r.split ∙ ap (λ t. t ++ r.back) e in

@@ -67,8 +67,8 @@ pub record ReadsOn (old : Scanned) (from removed added : ℕ) (s t : Scanner) : 
   pub tokens_new : All (λ (t : Token). IsNew old from removed added t.span) tokens
   pub comments_new : All (λ (c : Span). IsNew old from removed added c) comments
 
--- a place after the change that is the end of the text or the beginning of an old token or comment,
--- and the old ones that begin there or later
+-- a place after the change at which the text ends or an old token or comment begins, with the old
+-- ones that begin there or later
 pub record IsMet (old : Scanned) (end from removed added at : ℕ) (tokens : List Token)
     (comments : List Span) : Type 0 where
   pub following : from + added ≤ at

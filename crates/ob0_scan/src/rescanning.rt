@@ -35,12 +35,12 @@
 //! Callers have to show `IsReplaced`. The law `middle_is_replaced` gives it for texts joined from
 //! parts, and `Difference::between` of `ob0_analysis` for any two texts.
 //!
-//! The proof: `proofs/AtLexemes` says where the tokens and comments of a list of lexemes are.
+//! The proof: `proofs/AtLexemes` gives the places of the tokens and comments of a list of lexemes.
 //! `Fronts` splits the old lexemes before the change. `Reusing` has the two seams: a lexeme depends
 //! on its bytes and the next byte; equal rests have equal lexemes. `Between` collects the newly
-//! read tokens, `Kept` has the numbers of the reused old ones, and `Named` shows that those before
-//! and after have the same spelling. No clause counts steps, so nothing proves that old tokens
-//! aren't scanned again.
+//! read tokens, and `Kept` has the numbers of the reused old ones. `Named` shows that the tokens
+//! before and after have the same spelling. No clause counts steps, so nothing proves that old
+//! tokens aren't scanned again.
 
 ghost use Rattle.std.specs.Prelude.{◌≡◌, ℕ, List, [], false, ◌+◌, ◌-◌, ◌<◌, ◌≤◌, true, IfOk, IfErr, OnOk, length, take, drop};
 ghost use Rattle.ob0_scan.specs.declared.lexeme.TokenKind.TheVariants.{Identifier, Integer};
