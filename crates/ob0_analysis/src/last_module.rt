@@ -18,7 +18,6 @@ use ob0_tree::ModuleTree;
 use ob0_types::ModuleTypes;
 use std::alloc::AllocError;
 
-/// The names and types of the last text that was a module, the tokens that the current text shares
 /// The names and types of the last text that was a module. `same` has the tokens that the current
 /// text shares with it, and `place` is the old place of the body that contains all differences.
 #[derive(Drop)]
