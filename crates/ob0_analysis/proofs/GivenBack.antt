@@ -1,4 +1,4 @@
--- A text with faults gives the old tokens back, of which all is known that was known before.
+-- If a text has faults, the old tokens are returned, and all results for them still hold.
 use Rattle.std.proofs.Common.{ℕ, IfSome, List, Option, subst, sym}
 use Rattle.ob0_scan.specs.Refused.{IsRightRefusalOver}
 use Rattle.ob0_scan.specs.Scanned.{Scanned}

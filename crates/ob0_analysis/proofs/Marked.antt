@@ -1,4 +1,5 @@
--- The tokens that a module's tree spells, by their kinds and their indexes: what the first are, and what the last are where all are moved.
+-- The tokens that a module's tree spells, given by kinds and indexes: the first ones, and the last
+-- ones when all are moved.
 use Rattle.std.proofs.Common.{◌≡◌, ℕ, zero, suc, ◌+◌, ◌<◌, List, [], ◌∷◌, ◌++◌, map, take, drop, length, refl, sym, ap, ◌∙◌, arith, add-zero}
 use Rattle.std.proofs.lemmas.List.{append_cancel_right}
 use Rattle.ob0_scan.specs.declared.lexeme.TokenKind.{TokenKind}
@@ -10,7 +11,7 @@ use Rattle.ob0_tree.specs.Parsed.{IsParsed, Parsed, tree_of}
 use Rattle.ob0_tree.specs.Places.{lexeme_of, lexemes_from}
 use Rattle.ob0_tree.specs.Tree.{spell}
 
--- tokens of these kinds, of which the first has this index
+-- tokens of these kinds; the first has this index
 abbrev pub marked : ℕ → List TokenKind → List (Terminal ℕ)
 marked i [] = []
 marked i (k ∷ ks) = lexeme_of i k ∷ marked (i + 1) ks
@@ -68,7 +69,7 @@ relabelled_one f i j (kind.Reserved word) e = refl
 relabelled_one f i j (kind.Integer value) e = ap Number e
 relabelled_one f i j (kind.Symbol symbol) e = refl
 
--- tokens that are moved on have the indexes from another one on
+-- moved tokens have the indexes that start at the new place
 pub moved_on : (f : ℕ → ℕ) (i j : ℕ) (ks : List TokenKind) → ((d : ℕ) → d < length ks → f (i + d) ≡ j + d) → map (relabelled f f) (marked i ks) ≡ marked j ks
 moved_on f i j [] h = refl
 moved_on f i j (k ∷ ks) h =

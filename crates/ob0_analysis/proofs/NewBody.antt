@@ -1,4 +1,5 @@
--- Where a text differs from the one before in one body, it is the same module but for that: its tree is the only one that is spelled so.
+-- If a text differs from the previous one in one body, the rest of its module is the same. The
+-- reason is that only one tree has this spelling.
 use Rattle.std.proofs.Common.{◌≡◌, ◌<◌, ◌≤◌, ◌+◌, ◌-◌, ℕ, zero, suc, Bool, true, false, nat_lt, if◌then◌else◌, Option, Some, List, [], ◌∷◌, ◌++◌, map, take, drop, length, slice_get, refl, sym, ap, ◌∙◌, subst, arith, append_assoc, length-append, ⊎_elim}
 use Rattle.std.proofs.lemmas.List.{drop-drop, drop_at, map-append, take-take, take_at}
 use Rattle.ob0_scan.specs.declared.lexeme.TokenKind.{TokenKind}
@@ -148,7 +149,7 @@ take_short (suc n) [] = omega arith
 take_short (suc n) (x ∷ xs) = let h = take_short n xs in omega (arith, h)
 
 module _ (s : SameTokens) (old_range : s.prefix ≤ s.old_suffix) (new_range : s.prefix ≤ s.new_suffix) where
-  -- a token is before the range where it was
+  -- a token is on the same side of the range as before
   same_side : (c : ℕ) → nat_lt (moved s c) s.prefix ≡ nat_lt c s.prefix
   same_side c = one (nat_lt c s.prefix) refl
     where
@@ -156,7 +157,7 @@ module _ (s : SameTokens) (old_range : s.prefix ≤ s.old_suffix) (new_range : s
       one true e = e
       one false e = less_false (s.new_suffix + (c - s.old_suffix)) s.prefix (omega (arith, new_range))
 
-  -- so one comes to the body as one came to it
+  -- so the way to the body is the same as before
   same_way : (old new : Parsed) → without (way_to s.prefix (tree_of new)) (tree_of new) ≡ mapped (moved s) (moved s) (without (way_to s.prefix (tree_of old)) (tree_of old)) → way_to s.prefix (tree_of new) ≡ way_to s.prefix (tree_of old)
   same_way old new e =
       sym (way_less s.prefix (way_to s.prefix (tree_of new)) (tree_of new))
@@ -165,7 +166,7 @@ module _ (s : SameTokens) (old_range : s.prefix ≤ s.old_suffix) (new_range : s
       ∙ way_less s.prefix (way_to s.prefix (tree_of old)) (tree_of old)))
 
 module _ (old new : Parsed) (s : SameTokens) (tokens : HasSameTokens s old.source.tokens new.source.tokens) (old_range : s.prefix ≤ s.old_suffix) (new_range : s.prefix ≤ s.new_suffix) where
-  -- the module without the body is the old one without it, moved
+  -- without its body the new module equals the old one without its body, moved
   without_same : (way new_way : Way) (first closing now_closing : ℕ) → Halves old way first closing → Halves new new_way first now_closing → first < s.prefix → s.old_suffix < closing → now_closing + s.old_suffix ≡ closing + s.new_suffix
       → without new_way (tree_of new) ≡ mapped (moved s) (moved s) (without way (tree_of old))
   without_same way new_way first closing now_closing was is front_side back_side same_closing =
@@ -200,7 +201,7 @@ module _ (old new : Parsed) (s : SameTokens) (tokens : HasSameTokens s old.sourc
       ∙ (sym (map-append r was.front was.back) ∙ (ap (map r) (sym was.less) ∙ sym (spell_mapped (moved s) (moved s) (without way (tree_of old))))))) in
       (same (without new_way (tree_of new)) (mapped (moved s) (moved s) (without way (tree_of old))) [] [] tt tt (ap (λ l. l ++ []) spelled)).0
 
--- ---- tokens outside the range are written as before
+-- ---- tokens outside the range have the same spelling
 
 words_outside : (s : SameTokens) (old new : Scanned) → HasSameWords s old new → s.prefix ≤ s.old_suffix → (i : ℕ) → is_out s.prefix s.old_suffix i ≡ true
     → slice_get (words_in new.text new.tokens) (moved s i) ≡ slice_get (words_in old.text old.tokens) i
@@ -252,9 +253,9 @@ body_replaced old new s old_scan new_scan old_parsed new_parsed tokens written p
       closing = subst (λ w. closing_at w (tree_of new) ≡ moved s (closing_at way (tree_of old))) one_way closes;
     }
 
--- ---- what is taken over
+-- ---- the reused results
 
--- the text before was a module; nothing else of what is known of it
+-- the previous text was a module; this keeps no other fact about it
 abbrev pub had_module : (c : RescanInPlace) (tree : ModuleTree) (b : Bindings) (types : ModuleTypes) (places : FaultPlaces) → IsModuleBefore c tree b types places → HadModule c.rescan.tokens tree b types c.same
 had_module c tree b types places h = record {
   old = h.old;

@@ -1,4 +1,5 @@
--- Statements, expressions and types are spelled without BEGIN. So the last BEGIN before a token of a body is the body's own.
+-- The spelling of statements, expressions and types contains no BEGIN. So the last BEGIN before a
+-- token of a body belongs to that body.
 use Rattle.std.proofs.Common.{◌≡◌, Bool, true, false, ◌||◌, Option, Some, None, List, [], ◌∷◌, ◌++◌, refl, sym, ap, ◌∙◌}
 use Rattle.ob0_scan.specs.declared.lexeme.TokenKind.{TokenKind}
 use Rattle.ob0_scan.specs.declared.lexeme.TokenKind.TheVariants as kind
@@ -30,7 +31,7 @@ abbrev has_begin : {N : Type 0} → List (Terminal N) → Bool
 has_begin [] = false
 has_begin (x ∷ xs) = is_begin x || has_begin xs
 
--- no token of these is BEGIN
+-- none among these tokens is BEGIN
 pub record NoBegin {N : Type 0} (xs : List (Terminal N)) : Type 0 where
   pub has : has_begin xs ≡ false
 
@@ -73,7 +74,7 @@ tail_of e = cc
 head_of : {A : Type 0} {a b : A} {x y : List A} → a ∷ x ≡ b ∷ y → a ≡ b
 head_of e = cc
 
--- tokens have one last BEGIN
+-- the last BEGIN of a list of tokens is unique
 pub last_begin : {N : Type 0} (a u b v : List (Terminal N)) → NoBegin u → NoBegin v → a ++ (begin_mark ∷ u) ≡ b ++ (begin_mark ∷ v) → a ≡ b
 last_begin [] u [] v p q e = refl
 last_begin [] u (y ∷ b) v p q e = absurd (is_there b v (record { has = ap has_begin (sym (tail_of e)) ∙ p.has }))
@@ -104,7 +105,7 @@ signs_apart None = nothing
 signs_apart (Some sign.Plus) = put_before refl nothing
 signs_apart (Some sign.Minus) = put_before refl nothing
 
--- parts of a module in which no body can be
+-- parts of a module that can't contain a body
 abbrev pub is_bodiless_item : Item → Bool
 is_bodiless_item procedure = false
 is_bodiless_item body = false

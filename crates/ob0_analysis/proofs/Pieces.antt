@@ -1,4 +1,4 @@
--- Two texts have in common what was found, and a piece more.
+-- The known common part of two texts, extended by one piece.
 use Rattle.std.proofs.Common.{◌≡◌, ◌∙◌, ◌+◌, ◌-◌, ◌≤◌, ℕ, zero, suc, List, [], ◌∷◌, ◌++◌, length, take, drop, refl, sym, ap, arith}
 use Rattle.std.proofs.lemmas.List.{take-append-drop, drop-drop}
 

@@ -1,4 +1,4 @@
--- The parser's refusal of a text, and what is reported of it, is one.
+-- A text has only one refusal by the parser and only one report of it.
 use Rattle.std.proofs.Common.{◌≡◌, ℕ, [], ◌∷◌, sym, ◌∙◌, ap, subst}
 use Rattle.ob0_scan.specs.Scanned.{Scanned}
 use Rattle.ob0_parse_descent.specs.Descent.{OneStop, Expects, Deep}

@@ -1,4 +1,4 @@
--- What scanner and parser say of a text.
+-- Facts about a text that follow from the results of scanner and parser.
 use Rattle.std.proofs.Common.{◌≡◌, ◌⊎◌, ◌<◌, ◌∙◌, ◌+◌, ◌++◌, ◌∷◌, ℕ, List, [], length, drop, map, encode_utf8_all, inl, inr, refl, sym, ap, subst, arith}
 use Rattle.std.proofs.lemmas.List.{take-append-drop}
 use Rattle.std.specs.Str.{chars, IsUtf8}
@@ -21,7 +21,7 @@ use Rattle.ob0_analysis.specs.Found.{IsDecided}
 use Rattle.ob0_analysis.specs.Diagnosed.{Complaint, IsWellTypedModule, IsRefusalAt, Reports, ReportsFaults, complaint_of}
 use Rattle.ob0_analysis.specs.Texts.{utf8}
 
--- the bytes of a text's characters are its bytes
+-- encoding the characters of a text gives its bytes
 pub utf8_of : (bytes text : List ℕ) → IsUtf8 bytes → chars bytes ≡ text → bytes ≡ utf8 text
 utf8_of bytes text u is = sym (encodes-chars bytes u) ∙ ap encode_utf8_all is
 
@@ -36,7 +36,7 @@ pub finds_lexemes : (text : List ℕ) (faults : List Fault) (reported : List Com
 finds_lexemes text faults reported bad are is =
     (λ w. bad (scannable text w), inl (record { unscannable = bad; faults = faults; of_text = are; all = is }))
 
--- no tree is a module's where none begins so
+-- if no module begins with these tokens, no tree is the module's
 none : (s : Scanned) (i : ℕ) (tree : Tree (List ℕ) module_text) → NoneBegins s i → ModuleOf s tree → ⊥
 none s i tree h is =
     let all : List (Terminal (List ℕ)) = text_lexemes s ++ (EndOfText ∷ []) in
@@ -47,7 +47,7 @@ unformed s i one scan h w =
     let same : w.text_of.scanned ≡ s = one w.text_of.scanned s w.text_of.scan.scan scan w.text_of.scan.of in
     none s i w.tree h (subst (λ (x : Scanned). ModuleOf x w.tree) same w.text_of.module_of)
 
--- a text without lexemes is no well-typed module, nor is one that the parser refuses
+-- a text without lexemes, or one that the parser refuses, is no well-typed module
 pub no_lexemes_is_none : (text : List ℕ) → (IsScannable text → ⊥) → IsWellTypedModule text → ⊥
 no_lexemes_is_none text bad w = bad (scannable text w)
 
@@ -67,7 +67,7 @@ finds_parser s Memory c one scan by at = absurd at
 abbrev pub OneTree : Type 0
 OneTree = (text : Scanned) (a b : Tree (List ℕ) module_text) → ModuleOf text a → ModuleOf text b → a ≡ b
 
--- a text has one tree, so where that isn't well-typed the text isn't a well-typed module
+-- a text has one tree; if that isn't well-typed, the text isn't a well-typed module
 ill_typed : (s : Scanned) (tree : Tree (List ℕ) module_text) → OneScan → OneTree → IsScan s → ModuleOf s tree → (WellTyped tree → ⊥) → IsWellTypedModule s.text → ⊥
 ill_typed s tree one only scan is ill w =
     let same : w.text_of.scanned ≡ s = one w.text_of.scanned s w.text_of.scan.scan scan w.text_of.scan.of in
@@ -97,18 +97,18 @@ finds_types c reported one only scan checked bad is =
       })),
     )
 
--- a text that is read as a module which isn't well-typed is none
+-- a text whose module isn't well-typed is no well-typed module
 pub faulty_is_none : (text : List ℕ) (c : CheckedModule) (m : Resolution) → c.names ≡ m → OneScan → OneTree → IsScanOf text m.module_read.source → IsChecked c → (c.faults ≡ [] → ⊥) → IsWellTypedModule text → ⊥
 faulty_is_none text c m is one only read checked bad =
     let s : Scanned = c.names.module_read.source in
     let here : IsScanOf text s = subst (λ (r : Resolution). IsScanOf text r.module_read.source) (sym is) read in
     subst (λ (t : List ℕ). IsWellTypedModule t → ⊥) here.of (ill_typed s (named_tree_of c.names.module_read) one only here.scan checked.resolved.parsed.module_of (λ w. bad (checked.reported.1 w)))
 
--- the module that was checked is that of its text
+-- the checked module is the text's module
 pub module_in : (text : List ℕ) (names m : Resolution) → names ≡ m → IsScanOf text m.module_read.source → IsWellTyped names → IsModuleIn text names
 module_in text names m is read w = record { scan = subst (λ (r : Resolution). IsScanOf text r.module_read.source) (sym is) read; well_typed = w }
 
--- the text of a well-typed module is one
+-- a text with a well-typed module is a well-typed module
 abbrev pub is_module : (text : List ℕ) (names : Resolution) → IsModuleIn text names → IsWellTypedModule text
 is_module text names h =
     record { tree = named_tree_of names.module_read; text_of = record { scanned = names.module_read.source; scan = h.scan; module_of = h.well_typed.resolved.parsed.module_of }; well_typed = h.well_typed.well_typed }
@@ -117,7 +117,7 @@ some_or_none : (faults : List Fault) → (faults ≡ []) ⊎ (faults ≡ [] → 
 some_or_none [] = inl refl
 some_or_none (f ∷ fs) = inr (λ e. absurd (omega (arith, ap length e)))
 
--- what is reported of a module with a tree is nothing exactly where it is well-typed
+-- the report of a module with a tree is empty exactly if the module is well-typed
 pub reports_module : (c : CheckedModule) (reported : List Complaint) → OneScan → OneTree → IsScan c.names.module_read.source → IsChecked c → reported ≡ map complaint_of c.faults
     → Reports c.names.module_read.source.text reported
 reports_module c reported one only scan checked is =

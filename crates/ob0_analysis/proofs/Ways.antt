@@ -1,4 +1,5 @@
--- How a module is spelled around a body to which a way leads; and where a way leads in a module without that body, or with its tokens moved.
+-- The spelling of a module around a body to which a way leads. The same way in the module without
+-- that body, or with moved tokens.
 use Rattle.std.proofs.Common.{◌≡◌, ℕ, zero, suc, nat_lt, if◌then◌else◌, List, [], ◌∷◌, ◌++◌, refl, sym, ap, ◌∙◌, append_assoc}
 use Rattle.ob0_scan.specs.declared.lexeme.TokenKind.TheVariants as kind
 use Rattle.ob0_scan.specs.declared.lexeme.Reserved.TheVariants as reserved
@@ -7,7 +8,8 @@ use Rattle.ob0_tree.specs.Lexeme.{Terminal, Name, Mark}
 use Rattle.ob0_tree.specs.Tree.{Tree, block, body, declares, declares_procedure, end, has_body, is_module, item, items, mapped, maybe, module_text, more, one, procedure, spell}
 use Rattle.ob0_scope_table.specs.BodyReplaced.{Way, block_without, body_among, body_at, body_in, body_inside, closing_among, closing_at, closing_in, closing_inside, later, procedure_without, procedures_without, way_among, way_in_block, way_to, without}
 
--- what a body and the closing name of its block are spelled between, where the part has these tokens, and these without the body
+-- the tokens around a body and the closing name of its block; the part spells `whole`, and without
+-- the body it spells `less`
 pub record Around {N : Type 0} (whole less : List (Terminal N)) (statements : Tree N (maybe body)) (closing : N) : Type 0 where
   pub front : List (Terminal N)
   pub back : List (Terminal N)
@@ -30,7 +32,7 @@ in_first p q r f z e = append_assoc p q r ∙ e
 in_later : {A : Type 0} (p q r f z : List A) → q ++ r ≡ f ++ z → (p ++ q) ++ r ≡ (p ++ f) ++ z
 in_later p q r f z e = append_assoc p q r ∙ (ap (λ l. p ++ l) e ∙ sym (append_assoc p f z))
 
--- a heading, a block, and what closes it
+-- a heading, a block, and its closing tokens
 in_heading : {A : Type 0} (x n semi : A) (fs b e r f z : List A) → b ++ (e ++ r) ≡ f ++ z → (x ∷ n ∷ (fs ++ (semi ∷ (b ++ e)))) ++ r ≡ (x ∷ n ∷ (fs ++ (semi ∷ f))) ++ z
 in_heading x n semi fs b e r f z is =
     ap (λ l. x ∷ n ∷ l)
@@ -95,7 +97,7 @@ around_body way (is_module n b c) y e =
       less_is = ap (λ l. Mark (kind.Reserved reserved.Module) ∷ Name n ∷ Mark (kind.Symbol symbol.Semicolon) ∷ l) h.less_is;
     }
 
--- ---- a way is one of procedures, so it doesn't depend on a body
+-- ---- a way leads through procedures, so it doesn't depend on a body
 
 mutual
   way_less_block : (low : ℕ) (way : Way) (b : Tree ℕ block) → way_in_block low (block_without way b) ≡ way_in_block low b

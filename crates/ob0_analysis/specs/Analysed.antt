@@ -1,4 +1,4 @@
--- What a question about a text gives.
+-- The answers to questions about a text.
 -- Rule: none; for contracts of `ask`.
 use Rattle.std.specs.Prelude.{ℕ, List, None, Option, Some}
 use Rattle.ob0_scan.specs.Scanned.{IsScanOf}
@@ -8,18 +8,18 @@ use Rattle.ob0_language_types.specs.WellTyped.{WellTyped}
 use Rattle.ob0_types.specs.CheckedModules.{IsWellTyped}
 use Rattle.ob0_analysis.specs.Diagnosed.{IsWellTypedModule}
 
--- the text is this module, which is well-typed
+-- the text is a well-typed module, given with its names
 pub record IsModuleIn (text : List ℕ) (names : Resolution) : Type 0 where
   pub scan : IsScanOf text names.module_read.source
   pub well_typed : IsWellTyped names
 
--- the text is read as this module, which is well-typed
+-- the text is parsed as this module
 pub record IsReadAs (text : List ℕ) (m : Parsed) : Type 0 where
   pub scan : IsScanOf text m.source
   pub parsed : IsParsed m
   pub well_typed : WellTyped (named_tree_of m)
 
--- an answer by the module of the text; none where the text isn't a well-typed module
+-- the answer for the text's module; None if the text isn't a well-typed module
 abbrev pub Finds : {A : Type 0} → List ℕ → (Resolution → A → Type 0) → Option A → Type 0
 Finds text answers (Some answer) =
     (names : Resolution) × IsModuleIn text names × answers names answer

@@ -1,4 +1,4 @@
--- What is known of the text before a change.
+-- The results for the text before a change.
 -- Rule: none; for private contracts: what an analysis takes over.
 use Rattle.std.specs.Prelude.{◌≡◌, ◌==◌, ℕ, true, IfSome, List, Option, map}
 use Rattle.ob0_scan.specs.Refused.{AreFaults}
@@ -25,7 +25,7 @@ use Rattle.ob0_analysis.specs.LastModule.{WasLast}
 use Rattle.ob0_analysis.specs.declared.last_module.LastModule.{LastModule}
 use Rattle.ob0_analysis.specs.declared.fault_places.FaultPlaces.{FaultPlaces}
 
--- the text before has the tokens of these procedures, and had this last module before it
+-- the previous text has the tokens of these procedures, and this last module came before it
 pub record AreKeptBefore (c : RescanInPlace) (procedures : Kept) (last : Option LastModule) : Type 0 where
   pub old : Scanned
   pub new_scan : IsScan c.rescan.tokens
@@ -35,14 +35,14 @@ pub record AreKeptBefore (c : RescanInPlace) (procedures : Kept) (last : Option 
   pub alike : c.alike ≡ true → AreKept c.rescan.tokens.tokens procedures
   pub was : IfSome last (WasLast old)
 
--- the tokens where a module is at fault, and whether its text begins with a token
+-- the tokens at which a module has faults, and whether its text begins with a token
 pub record ArePlacesOf
     (source : Scanned) (b : Bindings) (types : ModuleTypes) (places : FaultPlaces) : Type 0 where
   pub names : places.names.items ≡ map (tokens_of source.tokens) b.faults.items
   pub of_types : places.types.items ≡ map (tokens_of source.tokens) types.faults.items
   pub front : places.front ≡ (first_start source == 0)
 
--- the same bindings with the faults at these tokens
+-- the same bindings, with the faults at these tokens
 pub record HasFaultsAt
     (source : Scanned) (b : Bindings) (places : List FaultAt) (c : Bindings) : Type 0 where
   pub ordinals : c.ordinals.items ≡ b.ordinals.items
@@ -50,7 +50,7 @@ pub record HasFaultsAt
   pub occurrences : c.occurrences.items ≡ b.occurrences.items
   pub faults : c.faults.items ≡ map (fault_at source) places
 
--- the same findings with the faults at these tokens
+-- the same results for types, with the faults at these tokens
 pub record HasTypesAt
     (source : Scanned) (types : ModuleTypes) (places : List FaultAt) (moved : ModuleTypes)
     : Type 0 where
@@ -59,7 +59,7 @@ pub record HasTypesAt
   pub faulty : moved.faulty ≡ types.faulty
   pub faults : moved.faults.items ≡ map (fault_at source) places
 
--- a module with these names and types, which is at fault at these tokens
+-- a module with these names and types, whose faults are at these tokens
 pub record IsModuleOver
     (source : Scanned) (tree : ModuleTree) (b : Bindings) (types : ModuleTypes)
     (places : FaultPlaces) : Type 0 where
@@ -68,7 +68,7 @@ pub record IsModuleOver
   pub types_are : AreTypesOf (resolution_by (parsed_by source tree) b) types
   pub places_are : ArePlacesOf source b types places
 
--- the text before was such a module; and what is the same in the changed one
+-- the previous text was such a module, and the scan of the changed one says what is the same
 pub record IsModuleBefore
     (c : RescanInPlace) (tree : ModuleTree) (b : Bindings) (types : ModuleTypes)
     (places : FaultPlaces) : Type 0 where
@@ -84,7 +84,7 @@ pub record IsModuleBefore
   pub same_words : c.same_words ≡ true
       → words_in c.rescan.tokens.text c.rescan.tokens.tokens ≡ words_in old.text old.tokens
 
--- the text before was such a module, and its tokens are written as those of this one
+-- the previous text was such a module, and its tokens have the same spelling as those of this text
 pub record IsWrittenAsBefore
     (new : Scanned) (tree : ModuleTree) (b : Bindings) (types : ModuleTypes) (places : FaultPlaces)
     : Type 0 where
@@ -93,7 +93,8 @@ pub record IsWrittenAsBefore
   pub alike : AreWrittenAlike old new
   pub parsed : IsParsed (parsed_by new tree)
 
--- why a changed text has no tokens; the old tokens, where it gives them back, are refused so
+-- the reason why a changed text has no tokens; if the old tokens are returned, the parser refuses
+-- them as before
 abbrev pub IsUnreadRefusal : List ℕ
     → ParseRefusal
     → Kept
@@ -108,7 +109,7 @@ IsUnreadRefusal text refusal procedures last (rescanned.Faults faults tokens) =
     × IfSome last (WasLast tokens)
 IsUnreadRefusal text refusal procedures last rescanned.Memory = Unit {0}
 
--- the same, where the old tokens are a module's
+-- the same if the old tokens are a module's
 abbrev pub IsUnreadModule : List ℕ
     → ModuleTree
     → Bindings

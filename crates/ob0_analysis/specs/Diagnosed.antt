@@ -1,4 +1,4 @@
--- What is reported of a text: nothing exactly where it is a well-typed module.
+-- The errors that are reported for a text: none exactly if it is a well-typed module.
 -- Rule: docs/PROTOCOL.md, Publishing 3; docs/LANGUAGE.md, Lexemes 7, Syntax faults,
 -- Faults of scopes and types 1.
 use Rattle.std.specs.Prelude.{◌≡◌, ◌⊎◌, ◌≤◌, ◌<◌, ◌++◌, ◌∷◌, ℕ, List, [], Option, Some, None, map, length, slice_get, codes, string_bytes}
@@ -21,19 +21,19 @@ use Rattle.ob0_parse_descent.specs.declared.refusal.ParseRefusal.{ParseRefusal}
 use Rattle.ob0_parse_descent.specs.declared.refusal.ParseRefusal.TheVariants.{Syntax, TooDeep, Memory}
 use Rattle.ob0_analysis.specs.declared.diagnoses.Diagnosis.{Diagnosis}
 
--- The text is here the list of its bytes in UTF-8, and spans count these.
+-- A text is here the list of its UTF-8 bytes. Spans count these bytes.
 
--- one thing that is reported of a text: its code's name, the message and the place
+-- a reported error of a text: its code's name, its message and its place
 pub record Complaint : Type 0 where
   pub code : List ℕ
   pub said : List ℕ
   pub span : Span
 
--- a diagnosis of the code, as a value of the definitions
+-- the value of a diagnosis in the definitions
 abbrev pub complaint_in : Diagnosis → Complaint
 complaint_in d = record { code = d.code.now; said = string_bytes d.message; span = d.span }
 
--- the text has lexemes, and its tokens are those of this tree
+-- the text has lexemes, and this tree spells its tokens
 pub record IsTextOf (tree : Tree Name module_text) (text : List ℕ) : Type 0 where
   pub scanned : Scanned
   pub scan : IsScanOf text scanned
@@ -47,45 +47,46 @@ pub record IsWellTypedModule (text : List ℕ) : Type 0 where
 
 -- ---- a text without lexemes
 
--- a fault of the scanner, of names or of types, with its code, message and place
+-- the complaint about a fault of lexemes, names or types: its code, message and place
 abbrev pub complaint_of : Fault → Complaint
 complaint_of fault =
     record { code = code_name fault.code; said = code_message fault.code; span = fault.span }
 
--- all the faults of its lexemes, of which there are 1 to 100
+-- all faults of the text's lexemes, but at most the first hundred
 pub record ReportsLexemes (text : List ℕ) (reported : List Complaint) : Type 0 where
   pub unscannable : IsScannable text → ⊥
   pub faults : List Fault
   pub of_text : AreFaults text faults
   pub all : reported ≡ map complaint_of faults
 
--- ---- a text with lexemes, and without a tree
+-- ---- a text with lexemes and without a tree
 
--- the place of a token; at the end of the text the empty place there
+-- the span of a token; an empty span at the end of the text if there is no token
 abbrev pub place_in : List ℕ → Option Token → Span
 place_in text (Some token) = token.span
 place_in text None = record { start = length text; end = length text }
 
--- where the token with this index is; an empty span at the text's end where there is no such token
+-- the span of the token with this index; an empty span at the end of the text if there is no such
+-- token
 abbrev pub place_of : Scanned → ℕ → Span
 place_of s token = place_in s.text (slice_get s.tokens token)
 
--- another token is expected at the place, or that token is nested too deep
+-- the parser expects another token at this place
 abbrev pub expects : List ℕ → Span → Complaint
 expects word place =
     record { code = codes "Syntax"; said = codes "expected " ++ word; span = place }
 
--- a construct of nesting 101 opens at this place
+-- a construct at nesting level 101 opens at this place
 abbrev pub too_deep : Span → Complaint
 too_deep place = record { code = codes "TooDeep"; said = codes "nested too deep"; span = place }
 
--- what the parser's refusal says of these tokens
+-- the complaint about the parser's refusal of these tokens
 abbrev pub IsRefusalAt : Scanned → ParseRefusal → Complaint → Type 0
 IsRefusalAt s (Syntax token expected) c = c ≡ expects (expected_text expected) (place_of s token)
 IsRefusalAt s (TooDeep token) c = c ≡ too_deep (place_of s token)
 IsRefusalAt s Memory c = ⊥
 
--- one complaint: the token at which the descent stops, and what it expects there
+-- a single complaint: the token at which the descent stops, and what it expects there
 pub record ReportsParser (text : List ℕ) (reported : List Complaint) : Type 0 where
   pub scanned : Scanned
   pub scan : IsScanOf text scanned
@@ -97,7 +98,8 @@ pub record ReportsParser (text : List ℕ) (reported : List Complaint) : Type 0 
 
 -- ---- a text with a tree that isn't well-typed
 
--- the first hundred faults of its declarations, names and types, of which there is one at least
+-- the faults of its declarations, names and types; there is at least one, and at most a hundred are
+-- reported
 pub record ReportsTypes (text : List ℕ) (reported : List Complaint) : Type 0 where
   pub names : Resolution
   pub resolved : IsResolution names
@@ -111,12 +113,13 @@ pub record ReportsTypes (text : List ℕ) (reported : List Complaint) : Type 0 w
 
 -- ---- every text
 
--- what is wrong with the lexemes, or else with the tokens, or else with the names and types
+-- the errors in the lexemes; if there are none, in the tokens; if there are none, in the names and
+-- types
 abbrev pub ReportsFaults : List ℕ → List Complaint → Type 0
 ReportsFaults text reported =
     ReportsLexemes text reported ⊎ (ReportsParser text reported ⊎ ReportsTypes text reported)
 
--- nothing is reported exactly of a well-typed module
+-- nothing is reported for a well-typed module, and faults are reported for any other text
 abbrev pub Reports : List ℕ → List Complaint → Type 0
 Reports text reported =
     (IsWellTypedModule text × (reported ≡ []))
@@ -124,7 +127,7 @@ Reports text reported =
 
 -- ---- laws
 
--- What is reported of the parser is determined by the text.
+-- A text determines the report of the parser's refusal.
 abbrev pub OneRefusal : Type 0
 OneRefusal =
     (text : List ℕ) (a b : List Complaint) → ReportsParser text a → ReportsParser text b → a ≡ b

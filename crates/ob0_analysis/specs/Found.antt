@@ -1,4 +1,4 @@
--- What a text is found to be.
+-- The result of analysing a text.
 -- Rule: none; for private contracts: what an analysis keeps.
 use Rattle.std.specs.Prelude.{ℕ, IfSome, List, string_bytes}
 use Rattle.ob0_scan.specs.Refused.{AreFaults}
@@ -15,22 +15,23 @@ use Rattle.ob0_analysis.specs.declared.read_text.NotRead.TheVariants as not_read
 use Rattle.ob0_analysis.specs.declared.read_text.Reading.{Reading}
 use Rattle.ob0_analysis.specs.declared.read_text.Reading.TheVariants.{NoTree, Module}
 
--- memory didn't run out
+-- the refusal isn't for lack of memory
 abbrev pub IsDecided : ParseRefusal → Type 0
 IsDecided (Syntax token expected) = Unit {0}
 IsDecided (TooDeep token) = Unit {0}
 IsDecided Memory = ⊥
 
--- the parser refuses these tokens so
+-- the parser gives this refusal for these tokens
 abbrev pub IsRefusedByParser : Scanned → ParseRefusal → Type 0
 IsRefusedByParser tokens refusal = RefusedBy tokens refusal × IsDecided refusal
 
--- the text
+-- the text of a reading
 abbrev pub text_read : Reading → List ℕ
 text_read (NoTree ill) = ill.tokens.text
 text_read (Module m) = m.module_read.source.text
 
--- a text without a tree is refused so; its tokens have the procedures that are kept, and the last module was this
+-- the parser refuses a text without a tree as stated; its tokens have the kept procedures, and the
+-- last module came before it
 abbrev pub IsRead : Reading → Type 0
 IsRead (NoTree ill) =
     IsRefusedByParser ill.tokens ill.refusal
@@ -38,17 +39,17 @@ IsRead (NoTree ill) =
     × IfSome ill.last (WasLast ill.tokens)
 IsRead (Module m) = Unit {0}
 
--- why a changed text has no tokens: its faults, or that memory ran out
+-- the reason why a changed text has no tokens: its faults, or lack of memory
 abbrev pub IsUnread : List ℕ → NotRead → Type 0
 IsUnread text (not_read.Faults faults last) = (IsScannable text → ⊥) × AreFaults text faults.items
 IsUnread text not_read.Memory = Unit {0}
 
--- the text
+-- the text of an analysis
 abbrev pub text_of : Findings → List ℕ
 text_of (NoLexemes ill) = string_bytes ill.text
 text_of (Read read) = read
 
--- a text without lexemes has these faults
+-- a text without lexemes has the stated faults
 abbrev pub IsFound : Findings → Type 0
 IsFound (NoLexemes ill) =
     (IsScannable (string_bytes ill.text) → ⊥) × AreFaults (string_bytes ill.text) ill.faults.items

@@ -1,4 +1,4 @@
--- The last text that was a module, and what is the same in the present one.
+-- The last text that was a module, and what the current text shares with it.
 -- Rule: none; for private contracts: what an analysis takes over.
 use Rattle.std.specs.Prelude.{◌≡◌, ◌≤◌, ◌+◌, IfSome, Option, Some}
 use Rattle.ob0_scan.specs.SameKinds.{HasSameTokens, HasSameWords}
@@ -14,8 +14,8 @@ use Rattle.ob0_types.specs.CheckedModules.{AreTypesOf}
 use Rattle.ob0_types.specs.declared.checked.ModuleTypes.{ModuleTypes}
 use Rattle.ob0_analysis.specs.declared.last_module.LastModule.{LastModule}
 
--- A text before was a module with this tree, these names and these types. The first and the last of
--- its tokens were of the kinds that they are now, and written as they are now.
+-- An earlier text was a module with this tree, these names and these types. Its first and last
+-- tokens have the same kinds and spelling as those of the current text.
 pub record HadModule
     (new : Scanned) (tree : ModuleTree) (b : Bindings) (types : ModuleTypes) (s : SameTokens)
     : Type 0 where
@@ -28,19 +28,20 @@ pub record HadModule
   pub same : HasSameTokens s old.tokens new.tokens
   pub written : HasSameWords s old new
 
--- a text before was a module, and the tokens that may differ lay in the body at this place
+-- an earlier text was a module, and the tokens that may differ lay in the body at this place
 pub record WasLast (new : Scanned) (last : LastModule) : Type 0 where
   pub tree : ModuleTree
   pub had : HadModule new tree last.bindings last.types last.same
   pub placed : body_place last.same.prefix last.same.old_suffix (tree_in tree) ≡ Some last.place
 
--- of two texts less is said to be the same: what differs lies in what may differ
+-- the wider range of differences of two texts contains the other one
 pub record IsStillSame (same wider : SameTokens) : Type 0 where
   pub front : wider.prefix ≤ same.prefix
   pub back : same.old_suffix ≤ wider.old_suffix
   pub as_far : wider.new_suffix + same.old_suffix ≡ same.new_suffix + wider.old_suffix
 
--- what was the last module before one text is so before the next, which has these tokens of it
+-- the last module before one text is still the last module before the next, with these tokens in
+-- common
 abbrev pub StaysLast : Option LastModule → SameTokens → Option LastModule → Type 0
 StaysLast before change after =
     (old new : Scanned)

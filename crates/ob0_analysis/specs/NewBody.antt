@@ -4,8 +4,9 @@ use Rattle.std.specs.Prelude.{◌≡◌, ◌<◌, ◌≤◌, ◌+◌, Option, So
 use Rattle.ob0_scan.specs.declared.tokens.SameTokens.{SameTokens}
 use Rattle.ob0_scope_table.specs.declared.one_body.BodyPlace.{BodyPlace}
 
--- Where the tokens of two modules differ, the one before has a body at this place, and the present one
--- has the same. Both begin with one identifier before these tokens, and end as far after them.
+-- The earlier module has a body at this place that contains the tokens that differ, and the current
+-- module has the same body. Both begin with one identifier before these tokens, and both end at the
+-- same distance after them.
 pub record IsSameBody (was : BodyPlace) (now : Option BodyPlace) (s : SameTokens) : Type 0 where
   pub place : BodyPlace
   pub is : now ≡ Some place

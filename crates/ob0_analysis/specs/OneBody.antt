@@ -1,4 +1,4 @@
--- A text with the tree of the one before.
+-- A text with the same tree as the previous one.
 -- Rule: none; for private contracts: what an analysis takes over.
 use Rattle.std.specs.Prelude.{◌≡◌}
 use Rattle.ob0_scan.specs.Reused.{kinds}
@@ -9,7 +9,8 @@ use Rattle.ob0_scope_table.specs.declared.resolved.Bindings.{Bindings}
 use Rattle.ob0_types.specs.declared.checked.ModuleTypes.{ModuleTypes}
 use Rattle.ob0_analysis.specs.LastModule.{HadModule}
 
--- the text before was a module, and all its tokens were of the kinds that they are now
+-- the previous text was a module, and all its tokens have the same kinds as those of the current
+-- text
 pub record HadTree
     (new : Scanned) (tree : ModuleTree) (b : Bindings) (types : ModuleTypes) (s : SameTokens)
     : Type 0 where

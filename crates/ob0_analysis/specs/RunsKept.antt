@@ -1,10 +1,10 @@
--- An edit of a text keeps what its module does.
+-- An edit of a text that keeps the runs of its module.
 -- Rule: docs/PROTOCOL.md, Requests on documents 10.
 use Rattle.std.specs.Prelude.{ℕ, List}
 use Rattle.ob0_language_runs.specs.EditLaws.{SameRuns}
 use Rattle.ob0_analysis.specs.Diagnosed.{IsWellTypedModule}
 
--- both texts are well-typed modules, and these have the same run for every input and all bounds
+-- both texts are well-typed modules that have the same run for every input and all bounds
 pub record RunsAsBefore (before after : List ℕ) : Type 0 where
   pub old : IsWellTypedModule before
   pub new : IsWellTypedModule after

@@ -1,5 +1,4 @@
--- Where layers meet for which a text is the list of its characters,
--- and others that take it by its bytes.
+-- The bytes of a text that is given by its characters.
 -- Rule: none; for contracts: a text as characters and as bytes.
 use Rattle.std.specs.Prelude.{ℕ, List, encode_utf8_all}
 

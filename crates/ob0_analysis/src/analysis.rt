@@ -1,34 +1,48 @@
-//! What a text is, as one value that is kept.
+//! The analysis of a text, as one value that can be kept and updated.
 //!
-//! An `Analysis` owns a text that has lexemes (`ReadText`: the parts of its module, or the parser's refusal with the
-//! tokens), or the faults of lexemes with the text and the last `ReadText` before it (`IllLexed`). Its value is the text
-//! alone, and its invariant says that what it owns is of that text (`IsFound`, `IsRead`). So `of` and `after` have the
-//! same clause, what is taken over can't be seen, and an analysis may keep more without a change above it.
+//! An `Analysis` owns one of two things:
+//! - For a text that has lexemes, a `ReadText`: the parts of its module, or the parser's refusal
+//!   and the tokens.
+//! - For a text with lexical faults, an `IllLexed`: the text, its faults, and the last `ReadText`
+//!   before it.
 //!
-//! `after` finds what both texts have in common at their start and end (`Difference::between`) and scans the rest in
-//! place of the old tokens (`rescan_in_place`). Where all tokens are of the kinds that they were, the tree stays: it is
-//! over the indexes of tokens, so it spells the new ones too (`tree_stays` of `ob0_parse`). Bindings stay where the
-//! identifiers are written as they were and no name is at fault. Where what may be written otherwise lies in one body,
-//! the names of that body alone are bound again, and its types are checked by what was found before (`one_body.rt`);
-//! else all names are bound again and all types checked. Of a text that the parser refused the refusal stays in the
-//! same way (`refusal_stays`): a module that began with the new tokens up to that one would begin with the old ones
-//! too, once its names and numbers are theirs. So half of the keys of a statement that is being typed parse nothing.
-//! Where a kind changed, procedures of the module's own block and its body are taken over (`tree_after`). Where the
-//! tokens that differ lie in one body of both modules, after its first identifier, what was found of all else is moved
-//! (`new_body.rt`): without that body both are spelled alike, since a body begins at the last BEGIN before its first
-//! identifier, and tokens are spelled by one tree (`body_replaced` in `proofs/NewBody.antt`). Texts that the parser refuses
-//! may lie between these two modules: what was found of the one before is kept over them (`last_module.rt`).
+//! The value of an `Analysis` is only the text; its invariant says that everything in it belongs to
+//! that text (`IsFound`, `IsRead`). So `of` and `after` have the same clause, and contracts can't
+//! see what is reused. An analysis can keep more without a change in the crates above.
 //!
-//! Where all tokens are written as they were (`words_in`), after a blank, a line end or a comment, all stays
-//! (`of_same_words`): the tree has the same names and numbers, and what is at fault is at fault at the same tokens
-//! (`bindings_keep_tokens` of `ob0_scope`, `types_keep_tokens` of `ob0_types`). Faults have spans, so their tokens are
-//! found before the scan, by halving, and their spans are made again after it (`FaultPlaces`). A fault at no token is at
-//! the text's start, so this is done only where both texts begin with a token, or neither (`AreWrittenAlike`).
+//! `after` finds the common beginning and end of both texts (`Difference::between`) and scans the
+//! rest in place of the old tokens (`rescan_in_place`). What happens next depends on the tokens:
+//! - All tokens have the same kinds as before: the tree is kept. It consists of token indexes, so
+//!   it also spells the new tokens (`tree_stays` of `ob0_parse`). Bindings are kept if the
+//!   identifiers have the same spelling and no name has a fault. If the tokens that may differ in
+//!   spelling lie in one body, only that body's names are bound again. The types are then checked
+//!   with the help of the old results (`one_body.rt`). Otherwise all names are bound and all types
+//!   are checked again.
+//! - All tokens have the same kinds as in a text that the parser refused: the refusal is kept
+//!   (`refusal_stays`). A module beginning with the new tokens up to that token would, with the old
+//!   names and numbers, also begin with the old ones. So half of the keystrokes in an unfinished
+//!   statement need no parsing.
+//! - A kind has changed: procedures of the module's own block and its body are reused
+//!   (`tree_after`). If the tokens that differ lie in one body of both modules, after its first
+//!   identifier, all other results are moved (`new_body.rt`). Without that body both modules have
+//!   the same spelling, because a body begins at the last BEGIN before its first identifier. Only
+//!   one tree spells given tokens (`body_replaced` in `proofs/NewBody.antt`). Texts that the parser
+//!   refuses may lie between these two modules: the results for the earlier module are kept
+//!   meanwhile (`last_module.rt`).
 //!
-//! A text with faults of lexemes keeps all that was known of the last text that had lexemes: the scan gives the tokens
-//! back (`IsRightRefusalOver`). The next scan that succeeds is over them, over however many such texts; so a bad
-//! character that comes and goes loses nothing. Nothing is kept of a text that was much longer (`SPARED`), whether it lies
-//! one change back or many (`room`).
+//! If all tokens have the same spelling (`words_in`), for example after a change of blanks, line
+//! endings or comments, everything is kept (`of_same_words`). The tree has the same names and
+//! numbers, and each fault is at the same tokens (`bindings_keep_tokens` of `ob0_scope`,
+//! `types_keep_tokens` of `ob0_types`). Faults have spans, so binary search finds their tokens
+//! before the scan, and their spans are made again after it (`FaultPlaces`). A fault without tokens
+//! is at the text's start. So this is done only if both texts begin with a token, or neither does
+//! (`AreWrittenAlike`).
+//!
+//! A text with lexical faults keeps all results for the last text that had lexemes, because a
+//! failing scan returns the old tokens (`IsRightRefusalOver`). After any number of such texts, the
+//! next successful scan starts from them; so a bad character that comes and goes loses nothing.
+//! Nothing is kept from a much longer text (`SPARED`), whether it was the previous text or an
+//! earlier one (`room`).
 
 ghost use Rattle.std.specs.Prelude.{◌≡◌, ◌≤◌, IfErr, IfOk, MatchOption, length, map};
 ghost use Rattle.std.specs.Str.{IsUtf8};
@@ -44,11 +58,11 @@ use ob0_scan::{Fault, ScanRefusal, scan};
 use std::alloc::{AllocError, Global};
 use std::marker::Model;
 
-/// The previous analysis is reused unless half of the room of its lists is more than the new text's length by more than
-/// this.
+/// The previous analysis is reused unless half of the room of its lists exceeds the new text's
+/// length by more than this number of bytes.
 const SPARED: usize = 4096;
 
-/// A text without lexemes, with its faults, and what is kept of the last text before it that had lexemes.
+/// A text without lexemes, with its faults and the results for the last text that had lexemes.
 #[derive(Drop)]
 pub(crate) struct IllLexed {
     text: String,
@@ -56,23 +70,24 @@ pub(crate) struct IllLexed {
     last: Option<ReadText>,
 }
 
-/// What a text is found to be.
+/// The result of analysing a text.
 #[derive(Drop)]
 pub(crate) enum Findings {
     NoLexemes(IllLexed),
     Read(ReadText),
 }
 
-/// What a text is. Contracts see the text alone: what is kept of it is what an analysis of that text from nothing
-/// finds, so more can be kept without a change of any of them.
+/// The analysis of a text. Contracts see only the text: everything else equals an analysis of that
+/// text from scratch. So an analysis can keep more without changing any contract.
 pub struct Analysis {
     found: Findings,
-    /// The length of the longest of the texts before, back to the last analysis from nothing. Lists keep their capacity,
-    /// so what was taken over may have room for that one.
+    /// The length of the longest text since the last analysis from scratch. Lists keep their
+    /// capacity, so reused ones may have room for a text of that length.
     room: usize,
 }
 
-// Written out, since a derived one is proved again in each crate that drops such a value.
+// Written by hand, because each crate that drops such a value would have to prove a derived one
+// again.
 impl Drop for Analysis {
     fn drop(self) {
         let Analysis {
@@ -95,7 +110,7 @@ impl Model for Analysis {
 }
 
 impl Analysis {
-    /// The analysis of a text, from nothing.
+    /// Analyses a text from scratch.
     pub fn of(alloc: Global, text: &str) -> Result<Analysis, AllocError>
         ensures { IfOk result (λ a. a ≡ text.now) }
     {
@@ -114,8 +129,9 @@ impl Analysis {
         }
     }
 
-    /// The analysis of another text. What it has in common with the text before is taken over from it
-    /// (`ReadText::after`). A text with faults of lexemes passes on what the last text was that had lexemes.
+    /// Analyses another text, reusing what it has in common with the previous text
+    /// (`ReadText::after`). A text with lexical faults passes on the results for the last text that
+    /// had lexemes.
     pub fn after(self, alloc: Global, text: &str) -> Result<Analysis, AllocError>
         ensures { IfOk result (λ a. a ≡ text.now) }
     {
@@ -148,8 +164,9 @@ impl Analysis {
         }
     }
 
-    /// The analysis of a text by another one that has lexemes, and room for this many bytes. Nothing is taken over if
-    /// that is much more than the text needs, since lists keep their capacity.
+    /// Analyses a text from the analysis of a text that has lexemes; its lists have room for a text
+    /// of `room` bytes. If that is much more than the new text needs, nothing is reused, because
+    /// lists keep their capacity.
     fn after_read(
         alloc: Global,
         read: ReadText,
@@ -193,7 +210,7 @@ impl Analysis {
         })
     }
 
-    /// The text.
+    /// Returns the text.
     pub fn text(&self) -> &str
         ensures { result.now ≡ self.now }
     {
@@ -203,8 +220,9 @@ impl Analysis {
         }
     }
 
-    /// How many bytes of text its lists have room for: its own text's, or those of a longer one that it was made of. A
-    /// text with faults of lexemes counts in addition to the last text that had lexemes.
+    /// Returns the number of bytes of text that its lists have room for: the length of its own text
+    /// or of a longer earlier one. A text with lexical faults counts in addition to the last text
+    /// that had lexemes.
     pub fn bytes(&self) -> usize
         ensures { length self.now ≤ result }
     {
@@ -215,7 +233,7 @@ impl Analysis {
         }
     }
 
-    /// The module that the text is, with its names bound. None where it has no tree.
+    /// Returns the parts of the text's module. Returns None if the text has no tree.
     pub(crate) fn module_parts(&self) -> Option<&ModuleParts>
         ensures { MatchOption result (¬ IsWellTypedModule self.now)
             (λ m. IsScanOf self.now m.now.module_read.source) }
@@ -226,14 +244,15 @@ impl Analysis {
         }
     }
 
-    /// What is wrong with the text, which is nothing exactly for a well-typed module. Faults of its lexemes are
-    /// reported in text order, the first hundred, and then nothing else; of a text that has lexemes and no tree the one
-    /// place at which the parser refuses it; of one with a tree the faults of names and types, the first hundred.
+    /// Returns the errors of the text; there are none exactly for a well-typed module. A text with
+    /// lexical faults has only these, in text order, at most a hundred. A text that has lexemes and
+    /// no tree has one error: the place at which the parser refuses it. A text with a tree has the
+    /// faults of names and types, at most a hundred.
     pub fn diagnoses(&self, alloc: Global) -> Result<Vec<Diagnosis>, AllocError>
         ensures reported { IfOk result (λ list. Reports self.now (map complaint_in list.items)) }
         ensures utf8 { IsUtf8 self.now }
     {
-        // For the proof: what the contract of this call says.
+        // The contract of this call gives the proof the invariant of the analysis.
         let _text = self.text();
         match &self.found {
             Findings::NoLexemes(ill) => of_faults(alloc, ill.faults.as_slice()),

@@ -1,12 +1,14 @@
-//! Asking the module that a text is.
+//! Questions to the module of a text.
 //!
-//! `ask` joins the kept tree, bindings and types to the tokens, and passes a well-typed module to the question; it is
-//! the one function that holds the chain of views. A question is a struct with `impl Question`: `type Answer`, `ghost
-//! answers = { λ question names answer. .. }`, and `answer`, whose contract is `answers`. What an answer says of the
-//! text's characters is written as an implication from `IsModuleIn (utf8 content) names` and `content ≡ chars
-//! names.module_read.source.text`. For a text that isn't well-typed `ask` gives None, and `diagnoses` of the same
-//! analysis says why. A question that has to know the text says so by the ghost member `is_about`, which `ask` requires
-//! and every other question leaves out.
+//! `ask` joins the kept tree, bindings and types to the tokens. If the module is well-typed, `ask`
+//! passes it to the question. No other function holds the whole chain of views. If the text isn't
+//! well-typed, `ask` returns None, and `diagnoses` of the same analysis gives the reason.
+//!
+//! A question is a struct with `impl Question`: `type Answer`, `ghost answers = { λ question names
+//! answer. .. }`, and `answer`, whose contract is `answers`. A statement about the text's
+//! characters is an implication from `IsModuleIn (utf8 content) names` and `content ≡ chars
+//! names.module_read.source.text`. A question that has to know the text says so in the ghost member
+//! `is_about`, which `ask` requires. Every other question omits it.
 
 ghost use Rattle.std.specs.Prelude.{⊤, ℕ, List, IfOk};
 ghost use Rattle.std.specs.Str.{IsUtf8};
@@ -23,10 +25,10 @@ use std::alloc::{AllocError, Global};
 pub trait Question {
     type Answer;
 
-    /// What is known of the text, by its bytes, where the question is put.
+    /// A requirement about the text's bytes that callers of `ask` must show.
     ghost is_about: { Self → List ℕ → Type 0 } = { λ _ _. ⊤ };
 
-    /// What an answer says of the module.
+    /// The relation between a question, a module and the answer.
     ghost answers: { Self → Resolution → Self.Answer → Type 0 };
 
     fn answer(&self, alloc: Global, module: &WellTyped<'_>) -> Result<Self::Answer, AllocError>
@@ -34,7 +36,7 @@ pub trait Question {
         ensures { IfOk result (λ answer. answers self.now module.now answer) };
 }
 
-/// Puts a question to the module of a text. None where the text isn't a well-typed module.
+/// Puts a question to the module of a text. Returns None if the text isn't a well-typed module.
 pub fn ask<Q: Question>(
     alloc: Global,
     analysis: &Analysis,
@@ -46,7 +48,7 @@ pub fn ask<Q: Question>(
 {
     one_scan();
     one_tree();
-    // For the proof: what the contract of this call says.
+    // The contract of this call gives the proof the invariant of the analysis.
     let _text = analysis.text();
     let Some(parts) = analysis.module_parts() else {
         return Ok(None);
@@ -56,7 +58,7 @@ pub fn ask<Q: Question>(
     let checked = parts.checked(&resolved);
     match checked.well_typed() {
         Some(module) => {
-            // For the proof: what the contract of this call says.
+            // The contract of this call gives the proof the invariant of the module.
             let _names = module.resolved();
             Ok(Some(question.answer(alloc, &module)?))
         }

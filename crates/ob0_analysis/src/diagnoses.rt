@@ -1,4 +1,4 @@
-//! What is wrong with a text.
+//! The errors that are reported for a text.
 
 ghost use Rattle.std.specs.Prelude.{◌≡◌, IfOk, map};
 ghost use Rattle.ob0_analysis.specs.Diagnosed.{IsRefusalAt, complaint_in, complaint_of, expects as expected_at, too_deep as too_deep_at, place_of as place_in};
@@ -7,7 +7,7 @@ use ob0_parse_descent::ParseRefusal;
 use ob0_scan::{Fault, Span, Tokens};
 use std::alloc::{AllocError, Global};
 
-/// One thing that is wrong with a text: the name of its code, a message, and the place as a range of bytes.
+/// An error of a text: the name of its code, a message, and the range of its bytes.
 #[derive(Drop)]
 pub struct Diagnosis {
     pub code: &'static str,
@@ -15,7 +15,7 @@ pub struct Diagnosis {
     pub span: Span,
 }
 
-/// The faults of lexemes, of names or of types, each by its code.
+/// Makes the diagnoses of faults of lexemes, names or types, one by one.
 pub fn of_faults(alloc: Global, faults: &[Fault]) -> Result<Vec<Diagnosis>, AllocError>
     ensures { IfOk result (λ list. map complaint_in list.items ≡ map complaint_of faults.now) }
 {
@@ -36,7 +36,7 @@ fn of_fault(alloc: Global, fault: &Fault) -> Result<Diagnosis, AllocError>
     })
 }
 
-/// What the parser refuses, at the token that it names.
+/// Makes the diagnosis of the parser's refusal, at the token of the refusal.
 pub fn of_refusal(
     alloc: Global,
     tokens: &Tokens,
@@ -75,7 +75,7 @@ fn too_deep(alloc: Global, span: Span) -> Result<Diagnosis, AllocError>
     })
 }
 
-/// The place of a token. The end of the text counts as the token after the last.
+/// Returns the span of a token. The end of the text counts as the token after the last.
 fn place_of(tokens: &Tokens, token: usize) -> Span
     ensures { result ≡ place_in tokens.now token }
 {

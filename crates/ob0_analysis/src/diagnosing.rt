@@ -1,4 +1,4 @@
-//! What is wrong with a text.
+//! The errors of a text that has lexemes.
 
 ghost use Rattle.std.specs.Prelude.{IfOk, map};
 ghost use Rattle.ob0_parse.specs.RefusedBy.{RefusedBy};
@@ -12,7 +12,7 @@ use ob0_scan::Tokens;
 use ob0_scan::laws::one_scan;
 use std::alloc::{AllocError, Global};
 
-/// What is wrong with a text without a tree: the one place at which the parser refuses it.
+/// Returns the single error of a text without a tree: the place at which the parser refuses it.
 pub(crate) fn diagnose_refusal(
     alloc: Global,
     tokens: &Tokens,
@@ -22,14 +22,14 @@ pub(crate) fn diagnose_refusal(
     ensures { IfOk result (λ list. Reports tokens.now.text (map complaint_in list.items)) }
 {
     one_scan();
-    // For the proof: what the contract of this call says.
+    // The contract of this call gives the proof the invariant of the tokens.
     let _text = tokens.text();
     let mut reported = Vec::new(alloc);
     reported.push(of_refusal(alloc, tokens, refusal)?)?;
     Ok(reported)
 }
 
-/// What is wrong with the names and types of a text that has a tree.
+/// Returns the errors in the names and types of a text that has a tree.
 pub(crate) fn diagnose_module(
     alloc: Global,
     parts: &ModuleParts,
@@ -39,7 +39,7 @@ pub(crate) fn diagnose_module(
 {
     one_scan();
     one_tree();
-    // For the proof: what the contract of this call says.
+    // The contract of this call gives the proof the invariant of the tokens.
     let _text = parts.tokens().text();
     let reported = of_faults(alloc, parts.faults())?;
     Ok(reported)

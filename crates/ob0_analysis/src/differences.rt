@@ -1,10 +1,11 @@
-//! Where two texts differ.
+//! The difference between two texts.
 
 ghost use Rattle.std.specs.Prelude.{◌≡◌, ◌+◌, ◌-◌, ◌<◌, ◌≤◌, true, length, take, drop};
 ghost use Rattle.ob0_scan.specs.Reused.{IsReplaced};
 ghost use Rattle.ob0_analysis.specs.Pieces.{IsCommonPiece};
 
-/// The `removed` bytes of a text from byte `from` on, which gave way to `added` other bytes.
+/// The `removed` bytes of a text that start at byte `from`, and the number of bytes that replace
+/// them.
 #[derive(Clone, Copy, Debug, Drop, PartialEq, Eq)]
 pub(crate) struct Difference {
     pub(crate) from: usize,
@@ -13,8 +14,8 @@ pub(crate) struct Difference {
 }
 
 impl Difference {
-    /// What makes one text of another. What both have in common at the beginning is left out of it, and then what both
-    /// have in common at the end.
+    /// Returns the change from one text to another. It excludes the common beginning, and then the
+    /// common end, of both texts.
     pub(crate) fn between(old: &str, new: &str) -> Difference
         ensures { IsReplaced old.now new.now result.from result.removed result.added }
     {
@@ -29,10 +30,10 @@ impl Difference {
     }
 }
 
-/// The number of bytes that are compared together, as long as they are the same.
+/// The number of bytes that are compared at once, as long as they are equal.
 const PIECE: usize = 256;
 
-/// How many bytes two texts have in common at the beginning.
+/// Returns the length in bytes of the common beginning of two texts.
 fn common_prefix(a: &[u8], b: &[u8]) -> usize
     ensures in_a { result ≤ length a.now }
     ensures in_b { result ≤ length b.now }
@@ -42,8 +43,7 @@ fn common_prefix(a: &[u8], b: &[u8]) -> usize
     longer_prefix(a, b, known, 1)
 }
 
-/// How many bytes two texts have in common at the beginning, as far as they are found by pieces of this size after
-/// those that are known.
+/// Extends a known common beginning of two texts by equal pieces of this size.
 fn longer_prefix(a: &[u8], b: &[u8], known: usize, size: usize) -> usize
     requires some { 0 < size }
     requires in_a { known ≤ length a.now }
@@ -60,7 +60,8 @@ fn longer_prefix(a: &[u8], b: &[u8], known: usize, size: usize) -> usize
     count
 }
 
-/// How many bytes two texts have in common at the end, at byte `from` at most.
+/// Returns the length in bytes of the common end of two texts, after the first `from` bytes of
+/// each.
 fn common_back(a: &[u8], b: &[u8], from: usize) -> usize
     requires in_a { from ≤ length a.now }
     requires in_b { from ≤ length b.now }
@@ -73,8 +74,7 @@ fn common_back(a: &[u8], b: &[u8], from: usize) -> usize
     longer_suffix(a, b, most, known, 1)
 }
 
-/// How many bytes two texts have in common at the end, `most` at most, as far as they are found by pieces of this size
-/// before those that are known.
+/// Extends a known common end of two texts by equal pieces of this size, to at most `most` bytes.
 fn longer_suffix(a: &[u8], b: &[u8], most: usize, known: usize, size: usize) -> usize
     requires some { 0 < size }
     requires in_a { most ≤ length a.now }
@@ -93,7 +93,7 @@ fn longer_suffix(a: &[u8], b: &[u8], most: usize, known: usize, size: usize) -> 
     count
 }
 
-/// Whether a piece of this size lies after both places, and is the same.
+/// Returns whether both texts have a piece of this size at these places and the pieces are equal.
 fn is_same_piece(a: &[u8], b: &[u8], in_a: usize, in_b: usize, size: usize) -> bool
     ensures yes { result ≡ true → IsCommonPiece a.now b.now in_a in_b size }
 {

@@ -1,4 +1,5 @@
-//! The tokens where a module is at fault, by which its faults are placed again in a text whose tokens are written alike.
+//! The tokens at which a module has faults. They give the faults their places in a changed text
+//! whose tokens have the same spelling.
 
 ghost use Rattle.std.specs.Prelude.{◌≡◌, ◌==◌, true, IfOk, map};
 ghost use Rattle.ob0_scope_table.specs.FaultTokens.{fault_at, first_start};
@@ -9,7 +10,8 @@ use ob0_scope_table::{Bindings, FaultAt, faults_at_tokens, token_span, tokens_of
 use ob0_types::ModuleTypes;
 use std::alloc::{AllocError, Global};
 
-/// The tokens where the names of a module and its types are at fault, and whether its text begins with a token.
+/// The tokens at which a module's names and types have faults, and whether its text begins with a
+/// token.
 #[derive(Drop)]
 pub(crate) struct FaultPlaces {
     pub(crate) names: Vec<FaultAt>,
@@ -18,7 +20,7 @@ pub(crate) struct FaultPlaces {
 }
 
 impl FaultPlaces {
-    /// Those of a module.
+    /// Finds these tokens for a module.
     pub(crate) fn of(
         alloc: Global,
         tokens: &Tokens,
@@ -36,7 +38,7 @@ impl FaultPlaces {
         })
     }
 
-    /// Whether another text begins with a token where theirs does.
+    /// Returns whether another text begins with a token exactly if this one does.
     pub(crate) fn keep_front(&self, tokens: &Tokens) -> bool
         ensures { result ≡ true → (first_start tokens.now == 0) ≡ self.now.front }
     {
@@ -44,14 +46,14 @@ impl FaultPlaces {
     }
 }
 
-/// Whether a text begins with a token, or has none.
+/// Returns whether a text begins with a token or has no tokens.
 fn begins_at_front(tokens: &Tokens) -> bool
     ensures { result ≡ (first_start tokens.now == 0) }
 {
     token_span(tokens, 0).start == 0
 }
 
-/// Moves bindings to a text with the same words: their faults are at these tokens.
+/// Moves bindings to a text whose tokens have the same spelling. Their faults are at these tokens.
 pub(crate) fn move_bindings(
     alloc: Global,
     tokens: &Tokens,
@@ -75,7 +77,8 @@ pub(crate) fn move_bindings(
     })
 }
 
-/// What was found of a module's types, with the faults at these tokens.
+/// Moves the results of checking types to a text whose tokens have the same spelling. Their faults
+/// are at these tokens.
 pub(crate) fn move_types(
     alloc: Global,
     tokens: &Tokens,

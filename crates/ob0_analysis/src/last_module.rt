@@ -1,11 +1,13 @@
-//! What is known of the last text that was a module, while the parser refuses the texts after it.
+//! The results for the last text that was a module, while the parser refuses the texts after it.
 //!
-//! Most keys of a statement that is being typed leave a text without a tree. The names and types of the module before
-//! are kept over all of them, as long as what differs from it lies in one body: after its first identifier, and before
-//! the END of its block. When the text has a tree again, that body alone is bound and checked (`module_after`).
+//! Most keystrokes in an unfinished statement leave a text without a tree. Meanwhile the names and
+//! types of the earlier module are kept, as long as the difference from it lies in one body: after
+//! its first identifier, and before the END of its block. When the text has a tree again, only that
+//! body is bound and checked (`module_after`).
 //!
-//! What differs is said of the whole body from the first of these texts on (`around`), since the tree goes with that
-//! text, and where the body was could not be found later. A further change must lie in the same body (`after`).
+//! From the first of these texts, the whole body counts as different (`around`). The tree is
+//! dropped then, so the body's place couldn't be found later. A further change must lie in the same
+//! body (`after`).
 
 ghost use Rattle.std.specs.Prelude.{◌≡◌, ◌≤◌, IfOk, IfSome, Some};
 ghost use Rattle.ob0_analysis.specs.LastModule.{HadModule, IsStillSame, StaysLast, WasLast};
@@ -16,8 +18,8 @@ use ob0_tree::ModuleTree;
 use ob0_types::ModuleTypes;
 use std::alloc::AllocError;
 
-/// The names and types of the last text that was a module, the tokens that it has in common with the present text, and
-/// where its body was in which the others lay.
+/// The names and types of the last text that was a module. `same` has the tokens that the current
+/// text shares with it, and `place` is the old place of the body that contains all differences.
 #[derive(Drop)]
 pub(crate) struct LastModule {
     pub(crate) bindings: Bindings,
@@ -27,7 +29,7 @@ pub(crate) struct LastModule {
 }
 
 impl LastModule {
-    /// The module of the text before, if the tokens that differ lie in one body of it.
+    /// Keeps the module of the previous text, if the tokens that differ lie in one of its bodies.
     pub(crate) fn of(
         tokens: &Tokens,
         tree: &ModuleTree,
@@ -55,7 +57,7 @@ impl LastModule {
         }))
     }
 
-    /// The last module, where the text changed again, if what differs still lies in the same body.
+    /// Keeps the last module after a further change, if the differences still lie in the same body.
     pub(crate) fn after(last: Option<LastModule>, change: SameTokens) -> Option<LastModule>
         ensures { StaysLast last change result }
     {
@@ -65,7 +67,7 @@ impl LastModule {
         }
     }
 
-    /// This module, as the last one before a further change.
+    /// Keeps this module after a further change.
     fn moved(self, change: SameTokens) -> Option<LastModule>
         ensures { StaysLast (Some self) change result }
     {
@@ -89,8 +91,8 @@ impl LastModule {
     }
 }
 
-/// The tokens outside a body, if those that differ lie in it, after its first identifier and before its END. There are
-/// `count` tokens now.
+/// Returns the tokens outside a body, if the differences lie in it, after its first identifier and
+/// before its END. The text now has `count` tokens.
 fn around(same: SameTokens, body: BodyPlace, count: usize) -> Option<SameTokens>
     ensures { IfSome result (λ wider. IsStillSame same wider × (wider.new_suffix ≤ count)) }
 {
@@ -103,7 +105,8 @@ fn around(same: SameTokens, body: BodyPlace, count: usize) -> Option<SameTokens>
     Some(wider)
 }
 
-/// The same of two texts, where all from `prefix` up to `old_suffix` is said to differ, if what differs lies in that.
+/// Extends the differences of two texts to the range `prefix..old_suffix`. Returns None if they
+/// don't lie in it.
 fn widened(same: SameTokens, prefix: usize, old_suffix: usize) -> Option<SameTokens>
     ensures wider { IfSome result (IsStillSame same) }
     ensures prefix { IfSome result (λ wider. wider.prefix ≡ prefix) }

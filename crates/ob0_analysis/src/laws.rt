@@ -1,10 +1,10 @@
-//! What holds of the definitions that the contracts cite.
+//! Laws of the definitions that the contracts cite.
 
 ghost use Rattle.ob0_analysis.specs.Diagnosed.{OneRefusal};
 
 use ob0_scan::laws::one_scan;
 
-/// What the parser refuses of a text, and what is reported of it, is determined by the text.
+/// States that a text determines the parser's refusal and its report.
 pub fn one_refusal()
     ensures { OneRefusal }
 {

@@ -1,5 +1,5 @@
-//! What a text is, as one value that is made once, kept, and queried (`Analysis`, `ask`); what is wrong with the text
-//! (`Analysis::diagnoses`).
+//! The analysis of a text, as one value that is made once, kept and queried (`Analysis`, `ask`),
+//! and the errors of the text (`Analysis::diagnoses`).
 #![tactic(auto)]
 
 mod analysis;

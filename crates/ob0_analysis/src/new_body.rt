@@ -1,4 +1,5 @@
-//! A text in which the statements of one body were replaced: its names and its types, by those of the last module.
+//! A text in which the statements of one body were replaced. Its names and types are found from
+//! those of the last module.
 
 ghost use Rattle.std.specs.Prelude.{◌≡◌, true, IfOk};
 ghost use Rattle.ob0_tree.specs.Parsed.{IsParsed, parsed_by};
@@ -19,8 +20,8 @@ use ob0_tree::{Module, ModuleTree};
 use ob0_types::{ModuleTypes, types_with_new_body};
 use std::alloc::{AllocError, Global};
 
-/// A module by the names and types of the last one. Where the tokens that may differ still lie in the body in which
-/// they lay, only that one is bound and checked again.
+/// Makes a module from the names and types of the last one. If the tokens that may differ still lie
+/// in the same body, only that body is bound and checked again.
 pub(crate) fn module_after(
     alloc: Global,
     tokens: Tokens,
@@ -46,8 +47,8 @@ pub(crate) fn module_after(
     Ok(ModuleParts::from_parts(tokens, tree, names, types))
 }
 
-/// Whether a body is the one that was at a place. Both begin with one identifier before the tokens that may differ, and
-/// end as far after them.
+/// Returns whether a body is the one that was at an earlier place. Both begin with one identifier
+/// before the tokens that may differ, and both end at the same distance after them.
 fn is_same_body(was: BodyPlace, now: Option<BodyPlace>, same: SameTokens) -> bool
     ensures { result ≡ true → IsSameBody was now same }
 {
@@ -75,7 +76,7 @@ fn is_same_body(was: BodyPlace, now: Option<BodyPlace>, same: SameTokens) -> boo
     place.closing - same.new_suffix == was.closing - same.old_suffix
 }
 
-/// What the names are bound to: only those of the body that was replaced are bound again.
+/// Binds the names of the replaced body again and reuses all other bindings.
 fn bind_new_body(
     alloc: Global,
     tokens: &Tokens,
@@ -91,7 +92,7 @@ fn bind_new_body(
     rebind_new_body(alloc, &read, bindings, same)
 }
 
-/// What checking the types finds: of the bodies only the one that was replaced is checked again.
+/// Checks the types of the replaced body again and reuses the results for all other bodies.
 fn check_new_body(
     alloc: Global,
     tokens: &Tokens,

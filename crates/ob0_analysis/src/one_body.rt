@@ -1,5 +1,5 @@
-//! A text with the tree of the text before: its names and its types, by those of that text where the two differ in one
-//! body alone.
+//! A text with the same tree as the previous one. If the two differ in only one body, the previous
+//! names and types are reused.
 
 ghost use Rattle.std.specs.Prelude.{◌≡◌, true, IfOk};
 ghost use Rattle.ob0_tree.specs.Parsed.{IsParsed, parsed_by, tree_of};
@@ -18,7 +18,7 @@ use ob0_tree::{Module, ModuleTree};
 use ob0_types::{ModuleTypes, types_again};
 use std::alloc::{AllocError, Global};
 
-/// Whether the tokens that may be written otherwise than in the text before lie in one body.
+/// Returns whether the tokens that may differ in spelling from the previous text lie in one body.
 pub(crate) fn is_in_one_body(
     tokens: &Tokens,
     tree: &ModuleTree,
@@ -32,7 +32,7 @@ pub(crate) fn is_in_one_body(
     is_in_body(&read, same.prefix, same.old_suffix)
 }
 
-/// What the names are bound to: where the texts differ in one body, only that one is numbered again.
+/// Binds the names. If the texts differ in only one body, only that body is numbered again.
 pub(crate) fn bind_again(
     alloc: Global,
     tokens: &Tokens,
@@ -55,7 +55,7 @@ pub(crate) fn bind_again(
     }
 }
 
-/// What checking the types finds: where the texts differ in one body, by what it found before.
+/// Checks the types. If the texts differ in only one body, the previous results are reused.
 pub(crate) fn check_again(
     alloc: Global,
     tokens: &Tokens,

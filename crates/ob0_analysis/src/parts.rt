@@ -1,8 +1,9 @@
 //! A text that is a module.
 //!
-//! A *view* joins each part to the layer before it by a reference (`Module`, `Resolved`, `Checked`), and its invariant
-//! says that the part is that layer's. A view has two constructors, which require its invariant: `new` owns the part,
-//! `from_parts` borrows it and doesn't allocate. The value of `ModuleParts` is that of `Resolved`.
+//! A *view* joins each part to the layer below by a reference (`Module`, `Resolved`, `Checked`).
+//! Its invariant says that the part belongs to that layer. A view has two constructors, which
+//! require its invariant: `new` owns the part, and `from_parts` borrows it without allocating. A
+//! `ModuleParts` has the same value as its `Resolved`.
 
 ghost use Rattle.std.specs.Prelude.{◌≡◌, IfOk};
 ghost use Rattle.ob0_tree.specs.Parsed.{IsParsed, parsed_by};
@@ -18,8 +19,8 @@ use ob0_types::{Checked, ModuleTypes, types_of};
 use std::alloc::{AllocError, Global};
 use std::marker::Model;
 
-/// The tokens of a text that is a module, the tree that they spell, what its names are bound to, and what checking its
-/// types finds. None borrows another.
+/// The parts of a text that is a module: its tokens, the tree that they spell, the bindings of its
+/// names, and the results of checking its types. No part borrows another.
 #[derive(Drop)]
 pub(crate) struct ModuleParts {
     tokens: Tokens,
@@ -48,7 +49,7 @@ impl Model for ModuleParts {
 }
 
 impl ModuleParts {
-    /// Binds the names of a module, and checks its types.
+    /// Binds the names of a module and checks its types.
     pub(crate) fn of(
         alloc: Global,
         tokens: Tokens,
@@ -67,7 +68,7 @@ impl ModuleParts {
         })
     }
 
-    /// A module of which all is known.
+    /// Makes a module from all of its parts.
     pub(crate) fn from_parts(
         tokens: Tokens,
         tree: ModuleTree,
@@ -87,14 +88,14 @@ impl ModuleParts {
         }
     }
 
-    /// The text as a module.
+    /// Views the text as a module.
     pub(crate) fn module(&self) -> Module<'_>
         ensures { result ≡ self.now.module_read }
     {
         Module::from_parts(&self.tokens, &self.tree)
     }
 
-    /// The module with its names bound.
+    /// Views the module with its names bound.
     pub(crate) fn resolved<'a>(&'a self, module: &'a Module<'a>) -> Resolved<'a>
         requires { «module».now ≡ self.now.module_read }
         ensures { result ≡ self.now }
@@ -102,7 +103,7 @@ impl ModuleParts {
         Resolved::from_parts(module, &self.bindings)
     }
 
-    /// The module with its types checked.
+    /// Views the module with its types checked.
     pub(crate) fn checked<'a>(&'a self, resolved: &'a Resolved<'a>) -> Checked<'a>
         requires { resolved.now ≡ self.now }
         ensures names { result.names ≡ self.now }
@@ -111,14 +112,14 @@ impl ModuleParts {
         Checked::from_parts(resolved, &self.types)
     }
 
-    /// The faults of the module's names and types, the first hundred.
+    /// Returns the faults of the module's names and types, at most a hundred.
     pub(crate) fn faults(&self) -> &[Fault]
         ensures { AreCheckedFaults self.now result.now }
     {
         self.types.faults.as_slice()
     }
 
-    /// The tokens of the text.
+    /// Returns the tokens of the text.
     pub(crate) fn tokens(&self) -> &Tokens
         ensures source { result.now ≡ self.now.module_read.source }
         ensures parsed { IsParsed self.now.module_read }
@@ -126,7 +127,7 @@ impl ModuleParts {
         &self.tokens
     }
 
-    /// Its parts.
+    /// Returns all parts.
     pub(crate) fn into_parts(self) -> (Tokens, ModuleTree, Bindings, ModuleTypes)
         ensures parsed { IsParsed (parsed_by result.0 result.1) }
         ensures resolved { IsResolution (resolution_by (parsed_by result.0 result.1) result.2) }
@@ -142,7 +143,7 @@ impl ModuleParts {
     }
 }
 
-/// What checking the types of a module finds.
+/// Checks the types of a module.
 pub(crate) fn check_types(
     alloc: Global,
     tokens: &Tokens,

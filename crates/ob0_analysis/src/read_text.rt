@@ -1,4 +1,4 @@
-//! A text that has lexemes: its tokens, and the module that they are or why the parser refuses them.
+//! A text that has lexemes: its tokens, and its module or the parser's refusal.
 
 ghost use Rattle.std.specs.Prelude.{◌≡◌, [], true, IfErr, IfOk, IfSome, MatchOption, map};
 ghost use Rattle.ob0_scan.specs.Refused.{AreFaults, IsRightRefusalOver};
@@ -38,8 +38,8 @@ use ob0_types::laws::types_keep_tokens;
 use std::alloc::{AllocError, Global};
 use std::marker::Model;
 
-/// A text that has lexemes and no tree: its tokens, why the parser refuses them, procedures for the next parse, and the
-/// last text that was a module, if it differs in one body alone.
+/// A text that has lexemes and no tree: its tokens, the parser's refusal, procedures for the next
+/// parse, and the last text that was a module, if it differs in only one body.
 #[derive(Drop)]
 pub(crate) struct IllFormed {
     tokens: Tokens,
@@ -48,14 +48,14 @@ pub(crate) struct IllFormed {
     last: Option<LastModule>,
 }
 
-/// What the tokens of a text are read as.
+/// The result of parsing the tokens of a text.
 #[derive(Drop)]
 pub(crate) enum Reading {
     NoTree(IllFormed),
     Module(ModuleParts),
 }
 
-/// What is known of a text that has lexemes.
+/// The analysis of a text that has lexemes.
 #[derive(Drop)]
 pub(crate) struct ReadText {
     reading: Reading,
@@ -73,7 +73,8 @@ impl Model for ReadText {
     ghost invariant = { λ r. IsRead r.reading };
 }
 
-/// Why a changed text has no tokens. Where it has faults, with what was known of the text before.
+/// The reason why a changed text has no tokens. If it has faults, the results for the previous text
+/// come with them.
 #[derive(Drop)]
 pub(crate) enum NotRead {
     Faults(Vec<Fault>, ReadText),
@@ -89,7 +90,8 @@ impl From<AllocError> for NotRead {
 }
 
 impl ReadText {
-    /// The text with these tokens, of which these procedures are known, after this module.
+    /// Parses a text from its tokens. The procedures in `kept` and the module `last` come from
+    /// earlier texts.
     pub(crate) fn of_tokens(
         alloc: Global,
         tokens: Tokens,
@@ -132,7 +134,7 @@ impl ReadText {
         Ok(ReadText::of_module(parts))
     }
 
-    /// The text of a module.
+    /// Wraps a module.
     fn of_module(parts: ModuleParts) -> ReadText
         ensures { result ≡ parts.module_read.source.text }
     {
@@ -141,10 +143,13 @@ impl ReadText {
         }
     }
 
-    /// What is known of another text. What it has in common with the text before is taken over from it: tokens and
-    /// procedures; where all tokens are of the kinds that they were the tree, or where the parser stops; where all
-    /// identifiers are written as they were also what they are bound to; and where all tokens are written as they were
-    /// all that is known, with the faults at the same tokens. A text with faults gives what was known before.
+    /// Analyses a changed text, reusing what it has in common with the previous text:
+    /// - always the tokens and procedures;
+    /// - if all tokens have the same kinds as before, the tree or the parser's refusal;
+    /// - if also all identifiers have the same spelling, their bindings;
+    /// - if all tokens have the same spelling, everything, with the faults at the same tokens.
+    ///
+    /// If the new text has lexical faults, the results for the previous text are returned.
     pub(crate) fn after(self, alloc: Global, text: &str) -> Result<ReadText, NotRead>
         ensures ok { IfOk result (λ r. r ≡ text.now) }
         ensures err { IfErr result (IsUnread text.now) }
@@ -173,7 +178,7 @@ impl ReadText {
         }
     }
 
-    /// Why a changed text has no tokens, where the parser refuses the text before.
+    /// Makes the error for a changed text without tokens, if the parser refused the previous text.
     fn unread_refusal(
         _text: &str,
         unread: NotRescanned,
@@ -200,8 +205,8 @@ impl ReadText {
         }
     }
 
-    /// A text by the refusal of the text before, which is its own where the tokens are alike, by the procedures that
-    /// were kept of it, and by the last module.
+    /// Analyses a changed text if the parser refused the previous one. The refusal is kept if the
+    /// tokens have the same kinds. Otherwise the kept procedures and the last module are used.
     fn of_refused_scan(
         alloc: Global,
         changed: RescanInPlace,
@@ -242,7 +247,7 @@ impl ReadText {
     {
         let (tokens, tree, bindings, types) = old.into_parts();
         let places = FaultPlaces::of(alloc, &tokens, &bindings, &types)?;
-        // For the proof: what the contract of this call says.
+        // The contract of this call gives the proof the invariant of the tokens.
         let _text = tokens.text();
         match scan_changed(alloc, tokens, text) {
             Ok(changed) => Ok(ReadText::of_scan(alloc, changed, tree, bindings, types, places)?),
@@ -250,7 +255,7 @@ impl ReadText {
         }
     }
 
-    /// Why a changed text has no tokens, where the text before is a module.
+    /// Makes the error for a changed text without tokens, if the previous text was a module.
     fn unread_module(
         _text: &str,
         unread: NotRescanned,
@@ -270,8 +275,9 @@ impl ReadText {
         }
     }
 
-    /// A text by the tree of the text before, which is its own where the tokens are alike, by its bindings and by what
-    /// was found of its types. That module was at fault at these tokens.
+    /// Analyses a changed text if the previous one was a module with faults at these tokens. The
+    /// tree is kept if the tokens have the same kinds; the bindings and types are reused as far as
+    /// possible.
     fn of_scan(
         alloc: Global,
         changed: RescanInPlace,
@@ -303,8 +309,8 @@ impl ReadText {
         ReadText::of_same_tree(alloc, tokens, tree, bindings, types, same, same_names)
     }
 
-    /// A text whose tokens are of other kinds, by the procedures of the tree of the text before. Where the two differ in
-    /// one body alone, also by the names and the types of that text.
+    /// Analyses a changed text with other kinds of tokens, reusing procedures of the previous tree.
+    /// If the two differ in only one body, the previous names and types are also reused.
     fn of_other_kinds(
         alloc: Global,
         tokens: Tokens,
@@ -321,8 +327,9 @@ impl ReadText {
         ReadText::of_tokens(alloc, tokens, kept, last)
     }
 
-    /// A text with the tree of the text before. The bindings of that text are its own where the identifiers are written
-    /// as they were; but the faults of names are in other places, so where there are some names are bound again.
+    /// Analyses a text with the same tree as the previous one. If the identifiers have the same
+    /// spelling, the bindings are kept. But faults of names would be at other places, so if there
+    /// are any, all names are bound again.
     fn of_same_tree(
         alloc: Global,
         tokens: Tokens,
@@ -347,7 +354,8 @@ impl ReadText {
         ReadText::of_bindings(alloc, tokens, tree, names, types, same, in_body)
     }
 
-    /// A text with the tree of the text before and these bindings, by what was found of the types of that text.
+    /// Analyses a text with the same tree as the previous one and these bindings, reusing the
+    /// results for its types.
     fn of_bindings(
         alloc: Global,
         tokens: Tokens,
@@ -368,8 +376,8 @@ impl ReadText {
         Ok(ReadText::of_module(parts))
     }
 
-    /// A text whose tokens are written as those of the text before, by all that was known of that, with its faults at
-    /// the same tokens.
+    /// Analyses a text whose tokens have the same spelling as before. All results are kept, with
+    /// the faults at the same tokens.
     fn of_same_words(
         alloc: Global,
         tokens: Tokens,
@@ -389,7 +397,7 @@ impl ReadText {
         Ok(ReadText::of_module(parts))
     }
 
-    /// The text.
+    /// Returns the text.
     pub(crate) fn text(&self) -> &str
         ensures { result.now ≡ self.now }
     {
@@ -399,7 +407,7 @@ impl ReadText {
         }
     }
 
-    /// The module that the text is, with its names bound. None where it has no tree.
+    /// Returns the parts of the text's module. Returns None if the text has no tree.
     pub(crate) fn module_parts(&self) -> Option<&ModuleParts>
         ensures { MatchOption result (¬ IsWellTypedModule self.now)
             (λ m. IsScanOf self.now m.now.module_read.source) }
@@ -407,19 +415,20 @@ impl ReadText {
         one_scan();
         match &self.reading {
             Reading::NoTree(ill) => {
-                // For the proof: what the contract of this call says.
+                // The contract of this call gives the proof the invariant of the tokens.
                 let _text = ill.tokens.text();
                 None
             }
             Reading::Module(parts) => {
-                // For the proof: what the contract of this call says.
+                // The contract of this call gives the proof the invariant of the tokens.
                 let _text = parts.tokens().text();
                 Some(parts)
             }
         }
     }
 
-    /// What is wrong with the text: the place at which the parser refuses it, or its faults of names and types.
+    /// Returns the errors of the text: the place at which the parser refuses it, or its faults of
+    /// names and types.
     pub(crate) fn diagnoses(&self, alloc: Global) -> Result<Vec<Diagnosis>, AllocError>
         ensures { IfOk result (λ list. Reports self.now (map complaint_in list.items)) }
     {
@@ -430,7 +439,7 @@ impl ReadText {
     }
 }
 
-/// The tokens of a text by those of another, or its faults.
+/// Scans a text from the tokens of another one, or returns its faults.
 fn scan_changed(alloc: Global, old: Tokens, text: &str) -> Result<RescanInPlace, NotRescanned>
     ensures ok { IfOk result (λ r. IsScanOf text.now r.rescan.tokens) }
     ensures same { IfOk result (λ r. HasSameTokens r.same old.tokens r.rescan.tokens.tokens) }

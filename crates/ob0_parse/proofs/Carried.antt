@@ -1,4 +1,4 @@
--- What is kept in another text, and one after another.
+-- Kept trees in another text, one after another.
 use Rattle.std.proofs.Common.{◌≡◌, ℕ, zero, suc, ◌+◌, ◌-◌, ◌<◌, ◌≤◌, Option, Some, None, IfSome, List, [], ◌∷◌, ◌++◌, take, drop, length, refl, sym, ◌∙◌, ap, arith, slice_range, length-drop}
 use Rattle.std.proofs.lemmas.List.{drop-drop, length-map}
 use Rattle.ob0_scan.specs.declared.lexeme.Token.{Token}
@@ -13,7 +13,7 @@ use Rattle.ob0_parse.specs.KeptTokens.{lexemes_by, first_of, end_of, IsThere, Is
 use Rattle.ob0_parse.specs.declared.kept.KeptBody.{KeptBody}
 use Rattle.ob0_parse.specs.declared.kept.Kept.{Kept}
 
--- ---- each of several
+-- ---- properties of each item
 
 pub each_joined : {A : Type 0} (P : A → Type 0) (xs ys : List A) → Each P xs → Each P ys → Each P (xs ++ ys)
 each_joined P [] ys p q = q
@@ -41,7 +41,7 @@ within_front [] (suc at) (suc count) (suc front) h = refl
 within_front (x ∷ xs) (suc at) count zero h = absurd (omega (arith, h))
 within_front (x ∷ xs) (suc at) count (suc front) h = within_front xs at count front (omega (arith, h))
 
--- a tree is where tokens of the same kinds are
+-- a tree is at any tokens of the same kinds
 there_again : {s : Sort} (old new : List Token) (from at next here end : ℕ) (t : Tree ℕ s) → IsThere old from at next t → slice_range (kinds old) at next ≡ slice_range (kinds new) here end → here < end → end ≤ length new → IsThere new from here end t
 there_again old new from at next here end t p same forward within = record {
   spelled = p.spelled ∙ ap (λ ks. lexemes_by from ks) same;
@@ -74,7 +74,7 @@ back_moves old new same from at next here end t h in_at to_here in_next to_end p
     there_again old new from at next here end t p (ap (λ n. take n (drop at (kinds old))) count ∙ ap (take (end - here)) dropped)
     (omega (arith, in_at, to_here, in_next, to_end, p.forward)) (omega (arith, both, in_next, to_end, p.within, h.back_inside, h.old_back_inside))
 
--- ---- by the code's values
+-- ---- procedures as values of the code
 
 pub procedure_parts : (p : Procedure) → procedure_of p ≡ declares_procedure (out-Procedure p).name (formals_of (out-Procedure p).formals) (block_of (out-Procedure p).block) (out-Procedure p).closing
 procedure_parts p = sym (ap procedure_of (roll-out-Procedure p)) ∙ procedure_made (out-Procedure p)
@@ -99,7 +99,7 @@ there_still old new from at next t same p =
     let count : length new ≡ length old = sym (length-map new (λ (t : Token). valueless t.kind)) ∙ ap (λ ks. length ks) same ∙ length-map old (λ (t : Token). valueless t.kind) in
     there_again old new from at next at next t p (ap (λ ks. slice_range ks at next) (sym same)) p.forward (omega (arith, count, p.within))
 
--- what is kept stays where all tokens are of the kinds that they were
+-- kept trees stay at their places if all tokens have the same kinds as before
 pub kept_stay : (old new : List Token) (k : Kept) → kinds new ≡ kinds old → AreKept old k → AreKept new k
 kept_stay old new k same kept = record {
   made = each_as (IsMade old) (IsMade new) k.made.items (λ p m. there_still old new (first_of (procedure_of p)) (first_of (procedure_of p)) (end_of (procedure_of p)) (procedure_of p) same m) kept.made;

@@ -1,4 +1,4 @@
--- The procedures of a tree and its body have its tokens.
+-- The procedures and the body of a tree are at their tokens.
 use Rattle.std.proofs.Common.{◌≡◌, ℕ, zero, suc, ◌+◌, ◌-◌, ◌<◌, ◌≤◌, Option, Some, None, IfSome, option_map, slice_get, List, [], ◌∷◌, ◌++◌, drop, length, refl, sym, ◌∙◌, ap, subst, arith, append_assoc, length-append}
 use Rattle.std.proofs.lemmas.List.{drop_at}
 use Rattle.std.specs.declared.vec.Vec.{Vec}
@@ -29,7 +29,7 @@ use Rattle.ob0_parse.proofs.Keeping.{count_lexemes, kept_there, placed, made_the
 some_tokens : (t : Tree ℕ (item procedure)) → 0 < length (spell t)
 some_tokens (declares_procedure x fs b y) = omega arith
 
--- a tree between other tokens is there
+-- a tree between other tokens is at its place
 between : {s : Sort} (ts : List Token) (begun left : List (Terminal ℕ)) (t : Tree ℕ s) → lexemes ts ≡ begun ++ (spell t ++ left) → nesting t ≤ max_nesting → 0 < length (spell t) → 0 < length left → IsInPlace ts (length begun) (length begun + length (spell t)) t
 between ts begun left t is shallow some more =
     let at : ℕ = length begun in
@@ -79,7 +79,7 @@ has_last : (ps : List Procedure) (n : ℕ) → end_at ps (length ps - 1) ≡ Som
 has_last [] n h = absurd (nothing_some h)
 has_last (p ∷ ps) n h = omega arith
 
--- the last one ends where the tokens after them begin
+-- the last procedure ends at the first token after the procedures
 last_end : (ts : List Token) (begun left : List (Terminal ℕ)) (ps : List Procedure) (i n : ℕ) → lexemes ts ≡ begun ++ (spell (items_of procedure_of ps) ++ left) → nesting (items_of procedure_of ps) ≤ max_nesting → 0 < length left
     → i + 1 ≡ length ps → end_at ps i ≡ Some n → n ≡ length begun + length (spell (items_of procedure_of ps))
 last_end ts begun left [] i n is shallow more count h = absurd (omega (arith, count))
@@ -168,7 +168,7 @@ body_made m parsed k made =
     let there = body_there m.source.tokens ps k.statements m.closing k.from h made.first k.next made.next in
     subst (λ i. IsThere m.source.tokens k.from i k.next (body_of (Some k.statements))) (sym made.at) there
 
--- ---- both, where the body is taken out before the procedures
+-- ---- both, if the body is removed before the procedures
 
 pub of_tree : (s : Scanned) (tree : ModuleTree) → IsParsed (parsed_by s tree) → (b left : Block) (without ss : Option (Vec Statement Global)) (ps : Vec Procedure Global) (k : Option KeptBody)
     → b ≡ tree.block

@@ -1,4 +1,4 @@
--- What is kept: where its tokens are.
+-- The places of the tokens of kept trees.
 use Rattle.std.proofs.Common.{◌≡◌, ℕ, zero, suc, ◌+◌, ◌-◌, ◌<◌, ◌≤◌, List, [], ◌∷◌, ◌++◌, take, drop, length, refl, sym, ◌∙◌, ap, subst, arith, append_assoc, length-drop, slice_range}
 use Rattle.std.proofs.lemmas.List.{append_cancel_right, length-map, length-take-le}
 use Rattle.ob0_scan.specs.declared.lexeme.TokenKind.{TokenKind}
@@ -19,7 +19,7 @@ tail_of e = cc
 pub head_of : {A : Type 0} {a b : A} {x y : List A} → a ∷ x ≡ b ∷ y → a ≡ b
 head_of e = cc
 
--- ---- tokens by their kinds
+-- ---- tokens, given by their kinds
 
 pub count_lexemes : (i : ℕ) (ts : List Token) → length (lexemes_from i ts) ≡ length ts + 1
 count_lexemes i [] = refl
@@ -61,7 +61,7 @@ count_slice ts at next h within =
     let left : length (drop at (kinds ts)) ≡ length (kinds ts) - at = length-drop at (kinds ts) in
     length-take-le (next - at) (drop at (kinds ts)) (omega (arith, all, left, h, within))
 
--- ---- where a procedure is, by its names
+-- ---- the place of a procedure, from its names
 
 same_names : {a b : ℕ} → Name a ≡ Name b → a ≡ b
 same_names e = cc
@@ -94,7 +94,8 @@ named_last i n ks [] z e = last_named i n ks z e
 named_last i n [] (x ∷ xs) z e = absurd (no_more e)
 named_last i n (k ∷ ks) (x ∷ xs) z e = let h = named_last (i + 1) n ks xs z (tail_of e) in omega (arith, h)
 
--- the first token of a procedure that is spelled from an index on is there, and it ends after as many tokens
+-- a procedure that is spelled starting at an index has its first token there, and ends after that
+-- many tokens
 pub in_place : (t : Tree ℕ (item procedure)) (at : ℕ) (ks : List TokenKind) → spell t ≡ lexemes_by at ks → (first_of t ≡ at) × (end_of t ≡ at + length ks)
 in_place (declares_procedure x fs b y) at ks e =
     let second = named_second at x ks _ _ (sym e) in
@@ -106,9 +107,9 @@ in_place (declares_procedure x fs b y) at ks e =
     ∙ sym (append_assoc (spell fs) (Mark (kind.Symbol symbol.Semicolon) ∷ (spell b ++ (Mark (kind.Reserved reserved.End) ∷ []))) ended)) in
     (omega (arith, second), named_last at y ks begun (Mark (kind.Symbol symbol.Semicolon)) (sym e ∙ cut))
 
--- ---- what is here is there
+-- ---- trees at their tokens
 
--- a tree whose tokens are here is there, with its leaves in place
+-- a tree whose tokens are here is at its place, with its leaves in place
 pub kept_there : {s : Sort} (ts : List Token) (at next : ℕ) (t : Tree ℕ s) → drop at (lexemes ts) ≡ spell t ++ drop next (lexemes ts) → nesting t ≤ max_nesting → at < next → next ≤ length ts → IsInPlace ts at next t
 kept_there ts at next t spelled shallow forward within =
     let ks : List TokenKind = slice_range (kinds ts) at next in
@@ -119,13 +120,13 @@ kept_there ts at next t spelled shallow forward within =
       within = within;
     }
 
--- the leaves of a procedure say where it is
+-- the leaves of a procedure give its place
 pub placed : (ts : List Token) (at next : ℕ) (t : Tree ℕ (item procedure)) → IsInPlace ts at next t → (first_of t ≡ at) × (end_of t ≡ next)
 placed ts at next t p =
     let places = in_place t at (slice_range (kinds ts) at next) p.spelled in
     (places.0, places.1 ∙ omega (arith, p.forward, count_slice ts at next (omega (arith, p.forward)) p.within))
 
--- .. so it is made
+-- .. so it counts as made
 pub made_there : (ts : List Token) (at next : ℕ) (t : Tree ℕ (item procedure)) → IsInPlace ts at next t → IsInPlace ts (first_of t) (end_of t) t
 made_there ts at next t p =
     let places = placed ts at next t p in

@@ -1,4 +1,4 @@
--- The items of a list whose leaves are moved one after another.
+-- The items of a list, whose leaves are moved one item after another.
 use Rattle.std.proofs.Common.{◌≡◌, ◌≢◌, ℕ, zero, suc, ◌≤◌, ◌<◌, ◌+◌, List, [], ◌∷◌, length, set, get_or, length-set, get_or-set_other, refl, sym, ◌∙◌, ap, subst, arith, add-one}
 use Rattle.ob0_tree.specs.declared.tree.Expression.{Expression}
 use Rattle.ob0_tree.specs.declared.tree.Statement.{Statement}
@@ -10,14 +10,14 @@ use Rattle.ob0_parse.specs.Moving.{moved}
 use Rattle.ob0_parse.specs.declared.moving.Move.{Move}
 use Rattle.ob0_parse.proofs.Keeping.{head_of, tail_of}
 
--- as many of the items as are said are moved, and the others are as they were
+-- the first items, as many as given, are moved, and the others are unchanged
 abbrev pub AreMoved : {A : Type 0} {s : Sort} → (A → Tree ℕ s) → Move → List A → ℕ → List A → Type 0
 AreMoved f by xs zero ys = ys ≡ xs
 AreMoved f by [] (suc n) ys = ys ≡ []
 AreMoved f by (x ∷ xs) (suc n) [] = ⊥
 AreMoved f by (x ∷ xs) (suc n) (y ∷ ys) = (f y ≡ moved by (f x)) × AreMoved f by xs n ys
 
--- the same, as a loop keeps it
+-- the same in the form of a loop's invariant
 pub record Moving {A : Type 0} {s : Sort} (f : A → Tree ℕ s) (by : Move) (xs : List A) (done : ℕ) (ys : List A) : Type 0 where
   pub so_far : AreMoved f by xs done ys
 
@@ -46,7 +46,7 @@ pub next : {A : Type 0} {s : Sort} {f : A → Tree ℕ s} {by : Move} {xs : List
     → (length (set ys n y) ≡ length xs) × Moving f by xs (n + 1) (set ys n y)
 next {n = n} {ys = ys} {y = y} w inside is e = (length-set ys n y ∙ w.0, following w.1 inside is e)
 
--- a step of a loop that goes down the items
+-- a step of a loop that modifies the items in place
 pub next_down : {A : Type 0} {s : Sort} {f : A → Tree ℕ s} {by : Move} {xs : List A} {n : ℕ} {ys : List A} {x y : A}
     → ((length ys ≡ length xs) × ((k : ℕ) (d : A) → n ≤ k → get_or ys k d ≡ get_or xs k d)) × Moving f by xs n ys → n < length ys → x ≡ get_or ys n x → f y ≡ moved by (f x)
     → ((length (set ys n y) ≡ length xs) × ((k : ℕ) (d : A) → n + 1 ≤ k → get_or (set ys n y) k d ≡ get_or xs k d)) × Moving f by xs (n + 1) (set ys n y)
@@ -71,7 +71,7 @@ all_moved f by (x ∷ xs) (suc n) (y ∷ ys) h all = (h.0, all_moved f by xs n y
 pub ends : {A : Type 0} {s : Sort} {f : A → Tree ℕ s} {by : Move} {xs : List A} {n : ℕ} {ys : List A} → Moving f by xs n ys → length ys ≤ n → AllMoved f by xs ys
 ends {f = f} {by = by} {xs = xs} {n = n} {ys = ys} w all = all_moved f by xs n ys w.so_far all
 
--- several items, of which each is a part of its tree
+-- several items; each is a part of its tree
 pub items_moved : {A : Type 0} {s : Sort} {i : Item} (f : A → Tree ℕ s) (within : Tree ℕ s → Tree ℕ (item i)) (by : Move)
     → ((t : Tree ℕ s) → within (moved by t) ≡ moved by (within t))
     → (xs ys : List A) → AllMoved f by xs ys → items_of (λ x. within (f x)) ys ≡ moved by (items_of (λ x. within (f x)) xs)
@@ -86,7 +86,7 @@ items_moved f within by alike (x ∷ xs) (y ∷ ys) h =
 pub parts_moved : {A : Type 0} {i : Item} (f : A → Tree ℕ (item i)) (by : Move) (xs ys : List A) → AllMoved f by xs ys → items_of f ys ≡ moved by (items_of f xs)
 parts_moved f by xs ys h = items_moved f (λ t. t) by (λ t. refl) xs ys h
 
--- ---- lists whose first item has a case of its own
+-- ---- lists with a separate case for the first item
 
 pub arguments_moved : (by : Move) (xs ys : List Expression) → AllMoved expression_of by xs ys → arguments_listed ys ≡ moved by (arguments_listed xs)
 arguments_moved by [] [] h = refl

@@ -1,5 +1,5 @@
--- A text whose tokens are of the same kinds as those before, one after the other, has the same tree over their indexes, or is
--- refused at the same token.
+-- A text whose tokens have the same kinds as before, one by one. It has the same tree over token
+-- indexes, or the parser refuses it at the same token.
 use Rattle.std.proofs.Common.{◌≡◌, ℕ, ◌+◌, ◌≤◌, List, [], ◌∷◌, ◌++◌, map, take, length, refl, sym, ap, ◌∙◌, subst}
 use Rattle.std.proofs.lemmas.List.{map-append, length-map, take-map}
 use Rattle.ob0_scan.specs.declared.lexeme.TokenKind.{TokenKind}
@@ -20,14 +20,14 @@ use Rattle.ob0_parse_descent.specs.declared.refusal.ParseRefusal.{ParseRefusal}
 use Rattle.ob0_parse_descent.specs.declared.refusal.ParseRefusal.TheVariants.{Syntax, TooDeep, Memory}
 use Rattle.ob0_parse.proofs.Whole.{module_spelled, texts, indexes_again, reindexed-take}
 
--- a token by its index is the same whatever its value
+-- a token by its index doesn't depend on its value
 by_kind : (i : ℕ) (k : TokenKind) → lexeme_of i (valueless k) ≡ lexeme_of i k
 by_kind i kind.Identifier = refl
 by_kind i (kind.Reserved word) = refl
 by_kind i (kind.Integer value) = refl
 by_kind i (kind.Symbol symbol) = refl
 
--- tokens by their indexes, from their kinds alone
+-- tokens by their indexes, computed from only their kinds
 from_kinds : ℕ → List TokenKind → List (Terminal ℕ)
 from_kinds i [] = EndOfText ∷ []
 from_kinds i (k ∷ ks) = lexeme_of i k ∷ from_kinds (i + 1) ks
@@ -53,11 +53,12 @@ tree_stays old new parsed tree short same =
       places = places;
     }
 
--- the tokens by their indexes are those of the text, indexed
+-- replacing the names of a text's tokens by indexes gives the tokens by their indexes
 indexed_again : (s : Scanned) → reindexed 0 (text_lexemes s ++ (EndOfText ∷ [])) ≡ lexemes s.tokens
 indexed_again s = ap (reindexed 0) (sym (texts s)) ∙ indexes_again (text_at s) (value_at s) s.tokens 0
 
--- A tree that begins with the new tokens begins with the old ones, once its names and numbers are theirs.
+-- A tree that begins with the new tokens, with the old names and numbers, begins with the old
+-- tokens.
 none_begins : (old new : Scanned) (i : ℕ) → kinds new.tokens ≡ kinds old.tokens → NoneBegins old i → NoneBegins new i
 none_begins old new i same none t more shallow begins =
     let r = relabelled (text_at old) (value_at old) in

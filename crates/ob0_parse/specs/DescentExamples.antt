@@ -1,4 +1,5 @@
--- Texts, by the kinds of their tokens, and where the descent stops in them.
+-- Examples of texts, given by the kinds of their tokens, and the places at which the descent stops
+-- in them.
 -- Rule: docs/LANGUAGE.md, Syntax faults (its examples).
 use Rattle.std.specs.Prelude.{ℕ, zero, suc, ◌+◌, List, [], ◌∷◌, ◌++◌}
 use Rattle.ob0_scan.specs.declared.lexeme.TokenKind.{TokenKind}
@@ -17,7 +18,7 @@ abbrev pub tokens_from : ℕ → List TokenKind → List (Terminal ℕ)
 tokens_from i [] = EndOfText ∷ []
 tokens_from i (k ∷ ks) = lexeme_of i k ∷ tokens_from (i + 1) ks
 
--- the descent stops so in a text of these kinds of tokens
+-- in a text with these kinds of tokens the descent stops like this
 abbrev pub DescendsKinds : List TokenKind → Stop → Type 0
 DescendsKinds kinds stop = DescendsText (tokens_from 0 kinds) stop
 
@@ -45,12 +46,12 @@ module_begins = w reserved.Module ∷ ident ∷ s symbol.Semicolon ∷ []
 abbrev pub module_ends : List TokenKind
 module_ends = w reserved.End ∷ ident ∷ s symbol.Dot ∷ []
 
--- the same kinds, repeated
+-- a list repeated a number of times
 abbrev pub times : ℕ → List TokenKind → List TokenKind
 times zero ks = []
 times (suc n) ks = ks ++ times n ks
 
--- the rows of syntax faults in docs/LANGUAGE.md
+-- the examples of syntax faults in docs/LANGUAGE.md
 pub record ExpectedRows : Type 0 where
   pub empty : DescendsKinds [] (Expects 0 (expected.Word reserved.Module))
   -- MODULE M; BEGIN x = 1 END M.
@@ -91,7 +92,7 @@ pub record ExpectedRows : Type 0 where
   -- MODULE M; BEGIN WriteLn END M.
   pub whole : DescendsKinds (module_begins ++ (w reserved.Begin ∷ ident ∷ module_ends)) Done
 
--- 100 of a construct inside one another are read, the 101st is too deep
+-- a construct may be nested 100 times; the 101st is too deep
 pub record DeepRows : Type 0 where
   -- MODULE M; BEGIN, 101 times IF TRUE THEN, 101 times END, END M.
   pub ifs : DescendsKinds (module_begins

@@ -1,4 +1,4 @@
--- Procedures and a body that are kept of an earlier parse, and the tokens that they spell.
+-- Procedures and a body that are kept from an earlier parse, and the tokens that they spell.
 -- Rule: none; for contracts of `Kept` and of `tree_after`.
 use Rattle.std.specs.declared.vec.Vec.{Vec}
 use Rattle.std.specs.declared.alloc.Global.{Global}
@@ -19,7 +19,8 @@ use Rattle.ob0_parse.specs.declared.kept.Kept.{Kept}
 use Rattle.ob0_parse.specs.declared.kept.KeptBody.{KeptBody}
 use Rattle.ob0_parse.specs.declared.kept.KeptProcedure.{KeptProcedure}
 
--- tokens of these kinds, as a tree over indexes spells them; the first has this index
+-- tokens of these kinds, in the form in which a tree over indexes spells them; the first has this
+-- index
 abbrev pub lexemes_by : ℕ → List TokenKind → List (Terminal ℕ)
 lexemes_by i [] = []
 lexemes_by i (k ∷ ks) = lexeme_of i k ∷ lexemes_by (i + 1) ks
@@ -28,52 +29,52 @@ lexemes_by i (k ∷ ks) = lexeme_of i k ∷ lexemes_by (i + 1) ks
 abbrev pub first_of : Tree ℕ (item procedure) → ℕ
 first_of (declares_procedure name fs b closing) = name - 1
 
--- the index after its last token, which is the semicolon after its closing name
+-- the index after a procedure's last token, which is the semicolon after its closing name
 abbrev pub end_of : Tree ℕ (item procedure) → ℕ
 end_of (declares_procedure name fs b closing) = closing + 2
 
--- The tokens from one index to another are of the kinds that the tree spells, and it isn't nested too deep for them.
--- Its leaves are in place where its first token has the index `from`.
+-- The tokens `at..next` have the kinds that the tree spells, and its nesting isn't too deep. Its
+-- leaves are in place if its first token has the index `from`.
 pub record IsThere {s : Sort} (ts : List Token) (from at next : ℕ) (t : Tree ℕ s) : Type 0 where
   pub spelled : spell t ≡ lexemes_by from (slice_range (kinds ts) at next)
   pub shallow : nesting t ≤ max_nesting
   pub forward : at < next
   pub within : next ≤ length ts
 
--- .. and its leaves are in place
+-- .. with its leaves in place
 abbrev pub IsInPlace : {s : Sort} → List Token → ℕ → ℕ → Tree ℕ s → Type 0
 IsInPlace ts at next t = IsThere ts at at next t
 
--- the procedure's leaves are in place
+-- the leaves of a made procedure are in place
 abbrev pub IsMade : List Token → Procedure → Type 0
 IsMade ts p = IsInPlace ts (first_of (procedure_of p)) (end_of (procedure_of p)) (procedure_of p)
 
--- its tokens are where it is said to be
+-- the tokens of a waiting procedure are at its place
 abbrev pub IsWaiting : List Token → KeptProcedure → Type 0
 IsWaiting ts k =
     IsThere ts (first_of (procedure_of k.procedure)) k.at k.next (procedure_of k.procedure)
 
--- BEGIN and the statements of a body are where they are said to be
+-- BEGIN and the statements of a kept body are at its place
 abbrev pub IsBodyThere : List Token → KeptBody → Type 0
 IsBodyThere ts k = IsThere ts k.from k.at k.next (body_of (Some k.statements))
 
--- .. where a body is kept
+-- .. if a body is kept
 abbrev pub IsBodyKept : List Token → Option KeptBody → Type 0
 IsBodyKept ts body = IfSome body (IsBodyThere ts)
 
--- each of several is so
+-- each item has a property
 abbrev pub Each : {A : Type 0} → (A → Type 0) → List A → Type 0
 Each P [] = Unit {0}
 Each P (x ∷ xs) = P x × Each P xs
 
--- all that is kept is there
+-- the tokens of every kept tree are at its place
 pub record AreKept (ts : List Token) (k : Kept) : Type 0 where
   pub made : Each (IsMade ts) k.made.items
   pub waiting : Each (IsWaiting ts) k.waiting.items
   pub body : IsBodyKept ts k.body
 
--- The body of a module with these procedures and this index of its closing name: BEGIN is after the last procedure, END
--- after the statements.
+-- The body of a module with these procedures; its closing name has this index. BEGIN follows the
+-- last procedure, and END follows the statements.
 pub record IsMadeBody
     (ps : List Procedure) (statements : Option (Vec Statement Global)) (closing : ℕ) (k : KeptBody)
     : Type 0 where
@@ -85,7 +86,7 @@ pub record IsMadeBody
 
 -- ---- another text
 
--- what is there in the old text from one index to another is there in the new one from the first of these to the second
+-- every tree at a range of the old text is at this range of the new text
 abbrev pub CarriesTokens : SameTokens → ℕ → ℕ → ℕ × ℕ → Type 0
 CarriesTokens same at next place =
     (s : Sort) (old new : List Token) (from : ℕ) (t : Tree ℕ s)
@@ -93,12 +94,12 @@ CarriesTokens same at next place =
     → IsThere old from at next t
     → IsThere new from place.0 place.1 t
 
--- a procedure of the old text is the other one in the new text
+-- a waiting procedure of the old text becomes the other one in the new text
 abbrev pub CarriesTo : SameTokens → KeptProcedure → KeptProcedure → Type 0
 CarriesTo same a b =
     (old new : List Token) → HasSameTokens same old new → IsWaiting old a → IsWaiting new b
 
--- one procedure of the old text, after those that are kept already, gives these
+-- adding one waiting procedure of the old text to the kept ones gives these
 abbrev pub CarriesOne : SameTokens
     → KeptProcedure
     → List KeptProcedure
@@ -111,7 +112,7 @@ CarriesOne same a before after =
     → Each (IsWaiting new) before
     → Each (IsWaiting new) after
 
--- the procedures of the old text give these
+-- the waiting procedures of the old text become these in the new one
 abbrev pub CarriesAll : SameTokens → List KeptProcedure → List KeptProcedure → Type 0
 CarriesAll same xs ys =
     (old new : List Token)
@@ -119,7 +120,7 @@ CarriesAll same xs ys =
     → Each (IsWaiting old) xs
     → Each (IsWaiting new) ys
 
--- one procedure whose leaves are in place, after those that are kept already, gives these
+-- adding one procedure with leaves in place to the kept ones gives these
 abbrev pub CarriesMade : SameTokens
     → Procedure
     → List KeptProcedure
@@ -132,7 +133,7 @@ CarriesMade same p before after =
     → Each (IsWaiting new) before
     → Each (IsWaiting new) after
 
--- all of these procedures, after those that are kept already, give these
+-- adding all of these procedures with leaves in place to the kept ones gives these
 abbrev pub CarriesAllMade : SameTokens
     → List Procedure
     → List KeptProcedure
@@ -145,7 +146,7 @@ CarriesAllMade same ps before after =
     → Each (IsWaiting new) before
     → Each (IsWaiting new) after
 
--- a body of the old text is the other one in the new text
+-- a body of the old text becomes the other one in the new text
 abbrev pub CarriesBody : SameTokens → KeptBody → KeptBody → Type 0
 CarriesBody same a b =
     (old new : List Token)
@@ -153,33 +154,34 @@ CarriesBody same a b =
     → IsBodyThere old a
     → IsBodyThere new b
 
--- .. where there is one
+-- .. if there is one
 abbrev pub CarriesAnyBody : SameTokens → Option KeptBody → Option KeptBody → Type 0
 CarriesAnyBody same a b =
     (old new : List Token) → HasSameTokens same old new → IsBodyKept old a → IsBodyKept new b
 
--- the procedure, at its own place
+-- the procedure with its own place
 abbrev pub IsMadeAt : Procedure → KeptProcedure → Type 0
 IsMadeAt p k =
     (k.procedure ≡ p)
     × (k.at ≡ first_of (procedure_of p))
     × (k.next ≡ end_of (procedure_of p))
 
--- ---- taking over
+-- ---- reusing
 
--- a procedure whose leaves are in place, from this token on, and the index of the token after it
+-- a procedure with leaves in place that starts at this token, and the index of the token after it
 abbrev pub IsTakenAt : List Token → ℕ → Procedure × ℕ → Type 0
 IsTakenAt ts at x = IsInPlace ts at x.1 (procedure_of x.0)
 
--- it is one of those that wait
+-- the procedure is one of the waiting ones
 abbrev pub IsTakenFrom : List KeptProcedure → ℕ → Procedure × ℕ → Type 0
 IsTakenFrom waiting at x = (ts : List Token) → Each (IsWaiting ts) waiting → IsTakenAt ts at x
 
--- those that are left wait where they did
+-- the remaining procedures still wait at their places
 abbrev pub StayWaiting : List KeptProcedure → List KeptProcedure → Type 0
 StayWaiting before after =
     (ts : List Token) → Each (IsWaiting ts) before → Each (IsWaiting ts) after
 
--- the statements of a body whose leaves are in place, from this token on, and the index of the token after it
+-- the statements of a body with leaves in place that starts at this token, and the index of the
+-- token after it
 abbrev pub IsTakenBody : List Token → ℕ → Vec Statement Global × ℕ → Type 0
 IsTakenBody ts at x = IsInPlace ts at x.1 (body_of (Some x.0))

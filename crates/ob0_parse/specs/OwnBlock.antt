@@ -1,4 +1,5 @@
--- What the parser promises of a module, and of its block, whose procedures it leaves with those that are kept.
+-- The results of parsing a module and its own block, whose procedures the parser stores with the
+-- kept trees.
 -- Rule: none; for private contracts of the parser.
 use Rattle.std.specs.Prelude.{ℕ, List, [], ◌∷◌, Result, Ok, Err, length}
 use Rattle.ob0_scan.specs.declared.lexeme.Token.{Token}
@@ -11,7 +12,7 @@ use Rattle.ob0_parse_descent.specs.Reading.{node, finish, Taken, FailsToRead}
 use Rattle.ob0_parse.specs.declared.own_block.OwnParts.{OwnParts}
 use Rattle.ob0_parse_descent.specs.declared.refusal.ParseRefusal.{ParseRefusal}
 
--- the block of these procedures and other parts
+-- a block of these procedures and the other parts
 abbrev pub own_block_of : List Procedure → OwnParts → Tree ℕ block
 own_block_of ps parts =
     has_body
@@ -19,12 +20,12 @@ own_block_of ps parts =
     (items_of procedure_of ps))
     (body_of parts.body)
 
--- the procedures from one index on are these; or one of them isn't read
+-- the procedures that start at an index are these, or one of them can't be read
 abbrev pub ReadsOwn : List Procedure → List Token → ℕ → Result ℕ ParseRefusal → Type 0
 ReadsOwn ps ts at (Ok next) = Taken (items_of procedure_of ps) max_nesting ts at next
 ReadsOwn ps ts at (Err e) = FailsToRead (node (items procedure) max_nesting ∷ []) ts at e
 
--- a module from the first token to the last
+-- a module from the first token to the last, or the reason why there is none
 abbrev pub ReadsModule : List Token → Result (ℕ × Block × ℕ) ParseRefusal → Type 0
 ReadsModule ts (Ok x) = Taken (is_module x.0 (block_of x.1) x.2) max_nesting ts 0 (length ts)
 ReadsModule ts (Err e) = FailsToRead (node module_text max_nesting ∷ finish ∷ []) ts 0 e

@@ -1,4 +1,4 @@
--- What is kept after a parse.
+-- The kept trees after a parse.
 -- Rule: none; for contracts of `tree_after`.
 use Rattle.std.specs.Prelude.{List, Result, Ok, Err}
 use Rattle.ob0_scan.specs.declared.lexeme.Token.{Token}
@@ -7,13 +7,13 @@ use Rattle.ob0_parse_descent.specs.declared.refusal.ParseRefusal.TheVariants.{Sy
 use Rattle.ob0_parse.specs.KeptTokens.{AreKept}
 use Rattle.ob0_parse.specs.declared.kept.Kept.{Kept}
 
--- after this refusal all that is kept is there, unless memory ran out
+-- after this refusal every kept tree is at its place, unless memory ran out
 abbrev pub StayRefused : List Token → Kept → ParseRefusal → Type 0
 StayRefused ts k (Syntax i expected) = AreKept ts k
 StayRefused ts k (TooDeep i) = AreKept ts k
 StayRefused ts k Memory = Unit {0}
 
--- after a parse all that is kept is there, unless memory ran out
+-- after a parse every kept tree is at its place, unless memory ran out
 abbrev pub StayKept : {A : Type 0} → List Token → Kept → Result A ParseRefusal → Type 0
 StayKept ts k (Ok x) = AreKept ts k
 StayKept ts k (Err e) = StayRefused ts k e

@@ -1,22 +1,26 @@
-//! Procedures and bodies that earlier parses made, and where their tokens are in another text.
+//! Procedures and bodies from earlier parses, and the places of their tokens in another text.
 //!
-//! What is kept (`Kept`) are trees with the places of their tokens: the procedures that the last parse made, those to
-//! which it didn't come, and the body of the module. `IsThere` says of one that its tokens are of the kinds that it
-//! spells, counted from its own first token, so it is carried to another text by kinds alone (`Kept::after`), whatever
-//! else is in either text. A text with a syntax fault keeps what its parser made up to the fault and what waits after
-//! it. That such a tree may be taken over needs nothing of the parse that made it, only that the token after it stops
-//! it: nothing goes on a procedure, which ends in a semicolon (`stops_zero`), and END goes on no body. So no other tree
-//! is there (`same`), and the descent reads every tree that is spelled (`finishes`): `Taken` follows from the spelling
-//! (`taken_there`).
+//! `Kept` holds trees with the places of their tokens: the procedures of the last parse, the
+//! procedures that it didn't reach, and the body of the module. `IsThere` says that a tree's tokens
+//! have the kinds that the tree spells, counted from its own first token. So only the kinds of
+//! these tokens decide whether a tree can be used in another text (`Kept::after`), whatever else
+//! either text contains. A text with a syntax fault keeps the trees that its parser made up to the
+//! fault and the ones that wait after it.
 //!
-//! The leaves of a procedure say where it is: its name is its second token, its closing name the last but one. Those of
-//! a body don't, so a body is kept with the index that its BEGIN had. A tree has that index where it has a procedure:
-//! BEGIN is the token after the last one.
+//! Reusing such a tree requires nothing about the parse that made it, except that the next token
+//! ends it. Nothing continues a procedure, which ends in a semicolon (`stops_zero`), and END
+//! continues no body. So no other tree has these tokens (`same`). The descent reads every tree that
+//! is spelled (`finishes`), so `Taken` follows from the spelling (`taken_there`).
 //!
-//! What is kept waits while the parser stops before it, with its leaves as they were. When the parser comes to it, a
-//! walk in place moves its leaves where its tokens have moved (`put_in_place`, `moving.rt`), so each procedure and the
-//! body, before or after the change, are taken over. The moved tree is `mapped` from the old one, so it spells the
-//! tokens that are there now (`moved_there`); no index grows past the largest, since `next` is an index itself.
+//! The leaves of a procedure give its place: its name is its second token, and its closing name is
+//! the last but one. The leaves of a body don't, so a body is kept with the index of its BEGIN. A
+//! tree has that index if it has a procedure: BEGIN is the token after the last one.
+//!
+//! A kept tree waits with unchanged leaves while the parser stops before it. When the parser
+//! reaches it, a walk in place adds the distance that its tokens have moved to its leaves
+//! (`put_in_place`, `moving.rt`). So each procedure and the body, before or after the change, are
+//! reused. The moved tree is `mapped` from the old one, so it spells the current tokens
+//! (`moved_there`). No index exceeds the largest one, because `next` is itself an index.
 
 ghost use Rattle.std.specs.Prelude.{◌≡◌, ◌+◌, ◌≤◌, ◌++◌, [], List, IfOk, OnOk, IfSome};
 ghost use Rattle.std.specs.Option.{option_to_list};
@@ -31,8 +35,8 @@ use ob0_scan::SameTokens;
 use ob0_tree::{ModuleTree, Procedure, Statement};
 use std::alloc::{AllocError, Global};
 
-/// A procedure that an earlier parse made. Its tokens are those from `at` up to `next`, in which its leaves are moved
-/// by as much as its first token is.
+/// A procedure from an earlier parse. Its tokens are now at `at..next`. Its leaves are still the
+/// old indexes; they must move as far as its first token has moved.
 #[derive(Drop)]
 pub struct KeptProcedure {
     pub procedure: Procedure,
@@ -40,8 +44,8 @@ pub struct KeptProcedure {
     pub next: usize,
 }
 
-/// The statements of a module's own body that an earlier parse made. With BEGIN, their tokens are those from `at` up to
-/// `next`; their leaves are in place where BEGIN has the index `from`.
+/// The statements of a module's own body from an earlier parse. Together with BEGIN, their tokens
+/// are now at `at..next`. Their leaves are right if BEGIN has the index `from`.
 #[derive(Drop)]
 pub struct KeptBody {
     pub statements: Vec<Statement>,
@@ -50,19 +54,20 @@ pub struct KeptBody {
     pub next: usize,
 }
 
-/// The procedures of a module's own block and its body, which a later parse takes over where it comes to their tokens.
+/// The procedures of a module's own block and its body. A later parse reuses them when it reaches
+/// their tokens.
 #[derive(Drop)]
 pub struct Kept {
-    /// The procedures that the last parse made or took over, in text order. Their leaves are in place.
+    /// The procedures that the last parse made or reused, in text order. Their leaves are in place.
     pub made: Vec<Procedure>,
-    /// Those to which it didn't come, the last one first.
+    /// The procedures that the last parse didn't reach, in reverse text order.
     pub waiting: Vec<KeptProcedure>,
-    /// The body that an earlier parse made, where the last one didn't take it over.
+    /// The body from an earlier parse, unless the last parse reused it.
     pub body: Option<KeptBody>,
 }
 
 impl Kept {
-    /// No procedures and no body.
+    /// Makes an empty `Kept`.
     pub fn none(alloc: Global) -> Kept
         ensures { (ts : List Token) → AreKept ts result }
     {
@@ -73,7 +78,7 @@ impl Kept {
         }
     }
 
-    /// The procedures of a tree, and its body where it has procedures.
+    /// Keeps the procedures of a tree, and its body if it has procedures.
     pub fn of(alloc: Global, tree: ModuleTree) -> Kept
         ensures { (s : Scanned) → IsParsed (parsed_by s tree) → AreKept s.tokens result }
     {
@@ -89,7 +94,7 @@ impl Kept {
         }
     }
 
-    /// Those whose tokens another text has.
+    /// Keeps the trees whose tokens are also in the changed text, with their places there.
     pub fn after(self, alloc: Global, same: SameTokens) -> Result<Kept, AllocError>
         ensures { IfOk result (λ kept. (old new : List Token)
             → HasSameTokens same old new
@@ -111,8 +116,8 @@ impl Kept {
     }
 }
 
-/// The body of a module, where it has one and these procedures. Its BEGIN is after the last procedure; END is after its
-/// statements and before the closing name.
+/// Keeps the body of a module that has one and has these procedures. BEGIN is the token after the
+/// last procedure. END is the token after the statements and before the closing name.
 fn made_body(
     made: &Vec<Procedure>,
     body: Option<Vec<Statement>>,
@@ -132,7 +137,7 @@ fn made_body(
     })
 }
 
-/// Those of the procedures whose tokens another text has, in the same order.
+/// Keeps the waiting procedures whose tokens are also in the changed text, in the same order.
 fn keep_waiting(
     alloc: Global,
     waiting: Vec<KeptProcedure>,
@@ -147,8 +152,8 @@ fn keep_waiting(
     Ok(kept)
 }
 
-/// Adds those of the procedures whose leaves are in place and whose tokens another text has, in the same order. They
-/// are taken from the last to the first.
+/// Appends the procedures with leaves in place whose tokens are also in the changed text. It moves
+/// them from the last to the first.
 fn keep_made(
     kept: &mut Vec<KeptProcedure>,
     made: &mut Vec<Procedure>,
@@ -164,7 +169,7 @@ fn keep_made(
     Ok(())
 }
 
-/// Adds a procedure where another text has its tokens.
+/// Appends a procedure if its tokens are also in the changed text.
 fn keep(
     kept: &mut Vec<KeptProcedure>,
     procedure: KeptProcedure,
@@ -178,7 +183,7 @@ fn keep(
     Ok(())
 }
 
-/// Adds a procedure whose leaves are in place, where another text has its tokens.
+/// Appends a procedure with leaves in place if its tokens are also in the changed text.
 fn keep_one_made(
     kept: &mut Vec<KeptProcedure>,
     procedure: Procedure,
@@ -192,7 +197,7 @@ fn keep_one_made(
     Ok(())
 }
 
-/// The body, where there is one and another text has its tokens.
+/// Keeps the body if there is one and its tokens are also in the changed text.
 fn keep_body(body: Option<KeptBody>, same: SameTokens) -> Option<KeptBody>
     ensures { CarriesAnyBody same body result }
 {
@@ -202,7 +207,7 @@ fn keep_body(body: Option<KeptBody>, same: SameTokens) -> Option<KeptBody>
     }
 }
 
-/// Where the tokens of a procedure are whose leaves are in place.
+/// Returns a procedure with the place of its tokens, for leaves that are in place.
 fn made_at(procedure: Procedure) -> Option<KeptProcedure>
     ensures { IfSome result (IsMadeAt procedure) }
 {
@@ -216,7 +221,8 @@ fn made_at(procedure: Procedure) -> Option<KeptProcedure>
 }
 
 impl KeptProcedure {
-    /// The procedure in another text, where that has its tokens.
+    /// Returns the procedure with its place in the changed text. Returns None if its tokens aren't
+    /// there.
     fn after(self, same: SameTokens) -> Option<KeptProcedure>
         ensures { IfSome result (CarriesTo same self) }
     {
@@ -230,7 +236,8 @@ impl KeptProcedure {
 }
 
 impl KeptBody {
-    /// The body in another text, where that has its tokens.
+    /// Returns the body with its place in the changed text. Returns None if its tokens aren't
+    /// there.
     fn after(self, same: SameTokens) -> Option<KeptBody>
         ensures { IfSome result (CarriesBody same self) }
     {
@@ -243,7 +250,8 @@ impl KeptBody {
         })
     }
 
-    /// The statements and the index of the token after them. Leaves that aren't in place are moved.
+    /// Returns the statements and the index of the token after them. Leaves that aren't in place
+    /// are moved.
     pub(crate) fn put_in_place(self) -> (Vec<Statement>, usize)
         ensures placed { (ts : List Token)
             → IsBodyThere ts self
@@ -264,7 +272,8 @@ impl KeptBody {
     }
 }
 
-/// From where to where the tokens from one index to another are in another text, where that has them all.
+/// Returns the range in the changed text of the tokens `at..next`. Returns None if they aren't all
+/// there.
 fn place_after(at: usize, next: usize, same: SameTokens) -> Option<(usize, usize)>
     ensures { IfSome result (CarriesTokens same at next) }
 {
@@ -276,7 +285,7 @@ fn place_after(at: usize, next: usize, same: SameTokens) -> Option<(usize, usize
     Some((at, next))
 }
 
-/// Where a token after a change is, which was at this index.
+/// Returns the new index of a token after the change, from its old index.
 fn place_after_change(index: usize, same: SameTokens) -> Option<usize>
     ensures { IfSome result (λ place. (same.old_suffix ≤ index)
         × (place + same.old_suffix ≡ index + same.new_suffix)) }
@@ -285,7 +294,8 @@ fn place_after_change(index: usize, same: SameTokens) -> Option<usize>
     following.checked_add(same.new_suffix)
 }
 
-/// Takes the kept procedure that begins at this token, if there is one. Those before it are dropped.
+/// Removes and returns the kept procedure that begins at this token, if there is one. Procedures
+/// before it are dropped.
 pub(crate) fn kept_at(waiting: &mut Vec<KeptProcedure>, at: usize) -> Option<(Procedure, usize)>
     ensures stay { StayWaiting waiting.old.items waiting.new.items }
     ensures placed { IfSome result (IsTakenFrom waiting.old.items at) }
@@ -298,7 +308,7 @@ pub(crate) fn kept_at(waiting: &mut Vec<KeptProcedure>, at: usize) -> Option<(Pr
     None
 }
 
-/// Takes the next of the kept procedures where it begins at this token or before.
+/// Removes and returns the next kept procedure if it begins at or before this token.
 fn pop_by(waiting: &mut Vec<KeptProcedure>, at: usize) -> Option<KeptProcedure>
     ensures rest { waiting.old.items ≡ waiting.new.items ++ option_to_list result }
 {
@@ -313,7 +323,8 @@ fn pop_by(waiting: &mut Vec<KeptProcedure>, at: usize) -> Option<KeptProcedure>
     waiting.pop()
 }
 
-/// The procedure and the index of the token after it. Leaves that aren't in place are moved.
+/// Returns the procedure and the index of the token after it. Leaves that aren't in place are
+/// moved.
 fn put_in_place(kept: KeptProcedure) -> (Procedure, usize)
     ensures { (ts : List Token) → IsWaiting ts kept → IsTakenAt ts kept.at result }
 {

@@ -1,4 +1,4 @@
-//! What holds of the definitions that the contracts cite.
+//! Laws of the definitions that the contracts cite.
 
 ghost use Rattle.std.specs.Prelude.{ℕ, List};
 ghost use Rattle.ob0_scan.specs.Scanned.{Scanned};
@@ -8,19 +8,20 @@ ghost use Rattle.ob0_tree.specs.Tree.{Tree, module_text};
 ghost use Rattle.ob0_parse_descent.specs.Descent.{DescendsText, Done, OneStop};
 ghost use Rattle.ob0_parse.specs.DescentExamples.{DeepRows, ExpectedRows};
 
-/// The tokens determine where the descent stops, and what it expects there.
+/// States that the tokens determine where the descent stops, and what it expects there.
 pub fn one_stop()
     ensures { OneStop }
 {}
 
-/// The descent reads each module to its end, so a text in which it stops before that is none.
+/// States that the descent reads each module to its end. So a text in which it stops earlier is no
+/// module.
 pub fn modules_are_read()
     ensures { (text : Scanned) (tree : Tree (List ℕ) module_text)
         → ModuleOf text tree
         → DescendsText (lexemes text.tokens) Done }
 {}
 
-/// Where the descent stops in some texts.
+/// Gives the place at which the descent stops in some texts.
 pub fn stops_of_examples()
     ensures expected { ExpectedRows }
     ensures deep { DeepRows }

@@ -1,4 +1,4 @@
-//! The leaves of a procedure or of a body, moved to where its tokens are in another text.
+//! Moves the leaves of a procedure or body to the places of its tokens in another text.
 
 ghost use Rattle.std.specs.Prelude.{◌≡◌};
 ghost use Rattle.ob0_tree.specs.Tree.{then_name};
@@ -12,7 +12,8 @@ use ob0_tree::{
     Simple, Statement, Term, TypeDeclaration, Variables, While, WrittenType,
 };
 
-/// The token that was at `from` is at `to`, and each one after it is moved by as much.
+/// A move of tokens: the token at `from` is now at `to`, and every later token moves by the same
+/// distance.
 #[derive(Clone, Copy)]
 pub(crate) struct Move {
     pub from: usize,
@@ -20,7 +21,7 @@ pub(crate) struct Move {
 }
 
 impl Move {
-    /// Where a leaf is moved to, at most the largest index.
+    /// Returns the moved leaf, at most the largest index.
     fn of(self, leaf: usize) -> usize
         ensures { result ≡ moved_to self leaf }
     {

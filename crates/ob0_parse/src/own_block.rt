@@ -1,4 +1,5 @@
-//! The module: its name, its own block, whose procedures and whose body may be kept ones, and its closing name.
+//! Parses a module: its name, its own block and its closing name. The block's procedures and body
+//! may be reused ones.
 
 ghost use Rattle.std.specs.Prelude.{◌≡◌, ◌≤◌, Some, IfSome, length};
 ghost use Rattle.ob0_scan.specs.declared.lexeme.TokenKind.TheVariants as kind;
@@ -17,8 +18,8 @@ use ob0_scan::{Reserved, Symbol};
 use ob0_tree::{Block, Constant, MAX_NESTING, Procedure, Statement, TypeDeclaration, Variables};
 use std::mem;
 
-/// The declarations and the body of a module. Its procedures are left with those that are kept; a body that is taken
-/// over is kept no longer.
+/// Parses the declarations and the body of a module. The procedures are stored in `kept`; a reused
+/// body is removed from it.
 fn own_block(parser: &Parser<'_>, at: usize, kept: &mut Kept) -> Parsed<OwnParts>
     requires at { at ≤ length parser.now.tokens.now }
     requires kept { AreKept parser.now.tokens.now kept.old }
@@ -42,7 +43,7 @@ fn own_block(parser: &Parser<'_>, at: usize, kept: &mut Kept) -> Parsed<OwnParts
     ))
 }
 
-/// `{procedure ";"}` of a module's own block. They are left with those that are kept.
+/// Parses `{procedure ";"}` of a module's own block. The procedures are stored in `kept`.
 fn own_procedures(parser: &Parser<'_>, at: usize, kept: &mut Kept) -> Result<usize, ParseRefusal>
     requires at { at ≤ length parser.now.tokens.now }
     requires kept { AreKept parser.now.tokens.now kept.old }
@@ -58,7 +59,8 @@ fn own_procedures(parser: &Parser<'_>, at: usize, kept: &mut Kept) -> Result<usi
     Ok(next)
 }
 
-/// A procedure of a module's own block: the one that is kept, where one begins here, or else the one that is read.
+/// Returns a procedure of a module's own block: the kept one if one begins here, otherwise a parsed
+/// one.
 fn own_procedure(
     parser: &Parser<'_>,
     at: usize,
@@ -75,7 +77,7 @@ fn own_procedure(
     }
 }
 
-/// The body of a module: the one that is kept, where it is here, or else the one that is read.
+/// Returns the body of a module: the kept one if it is here, otherwise a parsed one.
 fn own_body(
     parser: &Parser<'_>,
     at: usize,
@@ -92,8 +94,9 @@ fn own_body(
     }
 }
 
-/// Takes the kept body where its BEGIN is this token and END is after its statements. Else it stays kept: what is
-/// before BEGIN or END may be a syntax fault, and once it is mended the body is taken over.
+/// Returns the kept body if BEGIN is this token and END follows its statements. Otherwise the body
+/// stays in `kept`: the text before BEGIN or END may have a syntax fault, and after it is fixed the
+/// body is reused.
 fn kept_body(
     parser: &Parser<'_>,
     at: usize,
@@ -112,7 +115,7 @@ fn kept_body(
     None
 }
 
-/// Whether the reserved word END is here.
+/// Returns whether this token is the reserved word END.
 fn is_end(parser: &Parser<'_>, at: usize) -> bool
     requires { at ≤ length parser.now.tokens.now }
     ensures { TokenIs (kind.Reserved reserved.End) parser.now.tokens.now at result }
@@ -120,7 +123,7 @@ fn is_end(parser: &Parser<'_>, at: usize) -> bool
     parser.expect_word(at, Reserved::End).is_ok()
 }
 
-/// The whole module: its name, its block and its closing name.
+/// Parses a whole module: its name, its block and its closing name.
 pub(crate) fn module(
     parser: &Parser<'_>,
     kept: &mut Kept,
@@ -145,7 +148,7 @@ pub(crate) fn module(
     }
 }
 
-/// The parts of a module's block apart from its procedures.
+/// The parts of a module's block except its procedures.
 #[derive(Drop)]
 struct OwnParts {
     constants: Option<Vec<Constant>>,
@@ -155,7 +158,7 @@ struct OwnParts {
 }
 
 impl OwnParts {
-    /// The block with these procedures.
+    /// Joins these parts and the procedures into a block.
     fn with(self, procedures: Vec<Procedure>) -> Block
         ensures { block_of result ≡ own_block_of procedures.items self }
     {

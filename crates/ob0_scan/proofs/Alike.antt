@@ -1,4 +1,5 @@
--- A text whose tokens between are of the same kinds as those before them has tokens of the same kinds.
+-- If the new tokens have the same kinds as the ones that they replace, the whole text has tokens of
+-- the same kinds.
 use Rattle.std.proofs.Common.{◌≡◌, ℕ, ◌+◌, ◌-◌, ◌≤◌, List, [], ◌∷◌, ◌++◌, map, take, drop, refl, sym, ap, ◌∙◌, arith}
 use Rattle.std.proofs.lemmas.List.{take-append-drop, drop-drop}
 use Rattle.ob0_scan.specs.declared.lexeme.Token.{Token}

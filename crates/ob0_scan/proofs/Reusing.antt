@@ -1,4 +1,4 @@
--- What is before a change and after it has the lexemes that it had.
+-- The text before a change and after it has the same lexemes as before.
 use Rattle.std.proofs.Common.{◌≡◌, ℕ, ◌+◌, ◌-◌, ◌<◌, ◌≤◌, List, [], ◌∷◌, ◌++◌, length, map, get_or, take, drop, refl, sym, ap, ap₂, ◌∙◌, subst, arith, ⊎_elim, append_assoc, append-nil, length-append, length-take-le, take-append-drop, drop_at, take_at, drop-drop, get_or-take, get_or-drop, add-zero, IsUtf8, IsCharBoundary}
 use Rattle.std.specs.List.{All}
 use Rattle.std.proofs.lemmas.List.{take-append-le}
@@ -27,7 +27,7 @@ first_byte : (w a b : List ℕ) → get_or a 0 0 ≡ get_or b 0 0 → get_or (w 
 first_byte [] a b e = e
 first_byte (x ∷ w) a b e = refl
 
--- lexemes depend on the one byte after them
+-- lexemes depend only on the first byte after them
 same_following : (ls : List Lexeme) (a b : List ℕ) → get_or a 0 0 ≡ get_or b 0 0 → AreLexemes ls a → AreLexemes ls b
 same_following [] a b e f = tt
 same_following (l ∷ ls) a b e f =
@@ -58,7 +58,7 @@ shorter_front n m xs ys less hx hy e =
     ∙ sym (take-append-le n (take m ys) (drop m ys) (omega arith))
     ∙ ap (take n) (take-append-drop m ys)
 
--- a text that is cut up to a place is cut there between characters
+-- the place up to which a text is cut is between characters
 boundary_following : (text : List ℕ) (s : ℕ) (ls : List Lexeme) (after : List ℕ) → LexemesFrom text s ls after → IsCharBoundary text (s + length (joined ls))
 boundary_following text s [] after h = subst (IsCharBoundary text) (sym (add-zero s)) h.place
 boundary_following text s (l ∷ ls) after h =
@@ -72,7 +72,7 @@ reported_following {room = room} {faults = faults} s text (l ∷ ls) after f e h
     lexeme l (joined ls ++ after) f.0 (e ∙ append_assoc l.text (joined ls) after)
     (reported_following (s + length l.text) (joined ls ++ after) ls after f.1 refl (subst (λ n. FaultsFrom room n after faults) place h))
 
--- a scanner may begin after what is cut already
+-- a scanner can begin after a part that is already cut
 pub progress_following : (text : List ℕ) (at : ℕ) (tokens : List Token) (comments : List Span) → IsUtf8 text → length text ≤ max_text → at ≤ length text → IsCutTo text at tokens comments → ScanProgress text at tokens comments []
 progress_following text at tokens comments utf8 short inside cut =
     let whole : joined cut.lexemes ++ drop at text ≡ text = ap (λ t. t ++ drop at text) cut.front ∙ take-append-drop at text in
@@ -93,7 +93,8 @@ module _ (old : Scanned) (o : IsScan old) (new : List ℕ) (from removed added :
   some_each : Full o.lexemes
   some_each = full o.lexemes [] o.lexed.each
 
-  -- The tokens and comments that end before the change are those of the new text up to where the last of them ends.
+  -- The new text has the same tokens and comments as the old one up to the end of the last one
+  -- before the change.
   pub front_cut : (last_end (tokens_before_change from old.tokens) (comments_before_change from old.comments) ≤ length new) × IsCutTo new (last_end (tokens_before_change from old.tokens) (comments_before_change from old.comments)) (tokens_before_change from old.tokens) (comments_before_change from old.comments)
   front_cut =
       let f = find_front from 0 o.lexemes some_each in
@@ -123,7 +124,7 @@ module _ (old : Scanned) (o : IsScan old) (new : List ℕ) (from removed added :
         },
       )
 
-  -- what follows a place after the change is what was after the place that it was
+  -- the text after a place after the change equals the old text after the corresponding place
   same_rest : (at p : ℕ) → from + added ≤ at → at + removed ≡ p + added → drop at new ≡ drop p old.text
   same_rest at p following e =
       let k : ℕ = at - (from + added) in
@@ -144,7 +145,8 @@ module _ (old : Scanned) (o : IsScan old) (new : List ℕ) (from removed added :
         parts.1,
       )
 
-  -- a scan that stopped at a border of the old text goes on with what the old text had there
+  -- a scan that stopped at a border of the old text continues with the old lexemes after that
+  -- border
   pub finished : (at p : ℕ) (tokens : List Token) (comments : List Span) → IsUtf8 new → length new ≤ max_text → at ≤ length new → from + added ≤ at → at + removed ≡ p + added → IsCutTo new at tokens comments → Border 0 o.lexemes p
       → IsScan (record { text = new; tokens = tokens ++ map (moved_token removed added) (back_tokens p old.tokens); comments = comments ++ map (move_span removed added) (back_comments p old.comments) })
   finished at p tokens comments utf8 short inside following e cut b =

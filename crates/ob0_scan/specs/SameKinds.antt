@@ -1,4 +1,4 @@
--- Which tokens of a changed text are of the kinds that they were, and are written as they were.
+-- The tokens of a changed text that have the same kinds and spelling as before.
 -- Rule: none; for contracts of `rescan_in_place`.
 use Rattle.std.specs.Prelude.{◌≡◌, ◌≤◌, List, length, take, drop}
 use Rattle.ob0_scan.specs.declared.lexeme.Token.{Token}
@@ -6,8 +6,8 @@ use Rattle.ob0_scan.specs.declared.tokens.SameTokens.{SameTokens}
 use Rattle.ob0_scan.specs.Reused.{kinds, words_in}
 use Rattle.ob0_scan.specs.Scanned.{Scanned}
 
--- The first tokens of a text are of the kinds of those before, and so are the last: those from
--- `new_suffix` on, which were those from `old_suffix` on.
+-- The first tokens of a text have the same kinds as before. The same holds for the last tokens,
+-- those starting at `new_suffix`, which started at `old_suffix` before.
 pub record HasSameTokens (s : SameTokens) (old new : List Token) : Type 0 where
   pub front_inside : s.prefix ≤ length new
   pub back_inside : s.new_suffix ≤ length new
@@ -16,7 +16,7 @@ pub record HasSameTokens (s : SameTokens) (old new : List Token) : Type 0 where
   pub front : take s.prefix (kinds new) ≡ take s.prefix (kinds old)
   pub back : drop s.new_suffix (kinds new) ≡ drop s.old_suffix (kinds old)
 
--- these tokens are also written as they were
+-- these tokens also have the same spelling as before
 pub record HasSameWords (s : SameTokens) (old new : Scanned) : Type 0 where
   pub front : take s.prefix (words_in new.text new.tokens)
       ≡ take s.prefix (words_in old.text old.tokens)

@@ -1,9 +1,11 @@
-//! The tokens and comments that an older scan found: those that end before a change, and those that begin after it,
-//! found by halving; and the list with others in place of what lies between, where the spans after it are shifted.
+//! The tokens and comments of an older scan. Binary search finds those that end before a change,
+//! and those that begin after it. Other tokens and comments can replace the ones between them; the
+//! later spans are then shifted.
 //!
-//! A scan is in order (`AreInOrder`), so halving finds what the definition counts (`proofs/Halved`). A part of a `Vec`
-//! is changed by index (`for index in first..items.len()`), under "those up to here are changed, the rest is as it was"
-//! (`ChangedTo`); after a call on `&mut items[first..]` the list is a term without a name.
+//! A scan is in order (`AreInOrder`), so binary search finds the number that the definition counts
+//! (`proofs/Halved`). A loop over indexes changes part of a `Vec` (`for index in
+//! first..items.len()`). Its invariant is `ChangedTo`: the items before the index are changed, the
+//! others aren't. After a call with `&mut items[first..]` the list would be a term without a name.
 
 ghost use Rattle.std.specs.Prelude.{◌≡◌, ◌+◌, ◌-◌, ◌<◌, ◌≤◌, ◌^◌, ◌||◌, ◌++◌, OnOk, length, map, take, drop, nat_lt, option_copied, string_bytes};
 ghost use Rattle.std.specs.List.{All, prefix_len};
@@ -16,7 +18,8 @@ ghost use Rattle.ob0_scan.specs.Rescanning.{token_end, comment_end, last_end, to
 use crate::lexeme::{Span, Token};
 use std::alloc::AllocError;
 
-/// The `removed` bytes of a text from byte `from` on gave way to `added` other bytes.
+/// A change of a text: the `removed` bytes starting at byte `from` were replaced by `added` other
+/// bytes.
 #[derive(Clone, Copy)]
 pub(crate) struct ReplacedRange {
     pub(crate) from: usize,
@@ -25,7 +28,7 @@ pub(crate) struct ReplacedRange {
 }
 
 impl ReplacedRange {
-    /// Where a byte after the change was before it.
+    /// Returns the old offset of a byte after the change.
     pub(crate) fn old_place(self, place: usize) -> usize
         requires following { self.added ≤ place }
         requires small { place + self.removed < 2 ^ 64 }
@@ -34,8 +37,8 @@ impl ReplacedRange {
         place - self.added + self.removed
     }
 
-    /// Makes of the old text the new one. The bytes after the change are moved, and those before it stay; where the
-    /// change begins or ends inside a character, the new text is copied.
+    /// Turns the old text into the new one. Only the changed bytes are written, and the bytes after
+    /// them move. If the change begins or ends inside a character, the whole new text is copied.
     pub(crate) fn replace(self, old: &mut String, new: &str) -> Result<(), AllocError>
         requires { IsReplaced (string_bytes old.old) new.now self.from self.removed self.added }
         ensures { OnOk result (string_bytes old.new ≡ new.now) }
@@ -52,7 +55,7 @@ impl ReplacedRange {
         old.push_str(new)
     }
 
-    /// Where a span of the old text that lies after the change is now.
+    /// Shifts a span that lies after the change in the old text to its place in the new text.
     fn move_span(self, span: Span) -> Span
         requires { IsMovable self.removed self.added span }
         ensures { result ≡ move_span self.removed self.added span }
@@ -64,7 +67,7 @@ impl ReplacedRange {
     }
 }
 
-/// Some tokens and comments of a text, each in text order.
+/// Some tokens and comments of a text, both in text order.
 #[derive(Clone, Copy)]
 pub(crate) struct Pieces<'t> {
     pub(crate) tokens: &'t [Token],
@@ -72,7 +75,7 @@ pub(crate) struct Pieces<'t> {
 }
 
 impl<'t> Pieces<'t> {
-    /// The leading pieces that end before a byte, found by halving.
+    /// Returns the leading tokens and comments that end before a byte. It uses binary search.
     pub(crate) fn ending_before(self, place: usize) -> Pieces<'t>
         requires { AreInOrder self.tokens.now self.comments.now }
         ensures tokens { result.tokens.now ≡ tokens_before_change place self.entry.tokens.now }
@@ -87,7 +90,7 @@ impl<'t> Pieces<'t> {
         }
     }
 
-    /// The pieces from the first on that doesn't begin before a byte, found by halving.
+    /// Skips the tokens and comments that begin before a byte. It uses binary search.
     pub(crate) fn beginning_from(self, place: usize) -> Pieces<'t>
         requires { AreInOrder self.tokens.now self.comments.now }
         ensures tokens { result.tokens.now ≡ back_tokens place self.entry.tokens.now }
@@ -101,8 +104,8 @@ impl<'t> Pieces<'t> {
         }
     }
 
-    /// The pieces from the first on that doesn't begin before a byte, where few begin before it: they are passed one
-    /// after the other.
+    /// Skips the tokens and comments that begin before a byte. It is meant for few of them, since
+    /// it visits them one by one.
     pub(crate) fn onward_to(self, place: usize) -> Pieces<'t>
         ensures tokens { result.tokens.now ≡ back_tokens place self.entry.tokens.now }
         ensures comments { result.comments.now ≡ back_comments place self.entry.comments.now }
@@ -115,7 +118,7 @@ impl<'t> Pieces<'t> {
         }
     }
 
-    /// Whether the first token or the first comment begins at a byte.
+    /// Returns whether the first token or the first comment begins at a byte.
     pub(crate) fn begin_at(self, place: usize) -> bool
         ensures { result
             ≡ token_begins place self.entry.tokens.now
@@ -124,7 +127,7 @@ impl<'t> Pieces<'t> {
         token_begins(self.tokens, place) || comment_begins(self.comments, place)
     }
 
-    /// After which byte the last of them ends.
+    /// Returns the end of the last token or comment, whichever ends later.
     pub(crate) fn end(self) -> usize
         ensures { result ≡ last_end self.entry.tokens.now self.entry.comments.now }
     {
@@ -132,7 +135,7 @@ impl<'t> Pieces<'t> {
     }
 }
 
-/// Whether the first token begins at a byte.
+/// Returns whether the first token begins at a byte.
 fn token_begins(tokens: &[Token], place: usize) -> bool
     ensures { result ≡ token_begins place tokens.now }
 {
@@ -142,7 +145,7 @@ fn token_begins(tokens: &[Token], place: usize) -> bool
     }
 }
 
-/// Whether the first comment begins at a byte.
+/// Returns whether the first comment begins at a byte.
 fn comment_begins(comments: &[Span], place: usize) -> bool
     ensures { result ≡ comment_begins place comments.now }
 {
@@ -170,7 +173,7 @@ fn comment_end(comment: Option<&Span>) -> usize
     }
 }
 
-/// The number of leading tokens that end before a byte, found by halving.
+/// Returns the number of leading tokens that end before a byte. It uses binary search.
 fn tokens_ending_before(tokens: &[Token], place: usize) -> usize
     requires { IsNonDecreasingBy (λ (t : Token). t.span.end) tokens.now }
     ensures bound { result ≤ length tokens.now }
@@ -179,7 +182,7 @@ fn tokens_ending_before(tokens: &[Token], place: usize) -> usize
     tokens.partition_point(|token| (token.span.end as usize) < place)
 }
 
-/// The number of leading comments that end before a byte, found by halving.
+/// Returns the number of leading comments that end before a byte. It uses binary search.
 fn comments_ending_before(comments: &[Span], place: usize) -> usize
     requires { IsNonDecreasingBy (λ (c : Span). c.end) comments.now }
     ensures bound { result ≤ length comments.now }
@@ -188,7 +191,7 @@ fn comments_ending_before(comments: &[Span], place: usize) -> usize
     comments.partition_point(|comment| (comment.end as usize) < place)
 }
 
-/// The number of leading tokens that begin before a byte, found by halving.
+/// Returns the number of leading tokens that begin before a byte. It uses binary search.
 fn tokens_beginning_before(tokens: &[Token], place: usize) -> usize
     requires { IsNonDecreasingBy (λ (t : Token). t.span.start) tokens.now }
     ensures bound { result ≤ length tokens.now }
@@ -197,7 +200,7 @@ fn tokens_beginning_before(tokens: &[Token], place: usize) -> usize
     tokens.partition_point(|token| (token.span.start as usize) < place)
 }
 
-/// The number of leading comments that begin before a byte, found by halving.
+/// Returns the number of leading comments that begin before a byte. It uses binary search.
 fn comments_beginning_before(comments: &[Span], place: usize) -> usize
     requires { IsNonDecreasingBy (λ (c : Span). c.start) comments.now }
     ensures bound { result ≤ length comments.now }
@@ -206,7 +209,7 @@ fn comments_beginning_before(comments: &[Span], place: usize) -> usize
     comments.partition_point(|comment| (comment.start as usize) < place)
 }
 
-/// The number of leading tokens that begin before a byte, counted one by one.
+/// Returns the number of leading tokens that begin before a byte. It visits them one by one.
 fn first_tokens_before(tokens: &[Token], place: usize) -> usize
     ensures bound { result ≤ length tokens.now }
     ensures count { result ≡ prefix_len (λ (t : Token). nat_lt t.span.start place) tokens.now }
@@ -217,7 +220,7 @@ fn first_tokens_before(tokens: &[Token], place: usize) -> usize
         .count()
 }
 
-/// The number of leading comments that begin before a byte, counted one by one.
+/// Returns the number of leading comments that begin before a byte. It visits them one by one.
 fn first_comments_before(comments: &[Span], place: usize) -> usize
     ensures bound { result ≤ length comments.now }
     ensures count { result ≡ prefix_len (λ (c : Span). nat_lt c.start place) comments.now }
@@ -228,7 +231,7 @@ fn first_comments_before(comments: &[Span], place: usize) -> usize
         .count()
 }
 
-/// Replaces tokens `front..following` by `between`, and shifts the spans of those after.
+/// Replaces tokens `front..following` by `between`, and shifts the spans of the later tokens.
 pub(crate) fn splice_tokens(
     tokens: &mut Vec<Token>,
     front: usize,
@@ -250,7 +253,7 @@ pub(crate) fn splice_tokens(
     Ok(())
 }
 
-/// Replaces comments `front..following` by `between`, and shifts the spans of those after.
+/// Replaces comments `front..following` by `between`, and shifts the spans of the later comments.
 pub(crate) fn splice_comments(
     comments: &mut Vec<Span>,
     front: usize,
@@ -272,7 +275,7 @@ pub(crate) fn splice_comments(
     Ok(())
 }
 
-/// Shifts the spans of tokens from `first` on, to where they are in the changed text.
+/// Shifts the spans of the tokens starting at index `first` to their places in the changed text.
 fn move_tokens(tokens: &mut Vec<Token>, first: usize, change: ReplacedRange)
     requires inside { first ≤ length tokens.old.items }
     requires movable { All (λ (t : Token). IsMovable change.removed change.added t.span)
@@ -290,7 +293,7 @@ fn move_tokens(tokens: &mut Vec<Token>, first: usize, change: ReplacedRange)
     }
 }
 
-/// Shifts the spans of comments from `first` on, to where they are in the changed text.
+/// Shifts the spans of the comments starting at index `first` to their places in the changed text.
 fn move_comments(comments: &mut Vec<Span>, first: usize, change: ReplacedRange)
     requires inside { first ≤ length comments.old.items }
     requires movable { All (λ (c : Span). IsMovable change.removed change.added c)

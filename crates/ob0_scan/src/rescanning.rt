@@ -1,35 +1,46 @@
-//! Scans a text that was changed at one place, and takes over what an older scan found before the change and after it.
+//! Scans a text that was changed at one place, and reuses an older scan's tokens and comments
+//! before and after the change.
 //!
-//! `rescan_in_place` takes the tokens of the text before a change and makes those of the text after it in their place;
-//! a text with faults gets the old ones back. `rescan` is that of a copy. What it returns is what `scan` of the new
-//! text returns, and `Reuses` (`specs/Reused`) says which tokens and comments are the old ones: before the change each
-//! that ends before it (one that ends right at it may go on with what was put in); after it, moved by `added` less
-//! `removed`, each from the first place on that the two texts have in common as a beginning. That place can't be chosen
-//! later than it has to be (`IsNew`). `alike` says that the tokens are of the kinds that they were, `same_names` that
-//! the identifiers are written as they were, `same_words` that all tokens are.
+//! `rescan_in_place` takes the tokens of the old text and turns them into the tokens of the new
+//! text; if the new text has faults, it returns the old ones. `rescan` does the same with a copy.
+//! Both return the tokens and comments that `scan` of the new text returns. `Reuses`
+//! (`specs/Reused`) says which of them are old:
+//! - Before the change: each that ends before it. (One that ends right at the change may continue
+//!   with the inserted text.)
+//! - After the change, moved by `added` less `removed`: each after the first place at which a token
+//!   or comment begins in both texts. That place can't be later than necessary (`IsNew`).
 //!
-//! The tokens and comments before the change are found by halving (`Pieces::ending_before`), and a scanner goes on after
-//! the last of them (white space isn't kept, so it is read again). Before each step after the change it tests whether
-//! an old token or comment begins here: the first after the change are found by halving too (`beginning_from`), and
-//! `onward_to` passes those that lie before each step, so all of these questions together pass over the old ones that
-//! are read again once. A scan is in order (`AreInOrder`), so halving finds what the definition counts
-//! (`proofs/Halved`). What is read lies between (`IsBetween`); only then are the old ones after moved where they lie, and
-//! what was read is put between (`splice_tokens`, `splice_comments`). So the tokens of one text alone are in memory:
-//! those of both would leave the heap with holes of their size. Of the text the changed bytes alone are replaced, and
-//! those after them move (`ReplacedRange::replace`); where a change begins or ends inside a character, the new text is
-//! written over the old one.
+//! `alike` says that the tokens have the same kinds as before, `same_names` that the identifiers
+//! have the same spelling, and `same_words` that all tokens do.
 //!
-//! The change needn't begin and end between characters: a lexeme's last byte is ASCII, so the scan begins and stops at
-//! borders anyway. A fault ends the search for a common place, so the faults are those of `scan`, reported once. That
-//! spans fit in 32 bits comes from the text's length: `ScanProgress` has it (`short`) for what a scanner makes,
-//! `IsMovable` for spans that are moved. To call it, show `IsReplaced`: the law `middle_is_replaced` has it for texts
-//! that are put together from parts, and `Difference::between` of `ob0_analysis` for any two texts.
+//! Binary search finds the tokens and comments before the change (`Pieces::ending_before`). A
+//! scanner continues after the last of them; white space isn't kept, so it is read again. Before
+//! each step after the change it tests whether an old token or comment begins at that place. Binary
+//! search also finds the first old ones after the change (`beginning_from`). `onward_to` skips
+//! those before each step, so all these tests together visit each old token at most once. A scan is
+//! in order (`AreInOrder`), so binary search finds the number that the definition counts
+//! (`proofs/Halved`).
 //!
-//! The proof: `proofs/AtLexemes` says once for tokens and comments where those of a list of lexemes are; `Fronts` parts
-//! the old lexemes before the change; `Reusing` has the two seams (a lexeme depends on its bytes and the one byte
-//! after; equal rests have equal lexemes); `Between` collects what was read; `Kept` has the old ones that stay, by
-//! their numbers; `Named` that what is before and after is written as before. That the old tokens were not scanned
-//! again is read only: no clause counts steps.
+//! The newly read tokens and comments lie between the old ones (`IsBetween`). When reading is
+//! complete, the later old ones move in their list and the new ones are inserted before them
+//! (`splice_tokens`, `splice_comments`). So memory holds the tokens of only one text; two lists
+//! would leave holes of their size in the heap. Only the changed bytes of the text are replaced,
+//! and the bytes after them move (`ReplacedRange::replace`). If a change begins or ends inside a
+//! character, the new text is written over the old one.
+//!
+//! The change needn't begin and end between characters: a lexeme's last byte is ASCII, so the scan
+//! begins and stops at character borders anyway. A fault ends the search for a common place, so the
+//! faults are those of `scan`, each reported once. Spans fit in 32 bits because of the text's
+//! length: `ScanProgress` says so for a scanner's spans (`short`), `IsMovable` for moved spans.
+//! Callers have to show `IsReplaced`. The law `middle_is_replaced` gives it for texts joined from
+//! parts, and `Difference::between` of `ob0_analysis` for any two texts.
+//!
+//! The proof: `proofs/AtLexemes` gives the places of the tokens and comments of a list of lexemes.
+//! `Fronts` splits the old lexemes before the change. `Reusing` has the two seams: a lexeme depends
+//! on its bytes and the next byte; equal rests have equal lexemes. `Between` collects the newly
+//! read tokens, and `Kept` has the numbers of the reused old ones. `Named` shows that the tokens
+//! before and after have the same spelling. No clause counts steps, so nothing proves that old
+//! tokens aren't scanned again.
 
 ghost use Rattle.std.specs.Prelude.{◌≡◌, ℕ, List, [], false, ◌+◌, ◌-◌, ◌<◌, ◌≤◌, true, IfOk, IfErr, OnOk, length, take, drop};
 ghost use Rattle.ob0_scan.specs.declared.lexeme.TokenKind.TheVariants.{Identifier, Integer};
@@ -50,14 +61,15 @@ use crate::tokens::{Rescan, RescanInPlace, SameTokens, Tokens};
 use std::alloc::{AllocError, Global};
 use thiserror::Error;
 
-/// How many tokens and comments there are before a place.
+/// The number of tokens and comments before a place.
 #[derive(Clone, Copy)]
 pub(crate) struct LexemeCounts {
     pub(crate) tokens: usize,
     pub(crate) comments: usize,
 }
 
-/// What was scanned between the old lexemes that stay: the first `front` of them, and those from `following` on.
+/// The newly scanned tokens and comments, with their place among the old ones: after the first
+/// `front`, and before those starting at `following`.
 #[derive(Drop)]
 pub(crate) struct Between {
     pub(crate) front: LexemeCounts,
@@ -67,7 +79,7 @@ pub(crate) struct Between {
 }
 
 impl Between {
-    /// Whether the tokens between are of the same kinds as the old ones in whose place they come.
+    /// Returns whether the new tokens have the same kinds as the old ones that they replace.
     fn is_alike(&self, old: &[Token]) -> bool
         requires ordered { self.now.front.tokens ≤ self.now.following.tokens }
         requires inside { self.now.following.tokens ≤ length old.now }
@@ -78,7 +90,8 @@ impl Between {
         are_alike(&self.tokens, &old[self.front.tokens..self.following.tokens])
     }
 
-    /// Whether the identifiers between are written as the old ones in whose place they come.
+    /// Returns whether the new identifiers have the same spelling as the old ones that they
+    /// replace.
     fn has_names_of(&self, new_text: &str, old: &Tokens) -> bool
         requires ordered { self.now.front.tokens ≤ self.now.following.tokens }
         requires inside { self.now.following.tokens ≤ length old.now.tokens }
@@ -95,7 +108,8 @@ impl Between {
         )
     }
 
-    /// Whether the tokens between are what the old ones are in whose place they come, and are written as these.
+    /// Returns whether the new tokens have the same kinds and spelling as the old ones that they
+    /// replace.
     fn has_words_of(&self, new_text: &str, old: &Tokens) -> bool
         requires ordered { self.now.front.tokens ≤ self.now.following.tokens }
         requires inside { self.now.following.tokens ≤ length old.now.tokens }
@@ -113,7 +127,7 @@ impl Between {
     }
 }
 
-/// Whether tokens of two texts are of the same kinds and written alike, one after the other.
+/// Returns whether the tokens of two texts agree in kind and spelling, one by one.
 fn have_same_words(new_text: &[u8], new: &[Token], old_text: &[u8], old: &[Token]) -> bool
     ensures { result ≡ true → words_in new_text.now new.now ≡ words_in old_text.now old.now }
 {
@@ -128,14 +142,14 @@ fn have_same_words(new_text: &[u8], new: &[Token], old_text: &[u8], old: &[Token
     true
 }
 
-/// Whether two tokens are of one kind, and written alike.
+/// Returns whether two tokens have the same kind and spelling.
 fn is_same_word(new_text: &[u8], new: Token, old_text: &[u8], old: Token) -> bool
     ensures { result ≡ true → read_in new_text.now new ≡ read_in old_text.now old }
 {
     new.kind == old.kind && is_same_piece(new_text, new.span, old_text, old.span)
 }
 
-/// Whether the identifiers among tokens of two texts are written alike, one after the other.
+/// Returns whether the identifiers among the tokens of two texts agree in position and spelling.
 fn have_same_names(new_text: &[u8], new: &[Token], old_text: &[u8], old: &[Token]) -> bool
     ensures { result ≡ true → names_in new_text.now new.now ≡ names_in old_text.now old.now }
 {
@@ -150,7 +164,7 @@ fn have_same_names(new_text: &[u8], new: &[Token], old_text: &[u8], old: &[Token
     true
 }
 
-/// Whether two tokens are identifiers that are written alike, or neither is an identifier.
+/// Returns whether two tokens are identifiers with the same spelling, or neither is an identifier.
 fn is_same_name(new_text: &[u8], new: Token, old_text: &[u8], old: Token) -> bool
     ensures { result ≡ true → name_of new.kind (spanned new_text.now new.span)
         ≡ name_of old.kind (spanned old_text.now old.span) }
@@ -174,7 +188,7 @@ fn is_name(kind: TokenKind) -> bool
     }
 }
 
-/// Whether two spans lie in their texts, and the same bytes are there.
+/// Returns whether two spans lie in their texts and contain the same bytes.
 fn is_same_piece(a: &[u8], in_a: Span, b: &[u8], in_b: Span) -> bool
     ensures { result ≡ true → spanned a.now in_a ≡ spanned b.now in_b }
 {
@@ -185,7 +199,8 @@ fn is_same_piece(a: &[u8], in_a: Span, b: &[u8], in_b: Span) -> bool
         && a[in_a.start as usize..in_a.end as usize] == b[in_b.start as usize..in_b.end as usize]
 }
 
-/// Whether tokens are of the same kinds, one after the other.
+/// Returns whether two lists of tokens agree in kind, one by one; the values of integers may
+/// differ.
 fn are_alike(new: &[Token], old: &[Token]) -> bool
     ensures { result ≡ true → kinds new.now ≡ kinds old.now }
 {
@@ -200,7 +215,7 @@ fn are_alike(new: &[Token], old: &[Token]) -> bool
     true
 }
 
-/// Whether two tokens are of one kind, whatever the values of integers.
+/// Returns whether two tokens have the same kind; the values of integers may differ.
 fn is_same_kind(a: TokenKind, b: TokenKind) -> bool
     ensures { result ≡ true → valueless a ≡ valueless b }
 {
@@ -226,7 +241,7 @@ fn is_integer(kind: TokenKind) -> bool
     }
 }
 
-/// Why a changed text has no tokens; with the old ones, where it has faults.
+/// The reason why a changed text has no tokens. If it has faults, the old tokens come with them.
 #[derive(Debug, Drop, Error)]
 pub enum NotRescanned {
     #[error("faults in the text")]
@@ -243,9 +258,10 @@ impl From<AllocError> for NotRescanned {
     }
 }
 
-/// The tokens and comments of `new_text`, which is the text of `old` with the `removed` bytes from byte `from` on
-/// replaced by `added` others; or its faults. What `old` has before the change is kept, and the scan ends where a token
-/// or comment of `old` begins again.
+/// Returns the tokens and comments of `new_text`, or its faults. `new_text` is the text of `old`
+/// with the `removed` bytes starting at byte `from` replaced by `added` others. The old tokens and
+/// comments before the change are reused. The scan ends at the first place at which an old token or
+/// comment begins again.
 pub fn rescan(
     alloc: Global,
     old: &Tokens,
@@ -268,8 +284,8 @@ pub fn rescan(
     }
 }
 
-/// The tokens and comments of `new_text`, as `rescan` has them, in place of the old ones: those before the change stay
-/// where they are. A text with faults gives the old ones back.
+/// Turns the old tokens and comments into those of `new_text`, like `rescan` but without a copy:
+/// those before the change keep their places. If the text has faults, the old ones are returned.
 pub fn rescan_in_place(
     alloc: Global,
     old: Tokens,
@@ -326,7 +342,8 @@ pub fn rescan_in_place(
     }
 }
 
-/// Why a changed text has no tokens: one with faults gives the old ones back.
+/// Makes the error for a changed text without tokens. If the text has faults, the old tokens are
+/// returned with them.
 fn refuse(
     old: Tokens,
     new_text: &str,
@@ -344,7 +361,7 @@ fn refuse(
     }
 }
 
-/// What is read again of a changed text.
+/// Scans the part of a changed text that has to be read again.
 fn scan_again(
     alloc: Global,
     old: &Tokens,
@@ -388,8 +405,8 @@ fn scan_again(
     })
 }
 
-/// Scans to the end of the text, or up to the first place after the change where an old token or comment begins again.
-/// Gives those that begin there or after.
+/// Scans to the end of the text, or up to the first place after the change at which an old token or
+/// comment begins again. Returns the old ones that begin at that place or later.
 fn scan_on<'o>(
     scanner: &mut Scanner,
     old: &'o Tokens,

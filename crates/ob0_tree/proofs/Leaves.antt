@@ -1,6 +1,6 @@
--- The identifiers of a tree are the names that it spells, in the same order; and those of a module that was read are all of its text's.
--- That tree and spelling have the same names holds whatever role names in lists get; all else is an induction over
--- tokens.
+-- The identifiers of a tree are the names that it spells, in the same order. The identifiers of a
+-- parsed module are all identifiers of its text. A tree and its spelling have the same names,
+-- whatever the role of names in lists. Everything else is an induction over tokens.
 use Rattle.std.proofs.Common.{◌≡◌, ℕ, ◌+◌, ◌≤◌, ◌<◌, Some, None, List, [], ◌∷◌, ◌++◌, length, refl, sym, ◌∙◌, ap, arith, append-nil, subst, zero-add, append_assoc, slice_index_or}
 use Rattle.std.proofs.lemmas.List.{map-append}
 use Rattle.ob0_scan.specs.declared.lexeme.TokenKind.{TokenKind}
@@ -30,7 +30,7 @@ lexeme_names-append (Number n ∷ xs) ys = lexeme_names-append xs ys
 lexeme_names-append (Mark k ∷ xs) ys = lexeme_names-append xs ys
 lexeme_names-append (EndOfText ∷ xs) ys = lexeme_names-append xs ys
 
--- whatever the role of the names in a list
+-- holds for any role of the names in a list
 pub leaves_spelled : {N : Type 0} {s : Sort} (r : Role) (t : Tree N s) → names_only (identifiers r t) ≡ lexeme_names (spell t)
 leaves_spelled r none = refl
 leaves_spelled r (one t) = simp (leaves_spelled r t)
@@ -96,7 +96,7 @@ names_from (t ∷ ts) i = name_first t.kind i (lexemes_from (i + 1) ts) ∙ ap (
     name_first (kind.Integer v) i xs = refl
     name_first _ i xs = refl
 
--- The identifiers of a module's tree are those of its text, all of them and in order.
+-- The identifiers of a module's tree are all identifiers of its text, in order.
 pub leaves_parsed : (m : Parsed) → IsParsed m → leaves (tree_of m) ≡ identifiers_from 0 m.source.tokens
 leaves_parsed m p =
     leaves_spelled role.Declaring (tree_of m)
@@ -156,7 +156,7 @@ are_identifiers_from all front (t ∷ back) e i at =
     first all i t (kind.Integer v) e within at_index xs p = p
     first all i t _ e within at_index xs p = p
 
--- Each identifier of a module's tree is the index of an identifier.
+-- Each identifier of a module's tree is the index of an identifier token.
 pub leaves_are_identifiers : (m : Parsed) → IsParsed m → AreIdentifiers m.source.tokens (leaves (tree_of m))
 leaves_are_identifiers m p =
     subst (AreIdentifiers m.source.tokens) (sym (leaves_parsed m p)) (are_identifiers_from m.source.tokens [] m.source.tokens refl 0 refl)
@@ -169,7 +169,7 @@ ascending_looked_up low ((role.ClosingName, n) ∷ xs) high p = ascending_lower 
 ascending_looked_up low ((role.FieldName, n) ∷ xs) high p = ascending_lower low (n + 1) (looked_up_only xs) high (omega (arith, p.0)) (ascending_looked_up (n + 1) xs high p.1)
 ascending_looked_up low ((role.ModuleName, n) ∷ xs) high p = ascending_lower low (n + 1) (looked_up_only xs) high (omega (arith, p.0)) (ascending_looked_up (n + 1) xs high p.1)
 
--- so do those that are looked up
+-- the identifiers that are looked up also ascend
 pub occurrences_ascend : {s : Sort} (t : Tree ℕ s) (low high : ℕ) → Ascending low (leaves t) high → Ascending low (occurrences t) high
 occurrences_ascend t low high p =
     subst (λ l. Ascending low l high) (looked_up-occurrences role.Declaring (λ n xs. refl) t) (ascending_looked_up low (identifiers role.Declaring t) high p)

@@ -1,4 +1,5 @@
--- A walk over the items of a list: what goes along has seen the identifiers of each after those before it.
+-- A walk over a list: the visitor has seen the identifiers of each item after those of the earlier
+-- items.
 use Rattle.std.proofs.Common.{◌≡◌, ℕ, ◌+◌, ◌<◌, ◌≤◌, List, [], ◌∷◌, ◌++◌, length, drop, get_or, refl, sym, ap, ◌∙◌, append-nil, append_assoc}
 use Rattle.std.proofs.lemmas.List.{drop_all, drop_more}
 use Rattle.ob0_tree.specs.declared.tree.Role.{Role}
@@ -6,7 +7,8 @@ use Rattle.ob0_tree.specs.Tree.{Tree, Item, item, identifiers}
 use Rattle.ob0_tree.specs.View.{items_of}
 use Rattle.ob0_tree.specs.Visited.{visited_all}
 
--- what was seen, with the items that are left, is what was there at first with all
+-- the state so far, continued with the remaining items, is the initial state continued with all
+-- items
 pub record Visiting {S A : Type 0} {i : Item} (step : Role → ℕ → S → S) (f : A → Tree ℕ (item i)) (r : Role) (start : S) (xs : List A) (done : ℕ) (now : S) : Type 0 where
   pub so_far : visited_all step (identifiers r (items_of f (drop done xs))) now ≡ visited_all step (identifiers r (items_of f xs)) start
 
@@ -29,7 +31,7 @@ pub all_visited : {S A : Type 0} {i : Item} {step : Role → ℕ → S → S} {f
     → Visiting step f r start xs done now → length xs ≤ done → now ≡ visited_all step (identifiers r (items_of f xs)) start
 all_visited {step = step} {f = f} {r = r} {xs = xs} {done = done} {now = now} w all = sym (ap (λ ys. visited_all step (identifiers r (items_of f ys)) now) (drop_all done xs all)) ∙ w.so_far
 
--- parts one after another
+-- parts that are visited one after another
 pub then_visited : {S : Type 0} (step : Role → ℕ → S → S) (start : S) (a b : List (Role × ℕ)) {first : S} → first ≡ visited_all step a start → visited_all step b first ≡ visited_all step (a ++ b) start
 then_visited step start a b e = ap (visited_all step b) e ∙ sym (visited_append step a b start)
 
@@ -37,7 +39,7 @@ pub four_visited : {S : Type 0} (step : Role → ℕ → S → S) (start : S) (a
     → visited_all step d third ≡ visited_all step (a ++ (b ++ (c ++ d))) start
 four_visited step start a b c d {first = first} {second = second} e f g = then_visited step second c d g ∙ (then_visited step first b (c ++ d) f ∙ then_visited step start a (b ++ (c ++ d)) e)
 
--- what is listed one after another comes after what was there
+-- a visitor that lists the identifiers appends them to its initial list
 pub visits_listed : (xs before : List (Role × ℕ)) → visited_all (λ r i before. before ++ ((r, i) ∷ [])) xs before ≡ before ++ xs
 visits_listed [] before = sym (append-nil before)
 visits_listed (x ∷ xs) before = visits_listed xs (before ++ (x ∷ [])) ∙ append_assoc before (x ∷ []) xs

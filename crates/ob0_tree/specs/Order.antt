@@ -1,4 +1,4 @@
--- The identifiers of a tree by their places among a text's tokens.
+-- The identifiers of a tree, as indexes of a text's tokens.
 -- Rule: none; for contracts: identifiers by their places.
 use Rattle.std.specs.Prelude.{◌≡◌, ℕ, ◌+◌, ◌≤◌, ◌<◌, List, [], ◌∷◌, ◌++◌, map, length}
 use Rattle.std.specs.List.{HoldsAt}
@@ -9,8 +9,7 @@ use Rattle.ob0_tree.specs.declared.tree.Role.{Role}
 use Rattle.ob0_tree.specs.declared.tree.Role.TheVariants as role
 use Rattle.ob0_tree.specs.Tree.{Sort, Tree, identifiers}
 
--- Numbers that ascend: none is less than low or less than one before it or the same,
--- and all are less than high.
+-- Numbers in strictly ascending order, from `low` up to but not including `high`.
 abbrev pub Ascending : ℕ → List ℕ → ℕ → Type 0
 Ascending low [] high = low ≤ high
 Ascending low (x ∷ xs) high = (low ≤ x) × Ascending (x + 1) xs high
@@ -23,12 +22,12 @@ names_only xs = map (λ x. x.1) xs
 abbrev pub leaves : {N : Type 0} {s : Sort} → Tree N s → List N
 leaves t = names_only (identifiers role.Declaring t)
 
--- the index, where the token is an identifier
+-- the index, if the token is an identifier
 abbrev pub identifier_at : ℕ → TokenKind → List ℕ
 identifier_at i kind.Identifier = i ∷ []
 identifier_at i k = []
 
--- the indexes of the identifiers among tokens, where the first token has this index
+-- the indexes of the identifiers among tokens; the first token has this index
 abbrev pub identifiers_from : ℕ → List Token → List ℕ
 identifiers_from i [] = []
 identifiers_from i (t ∷ ts) = identifier_at i t.kind ++ identifiers_from (i + 1) ts
@@ -37,7 +36,7 @@ identifiers_from i (t ∷ ts) = identifier_at i t.kind ++ identifiers_from (i + 
 abbrev pub IsIdentifierToken : List Token → ℕ → Type 0
 IsIdentifierToken ts i = (i < length ts) × HoldsAt (λ t. t.kind ≡ kind.Identifier) ts i
 
--- these tokens are identifiers
+-- the tokens at these indexes are identifiers
 abbrev pub AreIdentifiers : List Token → List ℕ → Type 0
 AreIdentifiers ts [] = Unit {0}
 AreIdentifiers ts (i ∷ others) = IsIdentifierToken ts i × AreIdentifiers ts others

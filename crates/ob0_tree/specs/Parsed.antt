@@ -1,4 +1,4 @@
--- A module as it was read from a text.
+-- A module that was parsed from a text.
 -- Rule: none; for contracts: a module as it was read.
 use Rattle.std.specs.Prelude.{◌≡◌, ℕ, List, [], ◌∷◌, ◌++◌}
 use Rattle.ob0_scan.specs.Scanned.{Scanned}
@@ -10,27 +10,27 @@ use Rattle.ob0_tree.specs.View.{block_of}
 use Rattle.ob0_tree.specs.Module.{ModuleOf}
 use Rattle.ob0_tree.specs.Places.{lexemes, named}
 
--- The tokens and comments of a text, and the parts of a module. Names are indexes of tokens.
+-- The tokens and comments of a text, and the parts of its module. Names are indexes of tokens.
 pub record Parsed : Type 0 where
   pub source : Scanned
   pub name : ℕ
   pub block : Block
   pub closing : ℕ
 
--- a tree, joined to the tokens that it spells
+-- joins a tree to the tokens that it spells
 abbrev pub parsed_by : Scanned → ModuleTree → Parsed
 parsed_by s t = record { source = s; name = t.name; block = t.block; closing = t.closing }
 
--- the tree, over indexes of tokens
+-- the tree, with indexes of tokens as its names
 abbrev pub tree_of : Parsed → Tree ℕ module_text
 tree_of m = is_module m.name (block_of m.block) m.closing
 
--- the tree, with names as they are written
+-- the tree, with texts as its names
 abbrev pub named_tree_of : Parsed → Tree (List ℕ) module_text
 named_tree_of m = named m.source (tree_of m)
 
--- The text is a module with this tree, and each name and number
--- of the tree is the index of its own token.
+-- The text is a module with this tree. Each name and number of the tree is the index of its own
+-- token.
 pub record IsParsed (m : Parsed) : Type 0 where
   pub module_of : ModuleOf m.source (named_tree_of m)
   pub places : spell (tree_of m) ++ (EndOfText ∷ []) ≡ lexemes m.source.tokens

@@ -8,44 +8,44 @@ use Rattle.ob0_scan.specs.Scanned.{Scanned, spanned}
 use Rattle.ob0_tree.specs.Lexeme.{Terminal, Name, Number, Mark, EndOfText}
 use Rattle.ob0_tree.specs.Tree.{Sort, Tree, mapped}
 
--- the token at an index, with the index in place of a name or a number
+-- the token at an index; the index replaces a name or a number
 abbrev pub lexeme_of : ℕ → TokenKind → Terminal ℕ
 lexeme_of i kind.Identifier = Name i
 lexeme_of i (kind.Integer value) = Number i
 lexeme_of i k = Mark k
 
--- the tokens from an index on, the end counted as one
+-- the tokens, numbered starting at an index; the end counts as a token
 abbrev pub lexemes_from : ℕ → List Token → List (Terminal ℕ)
 lexemes_from i [] = EndOfText ∷ []
 lexemes_from i (t ∷ ts) = lexeme_of i t.kind ∷ lexemes_from (i + 1) ts
 
--- the tokens of a text, as a tree over indexes spells them
+-- the tokens of a text, in the form in which a tree over indexes spells them
 abbrev pub lexemes : List Token → List (Terminal ℕ)
 lexemes ts = lexemes_from 0 ts
 
--- how a token is written
+-- the text of a token
 abbrev pub text_in : List ℕ → Option Token → List ℕ
 text_in text None = []
 text_in text (Some t) = spanned text t.span
 
--- the number that a token is
+-- the value of an integer; 0 for any other token
 abbrev pub value_of : TokenKind → ℕ
 value_of (kind.Integer value) = value
 value_of _ = 0
 
--- the value of a token; 0 where it isn't an integer
+-- the value of a token; 0 if it isn't an integer or doesn't exist
 abbrev pub value_in : Option Token → ℕ
 value_in None = 0
 value_in (Some t) = value_of t.kind
 
--- how the token with this index is written
+-- the text of the token at this index
 abbrev pub text_at : Scanned → ℕ → List ℕ
 text_at s i = text_in s.text (slice_get s.tokens i)
 
--- the value of the token with this index
+-- the value of the token at this index
 abbrev pub value_at : Scanned → ℕ → ℕ
 value_at s i = value_in (slice_get s.tokens i)
 
--- a tree over indexes of tokens, with the tokens' names and numbers in their place
+-- replaces the indexes in a tree by the names and numbers of their tokens
 abbrev pub named : {s : Sort} → Scanned → Tree ℕ s → Tree (List ℕ) s
 named s t = mapped (text_at s) (value_at s) t

@@ -1,15 +1,15 @@
--- What is known after the identifiers of a part of a module, one after another in text order.
+-- The state of a walk after the identifiers of a part of a module, visited in text order.
 -- Rule: none; for contracts of walks over identifiers.
 use Rattle.std.specs.Prelude.{ℕ, List, [], ◌∷◌}
 use Rattle.ob0_tree.specs.declared.tree.Role.{Role}
 use Rattle.ob0_tree.specs.declared.tree.Role.TheVariants as role
 use Rattle.ob0_tree.specs.Tree.{Sort, Tree, identifiers}
 
--- after these identifiers, where `step` says what is known after one
+-- the state after these identifiers; `step` gives the state after one
 abbrev pub visited_all : {A : Type 0} → (Role → ℕ → A → A) → List (Role × ℕ) → A → A
 visited_all step [] known = known
 visited_all step (x ∷ xs) known = visited_all step xs (step x.0 x.1 known)
 
--- after those of a part; the names in a list of names alone declare
+-- the state after the identifiers of a part; a list of names declares them
 abbrev pub visited : {A : Type 0} {s : Sort} → (Role → ℕ → A → A) → Tree ℕ s → A → A
 visited step t known = visited_all step (identifiers role.Declaring t) known

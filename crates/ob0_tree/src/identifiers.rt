@@ -10,7 +10,7 @@ use crate::walk::Visitor;
 use std::alloc::{AllocError, Global};
 use std::marker::Model;
 
-/// The identifiers that were seen, in text order.
+/// The identifiers visited so far, in text order.
 #[derive(Drop)]
 struct Seen {
     listed: Vec<(Role, usize)>,
@@ -45,7 +45,8 @@ impl Seen {
 
 impl<'t> Module<'t> {
     #[tactic(auto, using(crate::proofs::Visits::visits_listed))]
-    /// Every identifier of the module in text order: what it is where it is, and the index of its token.
+    /// Lists every identifier of the module in text order, with its role and the index of its
+    /// token.
     pub fn identifiers(&self, alloc: Global) -> Result<Vec<(Role, usize)>, AllocError>
         ensures { IfOk result (λ v. v.items ≡ identifiers roles.Declaring (tree_of self.now)) }
     {

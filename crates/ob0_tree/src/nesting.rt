@@ -1,7 +1,8 @@
-//! How deeply the constructs of a module are nested.
+//! The nesting of a module's constructs.
 //!
-//! The private functions saturate, so that no function of the cycle has a premise: their clauses say `capped (nesting
-//! ..)`, and `Module::nesting` takes the cap away by the invariant (at most 100).
+//! The private functions use saturating addition, so no function of the cycle needs a premise:
+//! their clauses say `capped (nesting ..)`. `Module::nesting` removes the cap, because by its
+//! invariant a module has at most 100 levels.
 
 ghost use Rattle.std.specs.Prelude.{◌≡◌, ◌+◌};
 ghost use Rattle.ob0_tree.specs.Tree.{nesting};
@@ -15,22 +16,23 @@ use crate::tree::{
     Variables, WrittenType,
 };
 
-/// How deeply constructs may be nested in a module.
+/// The largest number of nested constructs in a module.
 pub const MAX_NESTING: u32 = 100;
 
 impl<'t> Module<'t> {
-    /// The greatest number of constructs that are in one another: parenthesised and negated factors, indexes,
-    /// IF, WHILE and REPEAT, array and record types, and procedures. At most [`MAX_NESTING`].
+    /// Returns the greatest number of nested constructs. Parenthesised and negated factors,
+    /// indexes, IF, WHILE and REPEAT, array and record types, and procedures count. The result is
+    /// at most [`MAX_NESTING`].
     pub fn nesting(&self) -> u32
         ensures { result ≡ nesting (tree_of self.now) }
     {
-        // For the proof: what the contract of this call says.
+        // The contract of this call gives the proof the module's invariant.
         let _parsed = self.tokens();
         block(self.block())
     }
 }
 
-/// One level more.
+/// Adds one level.
 fn deeper(levels: u32) -> u32
     ensures { result ≡ capped (levels + 1) }
 {

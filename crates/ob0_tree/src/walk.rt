@@ -1,8 +1,9 @@
-//! One walk over the identifiers of a module, for whatever goes along.
+//! A walk over the identifiers of a module, with any `Visitor`.
 //!
-//! What a `Visitor` is afterwards is the fold of its ghost member `seen` over the tree's identifiers. An invariant or
-//! an answer of the cycle takes `g` first, and `g.V.Visitor.seen` is the member. A visitor of which clauses speak has a
-//! model: an equation of a `Vec` would be one of its capacity too.
+//! After the walk, the `Visitor` is the fold of its ghost member `seen` over the tree's
+//! identifiers. Invariants and answers of the cycle take `g` first; `g.V.Visitor.seen` is the
+//! member. A visitor that clauses mention needs a model, because an equation of a `Vec` would also
+//! compare capacities.
 
 #![tactic(auto, using(std::proofs::lemmas::Grind::common_steps, crate::proofs::Visits::visited_append))]
 
@@ -21,18 +22,18 @@ use crate::tree::{
 };
 use std::alloc::AllocError;
 
-/// What goes along the identifiers of a part of a module, in text order.
+/// The state of a walk over the identifiers of a part of a module, in text order.
 pub trait Visitor {
-    /// What it is after an identifier.
+    /// The state after an identifier.
     ghost seen: { Role → ℕ → Self → Self };
 
-    /// Takes an identifier: what it is where it is, and the index of its token.
+    /// Visits an identifier, given its role and the index of its token.
     fn see(&mut self, role: Role, token: usize) -> Result<(), AllocError>
         ensures { OnOk result (self.new ≡ seen role token self.old) };
 }
 
 impl<'t> Module<'t> {
-    /// Goes through every identifier of the module.
+    /// Visits every identifier of the module.
     pub fn visit<V: Visitor>(&self, visitor: &mut V) -> Result<(), AllocError>
         ensures { OnOk result (visitor.new ≡ visited V.seen (tree_of self.now) visitor.old) }
     {
@@ -42,7 +43,7 @@ impl<'t> Module<'t> {
     }
 }
 
-/// The identifiers of an expression.
+/// Visits the identifiers of an expression.
 #[cycle(expressions)]
 pub fn expression<V: Visitor>(visitor: &mut V, e: &Expression) -> Result<(), AllocError>
     ensures { OnOk result (visitor.new ≡ visited V.seen (expression_of e.now) visitor.old) }
@@ -202,7 +203,7 @@ fn elsifs<V: Visitor>(visitor: &mut V, parts: &Vec<Elsif>) -> Result<(), AllocEr
     Ok(())
 }
 
-/// Names of this role.
+/// Visits names that all have this role.
 fn names<V: Visitor>(visitor: &mut V, role: Role, ns: &Names) -> Result<(), AllocError>
     ensures { OnOk result (visitor.new ≡ visited_all V.seen (identifiers role (names_of ns.now)) visitor.old) }
 {
@@ -213,7 +214,7 @@ fn names<V: Visitor>(visitor: &mut V, role: Role, ns: &Names) -> Result<(), Allo
     Ok(())
 }
 
-/// The identifiers of a type as it is written.
+/// Visits the identifiers of a written type.
 #[cycle(types)]
 pub fn written_type<V: Visitor>(visitor: &mut V, t: &WrittenType) -> Result<(), AllocError>
     ensures { OnOk result (visitor.new ≡ visited V.seen (type_of t.now) visitor.old) }
@@ -321,7 +322,7 @@ fn variables<V: Visitor>(
     Ok(())
 }
 
-/// The identifiers of a block's statements.
+/// Visits the identifiers of a block's statements.
 pub fn body<V: Visitor>(
     visitor: &mut V,
     statements: &Option<Vec<Statement>>,
