@@ -1,5 +1,5 @@
--- If a range of tokens is inside a body, the range from the body's first identifier up to the
--- closing name of its block is also inside it.
+-- If a range of tokens is inside a body, so is the range from the body's first identifier up to the
+-- closing name of its block.
 use Rattle.std.proofs.Common.{◌≡◌, ◌<◌, ◌≤◌, ℕ, zero, ◌+◌, Bool, true, false, ◌&&◌, nat_le, nat_lt, if◌then◌else◌, Some, List, [], ◌∷◌, ◌++◌, refl, sym, ap, ◌∙◌, subst, arith, append_assoc, append-nil, lt-ltb, le-ltb}
 use Rattle.std.proofs.lemmas.Bool.Decides.{nat_tests}
 use Rattle.ob0_tree.specs.declared.tree.Role.{Role}

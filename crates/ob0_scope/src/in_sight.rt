@@ -13,7 +13,7 @@ use ob0_scope_table::{OrdinalEntry, Resolved};
 use std::alloc::{AllocError, Global};
 
 /// Returns, for each occurrence of a module in text order, the ordinal of the declaration to which
-/// `name` would be bound there, or None if it would be unbound.
+/// `name` would be bound there. An entry is None if `name` would be unbound.
 pub fn ordinals_seen(
     alloc: Global,
     names: &Resolved,

@@ -11,9 +11,9 @@ use ob0_scope_numbering::{Writing, number};
 use ob0_scope_table::{OrdinalEntry, Resolved, ordinal_at};
 use std::alloc::{AllocError, Global};
 
-/// Returns, for each occurrence of the module in text order, the ordinal of the declaration to
-/// which it would be bound if a declaration were renamed to `new`. Its closing name and all names
-/// bound to it are renamed with it. An entry is None if the occurrence would be unbound.
+/// Returns, for each occurrence of the module in text order, the ordinal of its declaration after a
+/// declaration is renamed to `new`. Its closing name and all names bound to it are renamed with it.
+/// An entry is None if the occurrence would be unbound.
 pub fn resolve_renamed(
     alloc: Global,
     names: &Resolved,

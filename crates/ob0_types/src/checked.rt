@@ -332,7 +332,7 @@ fn is_of_declarations(fault: &Fault) -> bool
 impl<'t> Checked<'t> {
     ghost use Rattle.ob0_types.specs.CheckedModules.{AreTypesOf, IsChecked, checked_by};
 
-    /// Joins the result of checking a module to the module.
+    /// Joins a module to the result of checking it.
     fn new(resolved: &'t Resolved<'t>, types: ModuleTypes) -> Checked<'t>
         requires { AreTypesOf resolved.now types }
         ensures { result ≡ checked_by resolved.now types }
@@ -343,7 +343,7 @@ impl<'t> Checked<'t> {
         }
     }
 
-    /// Joins the result of checking a module, which is kept elsewhere, to the module.
+    /// Joins a module to the result of checking it, which is kept elsewhere.
     pub fn from_parts(resolved: &'t Resolved<'t>, types: &'t ModuleTypes) -> Checked<'t>
         requires { AreTypesOf resolved.now types.now }
         ensures { result ≡ checked_by resolved.now types.now }
