@@ -21,7 +21,7 @@
 #   make faults            what takes longer: each allocation fails in turn, two long conversations, many random changes, texts and runs; WORDS=".." names some
 #   make wrong-bodies      tries the mutants that weren't refused yet in their present form, over what `make check` keeps; ALL=1: all; CRATE="NAME.." names some
 #   make surface           the public functions and their mutants: docs/SURFACE.md, and how many mutants: README.md
-#   make statement         all definitions that the headline is made of, in reading order: docs/STATEMENT.md
+#   make statement         what the headline says: docs/STATEMENT.md, and all other definitions that it needs: bin/DEFINITIONS.md
 #   make bench             times the program; nothing fails by time
 PREFIX ?= /usr/local
 PYTHON ?= python3

@@ -2,6 +2,7 @@
 of them out. The second is counted here without the script that writes the page."""
 from __future__ import annotations
 
+import functools
 import glob
 import os
 import re
@@ -13,17 +14,29 @@ from typing import Any, Tuple
 from common import match_of
 from harness import TOP, Failed, holds, same, test, text_of
 
-PAGE = os.path.join("docs", "STATEMENT.md")
+PAGE, TEMPLATE = os.path.join("docs", "STATEMENT.md"), os.path.join("docs", "STATEMENT.in.md")
+SCRIPT = os.path.join(TOP, "tools", "statement.py")
 Place = Tuple[str, str, str]  # a crate, a file and a name
 WORDS_BEFORE = r"(?:(?:abbrev|unfoldable|pub) +)*(?:record +|data +)?"
 
 
-def fenced(language: str) -> list[tuple[str | None, str]]:
-    """The text of the page's blocks of this language, with the part that each is in."""
+def ran(*words: str) -> subprocess.CompletedProcess[str]:
+    how: dict[str, Any] = {"stdin": subprocess.DEVNULL, "stdout": subprocess.PIPE, "stderr": subprocess.STDOUT, "text": True}
+    return subprocess.run([sys.executable, SCRIPT, *words], check=False, **how)
+
+
+@functools.lru_cache(maxsize=None)
+def second() -> str:
+    """The second page, bin/DEFINITIONS.md, as the script prints it."""
+    return ran("--print").stdout
+
+
+def fenced(language: str, page: str) -> list[tuple[str | None, str]]:
+    """The text of a page's blocks of this language, with the part that each is in."""
     part: str | None = None
     found: list[tuple[str | None, str]] = []
     inside: list[str] | bool | None = None
-    for line in text_of(PAGE).splitlines():
+    for line in page.splitlines():
         if line.startswith("## ") and inside is None:
             part = line[3:]
         elif line.startswith("```"):
@@ -100,20 +113,29 @@ class Counted:
 
 @test("statement: docs/STATEMENT.md is of these sources")
 def statement() -> None:
-    script = os.path.join(TOP, "tools", "statement.py")
-    how: dict[str, Any] = {"stdin": subprocess.DEVNULL, "stdout": subprocess.PIPE, "stderr": subprocess.STDOUT, "text": True}
-    ran = subprocess.run([sys.executable, script, "--check"], **how)
-    if ran.returncode:
-        raise Failed(ran.stdout[-3000:])
+    checked = ran("--check")
+    if checked.returncode:
+        raise Failed(checked.stdout[-3000:])
 
 
-@test("statement: no name stands twice on the page, and the headline is on its first screen")
+@test("statement: no name stands twice on the two pages")
 def names_once() -> None:
-    names = [name for _, text in fenced("agda") for name in re.findall(rf"^(?!--){WORDS_BEFORE}(\S+) [^=\n]*?:(?: |$)", text, re.M)]
-    holds(len(names) > 500, "the page has hardly any definition")
+    blocks = [text for page in (text_of(PAGE), second()) for _, text in fenced("agda", page)]
+    names = [name for text in blocks for name in re.findall(rf"^(?!--){WORDS_BEFORE}(\S+) [^=\n]*?:(?: |$)", text, re.M)]
+    holds(len(names) > 500, "the pages have hardly any definition")
     same(sorted({name for name in names if names.count(name) > 1}), [], "names that stand twice")
-    at = next(i for i, line in enumerate(text_of(PAGE).splitlines(), 1) if line.startswith("pub record Headline"))
-    holds(at < 80, f"the headline stands at line {at}")
+
+
+def line_of(begin: str) -> int:
+    """The number of the first line of the page that begins so."""
+    return next(i for i, line in enumerate(text_of(PAGE).splitlines(), 1) if line.startswith(begin))
+
+
+@test("statement: the first screen has the sentence; then come what an editor must do, what holds, and of what")
+def in_order() -> None:
+    places = [line_of(it) for it in ("> In every interleaving", "abbrev pub EveryExchangeIsServed", "abbrev pub May ", "pub record HoldsOfExchange ", "pub fn serve<")]
+    same(places, sorted(places), "the order of the page")
+    holds(places[0] < 10 and places[1] < 45, f"the sentence and the theorem stand at lines {places[:2]}")
 
 
 def quoted(page: str) -> str:
@@ -132,53 +154,58 @@ def one_headline() -> None:
 
 
 def rows() -> dict[str, list[int]]:
-    """The rows of the page's table of parts: definitions, lines, words, minutes, minutes of a faster reader."""
-    found = re.findall(r"^\| (?:\[(Part \d)[^|]*|([^|\[]*)) ((?:\| [\d,]+ ){5})\|$", text_of(PAGE), re.M)
+    """The rows of the table of parts: definitions, lines, words, minutes, minutes of a faster reader."""
+    found = re.findall(r"^\| (?:\[(Part \d)[^|]*|\*\*([^|\[]*)\*\*) ((?:\| [\d,]+ ){5})\|$", second(), re.M)
     return {part or name: [int(it.replace(",", "")) for it in numbers.split("|")[1:]] for part, name, numbers in found}
 
 
-SUMS = {"**The first reading**": 4, "**Without the language, with the tie**": 7, "**With the language**": 8}
+PARTS = {"docs/STATEMENT.md": PAGE, **{f"Part {part}": "" for part in range(4, 10)}}
+SUMS = {"Without the language": 3, "With the language": 4}
 
 
-@test("statement: without the language the page has at most 150 definitions and 640 lines, with it 395 and 2,250")
+@test("statement: without the language the pages have at most 215 definitions and 1,000 lines, with it 460 and 2,650")
 def short_enough() -> None:
     table = rows()
-    for name, most in (("**Without the language, with the tie**", (150, 640)), ("**With the language**", (395, 2250))):
+    for name, most in (("Without the language", (215, 1000)), ("With the language", (460, 2650))):
         many, lines = table[name][:2]
         holds(0 < many <= most[0] and 0 < lines <= most[1], f"{name}: {many} definitions and {lines} lines")
 
 
-@test("statement: the counts of each part and of several are those of the page")
+def text_of_part(part: str) -> str:
+    """A part of the second page, or the first page."""
+    if PARTS[part]:
+        return text_of(PARTS[part])
+    return next(it for it in re.split(r"^(?=## )", second(), flags=re.M) if it.startswith(f"## {part}"))
+
+
+@test("statement: the counts of each part and of several are those of the pages")
 def counts_hold() -> None:
     table = rows()
-    same([*table][-1], "Part 9", "the last row")
+    same([it for it in table if it not in SUMS], [*PARTS], "the parts of the table")
     for name, last in SUMS.items():
         for i in range(2):
-            same(table[name][i], sum(table[f"Part {part}"][i] for part in range(last)), f"{name}, column {i}")
-    for part in range(10):
-        agda, rust = (
-            "\n\n".join(text for at, text in fenced(language) if str(at).startswith(f"Part {part}"))
-            for language in ("agda", "rust")
-        )
+            same(table[name][i], sum(table[part][i] for part in [*PARTS][: last + 1]), f"{name}, column {i}")
+    for part in PARTS:
+        text = text_of_part(part)
+        agda, rust = ("\n\n".join(it for _, it in fenced(language, text)) for language in ("agda", "rust"))
         found = len(re.split(r"\n\n+(?=\S)", agda)) + len(re.findall(r"^pub (?:struct|enum) ", rust, re.M))
-        same(found, table[f"Part {part}"][0], f"the definitions of part {part}")
+        same(found, table[part][0], f"the definitions of {part}")
 
 
-@test("statement: the contract of what the program calls, both sides of that of `play_in`, and what joins them are in part 3")
+@test("statement: the contract of what the program calls is on the page, and both sides of that of `play_in` on the second")
 def tie_is_there() -> None:
-    shown = "\n".join(text for part, text in [*fenced("agda"), *fenced("rust")] if str(part).startswith("Part 3"))
-    wanted = ["pub fn serve<", "record Plays ", "PlaysBefore :", "record ConnectionStep ", "record IsTied "]
-    for it in [*wanted, "ConversationIsServed :"]:
-        holds(it in shown, f"part 3 hasn't {it!r}")
-    wire = "\n".join(text for part, text in fenced("agda") if str(part).startswith("Part 6"))
-    for it in ("record Served ", "Serves :", "MayServe :"):
-        holds(it in wire, f"part 6 hasn't {it!r}")
+    first = "\n".join(text for _, text in [*fenced("agda", text_of(PAGE)), *fenced("rust", text_of(PAGE))])
+    for it in ("pub fn serve<", "MayServe :", "record ServedExchange ", "record HoldsOfExchange ", "record AppliesAnswer ", "May :", "Exchanges :"):
+        holds(it in first, f"docs/STATEMENT.md hasn't {it!r}")
+    rest = "\n".join(text for _, text in [*fenced("agda", second()), *fenced("rust", second())])
+    for it in ("pub fn play_in(", "record Plays ", "PlaysBefore :", "record ConnectionStep ", "record Served ", "Serves :", "record Headline "):
+        holds(it in rest, f"the second page hasn't {it!r}")
 
 
 def first_reading() -> str:
-    """Parts 0 to 3."""
+    """The page up to the notation."""
     page = text_of(PAGE)
-    return page[: page.index("\n## The other parts\n")]
+    return page[: page.index("\n## The notation\n")]
 
 
 def read_in(part: str, pace: int) -> float:
@@ -191,38 +218,39 @@ def read_in(part: str, pace: int) -> float:
     return (len(words) - len(in_lines)) / 200 + len(lines) / pace
 
 
-@test("statement: the times of the page aren't less than its words and lines take, and parts 0 to 3 take 48 minutes")
+@test("statement: the times of the pages aren't less than their words and lines take, and the first reading takes 40 minutes")
 def times_hold() -> None:
-    page, table = text_of(PAGE), rows()
-    parts = re.split(r"^(?=## )", page, flags=re.M)
+    table = rows()
     for column, pace in ((3, 6), (4, 10)):
-        for part in range(1, 10):
-            needed = next(read_in(it, pace) for it in parts if it.startswith(f"## Part {part}"))
-            said = table[f"Part {part}"][column]
-            holds(needed <= said, f"part {part} takes {needed:.1f} minutes, and not {said}")
-        first = read_in(first_reading(), pace)
-        said = table["**The first reading**"][column]
-        holds(first <= said <= 48, f"parts 0 to 3 take {first:.1f} minutes, and not {said}")
+        for part in [*PARTS][1:]:
+            needed = read_in(text_of_part(part), pace)
+            said = table[part][column]
+            holds(needed <= said, f"{part} takes {needed:.1f} minutes, and not {said}")
+    said = int(match_of(r"Reading it takes at most (\d+) minutes", " ".join(text_of(PAGE).split()))[1])
+    first = read_in(first_reading(), 6)
+    holds(first <= said <= 40, f"the first reading takes {first:.1f} minutes, and not {said}")
 
 
 # (the names of which a comment under a definition or a contract says what they mean)
 NOTE = r"^(?:--|//)   (?! )([^:]+): "
 
 
-@test("statement: what parts 0 to 3 name is in them, in words at least, under a definition that names it")
+def shown_first() -> list[Place]:
+    """The definitions that the template puts on the first page."""
+    found: list[Place] = []
+    for words in re.findall(r"^<!-- definitions (.*) -->$", text_of(TEMPLATE), re.M):
+        for piece in words.split("; "):
+            place, _, names = piece.partition(": ")
+            crate, _, file = place.partition("/")
+            found += [(crate, file, name) for name in names.split()]
+    return found
+
+
+@test("statement: what the page names is on it, in words at least, under a definition that names it")
 def nothing_unsaid() -> None:
     counted = Counted()
-    read = first_reading()
-    groups = re.findall(r"^### `(\w+)` of `(\w+)`\n(?:(?!^#).*\n)*?```agda\n((?:(?!```).*\n)*)", read, re.M)
-    first = read[: read.index("\n## The notation")]
-    groups += [(file, "ob0_world_rules", first) for file in ("Headline", "Laws", "Answers")]
-    shown = [
-        (crate, file, name)
-        for file, crate, text in groups
-        for name in definitions(text)
-        if name in counted.files[crate, file][0]
-    ]
-    holds(len(shown) > 30, f"hardly any definition is in parts 0 to 3: {shown}")
+    read, shown = first_reading(), shown_first()
+    holds(len(shown) > 10, f"hardly any definition is on the page: {shown}")
     said = {name for _, _, name in shown}
     for piece in re.split(r"\n\n+(?=\S)|^```.*\n", read, flags=re.M):
         noted = [name for names in re.findall(NOTE, piece, re.M) for name in names.split(", ")]
@@ -242,45 +270,40 @@ def nothing_unsaid() -> None:
             of_type = next(iter(definitions(counted.files[home[0], home[1]][0][home[2]])))
             if home[2] not in said and of_type not in said:
                 missing.add(f"{word}, by {name} of {file}")
-    same(sorted(missing), [], "what parts 0 to 3 name and don't say")
+    same(sorted(missing), [], "what the page names and doesn't say")
 
 
-@test("statement: the words of the page link each law that it shows in part 9 to that part")
-def laws_are_linked() -> None:
-    shown = "\n".join(text for part, text in fenced("rust") if str(part).startswith("Part 9"))
-    laws = re.findall(r"^pub fn (\w+)\(\)", shown, re.M)
-    holds(len(laws) > 6, f"hardly any law is in part 9: {laws}")
-    words = re.sub(r"^```\w+\n.*?^```$", "", text_of(PAGE), flags=re.M | re.S)
-    for name in laws:
-        same(re.findall(rf"(?<!\[)`{name}`|\[`{name}`\](?!\(#part-9)", words), [], f"{name} without a link")
-
-
-@test("statement: the laws and tests that speak for what is believed are there")
-def spoken_for() -> None:
+def sources() -> str:
     paths = glob.glob(os.path.join(TOP, "crates", "*", "src", "*.rt"))
-    sources = "\n".join(text_of(os.path.relpath(path, TOP)) for path in paths)
-    said = re.findall(r"For that speak (.*?)\n\n", text_of(PAGE), re.S)
+    return "\n".join(text_of(os.path.relpath(path, TOP)) for path in paths)
+
+
+@test("statement: the laws and tests that speak for what is believed are there, and so is each law that the pages name")
+def spoken_for() -> None:
+    written = sources()
+    said = re.findall(r"For that speak (.*?)\n\n", second(), re.S)
     same(len(said), 6, "how many parts say what speaks for them")
     named = [name for text in said for name in re.findall(r"`([a-z]\w*_\w+)`", text) if not name.startswith("ob0_")]
     holds(len(named) > 12, f"hardly any law or test is named: {named}")
-    same([name for name in named if f"fn {name}(" not in sources], [], "laws and tests that aren't there")
+    named += [name for text in (text_of(PAGE), second()) for name in re.findall(r"the laws? \[?`([a-z]\w*_\w+)`", text)]
+    same([name for name in named if f"fn {name}(" not in written], [], "laws and tests that aren't there")
     files = [path for text in said for path in re.findall(r"\b(?:tests|crates)/[\w/]*\w(?:\.py)?", text)]
     same([path for path in files if not os.path.exists(os.path.join(TOP, path))], [], "files and folders that aren't there")
 
 
-@test("statement: no definition that the headline needs is left out of the page, counted in another way")
+@test("statement: no definition that the theorem needs is left out of the two pages, counted in another way")
 def closed_page() -> None:
     counted = Counted()
-    rows = re.findall(r"^\| `([^`|]+)` \| .* \| `(\w+)` of `(\w+)` \|$", text_of(PAGE), re.M)
-    closed = {counted.home(crate, file, name.split(".")[-1]) for name, file, crate in rows}
+    rows_of = re.findall(r"^\| `([^`|]+)` \| .* \| `(\w+)` of `(\w+)` \|$", second(), re.M)
+    closed = {counted.home(crate, file, name.split(".")[-1]) for name, file, crate in rows_of}
     roots = [("ob0_world", "Worlds", name) for name in ("Plays", "PlaysBefore")]
-    roots += [("ob0_session", "Serving", "Serves"), ("ob0_world_determined", "Determined", "ConversationIsServed")]
+    roots += [("ob0_session", "Serving", "Serves"), ("ob0_world_determined", "Exchanged", "EveryExchangeIsServed")]
     needed = counted.needed(roots, closed)
     holds(len(needed) > 600, f"hardly any definition is needed: {len(needed)}")
-    last = {name for part, text in fenced("agda") if str(part).startswith("Part 9") for name in definitions(text)}
-    uncounted = [name for crate, _, name in needed if name in last and crate != "ob0_scan"]
-    said = int(re.findall(r"No\s+sum\s+has\s+the\s+(\d+)\s+definitions", text_of(PAGE))[0])
-    holds(0 < len(uncounted) <= said, f"{len(uncounted)} definitions are in no sum: {uncounted}")
-    shown = {name for _, text in fenced("agda") for name in definitions(text)}
+    last = {name for part, text in fenced("agda", second()) if str(part).startswith("Part 9") for name in definitions(text)}
+    said = int(re.findall(r"No\s+sum\s+has\s+the\s+(\d+)\s+definitions", second())[0])
+    holds(0 < said <= len(last), f"{said} definitions are in no sum, of {len(last)}")
+    blocks = [text for page in (text_of(PAGE), second()) for _, text in fenced("agda", page)]
+    shown = {name for text in blocks for name in definitions(text)}
     bare = {name.rpartition(".")[2].replace("'◌", "◌") for name in shown}
-    same(sorted(f"{name} of {file} of {crate}" for crate, file, name in needed if name not in bare), [], "what the page leaves out")
+    same(sorted(f"{name} of {file} of {crate}" for crate, file, name in needed if name not in bare), [], "what the pages leave out")

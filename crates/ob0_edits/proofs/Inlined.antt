@@ -1,4 +1,4 @@
--- The edits that inline a constant leave a text whose module runs as before.
+-- The edits that inline a constant leave a text whose module has the same runs.
 use Rattle.std.proofs.Common.{◌≡◌, ℕ, List, Option, Some, None, Result, Vec, Global, inl, inr, refl, subst}
 use Rattle.std.specs.Str.{chars, IsUtf8}
 use Rattle.ob0_inline.specs.Everywhere.{inlined_all}
@@ -22,7 +22,7 @@ use Rattle.ob0_edits.specs.declared.inlining.Inlining.TheVariants.{Here, Everywh
 use Rattle.ob0_edits.specs.declared.inlining.Inlinings.{Inlinings}
 use Rattle.ob0_analysis.proofs.Scanning.{is_module, utf8_of}
 
--- ---- what is offered of an answer
+-- ---- the edits that an answer offers
 
 pub offered_of : (how : Inlining) (unit : Unit) (text : List ℕ) (m : Parsed) (offset : ℕ) (answer : Result (Vec Edit Global) EditRefusal) (edits : Option (Vec Edit Global))
     → AnswersInlining how unit text m offset answer → IsOffered answer edits → Inlines how unit text m offset edits

@@ -1,4 +1,4 @@
--- A constant is inlined, here or everywhere: the edits, and what they leave.
+-- The edits that inline a constant, at one use or everywhere, and the text that they leave.
 -- Rule: docs/PROTOCOL.md, Requests on documents 7, 9, 10.
 use Rattle.std.specs.Prelude.{◌≡◌, ℕ, List, Option, Some, None, Result, Ok, Err, Vec}
 use Rattle.std.specs.declared.alloc.Global.{Global}
@@ -19,7 +19,7 @@ use Rattle.ob0_edits.specs.declared.inlining.Inlining.{Inlining}
 use Rattle.ob0_edits.specs.declared.inlining.Inlining.TheVariants.{Here, Everywhere}
 use Rattle.ob0_edits.specs.declared.inlining.Inlinings as found_inlinings
 
--- the answer of an inliner at a place in bytes of a module
+-- states that an inliner's answer is right at a byte offset of a module
 abbrev pub AnswersInlining : Inlining
     → Unit
     → List ℕ
@@ -30,7 +30,7 @@ abbrev pub AnswersInlining : Inlining
 AnswersInlining Here unit text m offset answer = AnswersHere unit text m offset answer
 AnswersInlining Everywhere unit text m offset answer = AnswersEverywhere unit text m offset answer
 
--- the edits that inline, or none where they are refused; running out of memory isn't a refusal
+-- states the edits of an inlining, or None if it is refused; a failed allocation isn't a refusal
 abbrev pub Inlines : Inlining → Unit → List ℕ → Parsed → ℕ → Option (Vec Edit Global) → Type 0
 Inlines how unit text m offset (Some edits) = AnswersInlining how unit text m offset (Ok edits)
 Inlines how unit text m offset None =
@@ -38,7 +38,8 @@ Inlines how unit text m offset None =
     × ¬ (refusal ≡ Memory)
     × AnswersInlining how unit text m offset (Err refusal)
 
--- These edits inline. Made at once they leave a text whose module runs as before.
+-- States that these edits inline a constant. Applied at once, they leave a text whose module has
+-- the same runs.
 pub record InlinesIn (how : Inlining) (unit : Unit) (text : List ℕ) (offset : ℕ)
     (edits : Vec Edit Global) : Type 0 where
   pub module_read : Parsed
@@ -48,25 +49,25 @@ pub record InlinesIn (how : Inlining) (unit : Unit) (text : List ℕ) (offset : 
   pub made : patched (width_of unit) text edits.items ≡ Some after
   pub runs : RunsAsBefore (utf8 text) (utf8 after)
 
--- there are no edits that inline
+-- states that this inlining is refused
 pub record IsNotInlinedIn (how : Inlining) (unit : Unit) (text : List ℕ) (offset : ℕ) : Type 0 where
   pub module_read : Parsed
   pub read : IsReadAs (utf8 text) module_read
   pub refused : Inlines how unit text module_read offset None
 
--- ---- what is found in a text
+-- ---- the result for a text
 
--- what an inliner's answer offers
+-- states what an inliner's answer offers: its edits, or None if it is refused
 abbrev pub IsOffered : Result (Vec Edit Global) EditRefusal → Option (Vec Edit Global) → Type 0
 IsOffered answer (Some edits) = answer ≡ Ok edits
 IsOffered answer None = (refusal : EditRefusal) × ¬ (refusal ≡ Memory) × (answer ≡ Err refusal)
 
--- offered exactly where it isn't refused
+-- states that edits are offered exactly if the inlining isn't refused
 abbrev pub Offers : Inlining → Unit → List ℕ → ℕ → Option (Vec Edit Global) → Type 0
 Offers how unit text offset (Some edits) = InlinesIn how unit text offset edits
 Offers how unit text offset None = IsNotInlinedIn how unit text offset
 
--- what is offered at a place of a text, for a well-typed module alone
+-- states the offered edits at a place of a text, or None if the text isn't a well-typed module
 abbrev pub FindsInlinings : Unit → List ℕ → ℕ → Option found_inlinings.Inlinings → Type 0
 FindsInlinings unit text offset (Some found) =
     Offers Here unit text offset found.here × Offers Everywhere unit text offset found.everywhere

@@ -1,4 +1,4 @@
--- A text is laid out: the edits, and what they leave.
+-- The edits that format a text, and the text that they leave.
 -- Rule: docs/PROTOCOL.md, Requests on documents 8, 10.
 use Rattle.std.specs.Prelude.{◌≡◌, ◌<◌, ℕ, List, Option, Some, None, Result, Ok, Err, Vec, map, length}
 use Rattle.std.specs.declared.alloc.Global.{Global}
@@ -17,11 +17,11 @@ use Rattle.ob0_analysis.specs.Diagnosed.{IsTextOf, IsWellTypedModule}
 use Rattle.ob0_analysis.specs.Texts.{utf8}
 use Rattle.ob0_analysis.specs.RunsKept.{RunsAsBefore}
 
--- the layout of a module's text
+-- the formatted text of a module
 abbrev pub layout_of : {text : List ℕ} → Indent → IsWellTypedModule text → List ℕ
 layout_of indent m = layout indent m.tree m.text_of.scan.scan.lexemes
 
--- what is to be said of the gaps that change, at positions of a unit
+-- the range and new text of each gap that changes, with positions in this unit
 abbrev pub layout_changes : {text : List ℕ}
     → Unit
     → Indent
@@ -33,8 +33,9 @@ layout_changes unit indent characters m =
     map (edit_of (width_of unit) characters) (changed_gaps source.text
     (all_gaps indent source.text (line_roles 0 m.tree) m.text_of.scan.scan.lexemes))
 
--- These edits lay out a text: one for each gap that changes, which it replaces. Made at once they
--- leave the layout, a text of the same module, which runs as before.
+-- States that these edits format a text: there is one for each gap that changes, and it replaces
+-- the gap. Applied at once, they leave the formatted text. It has the same module, with the same
+-- runs.
 pub record LaysOut (unit : Unit) (indent : Indent) (text : List ℕ)
     (edits : List Edit) : Type 0 where
   pub before : IsWellTypedModule (utf8 text)
@@ -45,17 +46,18 @@ pub record LaysOut (unit : Unit) (indent : Indent) (text : List ℕ)
   pub same_module : IsTextOf before.tree (utf8 after)
   pub runs : RunsAsBefore (utf8 text) (utf8 after)
 
--- the layout of the text is longer than a text may be
+-- states that the formatted text is longer than a text may be
 pub record IsTooLongLaidOut (indent : Indent) (text : List ℕ) : Type 0 where
   pub before : IsWellTypedModule (utf8 text)
   pub long : max_text < length (layout_of indent before)
 
--- edits, or the one refusal
+-- states the result of formatting a module: edits, or the only possible refusal
 abbrev pub Formats : Unit → Indent → List ℕ → Result (Vec Edit Global) EditRefusal → Type 0
 Formats unit indent text (Ok edits) = LaysOut unit indent text edits.items
 Formats unit indent text (Err refusal) = (refusal ≡ TooLong) × IsTooLongLaidOut indent text
 
--- edits, or the one refusal, for a well-typed module alone
+-- states the result of formatting a text: edits, the only possible refusal, or None if the text
+-- isn't a well-typed module
 abbrev pub FindsLayout : Unit
     → Indent
     → List ℕ

@@ -1,4 +1,4 @@
--- Renaming in a text: the edits, or why there are none.
+-- Renaming in a text: the edits, or the refusal.
 -- Rule: docs/PROTOCOL.md, Requests on documents 2, 6.
 use Rattle.std.specs.Prelude.{◌≡◌, ℕ, List, Option, Some, None, Result, Ok, Err, Vec}
 use Rattle.std.specs.declared.alloc.Global.{Global}
@@ -14,20 +14,15 @@ use Rattle.ob0_analysis.specs.Diagnosed.{IsWellTypedModule}
 use Rattle.ob0_analysis.specs.RunsKept.{RunsAsBefore}
 use Rattle.ob0_analysis.specs.Texts.{utf8}
 use Rattle.ob0_rename.specs.Answers.{AreEdits, IsRefused}
-use Rattle.ob0_rename.specs.Renaming.{Renaming}
+use Rattle.ob0_rename.specs.Renaming.{Renaming, renaming_of}
 
--- another name for what is named at a place of a text that is this module
-abbrev pub renaming_of : Unit → List ℕ → Resolution → Position → List ℕ → Renaming
-renaming_of unit text names place new =
-    record { unit = unit; text = text; names = names; place = place; new = new }
-
--- edits, or why there are none
+-- states the result for a module: edits, or the refusal
 abbrev pub Settles : Renaming → Result (Vec Edit Global) EditRefusal → Type 0
 Settles r (Ok edits) = AreEdits r edits.items
 Settles r (Err refusal) = IsRefused r refusal
 
--- These edits write the new name. Made at once they leave a text whose module is the renamed one,
--- and runs as before.
+-- States that these edits write the new name. Applied at once, they leave a text of the renamed
+-- module, which has the same runs.
 pub record RenamesIn (unit : Unit) (text : List ℕ) (place : Position) (new : List ℕ)
     (edits : List Edit) : Type 0 where
   pub names : Resolution
@@ -37,14 +32,14 @@ pub record RenamesIn (unit : Unit) (text : List ℕ) (place : Position) (new : L
   pub made : patched (width_of unit) text edits ≡ Some after
   pub runs : RunsAsBefore (utf8 text) (utf8 after)
 
--- there is no edit, for this reason
+-- states that the renaming is refused for this reason
 pub record IsRefusedIn (unit : Unit) (text : List ℕ) (place : Position) (new : List ℕ)
     (refusal : EditRefusal) : Type 0 where
   pub names : Resolution
   pub read : IsModuleIn (utf8 text) names
   pub refused : IsRefused (renaming_of unit text names place new) refusal
 
--- edits, or why there are none, for a well-typed module alone
+-- states the result for a text: edits, the refusal, or None if the text isn't a well-typed module
 abbrev pub FindsNewName : Unit
     → List ℕ
     → Position

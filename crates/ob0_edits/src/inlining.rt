@@ -1,8 +1,8 @@
-//! Inlining a constant in a text, by its analysis.
+//! Inlining a constant in a text, using the text's analysis.
 //!
-//! One question (`InlinedAt`) makes both lists of edits. `offered_edits` takes the case of no memory out of an
-//! inliner's answer. An inlining more: a variant of `Inlining`, a line in `AnswersInlining`, a field in `Inlinings`,
-//! and its case in `inlines_in` of `proofs/Inlined`.
+//! One question (`InlinedAt`) makes both lists of edits. `offered_edits` separates a failed
+//! allocation from the refusals. A further inlining needs a variant of `Inlining`, a line in
+//! `AnswersInlining`, a field in `Inlinings`, and its case in `inlines_in` of `proofs/Inlined`.
 
 ghost use Rattle.std.specs.Prelude.{◌≡◌, IfOk};
 ghost use Rattle.std.specs.Str.{chars};
@@ -17,7 +17,7 @@ use ob0_inline::{inline_all, inline_here};
 use ob0_text::{Edit, EditRefusal, Position, TextStore};
 use std::alloc::{AllocError, Global};
 
-/// Where a constant is inlined: at one use, or at all of them, and then its declaration goes.
+/// The extent of an inlining: one use, or all uses, in which case the declaration is removed.
 #[derive(Clone, Copy, Debug, Drop, PartialEq, Eq)]
 pub enum Inlining {
     Here,
@@ -31,7 +31,7 @@ pub struct Inlinings {
     pub everywhere: Option<Vec<Edit>>,
 }
 
-/// What can be inlined at a place of the text in a store?
+/// Asks which inlinings are possible at a place of a store's text.
 #[derive(Drop)]
 struct InlinedAt<'a, T: TextStore> {
     store: &'a T,
@@ -58,7 +58,8 @@ impl<'a, T: TextStore> Question for InlinedAt<'a, T> {
     }
 }
 
-/// The edits of an inliner; none where they are refused.
+/// Returns the edits of an inliner, or None if they are refused. A failed allocation is returned as
+/// an error.
 fn offered_edits(answer: Result<Vec<Edit>, EditRefusal>) -> Result<Option<Vec<Edit>>, AllocError>
     ensures { IfOk result (λ edits. IsOffered answer edits) }
 {
@@ -69,8 +70,9 @@ fn offered_edits(answer: Result<Vec<Edit>, EditRefusal>) -> Result<Option<Vec<Ed
     }
 }
 
-/// The edits of each inlining at a place of the text in a store that isn't refused. None for a text that isn't a
-/// well-typed module. Out of memory is never why an inlining has no edits: it is an error of its own.
+/// Returns the edits of each inlining that isn't refused, at a place of a store's text. Returns
+/// None if the text isn't a well-typed module. A failed allocation is never a refusal: it is
+/// returned as an error.
 pub fn inline_in<T: TextStore>(
     alloc: Global,
     store: &T,

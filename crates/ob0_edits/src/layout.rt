@@ -1,4 +1,4 @@
-//! Laying out a text, by its analysis.
+//! Formatting a text, using its analysis.
 
 ghost use Rattle.std.specs.Prelude.{◌≡◌, IfOk};
 ghost use Rattle.std.specs.Str.{chars};
@@ -13,7 +13,7 @@ use ob0_layout::laws::{gaps_make_the_layout, lexemes_stay, module_stays};
 use ob0_text::{Edit, EditRefusal, Indent, TextStore};
 use std::alloc::{AllocError, Global};
 
-/// How the text in a store is to be laid out.
+/// Asks for the edits that format a store's text.
 #[derive(Drop)]
 struct Formatting<'a, T: TextStore> {
     store: &'a T,
@@ -40,8 +40,8 @@ impl<'a, T: TextStore> Question for Formatting<'a, T> {
     }
 }
 
-/// The edits that lay out the text in a store, or why there are none. None for a text that isn't a well-typed module.
-/// Out of memory is never the reason: it is an error of its own.
+/// Returns the edits that format a store's text, or the refusal. Returns None if the text isn't a
+/// well-typed module. A failed allocation is never a refusal: it is returned as an error.
 pub fn layout_in<T: TextStore>(
     alloc: Global,
     store: &T,

@@ -1,11 +1,12 @@
-//! Out of memory taken out of the refusals of edits.
+//! Separates failed allocations from the refusals of edits.
 ghost use Rattle.std.specs.Prelude.{◌≡◌, ◌≢◌, IfOk, IfErr};
 ghost use Rattle.ob0_text.specs.declared.refusals.EditRefusal.TheVariants.{Memory};
 
 use ob0_text::{Edit, EditRefusal};
 use std::alloc::AllocError;
 
-/// The same edits or refusal. Running out of memory isn't a refusal: it is an error of its own.
+/// Returns the same edits or refusal. A failed allocation isn't a refusal: it is returned as an
+/// error.
 pub(crate) fn without_memory(
     outcome: Result<Vec<Edit>, EditRefusal>,
 ) -> Result<Result<Vec<Edit>, EditRefusal>, AllocError>

@@ -1,13 +1,15 @@
-//! Renaming in a text, by its analysis.
+//! Renaming in a text, using its analysis.
 //!
-//! What is renamed, a declaration or a field, is a case of `AreEdits` and `IsRefused` of `ob0_rename`; both have
-//! `WritesName`, so `renames_in` of `proofs/Renamings` is one lemma for both. `RenamesIn` and `IsRefusedIn` speak of
-//! the module with its names bound (`IsModuleIn`), since fields are found by what names are bound to. `new_name_found`
-//! goes from what `ask` says of the bytes to `RenamesIn` of the characters.
+//! Declarations and fields are two cases of `AreEdits` and `IsRefused` of `ob0_rename`. Both cases
+//! contain `WritesName`, so one lemma, `renames_in` of `proofs/Renamings`, covers both. `RenamesIn`
+//! and `IsRefusedIn` are about the module with its names bound (`IsModuleIn`), because fields are
+//! found through the bindings of names. `new_name_found` derives `RenamesIn`, which is about
+//! characters, from the contract of `ask`, which is about bytes.
 
 ghost use Rattle.std.specs.Prelude.{◌≡◌, IfOk};
 ghost use Rattle.std.specs.Str.{chars};
-ghost use Rattle.ob0_edits.specs.Renamings.{FindsNewName, Settles, renaming_of};
+ghost use Rattle.ob0_rename.specs.Renaming.{renaming_of};
+ghost use Rattle.ob0_edits.specs.Renamings.{FindsNewName, Settles};
 
 use crate::refusals::without_memory;
 use ob0_analysis::{Analysis, Question, WellTyped, ask};
@@ -15,7 +17,7 @@ use ob0_rename::rename;
 use ob0_text::{Edit, EditRefusal, Position, TextStore};
 use std::alloc::{AllocError, Global};
 
-/// Another name for what is named at a place of the text in a store.
+/// Asks for the edits that rename the declaration or field at a place of a store's text.
 #[derive(Drop)]
 struct NewName<'a, T: TextStore> {
     store: &'a T,
@@ -40,8 +42,9 @@ impl<'a, T: TextStore> Question for NewName<'a, T> {
     }
 }
 
-/// The edits that write `new` for what is named at a place of the text in a store, or why there are none. None for a
-/// text that isn't a well-typed module. Out of memory is never the reason: it is an error of its own.
+/// Returns the edits that rename the declaration or field at a place of a store's text to `new`, or
+/// the refusal. Returns None if the text isn't a well-typed module. A failed allocation is never a
+/// refusal: it is returned as an error.
 pub fn rename_in<T: TextStore>(
     alloc: Global,
     store: &T,

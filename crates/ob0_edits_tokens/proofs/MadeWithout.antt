@@ -1,4 +1,5 @@
--- The text without a declaration, and with another one at places after it, is scanned, and has the expected words.
+-- A text without a declaration, in which identifiers after it are replaced, is scanned and has the
+-- expected words.
 use Rattle.std.proofs.Common.{◌≡◌, ℕ, suc, ◌≤◌, List, [], ◌∷◌, length, get_or, drop, map, refl, sym, ap, ap₂, ◌∙◌, arith}
 use Rattle.std.specs.Prelude.{Some}
 use Rattle.std.specs.Str.{IsUtf8, chars}

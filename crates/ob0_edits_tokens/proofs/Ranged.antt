@@ -22,7 +22,7 @@ pub bounds_none : [] ≡ bounds []
 unfolding bounds
 bounds_none = refl
 
--- the bounds of one span more
+-- the bounds of one more span
 pub bounds_further : (spans : List Span) (i : ℕ) (d : Span) (found : List ℕ) → i < length spans → found ≡ bounds (take i spans)
     → (found ++ (get_or spans i d).start ∷ []) ++ (get_or spans i d).end ∷ [] ≡ bounds (take (i + 1) spans)
 unfolding bounds
@@ -68,14 +68,14 @@ module _ (unit : counting.Unit) (content : List ℕ) (spans : List Span) (i : �
   pub ends_there : (p : Position) → get_or ps (2 * i + 1) p ≡ position_of (width_of unit) content (get_or spans i d).end
   ends_there p = at_bound (2 * i + 1) p (omega (arith, low)) ∙ ap (position_of (width_of unit) content) (end_at spans i d low)
 
--- one range more
+-- one more range
 pub range_added : (unit : counting.Unit) (content : List ℕ) (spans : List Span) (i : ℕ) (low : i < length spans) (d : Span) (old ranges : List Range) (x : Range)
     → ranges ≡ old ++ map (range_of (width_of unit) content) (take i spans) → x ≡ range_of (width_of unit) content (get_or spans i d)
     → ranges ++ (x ∷ []) ≡ old ++ map (range_of (width_of unit) content) (take (i + 1) spans)
 range_added unit content spans i low d old ranges x so_far is =
     (λ j. so_far j ++ (is j ∷ [])) ∙ append_assoc old _ _ ∙ ap (λ t. old ++ t) (sym (map_more (range_of (width_of unit) content) spans i d low))
 
--- the ranges of a part more
+-- the ranges of one more part
 pub part_added : (unit : counting.Unit) (content : List ℕ) (spans : List Span) (n : ℕ) (found more : List Range)
     → length found + n ≤ length spans → found ≡ map (range_of (width_of unit) content) (take (length found) spans)
     → more ≡ found ++ map (range_of (width_of unit) content) (take n (drop (length found) spans))

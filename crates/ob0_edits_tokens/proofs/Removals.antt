@@ -1,4 +1,5 @@
--- Lexemes of which a declaration is taken out, and some identifiers after it give way to other lexemes.
+-- Lexemes from which a declaration is removed, and in which some identifiers after it are replaced
+-- by other lexemes.
 use Rattle.std.proofs.Common.{◌≡◌, ℕ, suc, ◌+◌, ◌-◌, ◌<◌, ◌≤◌, ◌==◌, Bool, true, false, ◌&&◌, inl, inr, List, [], ◌∷◌, ◌++◌, length, get_or, drop, map, refl, sym, ap, ◌∙◌, subst, arith, append_assoc, append-nil, length-append, add-zero, le-leb, ⊎_elim}
 use Rattle.std.specs.Prelude.{nat_le, if◌then◌else◌, Some, None}
 use Rattle.std.specs.Char.{is_ascii_alphanumeric}
@@ -25,7 +26,7 @@ use Rattle.ob0_edits_tokens.specs.Removed.{without_words, IsDeclaration, removal
 use Rattle.ob0_edits_tokens.proofs.Swaps.{Chain, chain_from, AllClear, Swapped, swapped, pieced_keep, pieced_here, same_first, first_of, byte_at, further, here_token, make_token, make_word, no_break, not_among}
 use Rattle.ob0_edits_tokens.proofs.Merges.{begins_with_space, MeetsLoosely, merged}
 
--- what may be before a declaration in a CONST section
+-- states that a lexeme of this kind may precede a declaration in a CONST section
 abbrev pub OfBorder : LexemeKind → Type 0
 OfBorder (lexeme.Token token.Identifier) = ⊥
 OfBorder (lexeme.Token (token.Reserved w)) = w ≡ reserved.Const
@@ -33,7 +34,7 @@ OfBorder (lexeme.Token (token.Integer n)) = ⊥
 OfBorder (lexeme.Token (token.Symbol s)) = s ≡ symbol.Semicolon
 OfBorder _ = Unit {0}
 
--- after the declaration only the other changes count
+-- after the declaration only the other changes matter
 pub past_last : (first last : ℕ) (ch : Changes) (j : ℕ) (xs : List Word) → last < j → changed_words (without_words first last ch) j xs ≡ changed_words ch j xs
 past_last first last ch j [] h = refl
 past_last first last ch j (x ∷ xs) h =
@@ -57,7 +58,7 @@ module _ (text : List ℕ) (tokens : List Token) (new : List ℕ) (ws : List Wor
   abbrev cuts : List Cut
   cuts = removal tokens first last ∷ map (cut_of tokens new) places
 
-  -- where a walk over the lexemes is
+  -- the state of a walk over the lexemes
   pub record At (at k : ℕ) (ls : List Lexeme) (done : List Token) : Type 0 where
     pub tokens_are : tokens ≡ done ++ tokens_from at ls
     pub count : length done ≡ k
@@ -86,7 +87,7 @@ module _ (text : List ℕ) (tokens : List Token) (new : List ℕ) (ws : List Wor
   token_here : (at k : ℕ) (l : Lexeme) (ls : List Lexeme) (done : List Token) (kind : TokenKind) → l.kind ≡ lexeme.Token kind → At at k (l ∷ ls) done → place.token_or_empty tokens k ≡ make_token kind (span_from at (length l.text))
   token_here at k l ls done kind f a = here_token text tokens new ws replaces k done (tokens_from (at + length l.text) ls) (make_token kind (span_from at (length l.text))) (this_token at k l ls done kind f a) a.count
 
-  -- the lexemes after the declaration, from some place in it on
+  -- the lexemes after the declaration, starting at some place in it
   record After (at k : ℕ) (ls : List Lexeme) : Type 0 where
     after : ℕ
     rest : List Lexeme
@@ -147,7 +148,7 @@ module _ (text : List ℕ) (tokens : List Token) (new : List ℕ) (ws : List Wor
               let further_on : suc k ≤ last = grind (arith, nat_tests) in
               skip_more at k (suc k) l ls (words_gone k l ls kind f low high) (more (done ++ (make_token kind (span_from at (length l.text)) ∷ [])) (next_token at k l ls done kind f a) further_on)
 
-  -- the lexemes from a place on, with the declaration taken out and the new ones at the places
+  -- the lexemes after a place, with the declaration removed and the new ones at the places
   pub record Cleared (at k : ℕ) (ls : List Lexeme) : Type 0 where
     pub lexemes : List Lexeme
     pub apart : AreApart lexemes

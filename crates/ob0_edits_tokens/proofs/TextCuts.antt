@@ -1,4 +1,4 @@
--- Edits at places of a text, in order: the text that they make, in bytes and in characters.
+-- Edits at places of a text, in order: the text that they leave, in bytes and in characters.
 use Rattle.std.proofs.Common.{◌≡◌, ℕ, ◌+◌, ◌-◌, ◌<◌, ◌≤◌, Bool, true, false, List, [], ◌∷◌, ◌++◌, length, get_or, take, drop, min, max, refl, sym, ap, ap₂, ◌∙◌, subst, arith, length-append, get_or-append-add, le-leb}
 use Rattle.std.specs.Prelude.{nat_le, if◌then◌else◌, Some, None, encode_utf8_all}
 use Rattle.std.specs.List.{list_all}
@@ -19,17 +19,17 @@ use Rattle.ob0_text.proofs.CutOrder.{bytes_further}
 use Rattle.ob0_text.proofs.Pieces.{middle_chars, last_chars}
 use Rattle.ob0_edits_tokens.specs.Replaced.{AreInOrder}
 
--- cuts one after another
+-- states that the cuts follow one another
 abbrev pub Chain : ℕ → List Cut → Type 0
 Chain at [] = Unit {0}
 Chain at (c ∷ cs) = (at ≤ c.from) × (c.from ≤ c.to) × Chain c.to cs
 
--- so are those that each take something out
+-- cuts that are in order follow one another
 pub chained : (at : ℕ) (cs : List Cut) → AreInOrder at cs → Chain at cs
 chained at [] order = tt
 chained at (c ∷ cs) order = (order.0, omega (arith, order.1), chained c.to cs order.2)
 
--- the characters before a border
+-- states that the first k characters end at this offset
 pub record IsPlace (bytes : List ℕ) (offset : ℕ) (k : ℕ) : Type 0 where
   pub inside : k ≤ length (chars bytes)
   pub here : byte_len (take k (chars bytes)) ≡ offset
@@ -49,12 +49,12 @@ place_at bytes u offset border =
       },
     )
 
--- between a CR and its LF are these two bytes
+-- states that the bytes around an offset are a CR and its LF
 pub record IsEnding (bytes : List ℕ) (offset : ℕ) : Type 0 where
   pub cr : get_or bytes (offset - 1) 0 ≡ 13
   pub lf : get_or bytes offset 0 ≡ 10
 
--- a place is between characters, and not inside a line's ending
+-- states that a place is between characters, and not inside a line ending
 pub record IsBorder (bytes : List ℕ) (offset : ℕ) : Type 0 where
   pub place : IsCharBoundary bytes offset
   pub clear : IsEnding bytes offset → ⊥
@@ -81,7 +81,7 @@ module _ (unit : counting.Unit) (bytes : List ℕ) (u : IsUtf8 bytes) where
   text : List ℕ
   text = chars bytes
 
-  -- the position of a place that isn't inside a line's ending is at that place
+  -- the position of a place that isn't inside a line ending leads back to that place
   goes_to : (offset k : ℕ) → IsPlace bytes offset k → (IsEnding bytes offset → ⊥) → place (width_of unit) (chars bytes) (position_of (width_of unit) (chars bytes) offset) ≡ k
   unfolding place
   goes_to offset k p clear =
@@ -90,14 +90,14 @@ module _ (unit : counting.Unit) (bytes : List ℕ) (u : IsUtf8 bytes) where
       ∙ ap length (places_go_back (width_of unit) (wide unit) (chars bytes) k p.inside outside)
       ∙ length-take k (chars bytes) ∙ omega (arith, p.inside)
 
-  -- a cut in bytes, and the same in characters
+  -- states that a cut in bytes and a cut in characters are the same
   pub record IsSameCut (b c : Cut) : Type 0 where
     pub from : IsPlace bytes b.from c.from
     pub to : IsPlace bytes b.to c.to
     pub new : c.new ≡ chars b.new
     pub utf8 : IsUtf8 b.new
 
-  -- a place further on in bytes is further on in characters
+  -- if a place is after another in bytes, it is also after it in characters
   up_in_chars : (x y k m : ℕ) → IsPlace bytes x k → IsPlace bytes y m → x ≤ y → k ≤ m
   up_in_chars x y k m p q h = by_test (nat_le k m) refl
     where
@@ -138,7 +138,7 @@ module _ (unit : counting.Unit) (bytes : List ℕ) (u : IsUtf8 bytes) where
       (up_in_chars at b.from k c.from p same.0.from chain.0, up_in_chars b.from b.to c.from c.to same.0.from same.0.to chain.1, chain_in_chars b.to c.to bs cs same.0.to same.1 chain.2)
   chain_in_chars at k _ _ p same chain = absurd same
 
-  -- the pieces in bytes and in characters
+  -- states that these bytes are this text
   pub record IsTextOf (made text : List ℕ) : Type 0 where
     pub utf8 : IsUtf8 made
     pub same : chars made ≡ text
@@ -166,7 +166,7 @@ module _ (unit : counting.Unit) (bytes : List ℕ) (u : IsUtf8 bytes) where
       }
   pieces at k _ _ p same chain = absurd same
 
--- cuts that are in order are in the text's order, and apart
+-- cuts that follow one another are in text order, and apart
 first_stays : (c : Cut) (cs : List Cut) → c.from ≤ c.to → Chain c.to cs → put_in_order c cs ≡ c ∷ cs
 first_stays c [] some chain = refl
 first_stays c (d ∷ ds) some chain =
@@ -193,7 +193,7 @@ unfolding patched_by_cuts
 patched_in_order text cs chain =
     ap (λ b. if b then Some (pieced text 0 (in_text_order cs)) else None) (all_are_apart 0 cs chain) ∙ ap (λ xs. Some (pieced text 0 xs)) (order_stays 0 cs chain)
 
--- the text that cuts in bytes make is the one that the same cuts in characters make
+-- cuts in bytes leave the same text as the same cuts in characters
 pub patched_by_same : (unit : counting.Unit) (bytes : List ℕ) (u : IsUtf8 bytes) (bs cs : List Cut) → AreSame unit bytes u bs cs → Chain 0 bs → IsUtf8 (pieced bytes 0 bs) × (patched_by_cuts (chars bytes) cs ≡ Some (chars (pieced bytes 0 bs)))
 patched_by_same unit bytes u bs cs same chain =
     let start : IsPlace bytes 0 0 = record { inside = omega arith; here = refl } in

@@ -1,4 +1,4 @@
--- The values of constants may be wherever an identifier is.
+-- The values of constants may stand wherever an identifier stands.
 use Rattle.std.proofs.Common.{◌≡◌, ℕ, suc, ◌+◌, ◌-◌, ◌*◌, ◌/◌, ◌%◌, length-append, ◌<◌, ◌≤◌, ◌^◌, Bool, true, false, List, [], ◌∷◌, ◌++◌, length, get_or, refl, sym, ap, ◌∙◌, arith, append-nil}
 use Rattle.std.specs.Prelude.{codes, decimal, ℤ, pos, negsuc, nat_lt, if◌then◌else◌}
 use Rattle.std.specs.List.{AllPass}
@@ -19,7 +19,7 @@ use Rattle.std.proofs.lemmas.List.Sums.{fold-append, AllPass-from_list_all}
 use Rattle.std.proofs.lemmas.List.Elements.{All-nil, All-cons, All-push}
 use Rattle.ob0_edits_tokens.proofs.Names.{a_name, before_word, before_paren}
 
--- digits that write a number
+-- states that digits write a number
 record Writes (n : ℕ) (ds : List ℕ) : Type 0 where
   some : 0 < length ds
   all : AllPass is_ascii_digit ds
@@ -62,7 +62,7 @@ a_number n h =
       apart = λ byte e. (record { belongs = digits_lexeme n h; ends = e }, tt);
     }
 
--- a number below zero, in parentheses
+-- a negative number, in parentheses
 pub a_negative : (n : ℕ) → suc n ≤ 2147483647
     → ReplacesName (codes "(-" ++ (decimal (suc n) ++ codes ")")) (symbol_word symbol.LeftParen ∷ symbol_word symbol.Minus ∷ integer_word (suc n) ∷ symbol_word symbol.RightParen ∷ [])
 a_negative n h = record {
@@ -104,7 +104,7 @@ the_least = record {
     unit : IsInteger 1 (codes "1")
     unit = record { digits = record { nonempty = omega arith; all = AllPass-from_list_all is_ascii_digit (codes "1") refl }; value_of_digits = refl; fits = omega arith }
 
--- the value of a constant: any number of 32 bits
+-- the value of a constant: any 32-bit number
 pub a_value : (z : ℤ) → IsInt32 z → ReplacesName (number_text z) (number_words z)
 a_value (pos n) h = a_number n h
 a_value (negsuc n) h = by_test (nat_lt n 2147483647) refl

@@ -10,7 +10,7 @@ abbrev pub range_of : (ℕ → ℕ) → List ℕ → Span → Range
 range_of width text span =
     record { start = position_of width text span.start; end = position_of width text span.end }
 
--- where spans start and end, one span after another
+-- the starts and ends of spans, one span after another
 unfoldable pub bounds : List Span → List ℕ
 bounds [] = []
 bounds (span ∷ spans) = span.start ∷ span.end ∷ bounds spans

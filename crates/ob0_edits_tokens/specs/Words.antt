@@ -1,9 +1,9 @@
--- The token that a word of a text is.
+-- The token of a word.
 -- Rule: none; for contracts of edit makers.
 use Rattle.std.specs.Prelude.{List, ℕ}
 use Rattle.ob0_scan.specs.Scanned.{Word}
 use Rattle.ob0_tree.specs.Lexeme.{Terminal, kind_lexeme}
 
--- an identifier by its text, an integer by its number, and every other word by its kind
+-- an identifier with its text, an integer with its number, and every other word by its kind
 abbrev pub word_lexeme : Word → Terminal (List ℕ)
 word_lexeme w = kind_lexeme w.text w.kind

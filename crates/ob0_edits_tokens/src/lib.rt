@@ -1,4 +1,4 @@
-//! Edits that replace tokens of a text, or take out a declaration, and the text that they leave.
+//! Edits that replace tokens of a text or remove a declaration, and the text that they leave.
 #![tactic(auto)]
 
 pub mod laws;

@@ -1,4 +1,4 @@
-//! Where tokens are, as spans and as ranges of positions.
+//! The places of tokens, as spans and as ranges of positions.
 
 ghost use Rattle.std.specs.Prelude.{◌≡◌, ◌++◌, IfOk, OnOk, map};
 ghost use Rattle.ob0_edits_tokens.specs.Replaced.{span_at};
@@ -12,7 +12,7 @@ use std::alloc::{AllocError, Global};
 /// Spans are converted in chunks of this many, so that the buffers stay small.
 const PART: usize = 16_384;
 
-/// The ranges of spans, found in one pass over the text where the spans are in text order.
+/// Returns the ranges of spans. If the spans are in text order, one pass over the text finds them.
 pub fn ranges<T: TextStore>(
     alloc: Global,
     store: &T,
@@ -30,7 +30,7 @@ pub fn ranges<T: TextStore>(
     Ok(ranges)
 }
 
-/// Adds the ranges of spans.
+/// Appends the ranges of spans.
 fn add_ranges<T: TextStore>(
     alloc: Global,
     store: &T,
@@ -51,7 +51,7 @@ fn add_ranges<T: TextStore>(
     Ok(())
 }
 
-/// Where spans start and end, one span after another.
+/// Returns the starts and ends of spans, one span after another.
 fn bounds(alloc: Global, spans: &[Span]) -> Result<Vec<usize>, AllocError>
     ensures { IfOk result (λ offsets. offsets.items ≡ bounds spans.now) }
 {
@@ -63,7 +63,7 @@ fn bounds(alloc: Global, spans: &[Span]) -> Result<Vec<usize>, AllocError>
     Ok(offsets)
 }
 
-/// Where the tokens with these numbers are.
+/// Returns the spans of the tokens with these indexes.
 pub(crate) fn spans_of(
     alloc: Global,
     tokens: &[Token],
@@ -77,7 +77,7 @@ pub(crate) fn spans_of(
         .collect(alloc)
 }
 
-/// Where a token is; the text's start where there is no such token.
+/// Returns the span of a token, or an empty span at the text's start if there is no such token.
 fn span_at(tokens: &[Token], place: usize) -> Span
     ensures { result ≡ span_at tokens.now place }
 {

@@ -1,4 +1,4 @@
-//! The edits that put one text in place of several identifiers.
+//! The edits that replace several identifiers by one text.
 
 ghost use Rattle.std.specs.Prelude.{◌≡◌, ◌⊎◌, ◌+◌, ◌++◌, ◌∷◌, [], suc, OnOk, ◌≤◌, ◌<◌, nat_lt, List, length, map, IfOk, IfErr, IsErrOf};
 ghost use Rattle.std.specs.Str.{chars};
@@ -16,7 +16,8 @@ use ob0_scan::{MAX_TEXT, Span, Tokens};
 use ob0_text::{Edit, EditRefusal, Range, TextStore};
 use std::alloc::Global;
 
-/// One edit for each of the places, which are numbers of identifiers among the tokens, in text order.
+/// Returns one edit for each of the places, which are indexes of identifiers among the tokens, in
+/// text order.
 pub fn edits_for<T: TextStore>(
     alloc: Global,
     store: &T,
@@ -38,7 +39,7 @@ pub fn edits_for<T: TextStore>(
         → max_text < length (with_text_at tokens.now places.now new.now) }
     ensures refusals { IfErr result (λ refusal. (refusal ≡ TooLong) ⊎ (refusal ≡ Memory)) }
 {
-    // For the proof: what the contract of this call says.
+    // For the proof: the contract of this call is needed.
     let _text = tokens.text();
     if is_too_long(tokens, 0, 0, places, new) {
         return Err(EditRefusal::TooLong);
@@ -48,8 +49,8 @@ pub fn edits_for<T: TextStore>(
     Ok(edits)
 }
 
-/// The edits that replace the tokens at some places by a text, and before them one that takes out a declaration, from
-/// the first of its tokens to the last.
+/// Returns an edit that removes a declaration, from its first token to its last. Edits that replace
+/// the tokens at some later places by a text follow it.
 pub fn edits_without<T: TextStore>(
     alloc: Global,
     store: &T,
@@ -79,7 +80,7 @@ pub fn edits_without<T: TextStore>(
         → max_text < length (without_text tokens.now first last places.now new.now) }
     ensures refusals { IfErr result (λ refusal. (refusal ≡ TooLong) ⊎ (refusal ≡ Memory)) }
 {
-    // For the proof: what the contract of this call says.
+    // For the proof: the contract of this call is needed.
     let _text = tokens.text();
     let start = tokens.tokens()[first].span.start;
     let end = tokens.tokens()[last].span.end;
@@ -96,7 +97,7 @@ pub fn edits_without<T: TextStore>(
     Ok(edits)
 }
 
-/// Adds one edit for each of the places, whose ranges are found in one pass for the starts and one for the ends.
+/// Appends one edit for each of the places. One pass over the text finds their ranges.
 fn add_edits<T: TextStore>(
     alloc: Global,
     store: &T,
@@ -124,7 +125,7 @@ fn add_edits<T: TextStore>(
     Ok(())
 }
 
-/// The range of a span.
+/// Returns the range of a span.
 pub fn range_of<T: TextStore>(store: &T, span: Span) -> Range
     ensures { result ≡ range_of (width_of (T.unit_of store.now)) (T.content store.now) span }
 {
@@ -134,7 +135,8 @@ pub fn range_of<T: TextStore>(store: &T, span: Span) -> Range
     }
 }
 
-/// Whether `counted` bytes, and the text from `end` on with the new one at all places, are more than a text may have.
+/// Returns whether `counted` bytes, and the text after `end` with the new text at all places, are
+/// more than a text may have.
 fn is_too_long(tokens: &Tokens, counted: usize, end: usize, places: &[usize], new: &str) -> bool
     requires names { AreNames tokens.now.tokens 0 places.now }
     requires order { AreInOrder end (map (cut_of tokens.now.tokens new.now) places.now) }

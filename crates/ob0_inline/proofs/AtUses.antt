@@ -1,5 +1,6 @@
--- What is answered at a use.
--- What the edits say is carried over to the module of the contract as one record (`Made`, `IsRefused`), by one `subst`.
+-- The answer at a use.
+-- One `subst` carries the facts about the edits over to the module of the contract, as one record
+-- (`Made`, `IsRefused`).
 use Rattle.std.proofs.Common.{cond, zero, arith, eq-eqb, ◌≡◌, ◌⊎◌, ℕ, suc, ◌+◌, ◌==◌, Bool, true, false, if◌then◌else◌, Option, Some, None, List, [], ◌∷◌, length, map, refl, sym, ap, ◌∙◌, subst, option_and_then, option_map, slice_get, eqb-true, true≢false}
 use Rattle.std.specs.List.{flat_map, position_from}
 use Rattle.std.proofs.Math.Bool.{or-false}
@@ -41,7 +42,7 @@ use Rattle.ob0_inline.proofs.ModuleTexts.{spelled_by_words, value_spelled}
 use Rattle.ob0_inline.proofs.Refusals.{MakeText, Refused, other_is_first, refused_first}
 use Rattle.ob0_inline.proofs.UsesAreIdentifiers.{AreBound, one_identifier, one_place, uses_are_identifiers, uses_ascend, uses_spelled}
 
--- what is written for a value, and whether it is seen
+-- the text that is written for a value, and whether its name is the predeclared one
 
 pub literal_of : (value : Scalar) → written_value (scalar_value value) ≡ Some (value_factor value)
 literal_of (scalar.Truth true) = refl
@@ -52,7 +53,7 @@ shown_is m k (scalar.Number n) e = tt
 shown_is m k (scalar.Truth true) e = same_ordinal-true _ 2 e
 shown_is m k (scalar.Truth false) e = same_ordinal-true _ 3 e
 
--- a use that a place is on is a use
+-- the use at a place is a use
 
 some_named : (token ordinal : ℕ) (found : Option ℕ) (ordinals : List (Option ℕ)) → option_and_then (named_so ordinals) found ≡ Some (record { token = token; ordinal = ordinal }) → ordinal_in ordinals token ≡ Some ordinal
 some_named token ordinal None ordinals e = absurd (cc)
@@ -91,7 +92,7 @@ module _ (r : Resolution) (is : IsResolution r) (u : Use) (use_so : IsUse r.modu
   unfolding there
   are_bound = (((u.occurrence, there), bound_at r is u.occurrence (Some u.token) (sym there) ∙ use_so.bound), tt)
 
-  -- the words with those of the value at the use spell the inlined module
+  -- the words, with the value's words in place of the use, spell the inlined module
   pub here_spelled : IsAlone r.module_read u.constant
       → map word_lexeme (changed_words (at_each (u.token ∷ []) (value_words u.value)) 0 (words_of r.module_read.source)) ≡ spell (inlined_here r.module_read u)
   here_spelled alone =
@@ -129,7 +130,7 @@ module _ (r : Resolution) (well : IsWellTyped r) (u : Use) (use_so : IsUse r.mod
       let kept = law (named_tree_of r.module_read) u.constant (scalar_value u.value) (value_factor u.value) (only u.occurrence) (written fits_so) (uses_so shown) well.well_typed in
       record { here = made; leaves = leaves; well_typed = kept.0; same_runs = kept.1 }
 
--- what is known of the edits of a use, or of their refusal, by any reading of the module
+-- the facts about a use's edits, or about their refusal, for any reading of the module
 
 abbrev pub new_text : Resolution → Use → List ℕ
 new_text r u = with_text_at r.module_read.source (u.token ∷ []) (value_text u.value)
@@ -184,7 +185,7 @@ not_there token j n (i ∷ is) e f = by_test (i == token) refl e n f (λ m. not_
     by_test false q e zero f later = true≢false (sym (eq-eqb i token (some_inverse f)) ∙ q)
     by_test false q e (suc n) f later = later n e f
 
--- the use at a name that a place is on
+-- the use at a name that was found at a place
 
 named_token : (found : named.Named) (token ordinal : ℕ) → Some found ≡ Some (record { token = token; ordinal = ordinal }) → found.token ≡ token
 named_token found token ordinal e = ap (λ (o : Option named.Named). (elim o as (λ _. named.Named) [ Some n ↦ n | None ↦ found ]).token) e

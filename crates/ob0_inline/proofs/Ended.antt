@@ -1,6 +1,6 @@
--- Where the declaration of a constant begins and ends, and that its uses follow it.
--- The code finds the declaring token and the first semicolon after it, and between them no token is one; so a constant
--- with a value always has both (`token_known`, `end_known`).
+-- The first and last token of a constant's declaration; its uses follow it.
+-- The code finds the declaring token and the first semicolon after it; no token between them is a
+-- semicolon. So a constant with a value always has both (`token_known`, `end_known`).
 use Rattle.std.proofs.Common.{◌≡◌, ℕ, suc, ◌+◌, ◌-◌, Bool, true, false, cond, if◌then◌else◌, Option, Some, None, List, [], ◌∷◌, ◌++◌, drop, map, length, refl, sym, ap, ◌∙◌, subst, arith, slice_get, append_assoc}
 use Rattle.std.proofs.lemmas.Bool.{le-ltb}
 use Rattle.std.specs.List.{filter, position_from, zip}
@@ -43,7 +43,7 @@ use Rattle.ob0_scope_table.proofs.Declared.{module_declared, names_in}
 use Rattle.ob0_inline.proofs.TakenOut.{NoEnd, Taken, gone_module}
 use Rattle.ob0_inline.proofs.WordsLeft.{first_token, is_declaration, last_token, mark_kind, name_is_first}
 
--- the uses by the table of ordinals
+-- the uses, by the table of ordinals
 
 label_same : (o : Option ℕ) (x : Name) (d : ℕ) → same_label (as_label as_names o x) (declared d) ≡ same_ordinal o d
 label_same None x d = refl
@@ -96,7 +96,7 @@ first_end text k j (t ∷ ts) (x ∷ xs) ys e n =
     ap (λ b. cond b (Some j) (position_from (λ (t : Token). is_semicolon t.kind) (j + 1) ts)) (not_end k t.kind x xs (heads e).0 n)
     ∙ (first_end text (suc k) (j + 1) ts xs ys (heads e).1 (others_no_end x xs n) ∙ ap Some (let z : j + 1 + length xs ≡ j + suc (length xs) = omega arith in z))
 
--- tokens without those before it
+-- tokens after a prefix
 following_front : (text : List ℕ) (k : ℕ) (ts : List Token) (front rest : List (Terminal ℕ)) → numbered_tokens k (map (read_in text) ts) ≡ front ++ rest → numbered_tokens (k + length front) (map (read_in text) (drop (length front) ts)) ≡ rest
 following_front text k ts [] rest e = ap (λ n. numbered_tokens n (map (read_in text) ts)) (let z : k + 0 ≡ k = omega arith in z) ∙ e
 following_front text k [] (x ∷ front) rest e = absurd (cc)
@@ -107,7 +107,7 @@ following_front text k (t ∷ ts) (x ∷ front) rest e =
 pub none_some : (n : ℕ) → None ≡ Some n → ⊥
 none_some n e = cc
 
--- a declaration's tokens, by the ordinal of what it declares
+-- the tokens of the declaration with an ordinal
 
 token_of : (labels : List ℕ) (d place : ℕ) → d ≡ 7 + place → token_declaring labels d ≡ slice_get labels place
 token_of labels d place e =
@@ -131,7 +131,7 @@ module _ (m : Parsed) (d : ℕ) (left : List (Terminal ℕ)) (t : Taken d 7 (nam
       first_end m.source.text (0 + length front) (first_token t) (drop (length front) m.source.tokens) inner t.after (there ∙ regrouped) (refl, t.no_end)
       ∙ ap Some (let z : length front + suc (suc (length t.right)) ≡ length front + (2 + length t.right) = omega arith in z)
 
--- what is known of a constant whose declaration is taken out
+-- the facts about a constant whose declaration is removed
 
 module _ (r : Resolution) (is : IsResolution r) (d : ℕ) (w : Value) (has_value : value_of_constant (named_tree_of r.module_read) d ≡ Some w) where
   abbrev spelled : spell (tree_of r.module_read) ≡ numbered_tokens 0 (words_of r.module_read.source)
@@ -152,7 +152,7 @@ module _ (r : Resolution) (is : IsResolution r) (d : ℕ) (w : Value) (has_value
   pub ends_at : position_from (λ x. is_semicolon x.kind) name_token (drop name_token r.module_read.source.tokens) ≡ Some end_token
   ends_at = ends_there r.module_read d (spell (gone_module d (tree_of r.module_read))) taken
 
-  -- what the table of declarations tells, and what the search after it finds
+  -- the entry in the table of declarations, and the result of the search after it
   pub token_known : token_declaring r.declarations d ≡ Some name_token
   token_known = ap (λ (xs : List ℕ). token_declaring xs d) is.declaring ∙ begins_at
 
@@ -185,7 +185,7 @@ module _ (r : Resolution) (is : IsResolution r) (c : NamedConstant) (constant : 
   pub are_uses : AreNames r.module_read.source.tokens (suc c.last) (uses_of r.module_read c.ordinal)
   are_uses = subst (λ n. AreNames r.module_read.source.tokens (suc n) (uses_of r.module_read c.ordinal)) last_is (names_at r is c.ordinal (scalar_value c.value) constant.has_value)
 
-  -- the words that are left spell the inlined module
+  -- the remaining words spell the inlined module
   pub left_spelled : IsAlone r.module_read c.ordinal
       → map word_lexeme (changed_words (without_words c.first c.last (at_each (uses_of r.module_read c.ordinal) (value_words c.value))) 0 (words_of r.module_read.source)) ≡ spell (inlined_all r.module_read c)
   left_spelled alone =

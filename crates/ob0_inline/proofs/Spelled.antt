@@ -1,6 +1,8 @@
--- The tokens of a tree with a factor in place of uses: those of the tree, with the factor's in place of the uses' tokens.
--- The tree is over the numbers of tokens. A name gives way exactly where it is an occurrence that is a use (`Rest`):
--- those that aren't looked up don't (`others`), nor do those that are elsewhere than alone (`apart`).
+-- The tokens of a tree in which a factor replaces uses: the tokens of the tree, with the factor's
+-- tokens in place of the uses.
+-- The tree is over the indexes of tokens. A name is replaced exactly if it is an occurrence that is
+-- a use (`Rest`). Names that aren't looked up aren't replaced (`others`), nor are names that aren't
+-- factors by themselves (`apart`).
 use Rattle.std.proofs.Common.{◌≡◌, ◌≢◌, ℕ, suc, ◌+◌, ◌==◌, Bool, true, false, if◌then◌else◌, Option, None, Some, List, [], ◌∷◌, ◌++◌, length, refl, sym, ap, ◌∙◌, subst, arith, append-nil, add-zero, eqb-true, slice_get}
 use Rattle.std.proofs.lemmas.List.Concat.{flat_map-append}
 use Rattle.std.specs.List.{flat_map}
@@ -23,7 +25,7 @@ use Rattle.ob0_scope_table.specs.Resolution.{ordinal_in}
 use Rattle.ob0_scope.proofs.SeenInPlaces.{AllMarked, IsMarked}
 use Rattle.ob0_inline.proofs.TakenOut.{first_procedure_count, formals_count, gone_block, gone_constants, gone_module, gone_procedure, gone_procedures, gone_section, kept_constants, procedure_count}
 
--- what gives way are the used occurrences, of which the first has the number k
+-- states that exactly the used occurrences are replaced, the first of which has the number k
 abbrev pub Agrees : (ℕ → Bool) → Uses → ℕ → List ℕ → Type 0
 Agrees gives uses k [] = Unit {0}
 Agrees gives uses k (i ∷ is) = (gives i ≡ uses k) × Agrees gives uses (suc k) is
@@ -33,7 +35,7 @@ agrees_each gives uses k [] h = tt
 agrees_each gives uses k (i ∷ is) h =
     (subst (λ n. gives i ≡ uses n) (add-zero k) (h 0 i refl), agrees_each gives uses (suc k) is (λ j x e. subst (λ n. gives x ≡ uses n) (omega arith) (h (suc j) x e)))
 
--- names with other labels than that of a declaration
+-- states that no name has the label of this declaration
 abbrev pub NoneIs : ℕ → List Label → Type 0
 NoneIs d [] = Unit {0}
 NoneIs d (l ∷ ls) = (l ≢ declared d) × NoneIs d ls
@@ -60,7 +62,8 @@ module _ (gives : ℕ → Bool) (uses : Uses) (v : Tree naming.Name factor) (f :
   abbrev put : Terminal ℕ → List (Terminal naming.Name)
   put = replaced gives (spell v) f g
 
-  -- what is known of occurrences from number k on, of identifiers, and of names that are elsewhere than alone
+  -- the facts about occurrences, the first of which has the number k, about identifiers, and about
+  -- names that aren't factors by themselves
   abbrev Rest : ℕ → List ℕ → List (Role × ℕ) → List Label → Type 0
   Rest k os is es = Agrees gives uses k os × AllMarked table is × NoneIs d es
 
@@ -82,7 +85,7 @@ module _ (gives : ℕ → Bool) (uses : Uses) (v : Tree naming.Name factor) (f :
       → Rest k (occurrences t ++ occurrences u) (identifiers r t ++ identifiers r u) (names_elsewhere (mapped label g t) ++ names_elsewhere (mapped label g u)) → Fits k r t × Fits (past k t) r u
   both k r t u h = cut k r t (occurrences u) (identifiers r u) (names_elsewhere (mapped label g u)) h
 
-  -- names that are declared, or those of fields
+  -- states that names in this role, such as declared names or fields, aren't replaced
   abbrev pub Plain : Role → Type 0
   Plain r = (i : ℕ) → IsMarked table r i → gives i ≡ false
 

@@ -1,6 +1,8 @@
--- The declaration of a constant taken out of a tree: what is left, over any names, and which tokens are gone.
--- `gone_module` is the module without the declaration over any names. `Taken`: the tokens of the tree are those before
--- (with CONST or a semicolon), then the declaration from its name to its semicolon, then the rest; no semicolon is inside.
+-- A tree from which the declaration of a constant is removed: the rest, over any names, and the
+-- removed tokens.
+-- `gone_module` is the module without the declaration, over any names. `Taken` splits the tokens of
+-- the tree into three parts: the tokens up to CONST or a semicolon, the declaration from its name
+-- to its semicolon, and the rest. The declaration contains no other semicolon.
 use Rattle.std.proofs.Common.{zero, slice_get, ◌≡◌, ◌≢◌, ◌⊎◌, ℕ, suc, ◌+◌, ◌<◌, ◌≤◌, ◌==◌, Bool, true, false, if◌then◌else◌, Option, Some, None, List, [], ◌∷◌, ◌++◌, length, refl, sym, ap, ◌∙◌, arith, append_assoc, ne_eqb}
 use Rattle.ob0_scan.specs.declared.lexeme.Reserved.TheVariants as reserved
 use Rattle.ob0_scan.specs.declared.lexeme.Symbol.TheVariants as symbol
@@ -23,7 +25,7 @@ use Rattle.ob0_language_names.specs.Scopes.{after_block, after_names, after_proc
 use Rattle.ob0_types_check.proofs.DeclaredNames.{after_block-mapped, after_names-map, after_procedure-mapped, formals-names}
 use Rattle.ob0_language_names.proofs.Ordinals.{le-after_names, le-after_procedure, le-after_procedures}
 
--- as the module without a declaration, over any names
+-- each part of a module without a declaration, over any names
 abbrev pub gone_constants : {N : Type 0} → ℕ → ℕ → Tree N (items constant) → Tree N (items constant)
 gone_constants d k end = end
 gone_constants d k (more c cs) = if k == d then cs else more c (gone_constants d (suc k) cs)
@@ -47,7 +49,8 @@ abbrev mutual
 abbrev pub gone_module : {N : Type 0} → ℕ → Tree N module_text → Tree N module_text
 gone_module d (is_module x b closing) = is_module x (gone_block d 7 b) closing
 
--- with other names a tree declares as much as before; sections are counted as those of a block that has no others
+-- a tree declares as much with other names; its sections are counted like the sections of a block
+-- without other parts
 module _ (f : ℕ → Name) (g : ℕ → ℕ) where
   pub formals_count : (k : ℕ) (fs : Tree ℕ (maybe formals)) → after_names k (formal_names (formal_sections (mapped f g fs))) ≡ after_names k (formal_names (formal_sections fs))
   formals_count k fs = ap (after_names k) (formals-names f g fs) ∙ after_names-map f k (formal_names (formal_sections fs))
@@ -61,7 +64,7 @@ module _ (f : ℕ → Name) (g : ℕ → ℕ) where
   pub procedure_count : (k : ℕ) (p : Tree ℕ (item procedure)) → after_procedure k (mapped f g p) ≡ after_procedure k p
   procedure_count k p = after_procedure-mapped f g k k refl p
 
--- no `;` among these tokens
+-- no `;` is among these tokens
 abbrev pub is_end : TokenKind → Bool
 is_end (kind.Symbol s) = elim s [ symbol.Semicolon ↦ true | _ ↦ false ]
 is_end _ = false
@@ -71,8 +74,8 @@ NoEnd [] = Unit {0}
 NoEnd (Mark k ∷ xs) = (is_end k ≡ false) × NoEnd xs
 NoEnd (_ ∷ xs) = NoEnd xs
 
--- A declaration is among the tokens of a whole, from a constant's name to its `;`, and not among those that are left.
--- The constant has the ordinal d, where the first of these names has k.
+-- States that a declaration is among the tokens of a whole, from a constant's name to its `;`, and
+-- not among the remaining tokens. The constant has the ordinal d if the first of these names has k.
 pub record Taken (d k : ℕ) (labels : List ℕ) (whole left : List (Terminal ℕ)) : Type 0 where
   pub place : ℕ
   pub ordinal_is : d ≡ k + place
@@ -152,7 +155,7 @@ pub get_later : (xs ys : List ℕ) (j : ℕ) → slice_get (xs ++ ys) (length xs
 get_later [] ys j = ap (slice_get ys) (let e : 0 + j ≡ j = omega arith in e)
 get_later (x ∷ xs) ys j = ap (slice_get (x ∷ (xs ++ ys))) (let e : suc (length xs) + j ≡ suc (length xs + j) = omega arith in e) ∙ get_later xs ys j
 
--- a declaration that isn't there leaves the tree as it is: none of the ordinals from one on up to another is that
+-- removing a declaration that doesn't exist leaves the tree unchanged: no ordinal in the range is d
 abbrev pub Outside : ℕ → ℕ → ℕ → Type 0
 Outside d k after = (j : ℕ) → k ≤ j → j < after → j ≢ d
 
@@ -247,7 +250,7 @@ mutual
   path_no_end (more (index e) rest) =
       (refl, no_end_append (spell e ++ (Mark (kind.Symbol symbol.RightBracket) ∷ [])) (spell rest) (no_end_append (spell e) (Mark (kind.Symbol symbol.RightBracket) ∷ []) (expression_no_end e) (refl, tt)) (path_no_end rest))
 
--- where a constant has a value, its declaration is there
+-- a constant that has a value has a declaration
 
 pub gone_here : (d k : ℕ) (c : Tree ℕ (item constant)) (cs : Tree ℕ (items constant)) (b : Bool) → (k == d) ≡ b → gone_constants d k (more c cs) ≡ (if b then cs else more c (gone_constants d (suc k) cs))
 gone_here d k c cs b e = ap (λ v. if v then cs else more c (gone_constants d (suc k) cs)) e

@@ -1,5 +1,5 @@
--- Tokens of occurrences that are bound to a constant: they are names in text order, and with other words in their place
--- the tokens are those of the inlined tree.
+-- The tokens of occurrences that are bound to a constant are names in text order. With other words
+-- in their place, the tokens are the tokens of the inlined tree.
 use Rattle.std.proofs.Common.{◌≡◌, ◌≢◌, ℕ, zero, suc, ◌+◌, ◌≤◌, ◌==◌, ◌||◌, Bool, true, false, Option, Some, None, List, [], ◌∷◌, map, length, refl, sym, ap, ◌∙◌, subst, arith, slice_get, eqb-true, eq-eqb, true≢false}
 use Rattle.std.specs.List.{All, flat_map}
 use Rattle.std.proofs.lemmas.List.Elements.{All-head, All-tail}
@@ -41,7 +41,7 @@ pub lowered : (low higher high : ℕ) (xs : List ℕ) → low ≤ higher → Asc
 lowered low higher high [] le a = omega (arith, le, a)
 lowered low higher high (x ∷ xs) le a = (omega (arith, le, a.0), a.1)
 
--- of the identifiers of a module those that are looked up
+-- the identifiers of a module that are looked up
 looked_up_ascend : (low high : ℕ) (xs : List (Role × ℕ)) → Ascending low (names_only xs) high → Ascending low (looked_up_only xs) high
 looked_up_ascend low high [] a = a
 looked_up_ascend low high ((role.LookedUp, i) ∷ xs) a = (a.0, looked_up_ascend (i + 1) high xs a.1)
@@ -71,7 +71,7 @@ one_identifier ts [] k i h e = absurd (cc)
 one_identifier ts (x ∷ is) zero i h e = subst (IsIdentifierToken ts) (some_inverse e) h.0
 one_identifier ts (x ∷ is) (suc k) i h e = one_identifier ts is k i h.1 e
 
--- the places are tokens of occurrences that are bound to d
+-- states that the places are tokens of occurrences that are bound to d
 abbrev pub AreBound : Resolution → ℕ → List ℕ → Type 0
 AreBound r d [] = Unit {0}
 AreBound r d (p ∷ ps) = (((k : ℕ) × (slice_get r.uses k ≡ Some p)) × (ordinal_in r.ordinals p ≡ Some d)) × AreBound r d ps
@@ -82,7 +82,7 @@ in_table table ((role.LookedUp, x) ∷ xs) zero i a e = ap (ordinal_in table) (s
 in_table table ((role.LookedUp, x) ∷ xs) (suc k) i a e = in_table table xs k i a.1 e
 in_table table ((_, x) ∷ xs) k i a e = in_table table xs k i a.1 e
 
--- a token among the places is that of an occurrence, and bound to d
+-- a token among the places is an occurrence's token, and is bound to d
 record AtBound (r : Resolution) (d i : ℕ) : Type 0 where
   occurs : ordinal_in (occurrence_table r) i ≡ Some 0
   bound : ordinal_in r.ordinals i ≡ Some d
@@ -118,8 +118,8 @@ word_number : (text : List ℕ) (ts : List Token) (k : ℕ) → number_at (map (
 word_number text (t ∷ ts) (suc k) = word_number text ts k
 word_number text _ _ = refl
 
--- With words at the tokens of uses of a constant, which are alone as factors, the tokens are those of the tree with the
--- factor of these words in place of the uses.
+-- If words replace the uses of a constant, and the uses are factors by themselves, the tokens are a
+-- tree's. It is the tree in which these words' factor replaces the uses.
 module _ (r : Resolution) (is : IsResolution r) (d : ℕ) (v : Tree Name factor) (places : List ℕ) (bound : AreBound r d places) (uses : Uses) (agree : (j i : ℕ) → slice_get r.uses j ≡ Some i → is_among i places ≡ uses j)
     (alone : IsAlone r.module_read d) (vs : List Word) (same : map word_lexeme vs ≡ spell v) where
   abbrev gives : ℕ → Bool
@@ -157,7 +157,7 @@ module _ (r : Resolution) (is : IsResolution r) (d : ℕ) (v : Tree Name factor)
       puts (spell (gone_module d (tree_of m)))
       ∙ sym (module_spelled gives uses v (leaf.text_at m.source) (leaf.value_at m.source) (occurrence_table r) (label_at m.source r.ordinals) d others apart d (tree_of m) (uses_agree, uses_reported r is, none_elsewhere))
 
--- tokens of occurrences ascend, so each is that of one occurrence
+-- tokens of occurrences ascend, so each belongs to one occurrence
 pub above : (low high : ℕ) (is : List ℕ) (j i : ℕ) → Ascending low is high → slice_get is j ≡ Some i → low ≤ i
 above low high [] j i a e = absurd (cc)
 above low high (x ∷ is) zero i a e = subst (λ n. low ≤ n) (some_inverse e) a.0

@@ -1,4 +1,5 @@
--- The words that are left where a declaration is taken out, and others put at identifiers, are the tokens that are left with others there.
+-- After a declaration is removed and identifiers are replaced, the remaining words are the
+-- remaining tokens with the same replacements.
 use Rattle.std.proofs.Common.{◌≡◌, inl, inr, ℕ, suc, ◌+◌, ◌<◌, ◌≤◌, true, false, ◌&&◌, if◌then◌else◌, nat_le, Some, List, [], ◌∷◌, ◌++◌, map, length, refl, sym, ap, ◌∙◌, arith, append_assoc, append-nil, length-append}
 use Rattle.std.proofs.lemmas.Bool.{lt-leb, le-leb}
 use Rattle.std.proofs.lemmas.Grind.{flat_map-append}
@@ -23,7 +24,7 @@ use Rattle.ob0_edits_tokens.proofs.Removals.{past_last}
 use Rattle.ob0_language_names.proofs.Peeling.{heads}
 use Rattle.ob0_inline.proofs.TakenOut.{Taken}
 
--- words cut where their tokens are
+-- words that are split together with their tokens
 pub record Cut (k : ℕ) (ws : List Word) (front following : List (Terminal ℕ)) : Type 0 where
   pub first : List Word
   pub rest : List Word
@@ -119,7 +120,7 @@ module _ (s : Scanned) (d k : ℕ) (labels : List ℕ) (left : List (Terminal �
             elim t.opens [ inl o ↦ inl (kind_is ∙ o) | inr o ↦ inr (kind_is ∙ o) ];
       }
 
--- what changes of words make of a part of them
+-- the changes of joined lists of words are the changes of each part
 changed_words-append : (ch : Changes) (k : ℕ) (xs ys : List Word) → changed_words ch k (xs ++ ys) ≡ changed_words ch k xs ++ changed_words ch (k + length xs) ys
 changed_words-append ch k [] ys = ap (λ n. changed_words ch n ys) (let z : k ≡ k + 0 = omega arith in z)
 changed_words-append ch k (x ∷ xs) ys =

@@ -1,4 +1,4 @@
--- The declaration that is taken out: its last token, and what is inside it.
+-- The declaration that is removed: its last token, and the spans inside it.
 -- Rule: docs/PROTOCOL.md, Requests on documents 9.
 use Rattle.std.specs.Prelude.{Bool, true, false, nat_le, ◌&&◌}
 use Rattle.ob0_scan.specs.declared.lexeme.Span.{Span}
@@ -6,11 +6,11 @@ use Rattle.ob0_scan.specs.declared.lexeme.TokenKind.{TokenKind}
 use Rattle.ob0_scan.specs.declared.lexeme.TokenKind.TheVariants as kind
 use Rattle.ob0_scan.specs.declared.lexeme.Symbol.TheVariants as symbol
 
--- a span lies within another
+-- true if a span lies within another
 abbrev pub is_inside : Span → Span → Bool
 is_inside part span = nat_le part.start span.start && nat_le span.end part.end
 
--- a token is a `;`
+-- true if a token is a `;`
 abbrev pub is_semicolon : TokenKind → Bool
 is_semicolon k =
     elim k [ kind.Symbol s ↦ elim s [ symbol.Semicolon ↦ true | _ ↦ false ] | _ ↦ false ]

@@ -1,5 +1,4 @@
--- A constant that a place names, what inlining it everywhere makes of the module,
--- and what refuses it.
+-- The constant at a place, the module after inlining it everywhere, and the refusals.
 -- Rule: docs/PROTOCOL.md, Requests on documents 9, Refusals of edits.
 use Rattle.std.specs.Prelude.{◌≡◌, ◌≢◌, ◌⊎◌, ℕ, Bool, not, ◌&&◌, if◌then◌else◌, List, [], ◌∷◌, Option, Some, None, Result, Ok, Err, Vec, drop, length, map}
 use Rattle.std.specs.List.{All, filter, list_any, position_from, range_with_len, zip}
@@ -33,8 +32,8 @@ use Rattle.ob0_inline.specs.Inlined.{LeavesModule, first_refusal}
 use Rattle.ob0_inline.specs.Uses.{is_predeclared_truth}
 use Rattle.ob0_inline.specs.Values.{value_factor, value_text}
 
--- A constant of a CONST section: its ordinal and value, the token that declares it,
--- and the first `;` after that.
+-- States that a constant of a CONST section has this ordinal and value, this declaring token, and
+-- this first `;` after it.
 pub record IsConstant (m : Parsed) (c : NamedConstant) : Type 0 where
   pub has_value : value_of_constant (named_tree_of m) c.ordinal ≡ Some (scalar_value c.value)
   pub begins : token_declaring (declaring_only (identifiers role.Declaring (tree_of m))) c.ordinal
@@ -42,13 +41,13 @@ pub record IsConstant (m : Parsed) (c : NamedConstant) : Type 0 where
   pub ends : position_from (λ t. is_semicolon t.kind) c.first (drop c.first m.source.tokens)
       ≡ Some c.last
 
--- the place is on a name of this constant: the one that declares it, or a use
+-- states that the place is on a name of this constant: its declaring one, or a use
 pub record IsConstantAt (m : Parsed) (offset : ℕ) (c : NamedConstant) : Type 0 where
   pub token : ℕ
   pub named : name_on m offset ≡ Some (record { token = token; ordinal = c.ordinal })
   pub is_constant : IsConstant m c
 
--- the place is on no name of a constant
+-- states that the place isn't on a name of a constant
 abbrev pub NoConstantAt : Parsed → ℕ → Type 0
 NoConstantAt m offset =
     (n : named.Named)
@@ -61,40 +60,39 @@ uses_of m d =
     map (λ u. u.0) (filter (λ u. same_label u.1 (declared d))
     (zip (occurrences (tree_of m)) (bindings (named_tree_of m))))
 
--- none of the names of d is elsewhere than alone as a factor
+-- states that each name of d is a factor by itself
 abbrev pub IsAlone : Parsed → ℕ → Type 0
 IsAlone m d = All (λ l. l ≢ declared d) (names_elsewhere (numbered (named_tree_of m)))
 
--- the module with the value in place of all uses, without the declaration
+-- the module with the value in place of all uses, and without the declaration
 abbrev pub inlined_all : Parsed → NamedConstant → Tree Name module_text
 inlined_all m c = inlined_everywhere (named_tree_of m) c.ordinal (value_factor c.value)
 
--- the text of it
+-- the text after this inlining
 abbrev pub text_without : Parsed → NamedConstant → List ℕ
 text_without m c = without_text m.source c.first c.last (uses_of m c.ordinal) (value_text c.value)
 
--- an occurrence is a use, and TRUE or FALSE, where it would be written,
--- isn't the predeclared one there
+-- true if an occurrence is a use, and TRUE or FALSE in its place wouldn't be the predeclared name
 abbrev pub is_hidden : Tree Name module_text → NamedConstant → ℕ → Bool
 is_hidden m c k = same_ordinal (binds m k) c.ordinal && not (is_predeclared_truth m k c.value)
 
--- at some use the word that would be written isn't the predeclared one
+-- true if the word that would be written isn't the predeclared name at some use
 abbrev pub any_hidden : Tree Name module_text → NamedConstant → Bool
 any_hidden m c = list_any (is_hidden m c) (range_with_len 0 (length (bindings m)))
 
--- a comment is between the declaration's name and its `;`
+-- true if a comment is between the declaration's name and its `;`
 abbrev pub has_comment : Parsed → NamedConstant → Bool
 has_comment m c = list_any (is_inside (span_over m.source.tokens c.first c.last)) m.source.comments
 
--- the first of the refusals that apply to a constant; None where none applies
+-- the first of the refusals that apply to a constant, or None if there are no refusals
 abbrev pub refusal_everywhere : Parsed → NamedConstant → Option EditRefusal
 refusal_everywhere m c =
     first_refusal (text_without m c) (inlined_all m c)
     (if any_hidden (named_tree_of m) c then Some Shadowed
     else if has_comment m c then Some CommentInside else None)
 
--- These edits take the declaration out, from its name to its `;`, write the value in place of each
--- use, and touch no other character. They leave the text of the inlined module,
+-- States that these edits remove the declaration, from its name to its `;`, and write the value in
+-- place of each use. They change no other character, and leave the text of the inlined module,
 -- which is well-typed and has the same runs.
 pub record InlinesEverywhere (unit : counting.Unit) (text : List ℕ) (m : Parsed)
     (c : NamedConstant) (edits : List Edit) : Type 0 where
@@ -105,8 +103,8 @@ pub record InlinesEverywhere (unit : counting.Unit) (text : List ℕ) (m : Parse
   pub well_typed : WellTyped (inlined_all m c)
   pub same_runs : SameRuns (inlined_all m c) (named_tree_of m)
 
--- The edits where nothing refuses a constant, else the first refusal; out of memory may be returned
--- instead of either.
+-- States the answer for a constant: the edits if nothing refuses it, otherwise the first refusal. A
+-- failed allocation may replace either.
 abbrev pub AnswersConstant : counting.Unit
     → List ℕ
     → Parsed
@@ -118,7 +116,8 @@ AnswersConstant unit text m c (Ok edits) =
 AnswersConstant unit text m c (Err refusal) =
     (refusal_everywhere m c ≡ Some refusal) ⊎ (refusal ≡ Memory)
 
--- The answer at a place: that of the constant that it names, and NoName where it names none.
+-- States the answer at a place: the answer for the constant there, or NoName if there is no
+-- constant.
 abbrev pub AnswersEverywhere : counting.Unit
     → List ℕ
     → Parsed

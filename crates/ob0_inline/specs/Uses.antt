@@ -1,5 +1,4 @@
--- A use of a constant that a place is on, what its inlining makes of the module,
--- and what refuses it.
+-- The use of a constant at a place, the module after inlining it there, and the refusals.
 -- Rule: docs/PROTOCOL.md, Requests on documents 9, Refusals of edits.
 use Rattle.std.specs.Prelude.{◌≡◌, ◌⊎◌, ℕ, Bool, true, false, if◌then◌else◌, List, [], ◌∷◌, Option, Some, None, Result, Ok, Err, Vec, map, slice_get}
 use Rattle.std.specs.declared.alloc.Global.{Global}
@@ -27,14 +26,14 @@ use Rattle.ob0_inline.specs.declared.uses.Use.{Use}
 use Rattle.ob0_inline.specs.Inlined.{LeavesModule, first_refusal}
 use Rattle.ob0_inline.specs.Values.{value_factor, value_text}
 
--- The place is on this use: its token is that of an occurrence,
--- which is bound to a constant of a CONST section.
+-- States that the place is on this use: an occurrence with this token, which is bound to a constant
+-- of a CONST section.
 pub record IsUseAt (m : Parsed) (offset : ℕ) (u : Use) : Type 0 where
   pub named : name_on m offset ≡ Some (record { token = u.token; ordinal = u.constant })
   pub occurs : slice_get (occurrences (tree_of m)) u.occurrence ≡ Some u.token
   pub has_value : value_of_constant (named_tree_of m) u.constant ≡ Some (scalar_value u.value)
 
--- An occurrence, its token, and the constant to which it is bound.
+-- States that an occurrence has this token and is bound to this constant.
 pub record IsUse (m : Parsed) (u : Use) : Type 0 where
   pub occurs : slice_get (occurrences (tree_of m)) u.occurrence ≡ Some u.token
   pub bound : binds (named_tree_of m) u.occurrence ≡ Some u.constant
@@ -45,7 +44,8 @@ abbrev pub truth_ordinal : Bool → ℕ
 truth_ordinal true = 2
 truth_ordinal false = 3
 
--- where TRUE or FALSE would be written in place of an occurrence, it is the predeclared one
+-- true if TRUE or FALSE in place of an occurrence would be the predeclared name; always true for a
+-- number
 abbrev pub is_predeclared_truth : Tree Name module_text → ℕ → Scalar → Bool
 is_predeclared_truth m occurrence (scalar.Number n) = true
 is_predeclared_truth m occurrence (scalar.Truth b) =
@@ -55,14 +55,14 @@ is_predeclared_truth m occurrence (scalar.Truth b) =
 abbrev pub inlined_here : Parsed → Use → Tree Name module_text
 inlined_here m u = inlined (named_tree_of m) (only u.occurrence) (value_factor u.value)
 
--- the first of the refusals that apply to a use; None where none applies
+-- the first of the refusals that apply to a use, or None if there are no refusals
 abbrev pub refusal_here : Parsed → Use → Option EditRefusal
 refusal_here m u =
     first_refusal (with_text_at m.source (u.token ∷ []) (value_text u.value)) (inlined_here m u)
     (if is_predeclared_truth (named_tree_of m) u.occurrence u.value then None else Some Shadowed)
 
--- These edits write the value in place of the use and touch no other character. They leave the text
--- of the inlined module, which is well-typed and has the same runs.
+-- States that these edits write the value in place of the use and change no other character. They
+-- leave the text of the inlined module, which is well-typed and has the same runs.
 pub record InlinesHere (unit : counting.Unit) (text : List ℕ) (m : Parsed) (u : Use)
     (edits : List Edit) : Type 0 where
   pub here : map parts edits ≡ edit_at unit text m.source.tokens (value_text u.value) u.token ∷ []
@@ -70,7 +70,8 @@ pub record InlinesHere (unit : counting.Unit) (text : List ℕ) (m : Parsed) (u 
   pub well_typed : WellTyped (inlined_here m u)
   pub same_runs : SameRuns (inlined_here m u) (named_tree_of m)
 
--- The edits where nothing refuses a use, else the first refusal; out of memory instead of either.
+-- States the answer for a use: the edits if nothing refuses it, otherwise the first refusal. A
+-- failed allocation may replace either.
 abbrev pub AnswersUse : counting.Unit
     → List ℕ
     → Parsed
@@ -81,7 +82,7 @@ AnswersUse unit text m u (Ok edits) =
     (refusal_here m u ≡ None) × InlinesHere unit text m u edits.items
 AnswersUse unit text m u (Err refusal) = (refusal_here m u ≡ Some refusal) ⊎ (refusal ≡ Memory)
 
--- the answer at a place: that of the use that it is on, and NoName where it is on none
+-- states the answer at a place: the answer for the use there, or NoName if there is no use
 abbrev pub AnswersHere : counting.Unit
     → List ℕ
     → Parsed

@@ -1,4 +1,4 @@
--- How a value is written: its text, the words of that text, and the factor that they spell.
+-- A value in its written form: its text, the words of that text, and the factor that they spell.
 -- Rule: docs/PROTOCOL.md, Requests on documents 9.
 use Rattle.std.specs.Prelude.{ℕ, List}
 use Rattle.ob0_scan.specs.Scanned.{Word}

@@ -1,4 +1,4 @@
-//! How deep a text is nested once it is edited.
+//! The nesting of a text after it is edited.
 
 ghost use Rattle.std.specs.Prelude.{◌≡◌, ◌≤◌, ◌+◌, List, IfOk, IfErr, map, nat_le, nat_lt, ℕ};
 ghost use Rattle.ob0_edits_tokens.specs.Replaced.{LeavesWords};
@@ -16,8 +16,9 @@ use ob0_text::{Edit, EditRefusal, PatchFault, TextStore, patch};
 use ob0_tree::{MAX_NESTING, Module};
 use std::alloc::Global;
 
-/// Whether the text that these edits make is nested deeper than a module may be, where they make a module deeper by one
-/// level at most. Only where the module itself is nested as deep as it may be is the text parsed.
+/// Returns whether the edited text is nested deeper than a module may be, if the edits make the
+/// module at most one level deeper. The text is parsed only if the module is already nested as deep
+/// as it may be.
 pub(crate) fn is_too_deep<T: TextStore>(
     alloc: Global,
     store: &T,
@@ -36,7 +37,7 @@ pub(crate) fn is_too_deep<T: TextStore>(
     is_parsed_too_deep(alloc, store, edits)
 }
 
-/// Whether the text that these edits make is nested deeper than a module may be, by a parse of that text.
+/// Returns whether the edited text is nested deeper than a module may be, by parsing it.
 fn is_parsed_too_deep<T: TextStore>(
     alloc: Global,
     store: &T,
@@ -60,7 +61,8 @@ fn is_parsed_too_deep<T: TextStore>(
     }
 }
 
-/// Whether a text that has the tokens of a tree is a module: then the tree is nested no deeper than a module may be.
+/// Returns whether a text that has the tokens of a tree is a module. It is exactly if the tree
+/// isn't nested deeper than a module may be.
 fn is_module(alloc: Global, text: &str) -> Result<bool, EditRefusal>
     ensures shallow { (s : Scanned) (t : Tree (List ℕ) module_text) → IsScan s → s.text ≡ text.now
         → text_lexemes s ≡ spell t
@@ -76,8 +78,8 @@ fn is_module(alloc: Global, text: &str) -> Result<bool, EditRefusal>
     }
 }
 
-/// Whether tokens, of which a tree spells the text, are those of a module: then the tree is nested no deeper than a
-/// module may be.
+/// Returns whether the tokens of a text that a tree spells are a module. They are exactly if the
+/// tree isn't nested deeper than a module may be.
 fn is_parsed(alloc: Global, tokens: &Tokens) -> Result<bool, EditRefusal>
     ensures shallow { (t : Tree (List ℕ) module_text)
         → text_lexemes tokens.now ≡ spell t

@@ -30,9 +30,9 @@ use ob0_text::{Edit, EditRefusal, Position, TextStore};
 use ob0_types::WellTyped;
 use std::alloc::{AllocError, Global};
 
-/// The edits that write a constant's value in place of all uses of it, and take its declaration out, from its name to
-/// its `;`. The place is on one of its names. The first edit takes the declaration out, the others are in text order
-/// after it.
+/// Returns the edits that write a constant's value in place of all its uses and remove its
+/// declaration, from its name to its `;`. One of the constant's names is at the place. The first
+/// edit removes the declaration, and the others follow in text order.
 pub fn inline_all<T: TextStore>(
     alloc: Global,
     store: &T,
@@ -49,8 +49,8 @@ pub fn inline_all<T: TextStore>(
     }
 }
 
-/// The edits that write a constant's value in place of all its uses and take its declaration out, once the constant is
-/// found.
+/// Returns the edits that write this constant's value in place of all its uses and remove its
+/// declaration.
 fn inline_constant<T: TextStore>(
     alloc: Global,
     store: &T,
@@ -80,7 +80,8 @@ fn inline_constant<T: TextStore>(
     }
 }
 
-/// One edit that takes the constant's declaration out, and one for each use of it, which writes the value in its place.
+/// Returns one edit that removes the constant's declaration, and one for each use, which writes the
+/// value in its place.
 fn edits_everywhere<T: TextStore>(
     alloc: Global,
     store: &T,
@@ -124,11 +125,11 @@ fn edits_everywhere<T: TextStore>(
     Ok(edits)
 }
 
-/// The tokens of the uses of a constant, in text order.
+/// Returns the tokens of a constant's uses, in text order.
 fn uses_of(alloc: Global, names: &Resolved, constant: usize) -> Result<Vec<usize>, AllocError>
     ensures { IfOk result (λ uses. uses.items ≡ uses_of names.now.module_read constant) }
 {
-    // For the proof: what the contract of this call says.
+    // For the proof: the contract of this call is needed.
     let _module = names.module();
     let mut uses = Vec::new(alloc);
     for token in names.occurrences() {
@@ -139,7 +140,7 @@ fn uses_of(alloc: Global, names: &Resolved, constant: usize) -> Result<Vec<usize
     Ok(uses)
 }
 
-/// Whether a comment is between the name of a constant's declaration and its `;`.
+/// Returns whether a comment is between the name of a constant's declaration and its `;`.
 fn has_comment(tokens: &Tokens, constant: NamedConstant) -> bool
     requires inside { constant.last < length tokens.now.tokens }
     requires order { constant.first < constant.last }

@@ -1,4 +1,4 @@
-//! The edits that inline a constant, here or everywhere.
+//! The edits that inline a constant at one use.
 
 ghost use Rattle.std.specs.Prelude.{◌≡◌};
 ghost use Rattle.std.specs.Str.{chars};
@@ -16,7 +16,7 @@ use ob0_text::{Edit, EditRefusal, Position, TextStore};
 use ob0_types::WellTyped;
 use std::alloc::Global;
 
-/// The edit that writes a constant's value in place of the use of it that a place is on.
+/// Returns the edit that writes a constant's value in place of the use at a place.
 pub fn inline_here<T: TextStore>(
     alloc: Global,
     store: &T,
@@ -33,7 +33,7 @@ pub fn inline_here<T: TextStore>(
     }
 }
 
-/// The edit that writes a constant's value in place of a use of it, once the use is found.
+/// Returns the edit that writes a constant's value in place of this use.
 fn inline_use<T: TextStore>(
     alloc: Global,
     store: &T,

@@ -1,4 +1,4 @@
-//! Where TRUE and FALSE are the predeclared ones.
+//! Tests whether TRUE and FALSE are the predeclared names at a place.
 
 ghost use Rattle.std.specs.Prelude.{◌≡◌, IfOk, ◌==◌, ◌&&◌, not, length, option_and_then, slice_get};
 ghost use Rattle.std.specs.List.{list_any, range_with_len};
@@ -15,8 +15,8 @@ use ob0_scope::ordinals_seen;
 use ob0_scope_table::{FALSE, Resolved, TRUE, same_ordinal};
 use std::alloc::{AllocError, Global};
 
-/// Whether the name that would be written for a value in place of an occurrence is the predeclared one. A number has
-/// none.
+/// Returns whether the name that would be written for a value, in place of an occurrence, is the
+/// predeclared one. For a number no name is written, so the result is true.
 pub(crate) fn is_predeclared_truth(
     alloc: Global,
     names: &Resolved,
@@ -33,7 +33,7 @@ pub(crate) fn is_predeclared_truth(
     }
 }
 
-/// Whether a name would be bound to this declaration in place of an occurrence.
+/// Returns whether a name, in place of an occurrence, would be bound to this declaration.
 fn is_seen(
     alloc: Global,
     names: &Resolved,
@@ -58,8 +58,8 @@ fn is_bound(bound: &[Option<usize>], occurrence: usize, ordinal: usize) -> bool
     }
 }
 
-/// Whether the name that would be written for a constant isn't the predeclared one at one of its uses. A number has
-/// none.
+/// Returns whether the name that would be written for a constant isn't the predeclared one at some
+/// use. For a number no name is written, so the result is false.
 pub(crate) fn any_hidden(
     alloc: Global,
     names: &Resolved,
@@ -76,7 +76,8 @@ pub(crate) fn any_hidden(
     }
 }
 
-/// Whether a name would be bound to another declaration than this in place of a use of a constant.
+/// Returns whether a name, in place of some use of a constant, would be bound to another
+/// declaration than this.
 fn is_hidden(
     alloc: Global,
     names: &Resolved,
@@ -90,7 +91,7 @@ fn is_hidden(
         && not (same_ordinal (sees (named_tree_of names.now.module_read) k name.now) ordinal))
         (range_with_len 0 (length (bindings (named_tree_of names.now.module_read))))) }
 {
-    // For the proof: what the contract of this call says.
+    // For the proof: the contract of this call is needed.
     let _module = names.module();
     let bound = ordinals_seen(alloc, names, name)?;
     Ok(any_elsewhere(names, &bound, constant, ordinal))

@@ -1,4 +1,4 @@
-//! The use of a constant that a place is on.
+//! The use of a constant at a place.
 
 ghost use Rattle.std.specs.Prelude.{◌≡◌, ◌==◌, MatchOption, Some};
 ghost use Rattle.std.specs.List.{position_from};
@@ -9,7 +9,8 @@ use ob0_scope::name_at;
 use ob0_scope_table::Resolved;
 use ob0_types::WellTyped;
 
-/// A use of a constant: its token, its number among the occurrences of the text, the constant's ordinal, and its value.
+/// A use of a constant: its token, its number among the occurrences of the text, and the constant's
+/// ordinal and value.
 #[derive(Clone, Copy)]
 pub struct Use {
     pub token: usize,
@@ -18,7 +19,7 @@ pub struct Use {
     pub value: Scalar,
 }
 
-/// The use that a place is on.
+/// Returns the use at a place.
 pub(crate) fn use_at(module: &WellTyped, offset: usize) -> Option<Use>
     ensures at { MatchOption result ((u : Use) → IsUseAt «module».now.module_read offset u → ⊥)
         (λ u. IsUseAt «module».now.module_read offset u) }
@@ -42,11 +43,12 @@ pub(crate) fn use_at(module: &WellTyped, offset: usize) -> Option<Use>
     }
 }
 
-/// The number of the occurrence at a token. Tokens of occurrences ascend, so it is found by halving.
+/// Returns the number of the occurrence at a token. Tokens of occurrences ascend, so a binary
+/// search finds it.
 fn occurrence_at(names: &Resolved, token: usize) -> Option<usize>
     ensures { result ≡ position_from (λ other. other == token) 0 names.now.uses }
 {
-    // For the proof: what the contract of this call says.
+    // For the proof: the contract of this call is needed.
     let _module = names.module();
     names.occurrences().binary_search(&token).ok()
 }

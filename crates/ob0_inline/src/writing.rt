@@ -20,7 +20,7 @@ use ob0_scope_table::Resolved;
 use ob0_text::{Edit, EditRefusal, TextStore};
 use std::alloc::Global;
 
-/// The edit that writes the value of a constant in place of a use of it.
+/// Returns the edit that writes a constant's value in place of a use.
 pub(crate) fn edits_at<T: TextStore>(
     alloc: Global,
     store: &T,

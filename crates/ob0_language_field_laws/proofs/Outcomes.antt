@@ -1,4 +1,5 @@
--- Steps of two runs: the first gets stuck, or both give what means one thing, or both end alike.
+-- Steps of two runs: the first gets stuck, or both give results that represent the same thing, or
+-- both end alike.
 use Rattle.std.proofs.Common.{◌≡◌, ℕ, Bool, true, false, ℤ, pos, negsuc, ◌+ℤ◌, ◌-ℤ◌, ◌*ℤ◌, neg_ℤ, ◌⊎◌, inl, inr, if◌then◌else◌, nat_lt, Some, None, Option, sym, refl, ap, subst₂}
 use Rattle.ob0_tree.specs.declared.tree.Relation.{Relation}
 use Rattle.ob0_tree.specs.declared.tree.Relation.TheVariants as relation
@@ -33,7 +34,7 @@ or_stuck-follows f g None o₂ h = inl refl
 or_stuck-follows f g (Some x) None h = absurd h
 or_stuck-follows f g (Some x) (Some y) h = h
 
--- two outcomes that hold values
+-- states that two outcomes hold values that represent the same value
 abbrev pub ValuesFollow : FieldNames → Outcome Value → Outcome Value → Type 0
 ValuesFollow l = Follows (value_by tagged) (value_by l)
 

@@ -21,7 +21,8 @@ use Rattle.ob0_language_field_laws.proofs.RefieldedTypes.{constant_value-alike, 
 use Rattle.ob0_language_field_laws.proofs.ScalarConstants.{constant_value-scalar}
 use Rattle.ob0_language_field_laws.proofs.Values.{Spot, members_by, store_by, tagged, value_by, values_by}
 
--- a procedure in both runs: its text, the ordinal of the first ARRAY or RECORD in it, and what names mean in its block when it is checked
+-- a procedure in both runs: its text, the ordinal of its first ARRAY or RECORD, and the checked
+-- environment of its block
 pub record Text : Type 0 where
   pub first : ℕ
   pub checked : TypeEnvironment Name
@@ -37,7 +38,7 @@ abbrev pub env_as : FieldNames → Scene → Activation Name
 env_as l [] = []
 env_as l (b ∷ scene) = (b.0, thing_by l (code_by l) b.1) ∷ env_as l scene
 
--- from the first binding of a name on
+-- the rest of a scene that begins with the first binding of a name
 abbrev pub scene_from : Scene → Name → Scene
 scene_from [] x = []
 scene_from (b ∷ scene) x = elim (same_name x b.0) [ true ↦ b ∷ scene | false ↦ scene_from scene x ]
@@ -59,7 +60,7 @@ newest-as l (b ∷ scene) = refl
 pub object-as : (l : FieldNames) (scene : Scene) (x : Name) → newest (from_binding as_names (env_as l scene) x) ≡ option_map (thing_by l (code_by l)) (newest_thing (scene_from scene x))
 object-as l scene x = ap newest (from_binding-as l scene x) ∙ newest-as l (scene_from scene x)
 
--- how arguments are passed
+-- the modes of arguments
 
 pub formal_modes-refield : (l : FieldNames) (k : ℕ) (fs : Tree Name (items further_section)) → formal_modes (refield_sections l k fs) ≡ formal_modes fs
 formal_modes-refield l k end = refl
@@ -114,7 +115,7 @@ value-as l scene e = constant_value-alike (λ x. newest (from_binding as_names (
 pub denoted-as : (l : FieldNames) (scene : Scene) (k : ℕ) (t : Tree Name written_type) → denoted (meanings as_names (env_as l scene)) k (refield_type l k t) ≡ option_map (shape_by l) (denoted (named (objects_in scene)) k t)
 denoted-as l scene k t = denoted-refield l (λ x. newest (from_binding as_names (env_as l scene) x)) (objects_in scene) (constants-as l scene) (types-as l scene) k t
 
--- both runs make what means one thing, or neither makes anything
+-- states that both runs give results that represent the same thing, or that neither gives a result
 abbrev pub Both : {A X Y : Type 0} → (A → X) → (A → Y) → Option X → Option Y → Type 0
 Both {A} f g o₁ o₂ = (o : Option A) × (o₁ ≡ option_map f o) × (o₂ ≡ option_map g o)
 
@@ -170,7 +171,7 @@ declare_types-both l scene k (more (declares_type x u) ds) =
     (denoted (meanings as_names (env_as tagged scene)) k (refield_type tagged k u)) (denoted (meanings as_names (env_as l scene)) k (refield_type l k u)) (denoted-both l scene k u)
     (λ s. declare_types-both l ((x, type_thing s) ∷ scene) (k + constructors u) ds))
 
--- values that variables begin with
+-- the first values of variables
 
 copies-by : (l : FieldNames) (n : ℕ) (v : Value) → copies n (value_by l v) ≡ values_by l (copies n v)
 copies-by l zero v = refl

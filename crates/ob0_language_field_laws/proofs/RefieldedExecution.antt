@@ -1,4 +1,5 @@
--- Two runs execute a statement alike: one with tagged fields, the other with fields under other names.
+-- Two runs execute a statement alike: one with tagged fields, the other with fields under other
+-- names.
 use Rattle.std.proofs.Common.{◌≡◌, ℕ, zero, suc, ◌-◌, List, [], ◌∷◌, map, ℤ, ◌⊎◌, inl, inr, true, false, Some, None, Option, option_map, sym, refl, ap, subst₂}
 use Rattle.ob0_tree.specs.Tree.{Tree, assigns, branches, calls, else_branch, else_part, elsif_branch, elsif_part, empty, end, expression, further_statement, items, maybe, more, none, one, repeat_loop, runs, selector, sequence, statement, then_statement, while_loop}
 use Rattle.ob0_language_names.specs.Names.{Name}
@@ -18,7 +19,7 @@ use Rattle.ob0_language_field_laws.proofs.Values.{Spot, place_by, store_by, tagg
 abbrev pub state_by : FieldNames → State → State
 state_by l s = record { store = store_by l s.store; input = s.input; output = s.output }
 
--- the first run is stuck, or both go on in one state, or both end alike
+-- states that the first run is stuck, or both continue in the same state, or both end alike
 abbrev pub Goes : FieldNames → Progress → Progress → Type 0
 Goes l (running s₁) (running s₂) = (s : State) × (s₁ ≡ state_by tagged s) × (s₂ ≡ state_by l s)
 Goes l (running s₁) (stopped e out) = ⊥
@@ -55,7 +56,7 @@ choose-goes l s (truth true) when₁ when₂ else₁ else₂ h k = h s
 choose-goes l s (truth false) when₁ when₂ else₁ else₂ h k = k s
 choose-goes l s _ when₁ when₂ else₁ else₂ h k = inl refl
 
--- a condition that both runs evaluate alike
+-- states that both runs evaluate a condition alike
 abbrev pub Conditions : FieldNames → (State → Outcome Value) → (State → Outcome Value) → Type 0
 Conditions l c₁ c₂ = (s : State) → ValuesFollow l (c₁ (state_by tagged s)) (c₂ (state_by l s))
 
@@ -87,7 +88,7 @@ store_at-goes l apart s p v =
     (or_stuck-follows (store_by tagged) (store_by l) (write_place (store_by tagged s.store) (place_by tagged p) (value_by tagged v)) (write_place (store_by l s.store) (place_by l p) (value_by l v)) (write_place-finds l apart s.store p v))
     (λ store. (record { store = store; input = s.input; output = s.output }, refl, refl))
 
--- arguments, as they are given in both runs
+-- an argument, as both runs receive it
 pub data Given : Type 0 where
   place_given : Spot → Given
   value_given : Value → Given
@@ -149,7 +150,7 @@ writes-goes : (l : FieldNames) (e₁ e₂ : List Argument → State → Progress
 writes-goes l e₁ e₂ (value_given (number n) ∷ []) s = (append_output s (number_out n), refl, refl)
 writes-goes l e₁ e₂ _ s = inl refl
 
--- two runs enter a procedure alike
+-- states that two runs enter a procedure alike
 abbrev pub EntersAlike : FieldNames → (List Argument → State → Progress) → (List Argument → State → Progress) → Type 0
 EntersAlike l e₁ e₂ = (args : List Given) (s : State) → Goes l (e₁ (map (argument_by tagged) args) (state_by tagged s)) (e₂ (map (argument_by l) args) (state_by l s))
 

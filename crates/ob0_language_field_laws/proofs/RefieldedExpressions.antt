@@ -1,4 +1,5 @@
--- Two runs evaluate an expression alike: one with tagged fields, the other with fields under other names.
+-- Two runs evaluate an expression alike: one with tagged fields, the other with fields under other
+-- names.
 use Rattle.std.proofs.Common.{◌≡◌, ℤ, Bool, List, [], ◌∷◌, ◌++◌, map, inl, pos, true, false, Some, None, Option, option_map, sym, refl}
 use Rattle.std.proofs.lemmas.List.{map-append}
 use Rattle.ob0_tree.specs.Tree.{Tree, addend, adds, compares, designator, end, expression, factor, field, index, integer, items, more, multiplier, multiplies, negation, none, one, parenthesised, product, relates, selector, simple, sum, term}
@@ -23,7 +24,7 @@ abbrev pub scalar_value : Scalar → Value
 scalar_value (whole n) = number n
 scalar_value (logical b) = truth b
 
--- what a name means in both runs
+-- the meaning of a name in both runs
 pub data Thing (P : Type 0) : Type 0 where
   type_thing : Shape → Thing P
   constant_thing : Scalar → Thing P
@@ -59,7 +60,7 @@ object_value-follows l apart store _ = inl refl
 abbrev pub PathsFollow : FieldNames → Outcome (List Step) → Outcome (List Step) → Type 0
 PathsFollow l = Follows (map (step_by tagged)) (map (step_by l))
 
--- a step, and what follows it from the part that it reaches
+-- a step, then the path that continues from the selected part
 abbrev pub follow_on : (Value → Outcome (List Step)) → Value → Step → Outcome (List Step)
 follow_on next v s = or_stuck (part v s) >>= (λ w. next w >>= (λ steps. gives (s ∷ steps)))
 

@@ -1,4 +1,5 @@
--- A module fits exactly where it fits with its fields under other names.
+-- A module's declarations and statements are well-typed exactly if they are with its fields under
+-- other names.
 use Rattle.std.proofs.Common.{◌≡◌, ℕ, ◌+◌, true, false, ◌&&◌, List, [], ◌∷◌, ◌++◌, map, Some, None, Option, option_map, option_and_then, unwrap_or, refl, ap, ◌∙◌}
 use Rattle.ob0_tree.specs.Tree.{Tree, begins, block, body, constant, declares, declares_constant, declares_procedure, declares_type, declares_types, declares_variable, declares_variables, end, formals, further_section, has_body, is_module, item, items, maybe, more, no_formals, none, one, procedure, section, then_section, type_name, type_names, value_section, variable, variable_section, variables, written_type}
 use Rattle.ob0_language_names.specs.Names.{Name, as_names, same_name}
@@ -87,7 +88,7 @@ procedure_formals-refield l env k (declares_procedure x fs b closing) = formal_s
 pub procedure_name-refield : (l : FieldNames) (env : TypeEnvironment Name) (k : ℕ) (p : Tree Name (item procedure)) → procedure_name (refield_procedure l env k p) ≡ procedure_name p
 procedure_name-refield l env k (declares_procedure x fs b closing) = refl
 
--- as many ARRAY and RECORD
+-- the number of ARRAY and RECORD is unchanged
 
 pub section_constructors-refield : (l : FieldNames) (k : ℕ) (f : Tree Name section) → constructors (section_type (refield_section l k f)) ≡ constructors (section_type f)
 section_constructors-refield l k f = ap constructors (section_type-refield l k f) ∙ constructors-refield l k (section_type f)

@@ -18,7 +18,7 @@ use Rattle.ob0_language_field_laws.proofs.RefieldedExpressions.{constant_thing, 
 use Rattle.ob0_language_field_laws.proofs.RefieldedModules.{formal_sections-refield, formals_count-refield, refielding_keeps_fitting-holds}
 use Rattle.ob0_language_field_laws.proofs.Values.{store_by, tagged, tagged-apart}
 
--- what names mean to a block's statements, when they are checked
+-- the checked meanings of names for a block's statements
 abbrev pub body_meaning : TypeEnvironment Name → ℕ → Tree Name block → Typed Name
 body_meaning checked k b = meanings as_names (types_after_procedures (types_after_variables checked k b) (after_variables k b) (block_procedures b))
 
@@ -46,7 +46,7 @@ abbrev entered : FieldNames → ℕ → TypeEnvironment Name → Tree Name block
 entered l k checked b enter t o s =
     in_frame s (option_and_then (declare_block as_names k (refield_block l checked k b)) o) (λ f. execute_body as_names f.env (enter f.env) t (block_statements (refield_block l checked k b)))
 
--- two runs call alike, in every scene
+-- states that two runs call alike, in every scene
 abbrev pub AllCallsAlike : FieldNames → (Activation Name → Calls Name) → (Activation Name → Calls Name) → Type 0
 AllCallsAlike l e₁ e₂ = (scene : Scene) → CallsAlike l (e₁ (env_as tagged scene)) (e₂ (env_as l scene))
 
@@ -96,7 +96,7 @@ activate-goes l apart e₁ e₂ calls t ((y, procedure_thing c) ∷ scene) args 
         (activated-goes l apart j checked fs b e₁ e₂ calls t args record { scene = (y, procedure_thing record { first = j; checked = checked; text = declares_procedure x fs b closing }) ∷ scene; store = s.store } s)
 activate-goes l apart e₁ e₂ calls t _ args s = inl refl
 
--- calls, by induction on how many may be open
+-- calls, by induction on the number of calls that may be open
 calls-alike : (l : FieldNames) → KeepsApart l → (c t : ℕ) → AllCallsAlike l (call as_names c t) (call as_names c t)
 unfolding call
 calls-alike l apart zero t scene x args s = inr refl
@@ -126,7 +126,7 @@ run-parts : (l : FieldNames) (x closing : Name) (b : Tree Name block) (input : L
 unfolding run_over
 run-parts l x closing b input c t = refl
 
--- a module that fits runs as with tagged fields
+-- a well-typed module has the same run as with tagged fields
 pub run-tagged : (l : FieldNames) → KeepsApart l → (m : Tree Name module_text) → fits_over as_names m ≡ true → (input : List ℤ) (c t : ℕ) → run_over as_names (refielded tagged m) input c t ≡ run_over as_names (refielded l m) input c t
 run-tagged l apart (is_module x b closing) fits input c t =
     run-parts tagged x closing b input c t

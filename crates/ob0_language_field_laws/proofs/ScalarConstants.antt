@@ -29,7 +29,7 @@ holds-then : {A B : Type 0} (P : B → Type 0) (o : Outcome A) (next : A → Out
 holds-then P (gives a) next each = each a
 holds-then P (ends e) next each = tt
 
--- a scalar, and then what is made of it
+-- a step that gives a scalar, then the next step
 holds-with : {A B : Type 0} (Q : A → Type 0) (P : B → Type 0) (o : Outcome A) (next : A → Outcome B) → Holds Q o → ((a : A) → Q a → Holds P (next a)) → Holds P (o >>= next)
 holds-with Q P (gives a) next h each = each a h
 holds-with Q P (ends e) next h each = tt
@@ -143,7 +143,7 @@ given-scalar (ends e) h = (None, refl)
 abbrev as_constant : Value → Object Place (Unit {0})
 as_constant v = a_constant v
 
--- where names mean scalars alone
+-- constant expressions if names mean only scalars
 pub constant_value-scalar : {V P : Type 0} (objects : Name → Option (Object V P)) (cs : Constants) → ((x : Name) → constant_of (objects x) ≡ option_map scalar_value (cs x)) → (e : Tree Name expression)
     → (c : Option Scalar) × (constant_value (named objects) e ≡ option_map scalar_value c)
 unfolding constant_value

@@ -1,9 +1,11 @@
--- Values, places and the store of two runs: one with the ordinal of its record before each field's name, the other with its fields under other names.
--- In the first run, that of tagged fields, a selector finds a field only in a value of its own record. So where it
--- finds something, the second run finds the same, each step of the first is stuck or the second makes the same one, and
--- the tagged module fits, so its run is never stuck. A module as written and a module with fields under other names are
--- each compared with the tagged one; so no typing of the store is carried along. What both runs hold is a function of
--- one thing (`value_by`, `place_by`, `state_by`).
+-- Values, places and the stores of two runs. In the first run, the ordinal of its record precedes
+-- each field's name; in the second one, fields have other names.
+-- In the first run a selector finds a field only in a value of the same record. The second run also
+-- finds whatever the first one finds. So each step of the first run is stuck, or the second run
+-- makes the same step. The tagged module is well-typed, so its run never gets stuck. Both the
+-- original module and the module with other names are compared with the tagged one, so no typing of
+-- the store is needed. The contents of both runs are functions of one thing (`value_by`,
+-- `place_by`, `state_by`).
 use Rattle.std.proofs.Common.{◌≡◌, ℕ, suc, Bool, true, false, ◌&&◌, List, [], ◌∷◌, map, ◌⊎◌, inl, inr, if◌then◌else◌, ◌==◌, slice_get, slice_set, Some, None, Option, option_map, option_and_then, sym, refl, ap, ◌∙◌, subst, subst₂, eq-eqb}
 use Rattle.std.proofs.Math.Dec.{eqb-suc-suc, eqb-zero-suc}
 use Rattle.std.proofs.lemmas.Bool.{eqb-true}
@@ -15,7 +17,7 @@ use Rattle.ob0_language_fields.proofs.Bare.{bare}
 use Rattle.ob0_language_field_laws.specs.FieldLaws.{KeepsApart}
 use Rattle.ob0_language_field_laws.proofs.Apart.{choose-map}
 
--- a field with the ordinal of its record before its name: no two records have one name
+-- the name of a field after the ordinal of its record, so that no two records share a name
 abbrev pub tagged : FieldNames
 tagged None x = 0 ∷ x
 tagged (Some k) x = suc k ∷ x
@@ -39,7 +41,7 @@ abbrev mutual
   members_by l k no_member = no_member
   members_by l k (next_member x v rest) = next_member (l (Some k) x) (value_by l v) (members_by l k rest)
 
--- a step of a path, a field with the record from which it is taken
+-- a step of a path; a field has the ordinal of the record that it is selected from
 pub data Move : Type 0 where
   to_index : ℕ → Move
   to_field : Option ℕ → Name → Move
@@ -58,7 +60,7 @@ place_by l p = record { variable = p.variable; path = map (step_by l) p.moves }
 abbrev pub store_by : FieldNames → Store → Store
 store_by l store = map (value_by l) store
 
--- what the first run finds, the second finds too
+-- states that the second run finds whatever the first one finds
 abbrev pub Finds : {A X Y : Type 0} → (A → X) → (A → Y) → Option X → Option Y → Type 0
 Finds f g None o = Unit {0}
 Finds f g (Some x) None = ⊥
@@ -109,13 +111,13 @@ with_named_member-by l apart k (next_member y v rest) x new =
     (λ i. if apart k x y i then next_member (l (Some k) y) (value_by l new) (members_by l k rest) else next_member (l (Some k) y) (value_by l v) (with_named_member-by l apart k rest x new i))
     ∙ choose-member l k (same_name x y) (next_member y new rest) (next_member y v (with_named_member rest x new))
 
--- with tags a field is of its own record alone
+-- a tagged field belongs only to its own record
 pub other-tag : (k : ℕ) (ms : Members) (o : Option ℕ) (x : Name) → ((y : Name) → same_name (tagged o x) (tagged (Some k) y) ≡ false) → named_member (members_by tagged k ms) (tagged o x) ≡ None
 other-tag k no_member o x differs = refl
 other-tag k (next_member y v rest) o x differs =
     ap (λ b. if b then Some (value_by tagged v) else named_member (members_by tagged k rest) (tagged o x)) (differs y) ∙ other-tag k rest o x differs
 
--- a move that both runs make, and what is made of the value where its part is written
+-- a step that both runs make, and the value after its part is written
 pub record Moved (l : FieldNames) (v : Value) (m : Move) : Type 0 where
   pub reached : part (value_by l v) (step_by l m) ≡ option_map (value_by l) (part v (step_by bare m))
   pub written : (new : Value) → with_part (value_by l v) (step_by l m) (value_by l new) ≡ value_by l (with_part v (step_by bare m) new)
@@ -126,7 +128,7 @@ moved-index l vs i = record { reached = nth_value-by l vs i; written = λ new. a
 pub moved-field : (l : FieldNames) → KeepsApart l → (k : ℕ) (ms : Members) (x : Name) → Moved l (members k ms) (to_field (Some k) x)
 moved-field l apart k ms x = record { reached = named_member-by l apart k ms x; written = λ new. ap (members k) (with_named_member-by l apart k ms x new) }
 
--- the first run finds nothing there, or both make the move
+-- states that the first run finds nothing, or both make the step
 abbrev pub Reaches : FieldNames → Value → Move → Type 0
 Reaches l v m = (part (value_by tagged v) (step_by tagged m) ≡ None) ⊎ (Moved tagged v m × Moved l v m)
 
@@ -155,7 +157,7 @@ at_path-finds l apart (m ∷ moves) v =
     finds-then (value_by tagged) (value_by l) (value_by tagged) (value_by l) (part (value_by tagged v) (step_by tagged m)) (part (value_by l v) (step_by l m)) (at_path (map (step_by tagged) moves)) (at_path (map (step_by l) moves)) (part-finds l apart v m)
     (λ w. at_path-finds l apart moves w)
 
--- a value with another at the end of a path, in a part of it
+-- the rest of a write along a path, inside one part of a value
 abbrev pub following_part : FieldNames → List Move → Value → Value → Move → Option Value → Option Value
 following_part l moves new v m o = option_and_then (λ old. option_map (with_part (value_by l v) (step_by l m)) (with_at_path (map (step_by l) moves) (value_by l new) old)) o
 

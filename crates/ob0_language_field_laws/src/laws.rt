@@ -1,19 +1,21 @@
-//! The laws. Each function does nothing: its contract is the law.
+//! The laws of fields. Each function has an empty body: its contract is the law.
 
 ghost use Rattle.ob0_language_field_laws.specs.FieldLaws.{FreeFieldKeepsModules, RefieldingKeepsFitting, RefieldingKeepsModules};
 
-/// Fields under other names, those of a record kept apart, keep a module's declarations and statements fitting.
+/// States that renaming fields doesn't change whether a module's declarations and statements are
+/// well-typed, if different fields of a record keep different names.
 pub fn refielding_keeps_fitting()
     ensures { RefieldingKeepsFitting }
 {}
 
-/// Fields under other names, those of a record kept apart, keep a module well-typed, and its runs.
+/// States that a well-typed module remains well-typed and has the same runs after its fields are
+/// renamed, if different fields of a record keep different names.
 pub fn refielding_keeps_modules()
     ensures { RefieldingKeepsModules }
 {}
 
-/// Where a new name for a field is free, the module with that field renamed is well-typed where the module was, and has
-/// its runs.
+/// States that a well-typed module remains well-typed and has the same runs after a field is
+/// renamed to a free name.
 pub fn free_field_keeps_modules()
     ensures { FreeFieldKeepsModules }
 {}

@@ -1,4 +1,5 @@
-//! Laws: the fields of records under other names keep well-typed modules and their runs.
+//! Laws of fields: well-typed modules remain well-typed and have the same runs after the fields of
+//! records are renamed.
 #![tactic(auto)]
 
 pub mod laws;

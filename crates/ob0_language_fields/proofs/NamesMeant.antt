@@ -1,4 +1,5 @@
--- What names mean, by a function of the name; what a name means in an environment; a parameter with its mode and type.
+-- The meanings of names: as a function of the name, and in an environment; and a parameter from its
+-- mode, type and name.
 use Rattle.std.specs.Prelude.{Option}
 use Rattle.ob0_language_names.specs.Names.{Name, as_names}
 use Rattle.ob0_language_types.specs.Environments.{from_binding, newest}
@@ -6,14 +7,14 @@ use Rattle.ob0_language_types.specs.Expressions.{Meanings, Object}
 use Rattle.ob0_language_types.specs.WellTyped.{Mode, Signature, TypeEnvironment, TypedParameter}
 use Rattle.ob0_language_values.specs.Values.{Shape}
 
--- names and fields as written
+-- the meanings that a function gives, with fields named as they are written
 abbrev pub named : {V P : Type 0} → (Name → Option (Object V P)) → Meanings Name V P
 named objects = record { object_for = objects; written = λ x. x }
 
--- what a name means in an environment
+-- the object that a name means in an environment
 abbrev pub object_in : TypeEnvironment Name → Name → Option (Object Shape Signature)
 object_in env x = newest (from_binding as_names env x)
 
--- a parameter of a name, its mode and its type
+-- a parameter with this mode, type and name
 abbrev pub parameter_of : Mode → Shape → Name → TypedParameter Name
 parameter_of m s x = record { name = x; formal = record { mode = m; shape = s } }

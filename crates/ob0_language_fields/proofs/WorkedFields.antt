@@ -9,8 +9,9 @@ use Rattle.ob0_language_types.specs.Declarations.{declare_first}
 use Rattle.ob0_language_types.specs.WellTyped.{declare_typed, typed_parameters}
 use Rattle.ob0_language_fields.specs.Renaming.{FieldFree, field_renamed, is_duplicate_field, records}
 
--- TYPE R = RECORD a, b: INTEGER END; VAR r: R; s: RECORD a: INTEGER END; a: INTEGER; BEGIN r.a := 1; s.a := 2; a := r.a + s.a; Write(a) END M.
--- The field a of R to c: its declaration, and the two selectors after r
+-- TYPE R = RECORD a, b: INTEGER END; VAR r: R; s: RECORD a: INTEGER END; a: INTEGER; BEGIN r.a :=
+-- 1; s.a := 2; a := r.a + s.a; Write(a) END M.
+-- Renaming the field a of R to c changes its declaration and the two selectors after r.
 abbrev two_records_renamed : Tree Name module_text
 two_records_renamed =
     is_module (codes "M") (has_body (declares none (one (declares_types (more (declares_type (codes "R") (record_type (some_fields (listed (codes "c") (more (then_name (codes "b")) end)) (named_type (codes "INTEGER"))) end)) end))) (one (declares_variables (more (declares_variable (listed (codes "r") end) (named_type (codes "R"))) (more (declares_variable (listed (codes "s") end) (record_type (some_fields (listed (codes "a") end) (named_type (codes "INTEGER"))) end)) (more (declares_variable (listed (codes "a") end) (named_type (codes "INTEGER"))) end))))) end) (one (begins (runs (assigns (codes "r") (more (field (codes "c")) end) (alone (integer 1))) (more (then_statement (assigns (codes "s") (more (field (codes "a")) end) (alone (integer 2)))) (more (then_statement (assigns (codes "a") end (compares (sum None (product (designator (codes "r") (more (field (codes "c")) end)) end) (more (adds add_operator.Add (product (designator (codes "s") (more (field (codes "a")) end)) end)) end)) none))) (more (then_statement (calls (codes "Write") (one (some_arguments (alone (designator (codes "a") end)) end)))) end))))))) (codes "M")
@@ -22,7 +23,7 @@ first_record-renamed = refl
 pub records-of_two : records worked.records ≡ record { ordinal = 0; declared = codes "a" ∷ codes "b" ∷ [] } ∷ record { ordinal = 1; declared = codes "a" ∷ [] } ∷ []
 records-of_two = refl
 
--- a to c and to r is free, also to a itself; in the second record to b
+-- the field a can be renamed to c, to r and to a itself, and in the second record to b
 pub to_c-free : FieldFree worked.records 0 (codes "a") (codes "c")
 to_c-free = refl
 
@@ -35,12 +36,13 @@ to_itself-free = refl
 pub second_record-free : FieldFree worked.records 1 (codes "a") (codes "b")
 second_record-free = refl
 
--- a to b isn't: the record has that field
+-- the field a of R can't be renamed to b, because R has another field b
 pub to_b-taken : is_duplicate_field worked.records 0 (codes "a") (codes "b") ≡ true
 to_b-taken = refl
 
--- TYPE P = RECORD x: INTEGER; q: ARRAY 2 OF RECORD x: INTEGER END END; VAR p: P; PROCEDURE S(VAR r: P; x: INTEGER); BEGIN r.q[r.x].x := x END S; BEGIN S(p, p.x) END M.
--- of the field x of the outer record, of the inner record, and of both
+-- TYPE P = RECORD x: INTEGER; q: ARRAY 2 OF RECORD x: INTEGER END END; VAR p: P; PROCEDURE S(VAR r:
+-- P; x: INTEGER); BEGIN r.q[r.x].x := x END S; BEGIN S(p, p.x) END M.
+-- The parameters are the names of the field x in the outer and in the inner record.
 abbrev nested : Name → Name → Tree Name module_text
 nested outer inner =
     is_module (codes "M")

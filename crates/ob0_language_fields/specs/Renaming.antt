@@ -11,23 +11,23 @@ use Rattle.ob0_language_types.specs.Declarations.{after_formals, after_types, af
 use Rattle.ob0_language_types.specs.Typing.{constructors, group_constructors}
 use Rattle.ob0_language_fields.specs.Fields.{FieldNames, refielded}
 
--- the field f of the record r is written as `new`
+-- the names of fields if the field f of the record r becomes `new`
 abbrev pub one_renamed : ℕ → Name → Name → FieldNames
 one_renamed r f new owner x = if same_ordinal owner r && same_name x f then new else x
 
--- the declaring identifier of the field f of the record r, and each selector that selects it,
--- have the name `new`
+-- a module in which the field f of the record r becomes `new`, both at its declaration and in each
+-- selector that selects it
 abbrev pub field_renamed : Tree Name module_text → ℕ → Name → Name → Tree Name module_text
 field_renamed m r f new = refielded (one_renamed r f new) m
 
--- a RECORD of the text: its ordinal among the text's ARRAY and RECORD, and the names of its fields
+-- a RECORD of the text: its ordinal among all ARRAY and RECORD of the text, and its fields' names
 pub record RecordFields : Type 0 where
   pub ordinal : ℕ
   pub declared : List Name
 
 -- the records in the text of a type; k is the ordinal of its first ARRAY or RECORD
 abbrev mutual
-  -- in a type as it is written, an outer record before those in it
+  -- in a type as it is written; an outer record comes before the records inside it
   pub records_in_type : ℕ → Tree Name written_type → List RecordFields
   records_in_type k (named_type x) = []
   records_in_type k (array_type e t) = records_in_type (suc k) t
@@ -52,20 +52,19 @@ records_in_types k end = []
 records_in_types k (more (declares_type x u) ds) =
     records_in_type k u ++ records_in_types (k + constructors u) ds
 
--- the records that are written with variables, in text order
+-- the records in the types of variables, in text order
 abbrev pub records_in_variables : ℕ → Tree Name (items variable) → List RecordFields
 records_in_variables k end = []
 records_in_variables k (more (declares_variable ns u) gs) =
     records_in_type k u ++ records_in_variables (k + constructors u) gs
 
--- the records that are written with parameters
+-- the records in the types of parameters, in text order
 abbrev pub records_in_sections : ℕ → Tree Name (items further_section) → List RecordFields
 records_in_sections k end = []
 records_in_sections k (more (then_section f) fs) =
     records_in_type k (section_type f) ++ records_in_sections (k + constructors (section_type f)) fs
 
--- the records of a block, of its procedures and of a procedure;
--- k is the ordinal of the first ARRAY or RECORD
+-- the records of a block or of its procedures; k is the ordinal of the first ARRAY or RECORD
 abbrev mutual
   -- in a block: in its types, its variables and its procedures
   pub records_in_block : ℕ → Tree Name block → List RecordFields
@@ -91,15 +90,16 @@ abbrev mutual
 abbrev pub records : Tree Name module_text → List RecordFields
 records m = records_in_block 0 (module_block m)
 
--- another of the fields than f has the name
+-- true if a field other than f has the new name
 abbrev pub names_another_field : List Name → Name → Name → Bool
 names_another_field xs f new = list_any (λ x. same_name x new && not (same_name x f)) xs
 
--- another field of the record r than f has the name
+-- true if a field of the record r other than f has the new name
 abbrev pub is_duplicate_field : Tree Name module_text → ℕ → Name → Name → Bool
 is_duplicate_field m r f new =
     list_any (λ t. (t.ordinal == r) && names_another_field t.declared f new) (records m)
 
--- a new name for the field f of the record r is free: no other field of that record has it
+-- states that a new name for the field f of the record r is free: no other field of that record has
+-- it
 abbrev pub FieldFree : Tree Name module_text → ℕ → Name → Name → Type 0
 FieldFree m r f new = is_duplicate_field m r f new ≡ false

@@ -1,3 +1,3 @@
-//! The identifiers of a module that are fields, and of which record each is; a module with its fields under other
-//! names: definitions, with lemmas.
+//! The fields of a module's records, with the record that each field identifier belongs to, and
+//! modules whose fields have other names: definitions, with lemmas.
 #![tactic(auto)]

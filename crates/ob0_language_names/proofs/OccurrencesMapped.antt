@@ -1,4 +1,4 @@
--- The occurrences of a tree with other names are its occurrences with other names.
+-- The occurrences of a mapped tree are the mapped occurrences of the tree.
 use Rattle.std.proofs.Common.{◌≡◌, ℕ, map, refl}
 use Rattle.std.proofs.lemmas.List.{map-append}
 use Rattle.ob0_tree.specs.Tree.{Sort, Tree, mapped, occurrences, adds, array_type, assigns, begins, branches, calls, compares, declares, declares_constant, declares_constants, declares_procedure, declares_type, declares_types, declares_variable, declares_variables, designator, else_branch, elsif_branch, empty, end, field, has_body, index, integer, is_module, listed, more, multiplies, named_type, negation, no_arguments, no_fields, no_formals, none, one, parenthesised, product, record_type, relates, repeat_loop, runs, some_arguments, some_fields, some_formals, sum, then_argument, then_fields, then_name, then_section, then_statement, value_section, variable_section, while_loop}

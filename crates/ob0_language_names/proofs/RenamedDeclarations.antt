@@ -1,4 +1,4 @@
--- Where a new name is free, the renamed module declares names once.
+-- If a new name is free, the renamed module declares names once.
 use Rattle.std.proofs.Common.{Bool, List, Some, [], ap, append-nil, falls, false, if◌then◌else◌, le_refl, refl, suc, sym, true, ℕ, ◌&&◌, ◌++◌, ◌==◌, ◌∙◌, ◌∷◌, ◌≡◌}
 use Rattle.ob0_tree.specs.Tree.{Tree, array_type, block, constant, declares, declares_constant, declares_procedure, declares_type, declares_variable, end, fields, further_fields, further_name, further_section, has_body, is_module, item, items, listed, more, named_type, names, no_fields, procedure, record_type, some_fields, then_fields, then_name, then_section, type_name, variable, written_type}
 use Rattle.ob0_language_names.specs.DeclaredOnce.{are_distinct, block_names, block_once, fields_once, formals_once, group_fields, group_once, groups_fields, groups_once, procedure_names, procedure_once, procedures_once, types_once, variables_once}
@@ -46,7 +46,7 @@ sections-labels naming label scope k (more (then_section s) fs) =
     (λ i. section_names-relabel naming label scope k s i ++ sections-labels naming label (declare_names k (section_names s) scope) (after_names k (section_names s)) fs i)
     ∙ sym (label_names-append label k (section_names s) (formal_names fs))
 
--- the labels of the scope that declarations leave
+-- the labels in the scope after declarations
 
 pub labels_in-names : {N M : Type 0} (label : Labels N M) (k : ℕ) (xs : List N) (scope : Scope N) → labels_in label (declare_names k xs scope) ≡ onto (label_names label k xs) (labels_in label scope)
 labels_in-names label k [] scope = refl
@@ -96,7 +96,7 @@ own_names-block k (has_body (declares cs ts vs ps) statements) own =
     named : (k : ℕ) (xs : List Name) (scope : Scope Name) → labels_in own_name (declare_names k xs scope) ≡ onto xs (labels_in own_name scope)
     named k xs scope = labels_in-names own_name k xs scope ∙ ap (λ ys. onto ys (labels_in own_name scope)) (label_names-own k xs)
 
--- ordinals fall from newer to older bindings
+-- ordinals decrease from newer to older bindings
 
 pub falls-names : {N : Type 0} (k : ℕ) (xs : List N) (scope : Scope N) → Falls k scope → Falls (after_names k xs) (declare_names k xs scope)
 falls-names k [] scope falls = falls
@@ -114,7 +114,7 @@ falls-block {N} k (has_body (declares cs ts vs ps) statements) own falls =
     (falls-names (first_type k b) (named_types (section_types ts)) (types_scope k b own)
     (falls-names k (constant_names (section_constants cs)) own falls)))
 
--- fields keep their names
+-- a renaming leaves the names of fields unchanged
 
 pub further-kept : (f : Name → Name) (xs : Tree Name (items further_name)) → further_names (with_names f (λ x. x) xs) ≡ further_names xs
 further-kept f end = refl
@@ -162,7 +162,7 @@ formals_once-renamed d new scope k (more (then_section s) fs) = λ i.
     (ap fields_once (section_type-relabel as_names (new_name d new) scope k s) ∙ fields_once-kept (label_of as_names (new_name d new) scope) (section_type s)) i
     && formals_once-renamed d new (declare_names k (section_names s) scope) (after_names k (section_names s)) fs i
 
--- no block has the new name for another declaration
+-- no block has the new name for a declaration other than d
 
 abbrev pub Clashes : ℕ → Name → Scope Name → Bool
 Clashes d new own = declares_ordinal own d && names_another own d new

@@ -1,10 +1,10 @@
--- The looked-up names that are elsewhere than alone as a factor: before selectors, as the target of
--- an assignment, as a procedure's and as a type's.
+-- Looked-up names that aren't whole factors: names before selectors, targets of assignments, and
+-- the names of called procedures and of types.
 -- Rule: none; for contracts of inlining.
 use Rattle.std.specs.Prelude.{List, [], ◌++◌, ◌∷◌}
 use Rattle.ob0_tree.specs.Tree.{Sort, Tree, adds, array_type, assigns, begins, branches, calls, compares, declares, declares_constant, declares_constants, declares_procedure, declares_type, declares_types, declares_variable, declares_variables, designator, else_branch, elsif_branch, empty, end, field, has_body, index, integer, is_module, listed, more, multiplies, named_type, negation, no_arguments, no_fields, no_formals, none, one, parenthesised, product, record_type, relates, repeat_loop, runs, some_arguments, some_fields, some_formals, sum, then_argument, then_fields, then_name, then_section, then_statement, value_section, variable_section, while_loop}
 
--- the names of a tree that are looked up and aren't a factor alone
+-- the looked-up names of a tree, except those that are a whole factor
 abbrev pub names_elsewhere : {N : Type 0} {s : Sort} → Tree N s → List N
 names_elsewhere none = []
 names_elsewhere (one t) = names_elsewhere t

@@ -1,17 +1,17 @@
--- Inlining a constant: a factor is written in place of uses, and the declaration may go.
+-- Inlining a constant: a factor replaces its uses, and its declaration may be removed.
 -- Rule: docs/PROTOCOL.md, Requests on documents 9.
 use Rattle.std.specs.Prelude.{ℕ, suc, ◌+◌, Bool, length, if◌then◌else◌, ◌==◌}
 use Rattle.ob0_tree.specs.Tree.{Sort, Tree, adds, array_type, assigns, begins, block, branches, calls, compares, constant, constants, declares, declares_constant, declares_constants, declares_procedure, declares_type, declares_types, declares_variable, declares_variables, designator, else_branch, elsif_branch, empty, end, factor, field, has_body, index, integer, is_module, item, items, listed, maybe, module_text, more, multiplies, named_type, negation, no_arguments, no_fields, no_formals, none, occurrences, one, parenthesised, procedure, product, record_type, relates, repeat_loop, runs, some_arguments, some_fields, some_formals, sum, then_argument, then_fields, then_name, then_section, then_statement, value_section, variable_section, while_loop}
 use Rattle.ob0_language_names.specs.Names.{Name}
 use Rattle.ob0_language_names.specs.Occurrences.{binds}
 use Rattle.ob0_language_names.specs.Parts.{formal_names, formal_sections}
-use Rattle.ob0_language_names.specs.Scopes.{after_names, after_procedure, first_procedure, same_ordinal}
+use Rattle.ob0_language_names.specs.Scopes.{after_names, after_procedure, first_procedure, predeclared_count, same_ordinal}
 
--- which of a tree's occurrences, counted in text order, give way to a factor
+-- the occurrences of a tree that a factor replaces, by their numbers in text order
 abbrev pub Uses : Type 0
 Uses = ℕ → Bool
 
--- k is the number of the first occurrence of each part;
+-- a tree in which the factor v replaces each use; k is the number of the tree's first occurrence;
 -- a name with selectors isn't a use of a constant
 abbrev pub inline_in : {s : Sort} → Uses → Tree Name factor → ℕ → Tree Name s → Tree Name s
 inline_in uses v k none = none
@@ -101,21 +101,21 @@ inline_in uses v k (has_body ds b) =
     has_body (inline_in uses v k ds) (inline_in uses v (k + length (occurrences ds)) b)
 inline_in uses v k (is_module name b closing) = is_module name (inline_in uses v k b) closing
 
--- in place of each use is the factor
+-- a module in which the factor v replaces each use
 abbrev pub inlined : Tree Name module_text → Uses → Tree Name factor → Tree Name module_text
 inlined m uses v = inline_in uses v 0 m
 
--- the constants from ordinal k on without that of ordinal d
+-- a list of constants without the constant of ordinal d; k is the ordinal of the first one
 abbrev pub without : ℕ → ℕ → Tree Name (items constant) → Tree Name (items constant)
 without d k end = end
 without d k (more c cs) = if k == d then cs else more c (without d (suc k) cs)
 
--- a CONST section without the declaration of this ordinal
+-- a CONST section without the constant of ordinal d; k is the ordinal of its first constant
 abbrev pub section_without : ℕ → ℕ → Tree Name (maybe constants) → Tree Name (maybe constants)
 section_without d k none = none
 section_without d k (one (declares_constants cs)) = one (declares_constants (without d k cs))
 
--- a block, its first declaration of ordinal k, without the constant d; the word CONST stays
+-- a block without the constant of ordinal d; the word CONST remains even if no constant is left
 abbrev mutual
   -- a block whose first declaration has ordinal k
   pub block_without : ℕ → ℕ → Tree Name block → Tree Name block
@@ -129,17 +129,17 @@ abbrev mutual
   procedures_without d k (more p rest) =
       more (procedure_without d (suc k) p) (procedures_without d (after_procedure (suc k) p) rest)
 
-  -- a procedure; k is the ordinal after its own
+  -- a procedure with ordinal k - 1
   pub procedure_without : ℕ → ℕ → Tree Name (item procedure) → Tree Name (item procedure)
   procedure_without d k (declares_procedure x fs b closing) =
       declares_procedure x fs
       (block_without d (after_names k (formal_names (formal_sections fs))) b) closing
 
--- a module without the declaration of this ordinal
+-- a module without the constant of ordinal d
 abbrev pub module_without : ℕ → Tree Name module_text → Tree Name module_text
-module_without d (is_module x b closing) = is_module x (block_without d 7 b) closing
+module_without d (is_module x b closing) = is_module x (block_without d predeclared_count b) closing
 
--- the occurrence with this number alone
+-- only the occurrence with this number
 abbrev pub only : ℕ → Uses
 only occurrence k = k == occurrence
 
@@ -147,6 +147,6 @@ only occurrence k = k == occurrence
 abbrev pub all_bound_to : Tree Name module_text → ℕ → Uses
 all_bound_to m d k = same_ordinal (binds m k) d
 
--- in place of all uses of the constant d is a factor, and its declaration is gone
+-- a module in which the factor v replaces all uses of the constant d, without its declaration
 abbrev pub inlined_everywhere : Tree Name module_text → ℕ → Tree Name factor → Tree Name module_text
 inlined_everywhere m d v = module_without d (inlined m (all_bound_to m d) v)

@@ -1,29 +1,31 @@
--- What each occurrence of a name is bound to, and which new names for a declaration are free.
+-- The declaration that each occurrence of a name is bound to, and which new names for a declaration
+-- are free.
 -- Rule: docs/LANGUAGE.md, Scopes 2 to 4; docs/PROTOCOL.md, Refusals of edits (Duplicate, Captures).
 use Rattle.std.specs.Prelude.{◌≡◌, ℕ, suc, Bool, false, not, ◌&&◌, List, [], ◌∷◌, ◌++◌, if◌then◌else◌, ◌==◌, slice_get, Some, None, Option, option_map, option_and_then}
 use Rattle.ob0_tree.specs.Tree.{Tree, block, declares, declares_procedure, end, has_body, item, items, module_text, more, occurrences, procedure}
 use Rattle.ob0_language_names.specs.Names.{Label, Name, as_written, declared, same_label, same_name}
 use Rattle.ob0_language_names.specs.Parts.{formal_names, formal_sections, module_block}
-use Rattle.ob0_language_names.specs.Scopes.{Scope, after_names, after_procedure, body_scope, declare_names, first_procedure, numbered, renamed}
+use Rattle.ob0_language_names.specs.Scopes.{Scope, after_names, after_procedure, body_scope, declare_names, first_procedure, numbered, predeclared_count, renamed}
 use Rattle.std.specs.List.{list_any}
 
--- for each occurrence, in text order, what its name is bound to
+-- the label of each occurrence of a name, in text order
 abbrev pub bindings : Tree Name module_text → List Label
 bindings m = occurrences (numbered m)
 
--- the ordinal of a label, where it has one
+-- the ordinal in a label, or None if it has none
 abbrev pub label_ordinal : Label → Option ℕ
 label_ordinal (declared k) = Some k
 label_ordinal (as_written x) = None
 
--- the ordinal of the declaration that an occurrence is bound to; None where nothing binds it
+-- the ordinal of the declaration that an occurrence is bound to; None if nothing binds it
 abbrev pub binds : Tree Name module_text → ℕ → Option ℕ
 binds m occurrence = option_and_then label_ordinal (slice_get (bindings m) occurrence)
 
 -- the declarations of each block, with their ordinals;
 -- a procedure's parameters and locals are one block
 abbrev mutual
-  -- a block from ordinal k on, with `own` (its procedure's parameters); then the blocks in it
+  -- a block whose first declaration has ordinal k, then the blocks inside it; `own` are the
+  -- declarations of its procedure's parameters
   pub blocks_in : {N : Type 0} → ℕ → Scope N → Tree N block → List (Scope N)
   blocks_in k own (has_body (declares cs ts vs ps) statements) =
       body_scope k (has_body (declares cs ts vs ps) statements) own
@@ -35,49 +37,49 @@ abbrev mutual
   blocks_in_procedures k (more p rest) =
       blocks_in_procedure (suc k) p ++ blocks_in_procedures (after_procedure (suc k) p) rest
 
-  -- the blocks of a procedure; k is the ordinal after its own
+  -- the blocks of a procedure with ordinal k - 1
   pub blocks_in_procedure : {N : Type 0} → ℕ → Tree N (item procedure) → List (Scope N)
   blocks_in_procedure k (declares_procedure x fs b closing) =
       blocks_in (after_names k (formal_names (formal_sections fs)))
       (declare_names k (formal_names (formal_sections fs)) []) b
 
--- a block declares this ordinal
+-- true if a block declares this ordinal
 abbrev pub declares_ordinal : Scope Name → ℕ → Bool
 declares_ordinal own d = list_any (λ b. b.1 == d) own
 
--- another declaration than d has the name
+-- true if a declaration of the block other than d has this name
 abbrev pub names_another : Scope Name → ℕ → Name → Bool
 names_another own d new = list_any (λ b. same_name b.0 new && not (b.1 == d)) own
 
--- another declaration of d's block has the name
+-- true if another declaration of d's block has the new name
 abbrev pub is_duplicate : Tree Name module_text → ℕ → Name → Bool
 is_duplicate m d new =
     list_any (λ own. declares_ordinal own d && names_another own d new)
-    (blocks_in 7 [] (module_block m))
+    (blocks_in predeclared_count [] (module_block m))
 
--- a new name is free: no other declaration of d's block has it,
--- and each occurrence stays bound to its declaration
+-- states that a new name is free: no other declaration of d's block has it, and after the renaming
+-- each occurrence is still bound to its declaration
 abbrev pub Free : Tree Name module_text → ℕ → Name → Type 0
 Free m d new = (is_duplicate m d new ≡ false) × (bindings (renamed m d new) ≡ bindings m)
 
--- two occurrences are bound to the same
+-- true if two occurrences are bound to the same declaration, or are the same unbound name
 abbrev pub same_binding : Label → Label → Bool
 same_binding (as_written x) (as_written y) = same_name x y
 same_binding a b = same_label a b
 
--- the first place at which two lists differ
+-- the first position at which two lists of labels differ
 abbrev pub first_difference : List Label → List Label → Option ℕ
 first_difference (a ∷ as₁) (b ∷ bs) =
     if same_binding a b then option_map suc (first_difference as₁ bs) else Some 0
 first_difference _ _ = None
 
--- where a new name isn't free: another declaration of the block, or an occurrence
+-- a conflict of a new name: with another declaration of the block, or at an occurrence
 pub data Capture : Type 0 where
   at_declaration : Capture
   at_occurrence : ℕ → Capture
 
--- the first place in text order where a new name isn't free;
--- the declaring identifier where the block has the name already
+-- the first conflict of a new name: at the declaring identifier if the block already has the name,
+-- otherwise at the first occurrence, in text order, whose binding would change
 abbrev pub first_captured : Tree Name module_text → ℕ → Name → Option Capture
 first_captured m d new =
     if is_duplicate m d new

@@ -1,4 +1,4 @@
--- Laws of renaming: what a free name keeps, and where a first capture is named.
+-- Laws of renaming: what a free name leaves unchanged, and when a first conflict is found.
 -- Rule: none; laws of renaming.
 use Rattle.std.specs.Prelude.{IsTrue, None, ℕ, ◌↔◌, ◌≡◌}
 use Rattle.ob0_tree.specs.Tree.{Tree, module_text}
@@ -7,8 +7,8 @@ use Rattle.ob0_language_names.specs.Occurrences.{Free, first_captured}
 use Rattle.ob0_language_names.specs.Scopes.{renamed}
 use Rattle.ob0_language_names.specs.DeclaredOnce.{declared_once}
 
--- where a new name is free, the renamed module declares names once too,
--- and its closing names are right
+-- if a new name is free and the module declares names once, then the renamed module also declares
+-- names once, and its closing names are right
 abbrev pub FreeKeepsDeclarations : Type 0
 FreeKeepsDeclarations =
     (m : Tree Name module_text) (d : ℕ) (new : Name)
@@ -16,7 +16,7 @@ FreeKeepsDeclarations =
     → IsTrue (declared_once m)
     → IsTrue (declared_once (renamed m d new))
 
--- a first capture is named exactly where a new name isn't free
+-- a first conflict is found exactly if the new name isn't free
 abbrev pub CapturedWhereNotFree : Type 0
 CapturedWhereNotFree =
     (m : Tree Name module_text) (d : ℕ) (new : Name) → first_captured m d new ≡ None ↔ Free m d new

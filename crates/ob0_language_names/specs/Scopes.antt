@@ -1,5 +1,4 @@
--- Scopes: which declaration each name is bound to,
--- and trees with their names replaced by what these are bound to.
+-- Scopes: the declaration that each name is bound to, and trees in which labels replace the names.
 -- Rule: docs/LANGUAGE.md, Scopes 1 to 6.
 use Rattle.std.specs.Prelude.{ℕ, suc, Bool, true, false, List, [], ◌∷◌, map, if◌then◌else◌, ◌==◌, Some, None, Option}
 use Rattle.ob0_tree.specs.Tree.{Sort, Tree, block, constant, constants, declares, declares_constant, declares_constants, declares_procedure, declares_type, declares_types, declares_variable, declares_variables, end, formals, further_name, further_section, has_body, is_module, item, items, listed, maybe, module_text, more, names, no_formals, none, one, procedure, section, some_formals, then_name, then_section, type_name, type_names, value_section, variable, variable_section, variables}
@@ -7,36 +6,40 @@ use Rattle.ob0_language_names.specs.Mapping.{with_names}
 use Rattle.ob0_language_names.specs.Names.{Label, Name, Naming, as_names, as_written, declared}
 use Rattle.ob0_language_names.specs.Parts.{block_constants, block_procedures, block_types, block_variables, constant_names, formal_names, formal_sections, named_types, names_listed, procedure_name, section_constants, section_names, section_types, section_variables, variable_names}
 
--- the bindings of a place, each name with the ordinal of its declaration:
--- newest first, the predeclared ones last
+-- the bindings that are visible at a place, each a name with its declaration's ordinal:
+-- newest first, the predeclared names last
 abbrev pub Scope : Type 0 → Type 0
 Scope N = List (N × ℕ)
 
--- the declaration to which a name is bound: the first binding of that name
+-- the ordinal of the declaration that a name is bound to: the first binding of that name
 abbrev pub ordinal_of : {N : Type 0} → Naming N → Scope N → N → Option ℕ
 ordinal_of naming [] x = None
 ordinal_of naming (b ∷ scope) x =
     elim (naming.same x b.0) [ true ↦ Some b.1 | false ↦ ordinal_of naming scope x ]
 
--- declarations are numbered in text order, the predeclared names from 0 to 6
+-- a scope with the names of a list added; their ordinals count up from k; declarations are numbered
+-- in text order, the predeclared names from 0 to 6
 abbrev pub declare_names : {N : Type 0} → ℕ → List N → Scope N → Scope N
 declare_names k [] scope = scope
 declare_names k (x ∷ xs) scope = declare_names (suc k) xs ((x, k) ∷ scope)
 
--- the outermost block
+-- how many names are predeclared; the ordinals of declarations begin with this number
+abbrev pub predeclared_count : ℕ
+predeclared_count = 7
+
+-- the scope of the outermost block, which has the predeclared names
 abbrev pub predeclared_scope : {N : Type 0} → Naming N → Scope N
 predeclared_scope naming =
     declare_names 0 (map naming.predeclared (0 ∷ 1 ∷ 2 ∷ 3 ∷ 4 ∷ 5 ∷ 6 ∷ [])) []
 
--- the first ordinal after those of a list of names
+-- the first ordinal after a list of names whose first one has ordinal k
 abbrev pub after_names : {N : Type 0} → ℕ → List N → ℕ
 after_names k [] = k
 after_names k (x ∷ xs) = after_names (suc k) xs
 
--- the first ordinal after those of a block, of some procedures,
--- and of a procedure's parameters and block
+-- the first ordinal after a block, after procedures, or after a procedure
 abbrev mutual
-  -- after a block, whose first declaration has ordinal k
+  -- after a block whose first declaration has ordinal k
   pub after_block : {N : Type 0} → ℕ → Tree N block → ℕ
   after_block k (has_body (declares cs ts vs ps) statements) =
       after_procedures (after_names (after_names
@@ -48,21 +51,22 @@ abbrev mutual
   after_procedures k end = k
   after_procedures k (more p rest) = after_procedures (after_procedure (suc k) p) rest
 
-  -- after a procedure's parameters and block; k is the ordinal after its own
+  -- after the parameters and the block of a procedure with ordinal k - 1
   pub after_procedure : {N : Type 0} → ℕ → Tree N (item procedure) → ℕ
   after_procedure k (declares_procedure x fs b closing) =
       after_block (after_names k (formal_names (formal_sections fs))) b
 
--- in a relabelled tree a label represents each name:
--- a function of its declaration's ordinal and of the name
+-- gives the label that replaces a name in a relabelled tree, from the ordinal of the name's
+-- declaration (None if nothing binds it) and the name
 abbrev pub Labels : Type 0 → Type 0 → Type 0
 Labels N M = Option ℕ → N → M
 
--- the label of a name that is looked up
+-- the label of a looked-up name
 abbrev pub label_of : {N M : Type 0} → Naming N → Labels N M → Scope N → N → M
 label_of naming label scope x = label (ordinal_of naming scope x) x
 
--- a tree in which nothing is declared: its names are looked up, its fields are bound to nothing
+-- a tree that declares nothing, with labels: its names are looked up, and its fields are bound to
+-- nothing
 abbrev pub relabel_uses : {N M : Type 0} {s : Sort}
     → Naming N
     → Labels N M
@@ -71,12 +75,12 @@ abbrev pub relabel_uses : {N M : Type 0} {s : Sort}
     → Tree M s
 relabel_uses naming label scope = with_names (label_of naming label scope) (label None)
 
--- the labels of declaring names, from an ordinal on
+-- the labels of declared names, whose ordinals count up from k
 abbrev pub label_names : {N M : Type 0} → Labels N M → ℕ → List N → List M
 label_names label k [] = []
 label_names label k (x ∷ xs) = label (Some k) x ∷ label_names label (suc k) xs
 
--- further declared names with their labels
+-- the names of a list after the first one, with labels
 abbrev pub relabel_further : {N M : Type 0}
     → Labels N M
     → ℕ
@@ -86,12 +90,12 @@ relabel_further label k end = end
 relabel_further label k (more (then_name x) rest) =
     more (then_name (label (Some k) x)) (relabel_further label (suc k) rest)
 
--- declared names with their labels
+-- a list of declared names, with labels
 abbrev pub relabel_names : {N M : Type 0} → Labels N M → ℕ → Tree N names → Tree M names
 relabel_names label k (listed x rest) =
     listed (label (Some k) x) (relabel_further label (suc k) rest)
 
--- a constant is visible after its right side
+-- constants with labels; a constant is visible after its right side
 abbrev pub relabel_constants : {N M : Type 0}
     → Naming N
     → Labels N M
@@ -104,7 +108,7 @@ relabel_constants naming label scope k (more (declares_constant x e) cs) =
     more (declares_constant (label (Some k) x) (relabel_uses naming label scope e))
     (relabel_constants naming label ((x, k) ∷ scope) (suc k) cs)
 
--- a type is visible after its right side
+-- types with labels; a type is visible after its right side
 abbrev pub relabel_types : {N M : Type 0}
     → Naming N
     → Labels N M
@@ -117,7 +121,7 @@ relabel_types naming label scope k (more (declares_type x t) ds) =
     more (declares_type (label (Some k) x) (relabel_uses naming label scope t))
     (relabel_types naming label ((x, k) ∷ scope) (suc k) ds)
 
--- variables and parameters are visible after their type
+-- variables with labels; a variable is visible after its type
 abbrev pub relabel_variables : {N M : Type 0}
     → Naming N
     → Labels N M
@@ -131,7 +135,7 @@ relabel_variables naming label scope k (more (declares_variable ns t) gs) =
     (relabel_variables naming label (declare_names k (names_listed ns) scope)
     (after_names k (names_listed ns)) gs)
 
--- a section of parameters with labels
+-- a section of parameters, with labels
 abbrev pub relabel_section : {N M : Type 0}
     → Naming N
     → Labels N M
@@ -144,7 +148,7 @@ relabel_section naming label scope k (value_section ns t) =
 relabel_section naming label scope k (variable_section ns t) =
     variable_section (relabel_names label k ns) (relabel_uses naming label scope t)
 
--- further sections with labels
+-- further sections of parameters, with labels; a parameter is visible after its section's type
 abbrev pub relabel_sections : {N M : Type 0}
     → Naming N
     → Labels N M
@@ -158,7 +162,7 @@ relabel_sections naming label scope k (more (then_section s) fs) =
     (relabel_sections naming label (declare_names k (section_names s) scope)
     (after_names k (section_names s)) fs)
 
--- formal parameters with labels
+-- formal parameters, with labels
 abbrev pub relabel_formals : {N M : Type 0}
     → Naming N
     → Labels N M
@@ -173,7 +177,7 @@ relabel_formals naming label scope k (one (some_formals s fs)) =
     (relabel_sections naming label (declare_names k (section_names s) scope)
     (after_names k (section_names s)) fs))
 
--- a CONST section with labels
+-- a CONST section, with labels
 abbrev pub relabel_constant_section : {N M : Type 0}
     → Naming N
     → Labels N M
@@ -185,7 +189,7 @@ relabel_constant_section naming label scope k none = none
 relabel_constant_section naming label scope k (one (declares_constants cs)) =
     one (declares_constants (relabel_constants naming label scope k cs))
 
--- a TYPE section with labels
+-- a TYPE section, with labels
 abbrev pub relabel_type_section : {N M : Type 0}
     → Naming N
     → Labels N M
@@ -197,7 +201,7 @@ relabel_type_section naming label scope k none = none
 relabel_type_section naming label scope k (one (declares_types ts)) =
     one (declares_types (relabel_types naming label scope k ts))
 
--- a VAR section with labels
+-- a VAR section, with labels
 abbrev pub relabel_variable_section : {N M : Type 0}
     → Naming N
     → Labels N M
@@ -209,34 +213,34 @@ relabel_variable_section naming label scope k none = none
 relabel_variable_section naming label scope k (one (declares_variables vs)) =
     one (declares_variables (relabel_variables naming label scope k vs))
 
--- what a block's procedures add to a scope: each is visible after its heading, also in its own body
+-- a scope with a block's procedures added; k is the ordinal of the first one
 abbrev pub declare_procedure_names : {N : Type 0} → ℕ → Tree N (items procedure) → Scope N → Scope N
 declare_procedure_names k end scope = scope
 declare_procedure_names k (more p rest) scope =
     declare_procedure_names (after_procedure (suc k) p) rest ((procedure_name p, k) ∷ scope)
 
--- the ordinal of a block's first type, where that of its first constant is k
+-- the ordinal of a block's first type; k is the ordinal of its first constant
 abbrev pub first_type : {N : Type 0} → ℕ → Tree N block → ℕ
 first_type k b = after_names k (constant_names (block_constants b))
 
--- the ordinal of a block's first variable
+-- the ordinal that a block's first variable has; k is the ordinal of its first declaration
 abbrev pub first_variable : {N : Type 0} → ℕ → Tree N block → ℕ
 first_variable k b = after_names (first_type k b) (named_types (block_types b))
 
--- the ordinal of a block's first procedure
+-- the ordinal that a block's first procedure has; k is the ordinal of its first declaration
 abbrev pub first_procedure : {N : Type 0} → ℕ → Tree N block → ℕ
 first_procedure k b = after_names (first_variable k b) (variable_names (block_variables b))
 
--- the scope in which a block's types are declared
+-- the scope at the start of a block's types
 abbrev pub types_scope : {N : Type 0} → ℕ → Tree N block → Scope N → Scope N
 types_scope k b scope = declare_names k (constant_names (block_constants b)) scope
 
--- the scope in which a block's variables are declared
+-- the scope at the start of a block's variables
 abbrev pub variables_scope : {N : Type 0} → ℕ → Tree N block → Scope N → Scope N
 variables_scope k b scope =
     declare_names (first_type k b) (named_types (block_types b)) (types_scope k b scope)
 
--- the scope in which a block's procedures are declared
+-- the scope at the start of a block's procedures
 abbrev pub procedures_scope : {N : Type 0} → ℕ → Tree N block → Scope N → Scope N
 procedures_scope k b scope =
     declare_names (first_variable k b) (variable_names (block_variables b))
@@ -247,8 +251,7 @@ abbrev pub body_scope : {N : Type 0} → ℕ → Tree N block → Scope N → Sc
 body_scope k b scope =
     declare_procedure_names (first_procedure k b) (block_procedures b) (procedures_scope k b scope)
 
--- a block, its procedures and a procedure with labels, in the scope around them;
--- k is the ordinal of the first declaration
+-- a block, its procedures or one procedure, with labels; `scope` is the scope around them
 abbrev mutual
   -- a block, whose first declaration has ordinal k
   pub relabel_block : {N M : Type 0}
@@ -273,7 +276,7 @@ abbrev mutual
       (relabel_uses naming label (body_scope k (has_body (declares cs ts vs ps) statements) scope)
       statements)
 
-  -- procedures, the first of ordinal k, each visible to those after it
+  -- procedures, the first of which has ordinal k; each is visible to those after it
   pub relabel_procedures : {N M : Type 0}
       → Naming N
       → Labels N M
@@ -287,7 +290,7 @@ abbrev mutual
       (relabel_procedures naming label ((procedure_name p, k) ∷ scope) (after_procedure (suc k) p)
       rest)
 
-  -- a procedure of ordinal k, visible after its heading; a closing name means its procedure
+  -- a procedure with ordinal k, which is visible after its heading; its closing name gets its label
   pub relabel_procedure : {N M : Type 0}
       → Naming N
       → Labels N M
@@ -302,17 +305,17 @@ abbrev mutual
       (after_names (suc k) (formal_names (formal_sections fs))) b)
       (label (Some k) closing)
 
--- the name of the module is in no scope
+-- a module with labels; the name of the module is in no scope
 abbrev pub relabelled : {N M : Type 0}
     → Naming N
     → Labels N M
     → Tree N module_text
     → Tree M module_text
 relabelled naming label (is_module x b closing) =
-    is_module (label None x) (relabel_block naming label (predeclared_scope naming) 7 b)
+    is_module (label None x) (relabel_block naming label (predeclared_scope naming) predeclared_count b)
     (label None closing)
 
--- a name by its declaration's ordinal, or as written where no declaration binds it
+-- the ordinal of a name's declaration, or the name as written if no declaration binds it
 abbrev pub as_label : {N : Type 0} → Naming N → Labels N Label
 as_label naming None x = as_written (naming.written x)
 as_label naming (Some k) x = declared k
@@ -321,11 +324,11 @@ as_label naming (Some k) x = declared k
 abbrev pub numbered : Tree Name module_text → Tree Label module_text
 numbered = relabelled as_names (as_label as_names)
 
--- an ordinal is this one
+-- true if an optional ordinal is k
 abbrev pub same_ordinal : Option ℕ → ℕ → Bool
 same_ordinal None k = false
 same_ordinal (Some j) k = j == k
 
--- the declaration d, each name bound to it and its closing name have the name `new`
+-- a module in which the declaration d, each name bound to it and its closing name become `new`
 abbrev pub renamed : Tree Name module_text → ℕ → Name → Tree Name module_text
 renamed m d new = relabelled as_names (λ ordinal x. if same_ordinal ordinal d then new else x) m

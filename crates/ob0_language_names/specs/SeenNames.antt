@@ -1,4 +1,4 @@
--- What another name would be bound to in place of an occurrence.
+-- The declaration to which another name would be bound if it replaced an occurrence.
 -- Rule: docs/PROTOCOL.md, Refusals of edits (Shadowed).
 use Rattle.std.specs.Prelude.{List, Option, map, option_and_then, slice_get, ℕ}
 use Rattle.ob0_tree.specs.Tree.{Tree, module_text, occurrences}
@@ -6,18 +6,18 @@ use Rattle.ob0_language_names.specs.Names.{Name, Naming, predeclared_name, same_
 use Rattle.ob0_language_names.specs.Occurrences.{label_ordinal}
 use Rattle.ob0_language_names.specs.Scopes.{as_label, relabelled}
 
--- a naming under which every name that is looked up is y
+-- reads a tree as if every looked-up name were y
 abbrev pub looking_for : Name → Naming Name
 looking_for y = record { same = λ x. same_name y; written = λ x. x; predeclared = predeclared_name }
 
 -- the ordinal of the declaration to which y would be bound in place of an occurrence;
--- None where nothing would bind it
+-- None if nothing would bind it
 abbrev pub sees : Tree Name module_text → ℕ → Name → Option ℕ
 sees m occurrence y =
     option_and_then label_ordinal
     (slice_get (occurrences (relabelled (looking_for y) (as_label (looking_for y)) m)) occurrence)
 
--- the same of each occurrence, in text order
+-- for each occurrence, in text order, the ordinal to which y would be bound in its place
 abbrev pub ordinals_seen : Tree Name module_text → Name → List (Option ℕ)
 ordinals_seen m y =
     map label_ordinal (occurrences (relabelled (looking_for y) (as_label (looking_for y)) m))

@@ -1,3 +1,3 @@
-//! The names of a module and their scopes (docs/LANGUAGE.md, Scopes): which declaration each name is bound to, renaming
-//! and inlining, as definitions with their laws.
+//! The scopes of a module (docs/LANGUAGE.md, Scopes): which declaration each name is bound to, and
+//! how a declaration is renamed or inlined. All are definitions, with their laws.
 #![tactic(auto)]

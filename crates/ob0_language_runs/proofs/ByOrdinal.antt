@@ -1,4 +1,4 @@
--- The run of a module is that of its numbered tree.
+-- A module has the same run as its numbered tree.
 use Rattle.std.proofs.Common.{◌≡◌, ℕ, zero, suc, ◌+◌, true, false, List, [], ◌∷◌, ◌++◌, map, length, ℤ, Some, None, Option, option_map, option_and_then, sym, refl, ap, ◌∙◌, subst, subst₂, le_refl, lit<}
 use Rattle.ob0_tree.specs.Tree.{Tree, begins, block, body, constant, declares, declares_constant, declares_procedure, declares_type, declares_variable, end, formals, further_section, has_body, is_module, item, items, maybe, module_text, more, none, one, procedure, section, then_section, type_name, value_section, variable, variable_section}
 use Rattle.ob0_language_names.specs.Mapping.{with_names}
@@ -73,7 +73,7 @@ type_of_name-agrees naming (b ∷ noted) = of_object b.object
     of_object (a_procedure code) = refl
     of_object (a_standard p) = refl
 
--- a name looked up, and its ordinal
+-- the label of a looked-up name
 abbrev pub label_in : {N : Type 0} → Naming N → Noted N → N → Label
 label_in naming noted = label_of naming (as_label naming) (scope_of noted)
 
@@ -92,7 +92,7 @@ statement_meanings-agree naming n noted below x =
     ap (λ env. passing (newest env)) (by_ordinal-from naming n noted x below) ∙ passing-agrees naming (noted_from naming noted x)
     ∙ sym (ap (λ env. passing (newest env)) (by_name-from naming noted x))
 
--- what is known of a noted environment: its scope, and that its ordinals lie below the next
+-- the facts about a noted environment: its scope, and that its ordinals are below the next one
 abbrev pub Within : {N : Type 0} → ℕ → Scope N → Noted N → Type 0
 Within n scope noted = (scope_of noted ≡ scope) × Below n noted
 
@@ -158,7 +158,7 @@ pub noted_variables-within : {N : Type 0} (k : ℕ) (xs : List N) (v : Value) (f
 noted_variables-within k [] v f below = (refl, below)
 noted_variables-within k (x ∷ xs) v f below = noted_variables-within (suc k) xs v (noted_variable x k v f) (le_refl (suc k), tt, below)
 
--- a fact about what names leave, moved along the scope and the frames that they leave
+-- moves a fact along the scopes and the frames that names extend
 pub moved : {N X : Type 0} (Goal : ℕ → Scope N → Scope N → X → Frame N → Frame Label → Type 0) (naming : Naming N) (k : ℕ) (xs ys : List N) (v : Value) (f : NotedFrame N) (below : Below k f.noted) (x : X)
     → Goal (after_names (after_names k xs) ys) (declare_names (after_names k xs) ys (scope_of (noted_variables k xs v f).noted)) (scope_of (noted_variables k xs v f).noted) x (frame_by_name (noted_variables k xs v f)) (frame_by_ordinal naming (noted_variables k xs v f))
     → Goal (after_names k (xs ++ ys)) (declare_names k (xs ++ ys) (scope_of f.noted)) (declare_names k xs (scope_of f.noted)) x (allocate xs v (frame_by_name f)) (allocate (label_names (as_label naming) k xs) v (frame_by_ordinal naming f))
@@ -356,7 +356,7 @@ body-agrees naming n noted below there here h t (one (begins statements)) = λ i
     (execute_all-map (label_in naming noted) (as_label naming None) (statement_meanings as_labels (by_ordinal naming noted)) there t statements
     ∙ (λ j. execute_all (record { object_for = λ x. statement_meanings-agree naming n noted below x j; written = naming.written }) (λ x. h x j) t statements)) i s
 
--- a frame that both sides have, or that neither has, and what follows in it
+-- both sides have a frame or neither has, and both continue alike
 pub in_frame-agrees : {N : Type 0} (naming : Naming N) (P : NotedFrame N → Type 0) (s : State) (r : Option (Frame N)) (q : Option (Frame Label)) (here : Frame N → State → Progress) (there : Frame Label → State → Progress)
     → Agree frame_by_name (frame_by_ordinal naming) P r q → ((f : NotedFrame N) → P f → there (frame_by_ordinal naming f) ≡ here (frame_by_name f)) → in_frame s q there ≡ in_frame s r here
 in_frame-agrees naming P s r q here there (a, e, e', holds) next =
@@ -368,7 +368,7 @@ in_frame-agrees naming P s r q here there (a, e, e', holds) next =
 
 -- calls
 
--- what both sides know of calls of a smaller bound
+-- the induction hypothesis: calls with a smaller bound agree
 abbrev pub CallsAgree : {N : Type 0} → Naming N → (Activation Label → Calls Label) → (Activation N → Calls N) → Type 0
 CallsAgree {N} naming there here =
     (n : ℕ) (noted : Noted N) → Below n noted → (x : N) → there (by_ordinal naming noted) (label_in naming noted x) ≡ here (by_name noted) x
@@ -434,7 +434,7 @@ activate-agrees {N} naming there here known t n (b ∷ noted) below args s = of_
     of_object (a_procedure code) own = of_text code.first_constructor code.text own
     of_object (a_standard p) own = refl
 
--- calls agree, by induction on how many may be open
+-- calls agree, by induction on the number of calls that may be open
 pub calls-agree : {N : Type 0} (naming : Naming N) (c t : ℕ) → CallsAgree naming (call as_labels c t) (call naming c t)
 unfolding call
 calls-agree naming zero t n noted below x = refl
@@ -454,7 +454,7 @@ pub outermost-below : {N : Type 0} (naming : Naming N) → Below 7 (noted_outerm
 outermost-below naming =
     (lit< tt, tt, (lit< tt, tt, (lit< tt, tt, (lit< tt, tt, (lit< tt, tt, (lit< tt, tt, (lit< tt, tt, tt)))))))
 
--- the run of a tree is that of its numbered tree
+-- a tree has the same run as its numbered tree
 pub run-relabel : {N : Type 0} (naming : Naming N) (m : Tree N module_text) (input : List ℤ) (c t : ℕ) → run_over as_labels (relabelled naming (as_label naming) m) input c t ≡ run_over naming m input c t
 unfolding run_over
 run-relabel naming (is_module x b closing) input c t =

@@ -1,4 +1,4 @@
--- The run of an edited module is the module's.
+-- An edited module has the same run as the original.
 use Rattle.std.proofs.Common.{List, None, Option, Some, [], ap, arith, false, if◌then◌else◌, le_refl, length, map, option_and_then, option_map, refl, subst, subst₂, suc, sym, true, zero, ℕ, ℤ, ⊎_elim, ◌++◌, ◌+◌, ◌<◌, ◌∙◌, ◌∷◌, ◌≡◌, ◌≤◌}
 use Rattle.ob0_tree.specs.Tree.{Tree, begins, block, body, declares, declares_procedure, declares_variable, end, formals, further_section, has_body, is_module, item, items, maybe, module_text, more, none, occurrences, one, procedure, sequence, then_section, value_section, variable, variable_section}
 use Rattle.ob0_language_names.specs.Names.{Name, as_names, same_name}
@@ -42,7 +42,8 @@ before k t = t.code
 abbrev pub after : Edit → ℕ → Text → ProcedureText Name
 after edit k t = record { first_constructor = t.code.first_constructor; text = edited_procedure edit t.at (suc k) t.code.text }
 
--- what is known of a procedure bound in a run: its name, its occurrences, and where in it the constant evaluates to what
+-- the facts about a procedure that is bound in a run: its name, its occurrences, and the value of
+-- the constant if the procedure declares it
 pub record IsText (edit : Edit) (w : Value) (marks : Marks Place Text) (x : Name) (k : ℕ) (t : Text) : Type 0 where
   pub from_seven : 7 ≤ k
   pub named : procedure_name t.code.text ≡ x
@@ -87,7 +88,7 @@ seen-passing env (truth true) e = ap passing e
 seen-passing env (truth false) e = ap passing e
 seen-passing env _ e = tt
 
--- a name with what it means and what it does where it is called
+-- a name with its meaning and the effect of calling it
 pub record RunTag : Type 0 where
   pub object : Option (Object Place (List Mode))
   pub text : Name
@@ -164,7 +165,7 @@ pub allocate-places : (xs : List Name) (v : Value) (env : Activation Name) (stor
 allocate-places [] v env store = refl
 allocate-places (x ∷ xs) v env store = allocate-places xs v ((x, a_variable record { variable = length store; path = [] }) ∷ env) (store ++ v ∷ [])
 
--- new variables, as marks
+-- the marks of new variables
 pub allocated : (edit : Edit) (w : Value) (k : ℕ) (xs : List Name) (v : Value) (f : MarkedFrame) → Run_sound edit w k f.marks → 7 ≤ k → Outside edit k (after_names k xs)
     → LeftRun edit w (after_names k xs) (declare_names k xs (scope_marked f.marks)) (Some (bind_names xs no_constant (knowns f.marks))) (mark_all k (places xs v f.store) f.marks)
     × (allocate xs v (frame_before f) ≡ frame_before record { marks = mark_all k (places xs v f.store) f.marks; store = stored xs v f.store })
@@ -365,7 +366,7 @@ in_frame-kept edit P s r q here there (a, e, e', holds) next =
     go None holds = refl
     go (Some f) holds = λ i. next f holds i record s { store = f.store }
 
--- what is known of calls of a smaller bound
+-- the induction hypothesis: calls with a smaller bound do the same after the edit
 abbrev pub CallsKept : Edit → Value → (Activation Name → Calls Name) → (Activation Name → Calls Name) → Type 0
 CallsKept edit w there here =
     (n : ℕ) (marks : Marks Place Text) → Run_sound edit w n marks → (x : Name) → Stays edit (scope_marked marks) x → there (read_edited edit (after edit) marks) x ≡ here (read before marks) x
@@ -416,7 +417,7 @@ activation-kept edit w lit i j k f s seven x closing fs b each has_value args =
     (subst (λ inner. EachBlock (Here edit w) jb inner n b) (sym left.scoped) each)
     (subst (λ known. HasValueBetween edit w n (after_block n b) (value_in_block known edit.constant n b)) (some_inverse left.value) (body-has_value edit w (knowns f.marks) k x closing fs b has_value)))))
 
--- the newest mark isn't left out
+-- states that the newest mark isn't removed
 abbrev pub HeadStays : Edit → Marks Place Text → Type 0
 HeadStays edit [] = Unit {0}
 HeadStays edit (b ∷ marks) = is_left edit b.ordinal ≡ false
@@ -463,7 +464,7 @@ activate-kept edit w lit there here known t n (b ∷ marks) sound head args s =
     of_object (a_procedure u) right text = of_text u.code.first_constructor u.at u.code.text right text
     of_object (a_standard p) right text = refl
 
--- calls, by induction on how many may be open
+-- calls do the same after the edit, by induction on the number of calls that may be open
 pub calls-kept : (edit : Edit) (w : Value) → Literal edit w → (c t : ℕ) → CallsKept edit w (call as_names c t) (call as_names c t)
 unfolding call
 calls-kept edit w lit zero t n marks sound x stays = refl

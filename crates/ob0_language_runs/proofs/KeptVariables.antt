@@ -1,8 +1,9 @@
--- Freeing a call's variables at its return leaves every run as it is.
--- A list says where each variable of the smaller store is in the larger one, each at a place of its own; bindings and
--- arguments are the same but for their places. Statements leave the list as it is, since a call that returns cuts the
--- smaller store back to it; declarations and parameters put new variables after (`FrameGrown`). It requires no types:
--- what isn't there is stuck in both.
+-- Freeing a call's variables when the call returns changes no run.
+-- A list gives the place of each variable of the smaller store in the larger one; no two have the
+-- same place. Bindings and arguments differ only in their places. Statements leave the list
+-- unchanged, because a call that returns cuts the smaller store back to it. Declarations and
+-- parameters add new variables after it (`FrameGrown`). No types are needed: a missing value makes
+-- both runs stuck.
 use Rattle.std.proofs.Common.{◌≡◌, ℕ, zero, suc, ◌+◌, true, false, List, [], ◌∷◌, ◌++◌, length, ℤ, Some, None, Option, option_map, option_and_then, sym, refl, ap, ◌∙◌, subst, append_assoc, append-nil}
 use Rattle.ob0_tree.specs.Tree.{Tree, begins, block, body, constant, declares_constant, declares_type, declares_variable, end, expression, items, maybe, module_text, more, none, one, procedure, type_name, variable, written_type}
 use Rattle.ob0_language_names.specs.Names.{Naming}
@@ -117,7 +118,7 @@ pub record FrameIs {N : Type 0} (at : List ℕ) (f g : Frame N) : Type 0 where
   pub same_variables : StoreIs at f.store g.store
   pub same_bindings : EnvironmentIs at f.env g.env
 
--- frames with new variables after those at the given places
+-- frames with new variables after the variables of the list
 abbrev pub FrameGrown : {N : Type 0} → List ℕ → Frame N → Frame N → Type 0
 FrameGrown at f g = (others : List ℕ) × FrameIs (at ++ others) f g
 
@@ -239,7 +240,7 @@ module _ {N : Type 0} (naming : Naming N) where
       record { mean_same = λ x. passing-is at (newest (from_binding naming env x)) (newest (from_binding naming other x)) (newest-is at (from_binding naming env x) (from_binding naming other x) (from_binding-is naming at env other x h)); are_written = λ x. refl }
       (known at env other h) t statements s u is
 
-  -- what a run goes on with, with new variables after those at the given places
+  -- the progress of both runs, with new variables after the variables of the list
   abbrev ProgressGrown : List ℕ → Progress → Progress → Type 0
   ProgressGrown at p q = (others : List ℕ) × ProgressIs (at ++ others) p q
 
@@ -284,7 +285,7 @@ module _ {N : Type 0} (naming : Naming N) where
   drop_variables-is at others s u (stopped e out) (stopped x written) h is = is
   drop_variables-is at others s u _ _ h is = absurd is
 
-  -- by induction on how many calls may be open
+  -- by induction on the number of calls that may be open
   calls-alike : (c t : ℕ) → CallsAlike (call_freeing naming c t) (call naming c t)
   unfolding call call_freeing
   calls-alike zero t at env other h x args others s u are is = (refl, is.same_output)

@@ -1,4 +1,5 @@
--- A store whose variables are elsewhere in a larger store: what reads and writes them does the same in both.
+-- Two stores, the larger of which has the variables of the smaller one at other places: reads and
+-- writes do the same in both.
 use Rattle.std.proofs.Common.{◌≡◌, ℕ, zero, suc, ◌-◌, true, false, ◌≢◌, List, [], ◌∷◌, ◌++◌, length, take, ℤ, slice_get, slice_set, Some, None, Option, option_map, option_and_then, sym, refl, ap, ◌∙◌, subst}
 use Rattle.ob0_tree.specs.Tree.{Tree, addend, adds, assigns, branches, calls, compares, designator, else_branch, else_part, elsif_branch, elsif_part, empty, end, expression, factor, field, further_statement, index, integer, items, maybe, more, multiplier, multiplies, negation, none, one, parenthesised, product, relates, repeat_loop, runs, selector, sequence, simple, statement, sum, term, then_statement, while_loop}
 use Rattle.ob0_language_types.specs.Arguments.{arguments_listed}
@@ -30,7 +31,8 @@ get-set_other (y ∷ xs) zero zero new apart = absurd (apart refl)
 get-set_other (y ∷ xs) (suc n) (suc k) new apart = get-set_other xs n k new (λ e. apart (ap suc e))
 get-set_other _ _ _ new apart = refl
 
--- where the variables of a store are in a larger one: each at a place of its own
+-- states that the list gives the places of a store's variables in a larger store, and that no place
+-- occurs twice
 
 abbrev pub NotAmong : ℕ → List ℕ → Type 0
 NotAmong r [] = Unit {0}
@@ -91,14 +93,14 @@ variable-last [] [] large k h = refl
 variable-last (r ∷ at) (w ∷ small) large k h = variable-last at small large k h.2
 variable-last _ _ large k h = absurd h
 
--- the smaller store drops its last variables, the larger one keeps all
+-- the smaller store drops its last variables, and the larger one keeps all
 pub variables-cut : (at others : List ℕ) (old new before after : Store) → StoreIs at old before → StoreIs (at ++ others) new after → StoreIs at (take (length old) new) after
 variables-cut [] others [] new before after h g = tt
 variables-cut (r ∷ at) others (v ∷ old) [] before after h g = absurd g
 variables-cut (r ∷ at) others (v ∷ old) (w ∷ new) before after h g = (g.0, not-among-cut r at others g.1, variables-cut at others old new before after h.2 g.2)
 variables-cut _ others _ new before after h g = absurd h
 
--- places and what names mean
+-- places and the meanings of names
 
 pub record PlaceIs (at : List ℕ) (p q : Place) : Type 0 where
   pub variable_is : slice_get at p.variable ≡ Some q.variable
@@ -200,7 +202,7 @@ module _ {N P : Type 0} (here there : Meanings N Place P) (small large : Store) 
     follow-same v (more (index e) rest) = λ i.
         evaluate-same e i >>= (λ j. element_step v j >>= (λ s. or_stuck (part v s) >>= (λ w. follow-same w rest i >>= (λ steps. gives (s ∷ steps)))))
 
--- what names mean in both stores
+-- the meanings of names in both stores
 pub record NamesAre {N P : Type 0} (at : List ℕ) (here there : Meanings N Place P) : Type 0 where
   pub mean_same : (x : N) → MeaningIs at (here.object_for x) (there.object_for x)
   pub are_written : (x : N) → here.written x ≡ there.written x
@@ -265,7 +267,7 @@ ProgressIs at (running s) (running u) = StateIs at s u
 ProgressIs at (stopped e out) (stopped x written) = (e ≡ x) × (out ≡ written)
 ProgressIs at _ _ = ⊥
 
--- two that do the same from the same states
+-- states that two steps do the same from equal states
 abbrev pub Alike : List ℕ → (State → Progress) → (State → Progress) → Type 0
 Alike at f g = (s u : State) → StateIs at s u → ProgressIs at (f s) (g u)
 
@@ -330,7 +332,7 @@ modes-same at (Some (a_procedure a)) (Some (a_procedure b)) is = ap gives is
 modes-same at (Some (a_standard a)) (Some (a_standard b)) is = ap (λ a. modes_of (Some (a_standard a))) is
 modes-same at _ _ is = absurd is
 
--- two that do the same for the same arguments
+-- states that two calls do the same for equal arguments
 abbrev pub EntersAlike : List ℕ → (List Argument → State → Progress) → (List Argument → State → Progress) → Type 0
 EntersAlike at enter enter' = (args others : List Argument) (s u : State) → ArgumentsAre at args others → StateIs at s u → ProgressIs at (enter args s) (enter' others u)
 

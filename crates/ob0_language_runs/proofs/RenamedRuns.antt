@@ -1,4 +1,5 @@
--- A free renaming keeps a module well-typed, and its runs.
+-- A well-typed module remains well-typed and has the same runs after a declaration is renamed to a
+-- free name.
 use Rattle.ob0_language_types.proofs.RenamedTypes.{free_keeps_well_typed-holds}
 use Rattle.ob0_language_runs.specs.EditLaws.{FreeKeepsModules}
 use Rattle.ob0_language_runs.proofs.Proved.{free_keeps_runs-holds}

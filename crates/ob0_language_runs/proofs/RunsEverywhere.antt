@@ -1,4 +1,4 @@
--- A constant inlined everywhere keeps a module's runs.
+-- A module has the same runs after a constant is inlined everywhere.
 use Rattle.std.proofs.Common.{ap, sym, ◌∙◌}
 use Rattle.ob0_language_names.specs.Inlining.{all_bound_to}
 use Rattle.ob0_language_names.specs.Names.{as_names}

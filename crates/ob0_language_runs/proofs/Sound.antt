@@ -1,4 +1,4 @@
--- An expression of a type evaluates to a value of that type, or ends otherwise than stuck.
+-- An expression of a type evaluates to a value of that type, or ends the run other than stuck.
 use Rattle.std.proofs.Common.{◌≡◌, ℕ, zero, suc, ◌<◌, Bool, true, false, T, List, [], ◌∷◌, ℤ, pos, negsuc, ◌+ℤ◌, ◌-ℤ◌, ◌*ℤ◌, neg_ℤ, if◌then◌else◌, nat_lt, slice_get, Some, None, Option, option_and_then, sym, refl, ap, ◌∙◌, subst, subst₂, arith, ltb→lt}
 use Rattle.ob0_tree.specs.declared.tree.Relation.{Relation}
 use Rattle.ob0_tree.specs.declared.tree.Relation.TheVariants as relation
@@ -82,7 +82,7 @@ pub negate-fits : (x z : Shape) (v : Value) → complement_type x ≡ Some z →
 negate-fits boolean_shape z v e hv = of_some (λ z. OutcomeFits (λ u. HasShape u z) (negate v)) e (let (b, ev) = is_truth v hv in subst (λ v. OutcomeFits (λ u. HasShape u boolean_shape) (negate v)) (sym ev) tt)
 negate-fits _ z v e hv = absurd (cc)
 
--- where the right side isn't evaluated, the left side has the type of the whole
+-- if the left side settles an operation, it has the type of the whole
 pub add_type-first : (o : AddOperator) (x y z : Shape) → add_type o x y ≡ Some z → Some x ≡ Some z
 add_type-first add_operator.Add integer_shape integer_shape z e = e
 add_type-first add_operator.Subtract integer_shape integer_shape z e = e
@@ -100,7 +100,7 @@ pub settled-fits : (P : Value → Type 0) (b : Bool) (x : Value) (o : Outcome Va
 settled-fits P true x o h k = h
 settled-fits P false x o h k = k
 
--- parts of a value, by their types
+-- the parts of a value, according to their types
 
 pub below_of : (m n : ℕ) → nat_lt m n ≡ true → m < n
 below_of m n e = ltb→lt m n (subst (λ b. T b) (sym e) tt)
@@ -197,7 +197,7 @@ pub field_part : (t : Shape) (x : Name) (u : Shape) → field_type t x ≡ Some 
 field_part (record_shape k fs) x u e = e
 field_part _ x u e = absurd (cc)
 
--- the store fits its typing, and what names mean fits what the checker takes them for
+-- states that the store fits its typing, and that the meanings of names fit the checker's
 pub record Fitting {N : Type 0} (typing : StoreTyping) (checked : Typed N) (active : Meanings N Place (List Mode)) (store : Store) : Type 0 where
   pub store_fits : StoreFits typing store
   pub names_fit : MeaningsFit typing checked active

@@ -1,4 +1,5 @@
--- Calls and whole modules keep the store's typing: no run of a well-typed module gets stuck.
+-- Calls and whole modules preserve the typing of the store, so no run of a well-typed module gets
+-- stuck.
 use Rattle.std.proofs.Common.{◌≡◌, ℕ, zero, suc, ◌+◌, Bool, true, false, ◌&&◌, ◌≢◌, List, [], ◌∷◌, ◌++◌, map, length, ℤ, slice_get, Some, None, Option, option_map, option_and_then, unwrap_or, sym, refl, ap, ◌∙◌, subst, append_assoc, append-nil}
 use Rattle.ob0_tree.specs.Tree.{Tree, begins, block, body, constant, declares, declares_constant, declares_procedure, declares_type, declares_variable, end, expression, further_section, has_body, is_module, item, items, maybe, module_text, more, none, one, procedure, then_section, type_name, variable, written_type}
 use Rattle.ob0_language_names.specs.Names.{Naming, as_names}
@@ -24,7 +25,7 @@ use Rattle.ob0_language_runs.proofs.Soundness.{CallsFit, ProgressFits}
 
 -- environments that fit
 
--- the modes of checked parameters are those of the heading
+-- the modes of checked parameters are the modes in the heading
 pub modes-of_parameters : {N : Type 0} (f : Formal) (xs : List N) (ps : List (TypedParameter N)) → modes_in (map (λ p. p.formal) (map (typed_parameter f) xs ++ ps)) ≡ map (λ x. f.mode) xs ++ modes_in (map (λ p. p.formal) ps)
 modes-of_parameters f [] ps = refl
 modes-of_parameters f (x ∷ xs) ps = λ i. f.mode ∷ modes-of_parameters f xs ps i
@@ -79,7 +80,7 @@ environments-grow naming typing others [] [] h = tt
 environments-grow naming typing others (b ∷ checked) (d ∷ active) h = (h.0, binding-grows naming typing others checked b.0 b.1 d.1 h.1, environments-grow naming typing others checked active h.2)
 environments-grow naming typing others _ _ h = h
 
--- values that variables begin with
+-- the first values of variables
 
 pub copies-fit : (n : ℕ) (v : Value) (s : Shape) → HasShape v s → (count_values (copies n v) ≡ n) × EachHasShape (copies n v) s
 copies-fit zero v s h = (refl, tt)
@@ -169,7 +170,7 @@ types-run {N} naming typing checked active k (more (declares_type x u) cs) after
     let (d, ed, fit) = types-run naming typing ((x, a_type s) ∷ checked) ((x, a_type s) ∷ active) (k + constructors u) cs after (refl, refl, h) e₁ in
     (d, ap (option_and_then (λ s. declare_types naming ((x, a_type s) ∷ active) (k + constructors u) cs)) (denoted-same naming typing checked active h k u ∙ es) ∙ ed, fit)
 
--- a frame that fits a checked environment, in a store that grew
+-- states that a frame fits a checked environment, in a store that has grown
 abbrev pub FrameFits : {N : Type 0} → Naming N → StoreTyping → TypeEnvironment N → Frame N → Type 0
 FrameFits naming typing checked f = (others : StoreTyping) × StoreFits (typing ++ others) f.store × EnvironmentsFit naming (typing ++ others) checked f.env
 
@@ -277,7 +278,7 @@ body-run naming typing checked active enter t (one (begins statements)) s env ca
     keeps-here typing (execute_all (statement_meanings naming active) enter t statements)
     (execute_all-keeps typing (meanings naming checked) (statement_meanings naming active) enter record { names_fit = (names-fit naming typing checked active env, λ x. refl); calls_fit = calls_fit } t statements h) s store
 
--- what is known of calls of a smaller bound
+-- the induction hypothesis: calls with a smaller bound preserve the typing
 abbrev pub CallsRun : {N : Type 0} → Naming N → (Activation N → Calls N) → Type 0
 CallsRun {N} naming enter =
     (typing : StoreTyping) (checked : TypeEnvironment N) (active : Activation N) → EnvironmentsFit naming typing checked active → CallsFit typing (meanings naming checked) (enter active)
@@ -306,7 +307,7 @@ activate-run {N} naming enter known t typing ((x, o) ∷ checked) ((y, r) ∷ ac
     of_objects (a_procedure q) _ h e = absurd h
     of_objects _ r h e = absurd (cc)
 
--- calls keep the typing, by induction on how many may be open
+-- calls preserve the typing, by induction on the number of calls that may be open
 pub calls-run : {N : Type 0} (naming : Naming N) (c t : ℕ) → CallsRun naming (call naming c t)
 unfolding call
 calls-run naming zero t typing checked active env x signature e others args s fit store = λ h. cc
@@ -318,7 +319,7 @@ pub not-stuck : (typing : StoreTyping) (p : Progress) → ProgressFits typing p 
 not-stuck typing (running s) h = λ e. cc
 not-stuck typing (stopped e out) h = h
 
--- no run of a module that fits gets stuck
+-- no run of a well-typed module gets stuck
 pub fitting-run : {N : Type 0} (naming : Naming N) (m : Tree N module_text) (input : List ℤ) (c t : ℕ) → fits_over naming m ≡ true → (run_over naming m input c t).ending ≢ Stuck
 unfolding run_over fits_over
 fitting-run {N} naming (is_module x b closing) input c t h =

@@ -1,4 +1,4 @@
--- A statement that fits keeps the store's typing, or the run ends otherwise than stuck.
+-- A well-typed statement preserves the typing of the store, or ends the run other than stuck.
 use Rattle.std.proofs.Common.{◌≡◌, ℕ, zero, suc, ◌-◌, true, false, ◌&&◌, List, [], ◌∷◌, ◌++◌, ℤ, if◌then◌else◌, nat_lt, slice_get, slice_set, Some, None, Option, option_map, option_and_then, unwrap_or, sym, refl, ap, ◌∙◌, subst, append_assoc, append-nil}
 use Rattle.ob0_tree.specs.Tree.{Tree, assigns, branches, calls, else_branch, else_part, elsif_branch, elsif_part, empty, end, expression, further_statement, items, maybe, more, none, one, repeat_loop, runs, selector, sequence, statement, then_statement, while_loop}
 use Rattle.ob0_language_names.specs.Names.{Name, same_name}
@@ -44,7 +44,7 @@ pub ProgressFits-grown : (typing others : StoreTyping) (p : Progress) → Progre
 ProgressFits-grown typing others (running s) h = (others ++ h.0, subst (λ all. StoreFits all s.store) (append_assoc typing others h.0) h.1)
 ProgressFits-grown typing others (stopped e out) h = h
 
--- writing keeps types
+-- writing a value preserves types
 
 pub with_nth-fits : (vs : Values) (s : Shape) (i : ℕ) (new : Value) → EachHasShape vs s → HasShape new s → (count_values (with_nth_value vs i new) ≡ count_values vs) × EachHasShape (with_nth_value vs i new) s
 with_nth-fits no_value s i new h hn = (refl, tt)
@@ -230,7 +230,7 @@ perform-fits typing _ _ signature enter args s o e h fit called = absurd o
 
 -- statements
 
--- what a statement needs of its context: names and calls that fit
+-- the context that a statement needs: names and calls that fit
 pub record Sound {N : Type 0} (typing : StoreTyping) (checked : Typed N) (active : Meanings N Place (List Mode)) (enter : Calls N) : Type 0 where
   pub names_fit : MeaningsFit typing checked active
   pub calls_fit : CallsFit typing checked enter
@@ -239,7 +239,7 @@ pub Sound-grows : {N : Type 0} (typing others : StoreTyping) (checked : Typed N)
 Sound-grows typing others checked active enter h =
     record { names_fit = (λ x. ObjectFits-grows typing others (checked.object_for x) (active.object_for x) (h.names_fit.0 x), h.names_fit.1); calls_fit = CallsFit-grows typing others checked enter h.calls_fit }
 
--- a body that keeps the typing however the store grew
+-- states that a body preserves the typing, however much the store has grown
 abbrev pub Keeps : StoreTyping → (State → Progress) → Type 0
 Keeps typing statements = (others : StoreTyping) (s : State) → StoreFits (typing ++ others) s.store → ProgressFits (typing ++ others) (statements s)
 
@@ -256,7 +256,7 @@ choose-fits typing s (truth true) yes' no' h hy hn = hy
 choose-fits typing s (truth false) yes' no' h hy hn = hn
 choose-fits typing s _ yes' no' h hy hn = absurd h
 
--- a condition that evaluates to a truth value in every store that grew
+-- states that a condition evaluates to a truth value in every store that has grown
 abbrev pub IsCondition : StoreTyping → (State → Outcome Value) → Type 0
 IsCondition typing condition = (others : StoreTyping) (s : State) → StoreFits (typing ++ others) s.store → OutcomeFits (λ v. HasShape v boolean_shape) (condition s)
 

@@ -1,4 +1,4 @@
--- That no run of a well-typed module gets stuck: the statement, and the invariant that its proof keeps.
+-- The invariant in the proof that no run of a well-typed module gets stuck.
 use Rattle.std.proofs.Common.{◌≡◌, ◌≢◌, List, ◌++◌, Some, Fits}
 use Rattle.ob0_language_types.specs.Expressions.{a_procedure}
 use Rattle.ob0_language_values.specs.Values.{Outcome, Stuck, ends, gives}
@@ -6,17 +6,18 @@ use Rattle.ob0_language_types.specs.WellTyped.{Signature, Typed}
 use Rattle.ob0_language_runs.specs.Fitting.{ArgumentsFit, StoreFits, StoreTyping}
 use Rattle.ob0_language_runs.specs.Runs.{Argument, Calls, Progress, State, running, stopped}
 
--- an outcome is of the wanted kind, or an end other than Stuck
+-- states that an outcome has the property, or ends the run other than stuck
 abbrev pub OutcomeFits : {A : Type 0} → (A → Type 0) → Outcome A → Type 0
 OutcomeFits Fits (gives a) = Fits a
 OutcomeFits Fits (ends e) = e ≢ Stuck
 
--- a run goes on with a store of the same typing and more, or ends otherwise than Stuck
+-- states that a run continues with a store whose typing has at most grown, or ends other than stuck
 abbrev pub ProgressFits : StoreTyping → Progress → Type 0
 ProgressFits typing (running s) = (others : StoreTyping) × StoreFits (typing ++ others) s.store
 ProgressFits typing (stopped e out) = e ≢ Stuck
 
--- calls with arguments of the signature keep the invariant, in every store that grew since
+-- states that calls with arguments of the signature preserve the invariant, in every store that has
+-- grown since
 abbrev pub CallsFit : {N : Type 0} → StoreTyping → Typed N → Calls N → Type 0
 CallsFit {N} typing checked enter =
     (x : N) (signature : Signature) → checked.object_for x ≡ Some (a_procedure signature) → (others : StoreTyping) (args : List Argument) (s : State)

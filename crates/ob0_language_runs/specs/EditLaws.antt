@@ -1,4 +1,4 @@
--- Laws of edits: what keeps a module well-typed and its runs.
+-- Laws of edits: which edits leave a module well-typed, with the same runs.
 -- Rule: none; laws of edits and runs.
 use Rattle.std.specs.Prelude.{List, Some, ℕ, ℤ, ◌≡◌, ◌≢◌}
 use Rattle.ob0_tree.specs.Tree.{Tree, factor, module_text}
@@ -11,11 +11,12 @@ use Rattle.ob0_language_types.specs.EditLaws.{AreUsesOf, IsConstantWritten, IsPr
 use Rattle.ob0_language_types.specs.WellTyped.{WellTyped}
 use Rattle.ob0_language_runs.specs.Runs.{run}
 
--- two modules have the same run for every input and all bounds
+-- states that two modules have the same run for every input and all bounds
 abbrev pub SameRuns : Tree Name module_text → Tree Name module_text → Type 0
 SameRuns a b = (input : List ℤ) (c t : ℕ) → run a input c t ≡ run b input c t
 
--- where a new name is free, the renamed module of a well-typed one is well-typed and has its runs
+-- a well-typed module remains well-typed and has the same runs after a declaration is renamed to a
+-- free name
 abbrev pub FreeKeepsModules : Type 0
 FreeKeepsModules =
     (m : Tree Name module_text) (d : ℕ) (new : Name)
@@ -23,7 +24,8 @@ FreeKeepsModules =
     → WellTyped m
     → WellTyped (renamed m d new) × SameRuns (renamed m d new) m
 
--- a constant's literal in place of uses of it keeps a module well-typed, and its runs
+-- a well-typed module remains well-typed and has the same runs if a constant's literal replaces
+-- uses at which it has the constant's value
 abbrev pub InliningKeepsModules : Type 0
 InliningKeepsModules =
     (m : Tree Name module_text) (d : ℕ) (w : Value) (v : Tree Name factor) (uses : Uses)
@@ -32,8 +34,8 @@ InliningKeepsModules =
     → WellTyped m
     → WellTyped (inlined m uses v) × SameRuns (inlined m uses v) m
 
--- a constant that no occurrence is bound to may go:
--- the module without its declaration is well-typed and has the same runs
+-- a well-typed module remains well-typed and has the same runs without the declaration of a
+-- constant that no occurrence is bound to
 abbrev pub LeavingOutKeepsModules : Type 0
 LeavingOutKeepsModules =
     (m : Tree Name module_text) (d : ℕ) (w : Value) (v : Tree Name factor)
@@ -42,8 +44,8 @@ LeavingOutKeepsModules =
     → WellTyped m
     → WellTyped (module_without d m) × SameRuns (module_without d m) m
 
--- a constant's literal in place of all its uses, and its declaration gone:
--- the module stays well-typed and has the same runs
+-- a well-typed module remains well-typed and has the same runs if a constant's literal replaces all
+-- its uses and its declaration is removed; the literal must have the constant's value at each use
 abbrev pub InliningEverywhereKeepsModules : Type 0
 InliningEverywhereKeepsModules =
     (m : Tree Name module_text) (d : ℕ) (w : Value) (v : Tree Name factor)

@@ -1,4 +1,5 @@
--- Values, places and what names mean, by the types that a checked module gives them.
+-- The facts that values, places and the meanings of names in a run fit the types that the checker
+-- gives them.
 -- Rule: docs/LANGUAGE.md, Runs 11.
 use Rattle.std.specs.Prelude.{◌≡◌, true, List, [], ◌∷◌, map, if◌then◌else◌, nat_lt, slice_get, Some, None, Option, option_and_then}
 use Rattle.ob0_language_names.specs.Names.{Naming}
@@ -9,9 +10,10 @@ use Rattle.ob0_language_types.specs.WellTyped.{Mode, Signature, TypeEnvironment,
 use Rattle.ob0_language_values.specs.Values.{FieldShapes, Members, Place, Shape, Step, Store, Value, Values, array_shape, at_field, at_index, boolean_shape, count_values, elements, integer_shape, members, next_field_shape, next_member, next_value, no_field_shape, no_member, no_value, number, record_shape, truth}
 use Rattle.ob0_language_runs.specs.Runs.{Activation, Argument, ProcedureText, passing, place_argument, value_argument}
 
--- a value has a type
+-- states that a value has a type
 abbrev mutual
-  -- an array has the length of its type, a record the RECORD of its type, and parts have theirs
+  -- a value: an array has the length of its type, a record comes from the RECORD of its type, and
+  -- the parts have the types of the parts
   pub HasShape : Value → Shape → Type 0
   HasShape (number n) integer_shape = Unit {0}
   HasShape (truth b) boolean_shape = Unit {0}
@@ -19,40 +21,40 @@ abbrev mutual
   HasShape (members j ms) (record_shape k fs) = (j ≡ k) × HaveShapes ms fs
   HasShape _ _ = ⊥
 
-  -- each element has this type
+  -- all elements of an array, which have this type
   pub EachHasShape : Values → Shape → Type 0
   EachHasShape no_value s = Unit {0}
   EachHasShape (next_value v rest) s = HasShape v s × EachHasShape rest s
 
-  -- each member has the name and the type of its field
+  -- the members of a record, each with the name and the type of its field
   pub HaveShapes : Members → FieldShapes → Type 0
   HaveShapes no_member no_field_shape = Unit {0}
   HaveShapes (next_member x v rest) (next_field_shape y s others) =
       (x ≡ y) × HasShape v s × HaveShapes rest others
   HaveShapes _ _ = ⊥
 
--- the type of a part one step further; an index is below the length
+-- the type of the part that one step selects; None if an index isn't below the length
 abbrev pub part_shape : Shape → Step → Option Shape
 part_shape (array_shape k n s) (at_index i) = if nat_lt i n then Some s else None
 part_shape (record_shape k fs) (at_field x) = shape_of_field fs x
 part_shape _ _ = None
 
--- the type of the part that a path leads to
+-- the type of the part that a path selects
 abbrev pub shape_at_path : List Step → Shape → Option Shape
 shape_at_path [] s = Some s
 shape_at_path (step ∷ path) s = option_and_then (shape_at_path path) (part_shape s step)
 
--- the types of a store's variables; it only grows
+-- the types of a store's variables, by their indexes; during a run, types are only added
 abbrev pub StoreTyping : Type 0
 StoreTyping = List Shape
 
--- each variable has a value of its type
+-- states that each variable has a value of its type
 abbrev pub StoreFits : StoreTyping → Store → Type 0
 StoreFits [] [] = Unit {0}
 StoreFits (s ∷ ss) (v ∷ vs) = HasShape v s × StoreFits ss vs
 StoreFits _ _ = ⊥
 
--- a place is of this type
+-- states that a place is of this type
 abbrev pub PlaceFits : StoreTyping → Place → Shape → Type 0
 PlaceFits typing p s = option_and_then (shape_at_path p.path) (slice_get typing p.variable) ≡ Some s
 
@@ -60,7 +62,7 @@ PlaceFits typing p s = option_and_then (shape_at_path p.path) (slice_get typing 
 abbrev pub modes_in : Signature → List Mode
 modes_in = map (λ f. f.mode)
 
--- what a name means in the checked module and in the run
+-- states that the meaning of a name in a run fits its meaning in the checked module
 abbrev pub ObjectFits : StoreTyping
     → Option (Object Shape Signature)
     → Option (Object Place (List Mode))
@@ -74,7 +76,7 @@ ObjectFits typing (Some (a_procedure signature)) (Some (a_procedure modes)) =
 ObjectFits typing (Some (a_standard p)) (Some (a_standard q)) = p ≡ q
 ObjectFits typing _ _ = ⊥
 
--- what names mean in a run is as the check says
+-- states that the meanings of all names in a run fit those in the checked module
 abbrev pub MeaningsFit : {N : Type 0}
     → StoreTyping
     → Typed N
@@ -84,7 +86,7 @@ MeaningsFit {N} typing checked active =
     ((x : N) → ObjectFits typing (checked.object_for x) (active.object_for x))
     × ((x : N) → checked.written x ≡ active.written x)
 
--- the arguments of a call, by the signature of what is called
+-- states that the arguments of a call fit the signature of the called procedure
 abbrev pub ArgumentsFit : StoreTyping → Signature → List Argument → Type 0
 ArgumentsFit typing [] [] = Unit {0}
 ArgumentsFit typing (f ∷ fs) (place_argument p ∷ args) =
@@ -93,7 +95,8 @@ ArgumentsFit typing (f ∷ fs) (value_argument v ∷ args) =
     (f.mode ≡ by_value) × HasShape v f.shape × ArgumentsFit typing fs args
 ArgumentsFit typing _ _ = ⊥
 
--- one binding of a checked environment and one of an activation, over the bindings below them
+-- states that the binding of a name in an activation fits its binding in a checked environment,
+-- given the earlier bindings of that environment
 abbrev pub BindingFits : {N : Type 0}
     → Naming N
     → StoreTyping
@@ -111,7 +114,7 @@ BindingFits {N} naming typing checked x (a_procedure signature) (a_procedure cod
     ≡ true)
 BindingFits naming typing checked x o r = ObjectFits typing (Some o) (passing (Some r))
 
--- the environment of a run is as that of the check, binding by binding
+-- states that the environment of a run fits the checked environment, binding by binding
 abbrev pub EnvironmentsFit : {N : Type 0}
     → Naming N
     → StoreTyping

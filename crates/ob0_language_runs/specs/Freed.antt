@@ -1,5 +1,5 @@
--- Runs in which a call that returns drops its variables,
--- so that the store has only those of the calls that are open.
+-- Runs in which each call drops its variables when it returns, so that the store has only the
+-- variables of open calls.
 -- Rule: docs/LANGUAGE.md, Runs 6 (that no run can tell whether variables are freed).
 use Rattle.std.specs.Prelude.{ℕ, zero, suc, length, take, List, ℤ}
 use Rattle.ob0_tree.specs.Tree.{Tree, module_text}
@@ -8,12 +8,12 @@ use Rattle.ob0_language_types.specs.Environments.{from_binding}
 use Rattle.ob0_language_values.specs.Values.{CallBound}
 use Rattle.ob0_language_runs.specs.Runs.{Activation, Calls, Progress, Run, activate, run_by, running, stopped}
 
--- the first n of the store stay
+-- a run with only the first n variables of its store; an ended run is unchanged
 abbrev pub drop_variables : ℕ → Progress → Progress
 drop_variables n (running s) = running record s { store = take n s.store }
 drop_variables n (stopped e out) = stopped e out
 
--- calls, of which c more may be open; the store is as long after one that returns as it was before
+-- a call, if c more calls may be open; after it returns, the store is as long as before it
 unfoldable pub call_freeing : {N : Type 0} → Naming N → ℕ → ℕ → Activation N → Calls N
 unfolding activate
 call_freeing naming zero t env x args s = stopped CallBound s.output
@@ -21,7 +21,7 @@ call_freeing naming (suc c) t env x args s =
     drop_variables (length s.store)
     (activate naming (call_freeing naming c t) t (from_binding naming env x) args s)
 
--- the run in which calls that return drop their variables
+-- the run of a module in which each call drops its variables when it returns
 unfoldable pub run_freeing : {N : Type 0} → Naming N → Tree N module_text → List ℤ → ℕ → ℕ → Run
 unfolding run_by call_freeing
 run_freeing naming m input c t = run_by naming (call_freeing naming c t) t m input

@@ -13,13 +13,13 @@ use Rattle.ob0_language_types.specs.WellTyped.{Mode, WellTyped}
 use Rattle.ob0_language_runs.specs.Freed.{run_freeing}
 use Rattle.ob0_language_runs.specs.Runs.{Calls, State, execute, run, run_numbered, run_over}
 
--- the run of a module over its names is the run of its numbered tree
+-- a module has the same run as its numbered tree
 abbrev pub RunsByOrdinal : Type 0
 RunsByOrdinal =
     (m : Tree Name module_text) (input : List ℤ) (c t : ℕ)
     → run m input c t ≡ run_numbered (numbered m) input c t
 
--- two modules with one numbered tree have equal runs
+-- two modules with the same numbered tree have the same runs
 abbrev pub RunsByShape : Type 0
 RunsByShape =
     (a b : Tree Name module_text)
@@ -27,7 +27,7 @@ RunsByShape =
     → (input : List ℤ) (c t : ℕ)
     → run a input c t ≡ run b input c t
 
--- where a new name is free, the renamed module has every run that the module had
+-- a module has the same runs after a declaration is renamed to a free name
 abbrev pub FreeKeepsRuns : Type 0
 FreeKeepsRuns =
     (m : Tree Name module_text) (d : ℕ) (new : Name)
@@ -35,8 +35,7 @@ FreeKeepsRuns =
     → (input : List ℤ) (c t : ℕ)
     → run (renamed m d new) input c t ≡ run m input c t
 
--- dropping a call's variables at its return leaves every run of every tree as it is,
--- whatever distinguishes its names or labels
+-- dropping a call's variables when the call returns changes no run of any tree, under any naming
 abbrev pub FreeingKeepsRuns : Type 0
 FreeingKeepsRuns =
     ((naming : Naming Name) (m : Tree Name module_text) (input : List ℤ) (c t : ℕ)
@@ -52,8 +51,8 @@ NeverStuck =
     → (input : List ℤ) (c t : ℕ)
     → (run m input c t).ending ≢ Stuck
 
--- a factor that has a constant's value in every store, in place of uses of that constant,
--- keeps what a statement does
+-- the execution of a statement is unchanged if a factor that has the constant's value in every
+-- store replaces uses of a constant
 abbrev pub InliningKeepsExecution : Type 0
 InliningKeepsExecution =
     (meaning : Meanings Name Place (List Mode)) (enter : Calls Name) (t : ℕ) (uses : Uses)

@@ -1,5 +1,6 @@
--- Runs, by big steps: statements, calls and whole modules, over names, an environment, a store, the
--- rest of the input, and bounds c on open calls and t on the iterations of a loop.
+-- Runs, in big steps: the meaning of statements, calls and whole modules. They depend on an
+-- environment, a store, the remaining input, and bounds c on open calls and t on the iterations of
+-- a loop.
 -- Rule: docs/LANGUAGE.md, Runs 1 to 10.
 use Rattle.std.specs.Prelude.{ℕ, zero, suc, ◌+◌, ◌-◌, true, false, List, [], ◌∷◌, ◌++◌, map, length, ℤ, Some, None, Option, option_map, option_and_then}
 use Rattle.ob0_tree.specs.Tree.{Tree, assigns, begins, block, body, branches, calls, declares_variable, else_branch, else_part, elsif_branch, elsif_part, empty, end, expression, further_section, further_statement, item, items, maybe, module_text, more, none, one, procedure, repeat_loop, runs, sequence, statement, then_section, then_statement, variable, while_loop}
@@ -18,53 +19,54 @@ pub data Written : Type 0 where
   number_out : ℤ → Written
   line_out : Written
 
--- the state of a run
+-- the state of a run; `input` is the input that isn't read yet
 pub record State : Type 0 where
   pub store : Store
   pub input : List ℤ
   pub output : List Written
 
--- a run goes on, or it has ended; what was output before remains
+-- a run that continues or has ended; in both cases the earlier output remains
 pub data Progress : Type 0 where
   running : State → Progress
   stopped : End → List Written → Progress
 
--- a VAR parameter is given a place, fixed from then on; another a copy of a value
+-- an argument: the place for a VAR parameter, fixed at the call, or a copy of the value for another
+-- one
 pub data Argument : Type 0 where
   place_argument : Place → Argument
   value_argument : Value → Argument
 
--- what an evaluation gives, used in a state
+-- uses the result of an evaluation in a state, or ends the run as the evaluation did
 abbrev pub use_in : {A : Type 0} → State → Outcome A → (A → Progress) → Progress
 use_in s (gives a) next = next a
 use_in s (ends e) next = stopped e s.output
 
--- a run that goes on is continued; one that has ended stays so
+-- continues a run, unless it has ended
 abbrev pub continue_with : Progress → (State → Progress) → Progress
 continue_with (running s) next = next s
 continue_with (stopped e out) next = stopped e out
 
--- one of two ways, by a condition
+-- takes one of two ways, depending on a condition
 abbrev pub choose : State → Value → (State → Progress) → (State → Progress) → Progress
 choose s (truth true) when_true when_false = when_true s
 choose s (truth false) when_true when_false = when_false s
 choose s _ when_true when_false = stopped Stuck s.output
 
--- the state with one more item of output
+-- a state with one more item of output
 abbrev pub append_output : State → Written → State
 append_output s i = record s { output = s.output ++ i ∷ [] }
 
--- a value is stored at a place
+-- stores a value at a place
 abbrev pub store_at : State → Place → Value → Progress
 store_at s p v =
     use_in s (or_stuck (write_place s.store p v)) (λ store. running record s { store = store })
 
--- `Read` takes the next number of the input, or ends with InputEnd
+-- `Read` takes the next number of the input, or ends the run with InputEnd if there is none
 abbrev pub read_number : State → Place → List ℤ → Progress
 read_number s p [] = stopped InputEnd s.output
 read_number s p (n ∷ rest) = store_at record s { input = rest } p (number n)
 
--- how the arguments of a call are passed
+-- the modes in which the arguments of a call are passed
 abbrev pub modes_of : Option (Object Place (List Mode)) → Outcome (List Mode)
 modes_of (Some (a_procedure modes)) = gives modes
 modes_of (Some (a_standard reads)) = gives (by_place ∷ [])
@@ -72,7 +74,7 @@ modes_of (Some (a_standard writes)) = gives (by_value ∷ [])
 modes_of (Some (a_standard writes_line)) = gives []
 modes_of _ = ends Stuck
 
--- an argument: a copy of its value, or the place of a VAR argument (rule 6)
+-- an argument: the place for a VAR parameter, or a copy of the value for another one (rule 6)
 unfoldable pub evaluate_argument : {N P : Type 0}
     → Meanings N Place P
     → Store
@@ -88,7 +90,7 @@ evaluate_argument meaning store by_place e = do
   p ← designate meaning store d.0 d.1
   gives (place_argument p)
 
--- arguments are evaluated from left to right
+-- the arguments of a call, evaluated from left to right
 unfoldable pub evaluate_arguments : {N P : Type 0}
     → Meanings N Place P
     → Store
@@ -103,7 +105,7 @@ evaluate_arguments meaning store (m ∷ ms) (e ∷ es) = do
   gives (a ∷ rest)
 evaluate_arguments meaning store _ _ = ends Stuck
 
--- a call, its arguments evaluated; the standard procedures don't count as calls for the bound c
+-- performs a call with evaluated arguments; the standard procedures don't count for the bound c
 abbrev pub perform : Option (Object Place (List Mode))
     → (List Argument → State → Progress)
     → List Argument
@@ -116,8 +118,8 @@ perform (Some (a_standard writes)) enter (value_argument (number n) ∷ []) s =
 perform (Some (a_standard writes_line)) enter [] s = running (append_output s line_out)
 perform _ enter args s = stopped Stuck s.output
 
--- WHILE evaluates its condition; where it is TRUE and none of t iterations is left, the run ends
--- with TurnBound; else one more is made
+-- WHILE evaluates its condition: FALSE ends the statement. If it is TRUE, one more iteration is
+-- made, or the run ends with TurnBound if t is 0
 abbrev pub turns : ℕ → (State → Outcome Value) → (State → Progress) → State → Progress
 turns zero condition statements s =
     use_in s (condition s) (λ v. choose s v (λ s'. stopped TurnBound s'.output) running)
@@ -125,13 +127,13 @@ turns (suc t) condition statements s =
     use_in s (condition s) (λ v. choose s v
     (λ s'. continue_with (statements s') (turns t condition statements)) running)
 
--- what a name does where it is called, over its arguments
+-- the effect of calling a name with arguments
 abbrev pub Calls : Type 0 → Type 0
 Calls N = N → List Argument → State → Progress
 
--- REPEAT makes an iteration and then evaluates its condition: TRUE ends the statement; FALSE ends
--- the run with TurnBound where none of the t iterations after the first is left;
--- else one more is made
+-- REPEAT makes an iteration and then evaluates its condition: TRUE ends the statement. If it is
+-- FALSE, one more iteration is made, or the run ends with TurnBound if t is 0. So t bounds the
+-- iterations after the first one
 abbrev pub turns_until : ℕ → (State → Outcome Value) → (State → Progress) → State → Progress
 turns_until zero condition turn s =
     continue_with (turn s) (λ s'. use_in s' (condition s')
@@ -140,11 +142,12 @@ turns_until (suc t) condition turn s =
     continue_with (turn s)
     (λ s'. use_in s' (condition s') (λ v. choose s' v running (turns_until t condition turn)))
 
--- a statement. An assignment finds its place, then evaluates its right side, then stores a copy
+-- executes a statement. An assignment finds its place, then evaluates its right side, then stores a
+-- copy
 unfoldable mutual
   unfolding evaluate designate evaluate_arguments
 
-  -- one statement; `enter` is what a call does, and t bounds the iterations of each loop
+  -- one statement; `enter` performs calls of procedures, and t bounds the iterations of each loop
   pub execute : {N : Type 0}
       → Meanings N Place (List Mode)
       → Calls N
@@ -181,7 +184,7 @@ unfoldable mutual
   execute_all meaning enter t (runs a rest) s =
       continue_with (execute meaning enter t a s) (execute_further meaning enter t rest)
 
-  -- the statements after the first
+  -- the statements after the first one
   pub execute_further : {N : Type 0}
       → Meanings N Place (List Mode)
       → Calls N
@@ -193,7 +196,7 @@ unfoldable mutual
   execute_further meaning enter t (more (then_statement a) rest) s =
       continue_with (execute meaning enter t a s) (execute_further meaning enter t rest)
 
-  -- the ELSIF parts, and what follows them
+  -- the ELSIF parts, then `otherwise` if no condition among them is TRUE
   pub execute_elsifs : {N : Type 0}
       → Meanings N Place (List Mode)
       → Calls N
@@ -207,7 +210,7 @@ unfoldable mutual
       use_in s (evaluate meaning s.store e) (λ v. choose s v
       (execute_all meaning enter t statements) (execute_elsifs meaning enter t rest otherwise))
 
-  -- the statements of the ELSE part; where there is none, nothing happens
+  -- the statements of the ELSE part; without one, nothing happens
   pub execute_else : {N : Type 0}
       → Meanings N Place (List Mode)
       → Calls N
@@ -224,16 +227,16 @@ pub record ProcedureText (N : Type 0) : Type 0 where
   pub first_constructor : ℕ
   pub text : Tree N (item procedure)
 
--- what names mean in an activation
+-- the meanings of names in an activation
 abbrev pub Activation : Type 0 → Type 0
 Activation N = Environment N Place (ProcedureText N)
 
--- what a block's statements run in: its environment and the store
+-- the environment and the store in which a block's statements run
 pub record Frame (N : Type 0) : Type 0 where
   pub env : Activation N
   pub store : Store
 
--- a new variable for each name, added at the end of the store
+-- adds a new variable for each name at the end of the store, all with the value v
 abbrev pub allocate : {N : Type 0} → List N → Value → Frame N → Frame N
 allocate [] v f = f
 allocate (x ∷ xs) v f =
@@ -243,7 +246,7 @@ allocate (x ∷ xs) v f =
       store = f.store ++ v ∷ [];
     }
 
--- variables are new ones, and begin as 0 and FALSE (rule 1)
+-- adds new variables, which begin as 0 and FALSE (rule 1)
 unfoldable pub declare_variables : {N : Type 0}
     → Naming N
     → ℕ
@@ -257,7 +260,7 @@ declare_variables naming k (more (declares_variable ns u) gs) f =
     (allocate (names_listed ns) (initial s) f))
     (denoted (meanings naming f.env) k u)
 
--- a procedure is bound after its heading
+-- binds procedures, each with the ordinal of its first ARRAY or RECORD
 abbrev pub declare_procedures : {N : Type 0}
     → ℕ
     → Tree N (items procedure)
@@ -268,11 +271,11 @@ declare_procedures k (more p rest) env =
     declare_procedures (k + procedure_constructors p) rest
     ((procedure_name p, a_procedure record { first_constructor = k; text = p }) ∷ env)
 
--- the procedures of a block become visible
+-- a frame in which the procedures of a block are visible
 abbrev pub with_procedures : {N : Type 0} → ℕ → Tree N (items procedure) → Frame N → Frame N
 with_procedures k ps f = record { env = declare_procedures k ps f.env; store = f.store }
 
--- constants and types, then variables, then procedures
+-- declares constants and types, then variables, then procedures
 unfoldable pub declare_block : {N : Type 0}
     → Naming N
     → ℕ
@@ -286,15 +289,15 @@ declare_block naming k b f =
     record { env = env; store = f.store }))
     (declare_first naming f.env k b)
 
--- a parameter of a call: a VAR parameter is its argument's place,
--- another a variable with the argument's value
+-- binds a parameter to its argument: a VAR parameter to the place, another one to a new variable
+-- that has the value
 abbrev pub bind_parameter : {N : Type 0} → Mode → N → Argument → Frame N → Option (Frame N)
 bind_parameter by_place x (place_argument p) f =
     Some record { env = (x, a_variable p) ∷ f.env; store = f.store }
 bind_parameter by_value x (value_argument v) f = Some (allocate (x ∷ []) v f)
 bind_parameter _ x _ f = None
 
--- a formal parameter by its name and mode
+-- a formal parameter: its mode and its name
 pub record Parameter (N : Type 0) : Type 0 where
   pub mode : Mode
   pub name : N
@@ -305,7 +308,7 @@ parameters end = []
 parameters (more (then_section f) fs) =
     map (λ x. record { mode = section_mode f; name = x }) (section_names f) ++ parameters fs
 
--- parameters are bound to arguments: a VAR parameter to its place, another to a new variable
+-- binds all parameters of a call to its arguments
 abbrev pub bind_parameters : {N : Type 0}
     → List (Parameter N)
     → List Argument
@@ -316,13 +319,14 @@ bind_parameters (p ∷ ps) (a ∷ args) f =
     option_and_then (bind_parameters ps args) (bind_parameter p.mode p.name a f)
 bind_parameters _ _ f = None
 
--- how the arguments of a procedure are passed
+-- the modes of a procedure's parameters
 abbrev pub formal_modes : {N : Type 0} → Tree N (items further_section) → List Mode
 formal_modes end = []
 formal_modes (more (then_section f) fs) =
     map (λ x. section_mode f) (section_names f) ++ formal_modes fs
 
--- of a procedure, statements need to know only how its arguments are passed
+-- the meaning of a name for statements; of a procedure they need to know only how its arguments are
+-- passed
 abbrev pub passing : {N : Type 0}
     → Option (Object Place (ProcedureText N))
     → Option (Object Place (List Mode))
@@ -333,7 +337,7 @@ passing (Some (a_variable p)) = Some (a_variable p)
 passing (Some (a_procedure code)) = Some (a_procedure (formal_modes (procedure_formals code.text)))
 passing (Some (a_standard p)) = Some (a_standard p)
 
--- what names mean at a statement
+-- the meanings of names for the statements of an activation
 abbrev pub statement_meanings : {N : Type 0}
     → Naming N
     → Activation N
@@ -342,7 +346,7 @@ statement_meanings naming env =
     record
     { object_for = λ x. passing ((meanings naming env).object_for x); written = naming.written }
 
--- the statements of a body; a body that isn't there does nothing
+-- executes the statements of a body; without a body, nothing happens
 unfoldable pub execute_body : {N : Type 0}
     → Naming N
     → Activation N
@@ -356,7 +360,7 @@ execute_body naming env enter t none s = running s
 execute_body naming env enter t (one (begins statements)) s =
     execute_all (statement_meanings naming env) enter t statements s
 
--- a run goes on with the store of a frame; without a frame it is stuck
+-- continues a run with the store of a frame; without a frame the run is stuck
 abbrev pub in_frame : {N : Type 0}
     → State
     → Option (Frame N)
@@ -365,8 +369,8 @@ abbrev pub in_frame : {N : Type 0}
 in_frame s None next = stopped Stuck s.output
 in_frame s (Some f) next = next f record s { store = f.store }
 
--- the body of the procedure at the head of an environment runs with its own variables, in the
--- bindings that were visible at its declaration, those of the activation that declared it
+-- runs the body of the procedure at the head of an environment. It has its own variables, and sees
+-- the bindings that were visible at its declaration, in the activation that declared it
 unfoldable pub activate : {N : Type 0}
     → Naming N
     → (Activation N → Calls N)
@@ -385,7 +389,7 @@ activate naming enter t ((x, a_procedure code) ∷ rest) args s =
     (λ f. execute_body naming f.env (enter f.env) t (block_statements (procedure_block code.text)))
 activate naming enter t _ args s = stopped Stuck s.output
 
--- calls, of which c more may be open; what a call that returns had in the store stays there
+-- a call, if c more calls may be open; the store keeps the call's variables after it returns
 unfoldable pub call : {N : Type 0} → Naming N → ℕ → ℕ → Activation N → Calls N
 unfolding activate
 call naming zero t env x args s = stopped CallBound s.output
@@ -397,12 +401,12 @@ pub record Run : Type 0 where
   pub output : List Written
   pub ending : End
 
--- a run that reaches the end of the module's body ends with Done
+-- the run after the module's body; it ends with Done if the end of the body was reached
 abbrev pub finished : Progress → Run
 finished (running s) = record { output = s.output; ending = Done }
 finished (stopped e out) = record { output = out; ending = e }
 
--- the run of a tree, by what calls do
+-- the run of a tree; `enter` performs calls
 unfoldable pub run_by : {N : Type 0}
     → Naming N
     → (Activation N → Calls N)
@@ -417,12 +421,12 @@ run_by naming enter t m input =
     (declare_block naming 0 (module_block m) record { env = outermost naming; store = [] })
     (λ f. execute_body naming f.env (enter f.env) t (block_statements (module_block m))))
 
--- the run of a tree over any names that can be distinguished
+-- the run of a tree over names of any kind
 unfoldable pub run_over : {N : Type 0} → Naming N → Tree N module_text → List ℤ → ℕ → ℕ → Run
 unfolding run_by call
 run_over naming m input c t = run_by naming (call naming c t) t m input
 
--- the run of a module as written
+-- the run of a module whose names are as they are written
 unfoldable pub run : Tree Name module_text → List ℤ → ℕ → ℕ → Run
 unfolding run_over
 run = run_over as_names

@@ -1,4 +1,4 @@
-//! What a module does when it runs (docs/LANGUAGE.md, Runs): the definition, and laws over it.
+//! The run of a module (docs/LANGUAGE.md, Runs): its definition, and laws about it.
 #![tactic(auto)]
 
 pub mod laws;

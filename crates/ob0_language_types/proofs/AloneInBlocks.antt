@@ -1,4 +1,4 @@
--- In a block that fits, a constant's names are alone as factors.
+-- In a well-typed block, each use of a constant is a whole factor.
 use Rattle.std.proofs.Common.{Bool, List, None, Option, Some, ap, arith, eq-eqb, if◌then◌else◌, le_of_lt, le_refl, length, map, ne_eqb, option_and_then, option_map, refl, subst, suc, sym, true, true≢false, ℕ, ◌&&◌, ◌++◌, ◌+◌, ◌<◌, ◌==◌, ◌∙◌, ◌∷◌, ◌≡◌, ◌≤◌}
 use Rattle.ob0_tree.specs.Tree.{Tree, begins, block, body, constant, declares, declares_constant, declares_procedure, declares_type, declares_variable, end, further_section, has_body, item, items, maybe, more, none, occurrences, one, procedure, then_section, type_name, variable, written_type}
 use Rattle.ob0_language_names.specs.Elsewhere.{names_elsewhere}
@@ -27,7 +27,7 @@ use Rattle.ob0_language_types.proofs.TypedElsewhere.{AreConstant, constant_value
 use Rattle.ob0_language_types.proofs.TypesByOrdinal.{typed_names}
 use Rattle.std.proofs.lemmas.Bool.{and_parts}
 
--- the names bound to the constant d
+-- states that a name is bound to the constant d
 abbrev pub IsOf : ℕ → Scope Name → Name → Type 0
 IsOf d scope x = ordinal_of as_names scope x ≡ Some d
 

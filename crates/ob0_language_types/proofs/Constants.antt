@@ -1,4 +1,4 @@
--- A constant expression has the value in a run the value of it to the checker.
+-- A constant expression has the same value in a run as in the checker.
 use Rattle.std.proofs.Common.{◌≡◌, Bool, true, false, List, [], ◌∷◌, Some, None, Option, option_map, option_and_then, refl, ap, ◌∙◌, subst}
 use Rattle.ob0_tree.specs.Tree.{Tree, addend, adds, compares, designator, end, expression, factor, field, index, integer, items, more, multiplier, multiplies, negation, none, one, parenthesised, product, relates, selector, simple, sum, term}
 use Rattle.ob0_language_types.specs.Expressions.{Meanings, Object, a_constant, a_procedure, a_standard, a_type, a_variable, element_step, evaluate, evaluate_addends, evaluate_factor, evaluate_multipliers, evaluate_simple, evaluate_term, follow, object_value}
@@ -13,7 +13,7 @@ then-gives (ends e) next b h = absurd (cc)
 pub then-goes : {A B : Type 0} (o : Outcome A) (next : A → Outcome B) (a : A) (b : B) → o ≡ gives a → next a ≡ gives b → o >>= next ≡ gives b
 then-goes o next a b e h = ap (λ o. o >>= next) e ∙ h
 
--- the meanings of a run have the constants
+-- states that the meanings of a run include the checker's constants
 abbrev pub HasConstants : {N V P Q : Type 0} → Meanings N V P → Meanings N Place Q → Type 0
 HasConstants {N} checked active =
     ((x : N) → checked.written x ≡ active.written x) × ((x : N) (w : Value) → constant_of (checked.object_for x) ≡ Some w → constant_of (active.object_for x) ≡ Some w)

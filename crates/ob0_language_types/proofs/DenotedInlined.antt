@@ -1,4 +1,5 @@
--- A constant's literal in place of its uses keeps the values of constant expressions, and what the texts of types denote.
+-- If a constant's literal replaces its uses, the values of constant expressions and the types that
+-- texts denote are unchanged.
 use Rattle.std.proofs.Common.{List, Some, [], ap, length, map, option_and_then, option_map, refl, suc, ℕ, ◌+◌, ◌∙◌, ◌∷◌, ◌≡◌}
 use Rattle.ob0_tree.specs.Tree.{Tree, array_type, end, expression, factor, fields, further_fields, items, more, named_type, no_fields, occurrences, record_type, some_fields, then_fields, written_type}
 use Rattle.ob0_language_names.specs.Inlining.{Uses, inline_in}
@@ -15,7 +16,7 @@ pub uses-map : (uses : Uses) (P Q : Name → Type 0) → ((x : Name) → P x →
 uses-map uses P Q f k [] u = tt
 uses-map uses P Q f k (x ∷ xs) u = (λ e. f x (u.0 e), uses-map uses P Q f (suc k) xs u.1)
 
--- what is known of a literal in constant expressions
+-- the facts about a literal in constant expressions: its type and its value are the constant's
 pub record ConstantWritten {V P : Type 0} (meaning : Meanings Name V P) (v : Tree Name factor) (w : Value) : Type 0 where
   pub typed : type_of_factor {P = Unit {0}} (constants_only meaning) v ≡ value_type w
   pub has_value : evaluate_factor {P = Unit {0}} (constants_only meaning) [] v ≡ gives w

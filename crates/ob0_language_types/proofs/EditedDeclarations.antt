@@ -1,4 +1,5 @@
--- What an edited block's constants and types bind is what they bound, as the edit leaves it.
+-- After an edit, a block's constants and types have the bindings that they had before, as the edit
+-- leaves them.
 use Rattle.std.proofs.Common.{Bool, None, Option, Some, ap, arith, eq-eqb, eqb-true, false, if◌then◌else◌, le_refl, length, ne_eqb, option_and_then, refl, subst, subst₂, suc, sym, true, ℕ, ◌+◌, ◌<◌, ◌==◌, ◌∙◌, ◌∷◌, ◌≡◌, ◌≤◌}
 use Rattle.ob0_tree.specs.Tree.{Tree, constant, declares_constant, declares_type, end, expression, items, more, occurrences, type_name}
 use Rattle.ob0_language_names.specs.Names.{Name, as_names}
@@ -21,7 +22,7 @@ use Rattle.ob0_language_types.proofs.Literals.{some_inverse}
 use Rattle.ob0_language_types.proofs.Marks.{IsRight, Mark, Marks, OfProcedure, Sound, Sound-weaken, is_left, knowns, not-left, read, read_edited, scope_marked}
 use Rattle.std.proofs.lemmas.Bool.{and_parts}
 
--- two ways to go on from one value that is there
+-- two continuations agree after one known value if they agree for that value
 pub agree-known : {V X Y Z : Type 0} (p : X → Y) (q : X → Z) (P : X → Type 0) (g : V → Option Y) (h : V → Option Z) (o o' : Option V)
     → o' ≡ o → ((v : V) → o ≡ Some v → Agree p q P (g v) (h v)) → Agree p q P (option_and_then g o) (option_and_then h o')
 agree-known {V} p q P g h o o' e each =
@@ -31,11 +32,11 @@ agree-known {V} p q P g h o o' e each =
     go None each = (None, refl, refl, tt)
     go (Some v) each = each v refl
 
--- an ordinal from k on and below n isn't the constant's
+-- states that the ordinals from k to n - 1 don't include the constant
 abbrev pub Outside : Edit → ℕ → ℕ → Type 0
 Outside edit k n = k ≤ edit.constant → edit.constant < n → ⊥
 
--- where the constant's ordinal is one from k on and below n, the value is w
+-- states that, if the constant's ordinal is from k to n - 1, the value is w
 abbrev pub HasValueBetween : Edit → Value → ℕ → ℕ → Option Value → Type 0
 HasValueBetween edit w k n o = k ≤ edit.constant → edit.constant < n → o ≡ Some w
 
@@ -46,13 +47,14 @@ outside-right edit w x k o seven outside = record {
   no_is = λ e. absurd (omega (arith, e, seven));
 }
 
--- what is known of the marks that declarations leave
+-- the facts about the marks after declarations
 pub record Left {V P : Type 0} (edit : Edit) (w : Value) (X : Marks V P → Name → ℕ → P → Type 0) (n : ℕ) (scope : Scope Name) (known : Option Known) (marks : Marks V P) : Type 0 where
   pub scoped : scope_marked marks ≡ scope
   pub sound : Sound edit w X n marks
   pub value : known ≡ Some (knowns marks)
 
--- a constant's declaration and those after it, the constant's value v being known; `next` is what follows
+-- constants, the first of which may be the edited one; `next` proves the same about the constants
+-- after it
 constants-tail : {V P Q : Type 0} (edit : Edit) (w : Value) (X : Marks V P → Name → ℕ → P → Type 0) (p q : ℕ → P → Q) (k : ℕ) (marks : Marks V P) → Sound edit w X k marks → 7 ≤ k → (x : Name) (e : Tree Name expression) (cs cs' : Tree Name (items constant))
     → HasValueBetween edit w k (after_names (suc k) (constant_names cs)) (value_among (knowns marks) edit.constant k (more (declares_constant x e) cs))
     → ((b : Mark V P) → IsRight edit w b → (b.ordinal ≡ k) → OfProcedure (X marks b.name b.ordinal) b.object → b.name ≡ x → HasValueBetween edit w (suc k) (after_names (suc k) (constant_names cs)) (value_among (knowns (b ∷ marks)) edit.constant (suc k) cs)

@@ -1,4 +1,4 @@
--- An edited module fits where the module does.
+-- An edited module passes the type check exactly if the original does.
 use Rattle.std.proofs.Common.{List, None, Option, Some, [], ap, arith, false, if◌then◌else◌, le_of_lt, le_refl, le_trans, length, map, nat_lt, negsuc, option_and_then, option_map, pos, refl, subst, subst₂, suc, sym, true, ℕ, ⊎_elim, ◌&&◌, ◌++◌, ◌+◌, ◌<◌, ◌∙◌, ◌∷◌, ◌≡◌, ◌≤◌}
 use Rattle.ob0_tree.specs.Tree.{Tree, adds, begins, block, body, compares, declares, declares_procedure, declares_variable, end, factor, further_section, has_body, integer, item, items, maybe, more, none, occurrences, one, parenthesised, procedure, product, sequence, sum, then_section, variable, written_type}
 use Rattle.ob0_language_names.specs.Names.{Name, as_names}
@@ -30,7 +30,7 @@ use Rattle.ob0_tree.specs.declared.tree.Sign.TheVariants as sign
 use Rattle.ob0_tree.specs.declared.tree.AddOperator.TheVariants as add_operator
 use Rattle.std.proofs.lemmas.Bool.{cases_Bool}
 
--- in a checked module a procedure is its signature, on both sides
+-- a procedure means its signature before and after the edit
 abbrev pub as_signed : ℕ → Signature → Signature
 as_signed k signature = signature
 
@@ -90,7 +90,7 @@ unfolding body_fits
 body_fits-edited edit w lit n marks s j none here = refl
 body_fits-edited edit w lit n marks s j (one (begins statements)) here = sequence-leaf edit w lit n marks s j statements here
 
--- variables of one type, as marks
+-- the marks of variables of one type
 pub typed-names : (edit : Edit) (w : Value) (k : ℕ) (xs : List Name) (shape : Shape) (marks : Marks Shape Signature) → Checked edit w k marks → 7 ≤ k → Outside edit k (after_names k xs)
     → LeftTyped edit w (after_names k xs) (declare_names k xs (scope_marked marks)) (Some (bind_names xs no_constant (knowns marks))) (mark_all k (with_value shape xs) marks)
     × (bind_names xs (a_variable shape) (read as_signed marks) ≡ read as_signed (mark_all k (with_value shape xs) marks))
@@ -212,7 +212,7 @@ pub parameter_pairs-names : (ps : List (TypedParameter Name)) → names_of (para
 parameter_pairs-names [] = refl
 parameter_pairs-names (p ∷ ps) = λ i. p.name ∷ parameter_pairs-names ps i
 
--- the ordinals after a block's
+-- bounds of the ordinals in and after a block
 pub procedures-below : (k : ℕ) (b : Tree Name block) → k ≤ first_procedure k b
 procedures-below k b = le_trans (le-after_names k (constant_names (block_constants b))) (types-below k b)
 

@@ -1,4 +1,4 @@
--- A constant inlined everywhere keeps a module well-typed.
+-- A well-typed module remains well-typed if a constant is inlined everywhere.
 use Rattle.std.proofs.Common.{List, Some, [], ap, arith, codes, eq-eqb, false, if◌then◌else◌, le_refl, nat_lt, negsuc, option_and_then, pos, refl, slice_get, subst, suc, sym, true, true≢false, zero-add, ℕ, ⊎_elim, ◌∙◌, ◌∷◌, ◌≡◌, ◌≤◌}
 use Rattle.ob0_tree.specs.Tree.{Sort, Tree, adds, compares, end, factor, integer, is_module, module_text, more, none, occurrences, parenthesised, product, sum}
 use Rattle.ob0_language_names.specs.Inlining.{Uses, all_bound_to}
@@ -25,11 +25,11 @@ use Rattle.ob0_tree.specs.declared.tree.Sign.TheVariants as sign
 use Rattle.ob0_tree.specs.declared.tree.AddOperator.TheVariants as add_operator
 use Rattle.std.proofs.lemmas.Bool.{cases_Bool}
 
--- a label is the constant's exactly where its occurrence gives way
+-- states that an occurrence is a use exactly if its label is the constant's
 abbrev pub IsUseOf : Uses → ℕ → ℕ → Label → Type 0
 IsUseOf uses d j l = (uses j ≡ true → label_ordinal l ≡ Some d) × (label_ordinal l ≡ Some d → uses j ≡ true)
 
--- what the labels tell of a place
+-- the facts that the labels give at a place
 abbrev pub IsLabelled : Edit → Value → Placed
 IsLabelled edit w s j scope t = Each (Writes edit w) j scope (occurrences t) × AllGiveWay edit.uses (IsOf edit.constant scope) j (occurrences t)
 
@@ -58,7 +58,7 @@ none-of-unshown edit w j scope [] e reported gives_way = tt
 none-of-unshown edit w j scope (x ∷ xs) e reported gives_way =
     (λ k. true≢false (sym (reported.0.1 (gives_way.0 k)) ∙ e), none-of-unshown edit w (suc j) scope xs e reported.1 gives_way.1)
 
--- where the constant's names are alone as factors, none is left
+-- if each use of the constant is a whole factor, no use remains
 pub here-everywhere : (edit : Edit) (w : Value) → Literal edit w → (s : Sort) (j : ℕ) (scope : Scope Name) (t : Tree Name s) → IsLabelled edit w s j scope t → IsAlone edit.constant s j scope t → Here edit w s j scope t
 here-everywhere edit w lit s j scope t reported alone_there = (
   reported.0,
@@ -79,7 +79,7 @@ reported-from edit w j scope (x ∷ xs) both =
       (λ k. both.0.0.1 (label_ordinal-of as_names scope x ∙ k), rest.1),
     )
 
--- nothing is edited
+-- the facts of an edit without uses
 no_writes : (v : Tree Name factor) (d : ℕ) (w : Value) (j : ℕ) (scope : Scope Name) (xs : List Name) → Each (Writes (writing no_uses v d) w) j scope xs
 no_writes v d w j scope [] = tt
 no_writes v d w j scope (x ∷ xs) = ((λ e. absurd (true≢false (sym e)), λ e. absurd (true≢false (sym e))), no_writes v d w (suc j) scope xs)
@@ -96,7 +96,7 @@ bound-exactly m d i l e =
     let bound : binds m i ≡ label_ordinal l = ap (option_and_then label_ordinal) e in
     (λ u. sym bound ∙ same_ordinal-true (binds m i) d u, λ k. ap (λ o. same_ordinal o d) (bound ∙ k) ∙ eq-eqb d d refl)
 
--- in a well-typed module the constant's names are alone as factors
+-- in a well-typed module each use of the constant is a whole factor
 pub alone-module : (m : Tree Name module_text) (d : ℕ) (w : Value) (v : Tree Name factor) → IsConstantWritten m d w v → WellTyped m → EachBlock (IsAlone d) 0 (predeclared_scope as_names) 7 (module_block m)
 unfolding WellTyped fits_over
 alone-module (is_module x b closing) d w v c well =

@@ -1,6 +1,7 @@
--- Edited expressions and types at a place: over the environment that an edit leaves they mean what they meant.
--- A tree means the same where its occurrences mean the same, by tagging each name with what it means (`Tag`) and the
--- lemmas of naturality; so no walk over expressions or statements is needed for it.
+-- Edited expressions and types: in the environment after the edit they mean the same as before.
+-- Two trees mean the same if their occurrences mean the same. To prove this, each name is tagged
+-- with its meaning (`Tag`) and the lemmas of naturality are used, so no induction over expressions
+-- or statements is needed.
 use Rattle.std.proofs.Common.{Bool, List, None, Option, Some, [], ap, codes, eqb-true, false, option_map, refl, suc, sym, true, true≢false, ℕ, ⊎_elim, ◌∙◌, ◌∷◌, ◌≡◌, ◌≤◌}
 use Rattle.ob0_tree.specs.Tree.{Tree, expression, occurrences, written_type}
 use Rattle.ob0_language_names.specs.Mapping.{with_names}
@@ -23,7 +24,8 @@ use Rattle.ob0_language_types.proofs.Marks.{Mark, Marks, Sound, Stays, edited-ho
 use Rattle.ob0_language_types.proofs.TypeNaturality.{constant_value-map, denoted-map}
 use Rattle.std.proofs.lemmas.Bool.{cases_Bool, false_from_ne_true}
 
--- the literal's name is bound to the predeclared TRUE or FALSE; a number has no name in it
+-- true if the literal's name is bound to the predeclared TRUE or FALSE, or if the literal has no
+-- name
 abbrev pub shown : Value → Scope Name → Bool
 shown (truth true) scope = same_ordinal (ordinal_of as_names scope (codes "TRUE")) 2
 shown (truth false) scope = same_ordinal (ordinal_of as_names scope (codes "FALSE")) 3
@@ -31,7 +33,7 @@ shown (number n) scope = true
 shown (elements vs) scope = true
 shown (members k ms) scope = true
 
--- at an occurrence that gives way: it is the constant's, and the literal's name is seen
+-- states that a use is bound to the constant, and that the literal's name is visible there
 abbrev pub Writes : Edit → Value → ℕ → Scope Name → Name → Type 0
 Writes edit w j scope x = (edit.uses j ≡ true → ordinal_of as_names scope x ≡ Some edit.constant) × (edit.uses j ≡ true → shown w scope ≡ true)
 
@@ -39,7 +41,8 @@ abbrev pub AllStay : Edit → Scope Name → List Name → Type 0
 AllStay edit scope [] = Unit {0}
 AllStay edit scope (x ∷ xs) = Stays edit scope x × AllStay edit scope xs
 
--- what is known at a place: of the occurrences that give way, and that the edit leaves what the edited tree's names are bound to
+-- the facts at a place: `Writes` holds of each occurrence, and no name of the edited tree is bound
+-- to a removed declaration
 abbrev pub Here : Edit → Value → Placed
 Here edit w s j scope t = Each (Writes edit w) j scope (occurrences t) × AllStay edit scope (occurrences (leaf edit j t))
 
@@ -56,7 +59,7 @@ pub none-used : (edit : Edit) (w : Value) (j : ℕ) (scope : Scope Name) (xs : L
 none-used edit w j scope [] e here = tt
 none-used edit w j scope (x ∷ xs) e here = (false_from_ne_true (edit.uses j) (λ u. true≢false (sym (here.0.1 u) ∙ e)), none-used edit w (suc j) scope xs e here.1)
 
--- what names mean in the edited environment
+-- the meanings of names in the edited environment
 
 abbrev pub edited_meanings : {V P Q : Type 0} → Edit → (ℕ → P → Q) → Marks V P → Meanings Name V Q
 edited_meanings edit q marks = meanings as_names (read_edited edit q marks)
@@ -103,7 +106,7 @@ literal-constant edit w lit meaning seen = record {
   has_value = literal-has_value {P = Unit {0}} (constants_only meaning) [] edit.literal w lit.written lit.scalar (seen-constants Place (Unit {0}) meaning w seen);
 }
 
--- trees mean the same where their occurrences mean the same constants and types
+-- trees mean the same if their occurrences mean the same constants and types
 
 pub record Tag (V P : Type 0) : Type 0 where
   pub object : Option (Object V P)
@@ -197,7 +200,7 @@ denoted-leaf edit w lit X p q n marks s j k t here =
     (λ not_shown. ap (denoted (read_meanings p marks) k) (inline-nothing edit.uses edit.literal j t (none-used edit w j (scope_marked marks) (occurrences t) not_shown here.0)))
     (cases_Bool (shown w (scope_marked marks)))
 
--- what is known of constants
+-- the constants that are known
 pub known-value : {V P Q : Type 0} (p : ℕ → P → Q) (marks : Marks V P) (e : Tree Name expression) → constant_value (meanings as_names (knowns marks)) e ≡ constant_value (read_meanings p marks) e
 known-value {V} {P} {Q} p marks e =
     ap (constant_value (meanings as_names (knowns marks))) (sym (with_names-id e))

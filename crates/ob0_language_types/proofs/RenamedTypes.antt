@@ -1,4 +1,4 @@
--- A free renaming keeps a module well-typed.
+-- A well-typed module remains well-typed if a declaration is renamed to a free name.
 use Rattle.std.proofs.Common.{}
 use Rattle.ob0_language_names.specs.Scopes.{renamed}
 use Rattle.ob0_language_names.proofs.RenamedDeclarations.{free_keeps_declarations-holds}

@@ -1,4 +1,4 @@
--- Where trees have types, a constant's names are alone as factors.
+-- In a tree that is well-typed, each use of a constant is a whole factor.
 use Rattle.std.proofs.Common.{None, Option, Some, [], ap, map, option_and_then, option_map, refl, suc, sym, true, true≢false, ℕ, ◌&&◌, ◌++◌, ◌+◌, ◌∙◌, ◌∷◌, ◌≡◌}
 use Rattle.ob0_tree.specs.Tree.{Tree, addend, adds, arguments, array_type, assigns, branches, calls, compares, designator, else_branch, else_part, elsif_branch, elsif_part, empty, end, expression, factor, field, fields, further_argument, further_fields, further_statement, index, integer, item, items, maybe, more, multiplier, multiplies, named_type, negation, no_arguments, no_fields, none, one, parenthesised, product, record_type, relates, repeat_loop, runs, selector, sequence, simple, some_arguments, some_fields, statement, sum, term, then_argument, then_fields, then_statement, while_loop, written_type}
 use Rattle.ob0_language_names.specs.Elsewhere.{names_elsewhere}
@@ -16,7 +16,7 @@ pub then_some : {A B : Type 0} (o : Option A) (next : A → Option B) (b : B) �
 then_some None next b h = absurd (cc)
 then_some (Some a) next b h = (a, refl, h)
 
--- the names of a kind mean one constant
+-- states that the names that satisfy K mean one constant
 abbrev pub AreConstant : {V P : Type 0} → (Name → Type 0) → Meanings Name V P → Value → Type 0
 AreConstant K meaning w = (x : Name) → K x → meaning.object_for x ≡ Some (a_constant w)
 

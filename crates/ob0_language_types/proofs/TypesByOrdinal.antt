@@ -1,4 +1,5 @@
--- A module fits by name exactly where its numbered tree fits by ordinal.
+-- The type check by names accepts a module exactly if the check by ordinals accepts its numbered
+-- tree.
 use Rattle.std.proofs.Common.{◌≡◌, ℕ, suc, ◌+◌, ◌<◌, ◌≤◌, Bool, true, false, ◌&&◌, List, [], ◌∷◌, ◌++◌, map, Some, None, Option, option_map, option_and_then, sym, refl, ap, ◌∙◌, subst, subst₂, le_refl, le_of_lt, arith, lit<}
 use Rattle.ob0_tree.specs.Tree.{Tree, begins, block, body, constant, declares, declares_constant, declares_procedure, declares_type, declares_variable, end, further_section, has_body, is_module, item, items, maybe, module_text, more, none, one, procedure, section, then_section, type_name, value_section, variable, variable_section, written_type}
 use Rattle.ob0_language_names.specs.Mapping.{with_names}
@@ -19,7 +20,7 @@ use Rattle.ob0_language_types.proofs.FitNaturality.{sequence_fits-map}
 use Rattle.ob0_language_types.proofs.TypeNaturality.{constant_value-map, constructors-map, denoted-map}
 use Rattle.std.proofs.lemmas.Bool.{eq-eqb, ne_eqb}
 
--- environments whose bindings carry their declarations' ordinals, here of types
+-- an environment whose bindings also have the ordinals of their declarations
 
 pub record TypeBound (N : Type 0) : Type 0 where
   pub name : N
@@ -75,7 +76,7 @@ pub newest-same : {N : Type 0} (noted : TypeNoted N) → newest (typed_by_ordina
 newest-same [] = refl
 newest-same (b ∷ noted) = refl
 
--- a name looked up, and its ordinal
+-- the label of a looked-up name
 abbrev pub typed_label : {N : Type 0} → Naming N → TypeNoted N → N → Label
 typed_label naming noted = label_of naming (as_label naming) (typed_scope noted)
 
@@ -136,7 +137,7 @@ pub noted_names-within : {N : Type 0} (k : ℕ) (xs : List N) (o : Object Shape 
 noted_names-within k [] o noted below = (refl, below)
 noted_names-within k (x ∷ xs) o noted below = noted_names-within (suc k) xs o (record { name = x; ordinal = k; object = o } ∷ noted) (le_refl (suc k), below)
 
--- a fact about what names leave, moved along the scope and the environments that they leave
+-- moves a fact along the scope and the environments that names extend
 pub typed_moved : {N : Type 0} (naming : Naming N) (Goal : Scope N → TypeEnvironment N → TypeEnvironment Label → Type 0) (k : ℕ) (xs : List N) (o : Object Shape Signature) (noted : TypeNoted N) → TypedBelow k noted
     → Goal (typed_scope (noted_names k xs o noted)) (typed_by_name (noted_names k xs o noted)) (typed_by_ordinal (noted_names k xs o noted))
     → Goal (declare_names k xs (typed_scope noted)) (bind_names xs o (typed_by_name noted)) (bind_names (label_names (as_label naming) k xs) o (typed_by_ordinal noted))

@@ -1,4 +1,5 @@
--- A worked constant: its value, its uses, and what TRUE would be bound to at one.
+-- A worked constant: its value, its uses, and the declaration to which TRUE would be bound at one
+-- of them.
 use Rattle.std.proofs.Common.{None, Some, codes, negsuc, refl, ◌≡◌}
 use Rattle.ob0_language_names.specs.Occurrences.{binds}
 use Rattle.ob0_language_names.specs.SeenNames.{sees}

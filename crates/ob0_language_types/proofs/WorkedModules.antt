@@ -1,4 +1,5 @@
--- Modules that are well-typed and modules that are not: names declared once and closing names first, then types.
+-- Modules that are well-typed and modules that aren't. Names declared twice and wrong closing names
+-- come first, then types.
 use Rattle.std.proofs.Common.{◌≡◌, true, false, Some, None, codes, refl}
 use Rattle.ob0_tree.specs.declared.tree.Relation.TheVariants as relation
 use Rattle.ob0_tree.specs.declared.tree.Sign.TheVariants as sign
@@ -66,7 +67,9 @@ pub shadowing-fits : (declared_once shadowing ≡ true) × (fits_over as_names s
 unfolding fits_over
 shadowing-fits = (refl, refl)
 
--- types A1 to the last, each an ARRAY 1 OF the one before
+-- MODULE M; VAR a: ARRAY 2 OF INTEGER; i: INTEGER; PROCEDURE S(VAR p: INTEGER; q: INTEGER; VAR r:
+-- INTEGER); BEGIN i := 1; p := q + 1; r := p * 10; Write(q) END S; BEGIN i := 0; S(a[i], a[i],
+-- a[i]); Write(a[0]); Write(a[1]); S(i, i, i); Write(i); a[i] := 0 END M.
 abbrev pub aliasing : Tree Name module_text
 aliasing = is_module (codes "M") (has_body (declares none none (one (declares_variables (more (declares_variable (listed (codes "a") end) (array_type (alone (integer 2)) (named_type (codes "INTEGER")))) (more (declares_variable (listed (codes "i") end) (named_type (codes "INTEGER"))) end)))) (more (declares_procedure (codes "S") (one (some_formals (variable_section (listed (codes "p") end) (named_type (codes "INTEGER"))) (more (then_section (value_section (listed (codes "q") end) (named_type (codes "INTEGER")))) (more (then_section (variable_section (listed (codes "r") end) (named_type (codes "INTEGER")))) end)))) (has_body (declares none none none end) (one (begins (runs (assigns (codes "i") end (alone (integer 1))) (more (then_statement (assigns (codes "p") end (compares (sum None (product (designator (codes "q") end) end) (more (adds add_operator.Add (product (integer 1) end)) end)) none))) (more (then_statement (assigns (codes "r") end (compares (sum None (product (designator (codes "p") end) (more (multiplies multiply_operator.Multiply (integer 10)) end)) end) none))) (more (then_statement (calls (codes "Write") (one (some_arguments (alone (designator (codes "q") end)) end)))) end))))))) (codes "S")) end)) (one (begins (runs (assigns (codes "i") end (alone (integer 0))) (more (then_statement (calls (codes "S") (one (some_arguments (alone (designator (codes "a") (more (index (alone (designator (codes "i") end))) end))) (more (then_argument (alone (designator (codes "a") (more (index (alone (designator (codes "i") end))) end)))) (more (then_argument (alone (designator (codes "a") (more (index (alone (designator (codes "i") end))) end)))) end)))))) (more (then_statement (calls (codes "Write") (one (some_arguments (alone (designator (codes "a") (more (index (alone (integer 0))) end))) end)))) (more (then_statement (calls (codes "Write") (one (some_arguments (alone (designator (codes "a") (more (index (alone (integer 1))) end))) end)))) (more (then_statement (calls (codes "S") (one (some_arguments (alone (designator (codes "i") end)) (more (then_argument (alone (designator (codes "i") end))) (more (then_argument (alone (designator (codes "i") end))) end)))))) (more (then_statement (calls (codes "Write") (one (some_arguments (alone (designator (codes "i") end)) end)))) (more (then_statement (assigns (codes "a") (more (index (alone (designator (codes "i") end))) end) (alone (integer 0)))) end)))))))))) (codes "M")
 
@@ -306,7 +309,7 @@ pub array_of_none-fits : (declared_once array_of_none ≡ true) × (fits_over as
 unfolding fits_over
 array_of_none-fits = (refl, refl)
 
--- types A1 to the last, each an ARRAY 1 OF the one before
+-- types A1 to A100, each an ARRAY 1 OF the previous one
 abbrev pub hundred_deep : Tree Name module_text
 hundred_deep = is_module (codes "M") (has_body (declares none (one (declares_types (more (declares_type (codes "A1") (array_type (alone (integer 1)) (named_type (codes "INTEGER")))) (more (declares_type (codes "A2") (array_type (alone (integer 1)) (named_type (codes "A1")))) (more (declares_type (codes "A3") (array_type (alone (integer 1)) (named_type (codes "A2")))) (more (declares_type (codes "A4") (array_type (alone (integer 1)) (named_type (codes "A3")))) (more (declares_type (codes "A5") (array_type (alone (integer 1)) (named_type (codes "A4")))) (more (declares_type (codes "A6") (array_type (alone (integer 1)) (named_type (codes "A5")))) (more (declares_type (codes "A7") (array_type (alone (integer 1)) (named_type (codes "A6")))) (more (declares_type (codes "A8") (array_type (alone (integer 1)) (named_type (codes "A7")))) (more (declares_type (codes "A9") (array_type (alone (integer 1)) (named_type (codes "A8")))) (more (declares_type (codes "A10") (array_type (alone (integer 1)) (named_type (codes "A9")))) (more (declares_type (codes "A11") (array_type (alone (integer 1)) (named_type (codes "A10")))) (more (declares_type (codes "A12") (array_type (alone (integer 1)) (named_type (codes "A11")))) (more (declares_type (codes "A13") (array_type (alone (integer 1)) (named_type (codes "A12")))) (more (declares_type (codes "A14") (array_type (alone (integer 1)) (named_type (codes "A13")))) (more (declares_type (codes "A15") (array_type (alone (integer 1)) (named_type (codes "A14")))) (more (declares_type (codes "A16") (array_type (alone (integer 1)) (named_type (codes "A15")))) (more (declares_type (codes "A17") (array_type (alone (integer 1)) (named_type (codes "A16")))) (more (declares_type (codes "A18") (array_type (alone (integer 1)) (named_type (codes "A17")))) (more (declares_type (codes "A19") (array_type (alone (integer 1)) (named_type (codes "A18")))) (more (declares_type (codes "A20") (array_type (alone (integer 1)) (named_type (codes "A19")))) (more (declares_type (codes "A21") (array_type (alone (integer 1)) (named_type (codes "A20")))) (more (declares_type (codes "A22") (array_type (alone (integer 1)) (named_type (codes "A21")))) (more (declares_type (codes "A23") (array_type (alone (integer 1)) (named_type (codes "A22")))) (more (declares_type (codes "A24") (array_type (alone (integer 1)) (named_type (codes "A23")))) (more (declares_type (codes "A25") (array_type (alone (integer 1)) (named_type (codes "A24")))) (more (declares_type (codes "A26") (array_type (alone (integer 1)) (named_type (codes "A25")))) (more (declares_type (codes "A27") (array_type (alone (integer 1)) (named_type (codes "A26")))) (more (declares_type (codes "A28") (array_type (alone (integer 1)) (named_type (codes "A27")))) (more (declares_type (codes "A29") (array_type (alone (integer 1)) (named_type (codes "A28")))) (more (declares_type (codes "A30") (array_type (alone (integer 1)) (named_type (codes "A29")))) (more (declares_type (codes "A31") (array_type (alone (integer 1)) (named_type (codes "A30")))) (more (declares_type (codes "A32") (array_type (alone (integer 1)) (named_type (codes "A31")))) (more (declares_type (codes "A33") (array_type (alone (integer 1)) (named_type (codes "A32")))) (more (declares_type (codes "A34") (array_type (alone (integer 1)) (named_type (codes "A33")))) (more (declares_type (codes "A35") (array_type (alone (integer 1)) (named_type (codes "A34")))) (more (declares_type (codes "A36") (array_type (alone (integer 1)) (named_type (codes "A35")))) (more (declares_type (codes "A37") (array_type (alone (integer 1)) (named_type (codes "A36")))) (more (declares_type (codes "A38") (array_type (alone (integer 1)) (named_type (codes "A37")))) (more (declares_type (codes "A39") (array_type (alone (integer 1)) (named_type (codes "A38")))) (more (declares_type (codes "A40") (array_type (alone (integer 1)) (named_type (codes "A39")))) (more (declares_type (codes "A41") (array_type (alone (integer 1)) (named_type (codes "A40")))) (more (declares_type (codes "A42") (array_type (alone (integer 1)) (named_type (codes "A41")))) (more (declares_type (codes "A43") (array_type (alone (integer 1)) (named_type (codes "A42")))) (more (declares_type (codes "A44") (array_type (alone (integer 1)) (named_type (codes "A43")))) (more (declares_type (codes "A45") (array_type (alone (integer 1)) (named_type (codes "A44")))) (more (declares_type (codes "A46") (array_type (alone (integer 1)) (named_type (codes "A45")))) (more (declares_type (codes "A47") (array_type (alone (integer 1)) (named_type (codes "A46")))) (more (declares_type (codes "A48") (array_type (alone (integer 1)) (named_type (codes "A47")))) (more (declares_type (codes "A49") (array_type (alone (integer 1)) (named_type (codes "A48")))) (more (declares_type (codes "A50") (array_type (alone (integer 1)) (named_type (codes "A49")))) (more (declares_type (codes "A51") (array_type (alone (integer 1)) (named_type (codes "A50")))) (more (declares_type (codes "A52") (array_type (alone (integer 1)) (named_type (codes "A51")))) (more (declares_type (codes "A53") (array_type (alone (integer 1)) (named_type (codes "A52")))) (more (declares_type (codes "A54") (array_type (alone (integer 1)) (named_type (codes "A53")))) (more (declares_type (codes "A55") (array_type (alone (integer 1)) (named_type (codes "A54")))) (more (declares_type (codes "A56") (array_type (alone (integer 1)) (named_type (codes "A55")))) (more (declares_type (codes "A57") (array_type (alone (integer 1)) (named_type (codes "A56")))) (more (declares_type (codes "A58") (array_type (alone (integer 1)) (named_type (codes "A57")))) (more (declares_type (codes "A59") (array_type (alone (integer 1)) (named_type (codes "A58")))) (more (declares_type (codes "A60") (array_type (alone (integer 1)) (named_type (codes "A59")))) (more (declares_type (codes "A61") (array_type (alone (integer 1)) (named_type (codes "A60")))) (more (declares_type (codes "A62") (array_type (alone (integer 1)) (named_type (codes "A61")))) (more (declares_type (codes "A63") (array_type (alone (integer 1)) (named_type (codes "A62")))) (more (declares_type (codes "A64") (array_type (alone (integer 1)) (named_type (codes "A63")))) (more (declares_type (codes "A65") (array_type (alone (integer 1)) (named_type (codes "A64")))) (more (declares_type (codes "A66") (array_type (alone (integer 1)) (named_type (codes "A65")))) (more (declares_type (codes "A67") (array_type (alone (integer 1)) (named_type (codes "A66")))) (more (declares_type (codes "A68") (array_type (alone (integer 1)) (named_type (codes "A67")))) (more (declares_type (codes "A69") (array_type (alone (integer 1)) (named_type (codes "A68")))) (more (declares_type (codes "A70") (array_type (alone (integer 1)) (named_type (codes "A69")))) (more (declares_type (codes "A71") (array_type (alone (integer 1)) (named_type (codes "A70")))) (more (declares_type (codes "A72") (array_type (alone (integer 1)) (named_type (codes "A71")))) (more (declares_type (codes "A73") (array_type (alone (integer 1)) (named_type (codes "A72")))) (more (declares_type (codes "A74") (array_type (alone (integer 1)) (named_type (codes "A73")))) (more (declares_type (codes "A75") (array_type (alone (integer 1)) (named_type (codes "A74")))) (more (declares_type (codes "A76") (array_type (alone (integer 1)) (named_type (codes "A75")))) (more (declares_type (codes "A77") (array_type (alone (integer 1)) (named_type (codes "A76")))) (more (declares_type (codes "A78") (array_type (alone (integer 1)) (named_type (codes "A77")))) (more (declares_type (codes "A79") (array_type (alone (integer 1)) (named_type (codes "A78")))) (more (declares_type (codes "A80") (array_type (alone (integer 1)) (named_type (codes "A79")))) (more (declares_type (codes "A81") (array_type (alone (integer 1)) (named_type (codes "A80")))) (more (declares_type (codes "A82") (array_type (alone (integer 1)) (named_type (codes "A81")))) (more (declares_type (codes "A83") (array_type (alone (integer 1)) (named_type (codes "A82")))) (more (declares_type (codes "A84") (array_type (alone (integer 1)) (named_type (codes "A83")))) (more (declares_type (codes "A85") (array_type (alone (integer 1)) (named_type (codes "A84")))) (more (declares_type (codes "A86") (array_type (alone (integer 1)) (named_type (codes "A85")))) (more (declares_type (codes "A87") (array_type (alone (integer 1)) (named_type (codes "A86")))) (more (declares_type (codes "A88") (array_type (alone (integer 1)) (named_type (codes "A87")))) (more (declares_type (codes "A89") (array_type (alone (integer 1)) (named_type (codes "A88")))) (more (declares_type (codes "A90") (array_type (alone (integer 1)) (named_type (codes "A89")))) (more (declares_type (codes "A91") (array_type (alone (integer 1)) (named_type (codes "A90")))) (more (declares_type (codes "A92") (array_type (alone (integer 1)) (named_type (codes "A91")))) (more (declares_type (codes "A93") (array_type (alone (integer 1)) (named_type (codes "A92")))) (more (declares_type (codes "A94") (array_type (alone (integer 1)) (named_type (codes "A93")))) (more (declares_type (codes "A95") (array_type (alone (integer 1)) (named_type (codes "A94")))) (more (declares_type (codes "A96") (array_type (alone (integer 1)) (named_type (codes "A95")))) (more (declares_type (codes "A97") (array_type (alone (integer 1)) (named_type (codes "A96")))) (more (declares_type (codes "A98") (array_type (alone (integer 1)) (named_type (codes "A97")))) (more (declares_type (codes "A99") (array_type (alone (integer 1)) (named_type (codes "A98")))) (more (declares_type (codes "A100") (array_type (alone (integer 1)) (named_type (codes "A99")))) end)))))))))))))))))))))))))))))))))))))))))))))))))))))))))))))))))))))))))))))))))))))))))))))))))))))) none end) (one (begins (runs empty end)))) (codes "M")
 
@@ -314,7 +317,7 @@ pub hundred_deep-fits : fits_over as_names hundred_deep ≡ true
 unfolding fits_over
 hundred_deep-fits = refl
 
--- types A1 to the last, each an ARRAY 1 OF the one before
+-- types A1 to A101, each an ARRAY 1 OF the previous one
 abbrev pub hundred_and_one_deep : Tree Name module_text
 hundred_and_one_deep = is_module (codes "M") (has_body (declares none (one (declares_types (more (declares_type (codes "A1") (array_type (alone (integer 1)) (named_type (codes "INTEGER")))) (more (declares_type (codes "A2") (array_type (alone (integer 1)) (named_type (codes "A1")))) (more (declares_type (codes "A3") (array_type (alone (integer 1)) (named_type (codes "A2")))) (more (declares_type (codes "A4") (array_type (alone (integer 1)) (named_type (codes "A3")))) (more (declares_type (codes "A5") (array_type (alone (integer 1)) (named_type (codes "A4")))) (more (declares_type (codes "A6") (array_type (alone (integer 1)) (named_type (codes "A5")))) (more (declares_type (codes "A7") (array_type (alone (integer 1)) (named_type (codes "A6")))) (more (declares_type (codes "A8") (array_type (alone (integer 1)) (named_type (codes "A7")))) (more (declares_type (codes "A9") (array_type (alone (integer 1)) (named_type (codes "A8")))) (more (declares_type (codes "A10") (array_type (alone (integer 1)) (named_type (codes "A9")))) (more (declares_type (codes "A11") (array_type (alone (integer 1)) (named_type (codes "A10")))) (more (declares_type (codes "A12") (array_type (alone (integer 1)) (named_type (codes "A11")))) (more (declares_type (codes "A13") (array_type (alone (integer 1)) (named_type (codes "A12")))) (more (declares_type (codes "A14") (array_type (alone (integer 1)) (named_type (codes "A13")))) (more (declares_type (codes "A15") (array_type (alone (integer 1)) (named_type (codes "A14")))) (more (declares_type (codes "A16") (array_type (alone (integer 1)) (named_type (codes "A15")))) (more (declares_type (codes "A17") (array_type (alone (integer 1)) (named_type (codes "A16")))) (more (declares_type (codes "A18") (array_type (alone (integer 1)) (named_type (codes "A17")))) (more (declares_type (codes "A19") (array_type (alone (integer 1)) (named_type (codes "A18")))) (more (declares_type (codes "A20") (array_type (alone (integer 1)) (named_type (codes "A19")))) (more (declares_type (codes "A21") (array_type (alone (integer 1)) (named_type (codes "A20")))) (more (declares_type (codes "A22") (array_type (alone (integer 1)) (named_type (codes "A21")))) (more (declares_type (codes "A23") (array_type (alone (integer 1)) (named_type (codes "A22")))) (more (declares_type (codes "A24") (array_type (alone (integer 1)) (named_type (codes "A23")))) (more (declares_type (codes "A25") (array_type (alone (integer 1)) (named_type (codes "A24")))) (more (declares_type (codes "A26") (array_type (alone (integer 1)) (named_type (codes "A25")))) (more (declares_type (codes "A27") (array_type (alone (integer 1)) (named_type (codes "A26")))) (more (declares_type (codes "A28") (array_type (alone (integer 1)) (named_type (codes "A27")))) (more (declares_type (codes "A29") (array_type (alone (integer 1)) (named_type (codes "A28")))) (more (declares_type (codes "A30") (array_type (alone (integer 1)) (named_type (codes "A29")))) (more (declares_type (codes "A31") (array_type (alone (integer 1)) (named_type (codes "A30")))) (more (declares_type (codes "A32") (array_type (alone (integer 1)) (named_type (codes "A31")))) (more (declares_type (codes "A33") (array_type (alone (integer 1)) (named_type (codes "A32")))) (more (declares_type (codes "A34") (array_type (alone (integer 1)) (named_type (codes "A33")))) (more (declares_type (codes "A35") (array_type (alone (integer 1)) (named_type (codes "A34")))) (more (declares_type (codes "A36") (array_type (alone (integer 1)) (named_type (codes "A35")))) (more (declares_type (codes "A37") (array_type (alone (integer 1)) (named_type (codes "A36")))) (more (declares_type (codes "A38") (array_type (alone (integer 1)) (named_type (codes "A37")))) (more (declares_type (codes "A39") (array_type (alone (integer 1)) (named_type (codes "A38")))) (more (declares_type (codes "A40") (array_type (alone (integer 1)) (named_type (codes "A39")))) (more (declares_type (codes "A41") (array_type (alone (integer 1)) (named_type (codes "A40")))) (more (declares_type (codes "A42") (array_type (alone (integer 1)) (named_type (codes "A41")))) (more (declares_type (codes "A43") (array_type (alone (integer 1)) (named_type (codes "A42")))) (more (declares_type (codes "A44") (array_type (alone (integer 1)) (named_type (codes "A43")))) (more (declares_type (codes "A45") (array_type (alone (integer 1)) (named_type (codes "A44")))) (more (declares_type (codes "A46") (array_type (alone (integer 1)) (named_type (codes "A45")))) (more (declares_type (codes "A47") (array_type (alone (integer 1)) (named_type (codes "A46")))) (more (declares_type (codes "A48") (array_type (alone (integer 1)) (named_type (codes "A47")))) (more (declares_type (codes "A49") (array_type (alone (integer 1)) (named_type (codes "A48")))) (more (declares_type (codes "A50") (array_type (alone (integer 1)) (named_type (codes "A49")))) (more (declares_type (codes "A51") (array_type (alone (integer 1)) (named_type (codes "A50")))) (more (declares_type (codes "A52") (array_type (alone (integer 1)) (named_type (codes "A51")))) (more (declares_type (codes "A53") (array_type (alone (integer 1)) (named_type (codes "A52")))) (more (declares_type (codes "A54") (array_type (alone (integer 1)) (named_type (codes "A53")))) (more (declares_type (codes "A55") (array_type (alone (integer 1)) (named_type (codes "A54")))) (more (declares_type (codes "A56") (array_type (alone (integer 1)) (named_type (codes "A55")))) (more (declares_type (codes "A57") (array_type (alone (integer 1)) (named_type (codes "A56")))) (more (declares_type (codes "A58") (array_type (alone (integer 1)) (named_type (codes "A57")))) (more (declares_type (codes "A59") (array_type (alone (integer 1)) (named_type (codes "A58")))) (more (declares_type (codes "A60") (array_type (alone (integer 1)) (named_type (codes "A59")))) (more (declares_type (codes "A61") (array_type (alone (integer 1)) (named_type (codes "A60")))) (more (declares_type (codes "A62") (array_type (alone (integer 1)) (named_type (codes "A61")))) (more (declares_type (codes "A63") (array_type (alone (integer 1)) (named_type (codes "A62")))) (more (declares_type (codes "A64") (array_type (alone (integer 1)) (named_type (codes "A63")))) (more (declares_type (codes "A65") (array_type (alone (integer 1)) (named_type (codes "A64")))) (more (declares_type (codes "A66") (array_type (alone (integer 1)) (named_type (codes "A65")))) (more (declares_type (codes "A67") (array_type (alone (integer 1)) (named_type (codes "A66")))) (more (declares_type (codes "A68") (array_type (alone (integer 1)) (named_type (codes "A67")))) (more (declares_type (codes "A69") (array_type (alone (integer 1)) (named_type (codes "A68")))) (more (declares_type (codes "A70") (array_type (alone (integer 1)) (named_type (codes "A69")))) (more (declares_type (codes "A71") (array_type (alone (integer 1)) (named_type (codes "A70")))) (more (declares_type (codes "A72") (array_type (alone (integer 1)) (named_type (codes "A71")))) (more (declares_type (codes "A73") (array_type (alone (integer 1)) (named_type (codes "A72")))) (more (declares_type (codes "A74") (array_type (alone (integer 1)) (named_type (codes "A73")))) (more (declares_type (codes "A75") (array_type (alone (integer 1)) (named_type (codes "A74")))) (more (declares_type (codes "A76") (array_type (alone (integer 1)) (named_type (codes "A75")))) (more (declares_type (codes "A77") (array_type (alone (integer 1)) (named_type (codes "A76")))) (more (declares_type (codes "A78") (array_type (alone (integer 1)) (named_type (codes "A77")))) (more (declares_type (codes "A79") (array_type (alone (integer 1)) (named_type (codes "A78")))) (more (declares_type (codes "A80") (array_type (alone (integer 1)) (named_type (codes "A79")))) (more (declares_type (codes "A81") (array_type (alone (integer 1)) (named_type (codes "A80")))) (more (declares_type (codes "A82") (array_type (alone (integer 1)) (named_type (codes "A81")))) (more (declares_type (codes "A83") (array_type (alone (integer 1)) (named_type (codes "A82")))) (more (declares_type (codes "A84") (array_type (alone (integer 1)) (named_type (codes "A83")))) (more (declares_type (codes "A85") (array_type (alone (integer 1)) (named_type (codes "A84")))) (more (declares_type (codes "A86") (array_type (alone (integer 1)) (named_type (codes "A85")))) (more (declares_type (codes "A87") (array_type (alone (integer 1)) (named_type (codes "A86")))) (more (declares_type (codes "A88") (array_type (alone (integer 1)) (named_type (codes "A87")))) (more (declares_type (codes "A89") (array_type (alone (integer 1)) (named_type (codes "A88")))) (more (declares_type (codes "A90") (array_type (alone (integer 1)) (named_type (codes "A89")))) (more (declares_type (codes "A91") (array_type (alone (integer 1)) (named_type (codes "A90")))) (more (declares_type (codes "A92") (array_type (alone (integer 1)) (named_type (codes "A91")))) (more (declares_type (codes "A93") (array_type (alone (integer 1)) (named_type (codes "A92")))) (more (declares_type (codes "A94") (array_type (alone (integer 1)) (named_type (codes "A93")))) (more (declares_type (codes "A95") (array_type (alone (integer 1)) (named_type (codes "A94")))) (more (declares_type (codes "A96") (array_type (alone (integer 1)) (named_type (codes "A95")))) (more (declares_type (codes "A97") (array_type (alone (integer 1)) (named_type (codes "A96")))) (more (declares_type (codes "A98") (array_type (alone (integer 1)) (named_type (codes "A97")))) (more (declares_type (codes "A99") (array_type (alone (integer 1)) (named_type (codes "A98")))) (more (declares_type (codes "A100") (array_type (alone (integer 1)) (named_type (codes "A99")))) (more (declares_type (codes "A101") (array_type (alone (integer 1)) (named_type (codes "A100")))) end))))))))))))))))))))))))))))))))))))))))))))))))))))))))))))))))))))))))))))))))))))))))))))))))))))))) none end) (one (begins (runs empty end)))) (codes "M")
 

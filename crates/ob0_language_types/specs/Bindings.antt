@@ -1,5 +1,5 @@
--- All that the declarations of a module bind,
--- each in the environment in which it is checked: the latest first.
+-- The bindings of all declarations of a module, newest first, each made in the environment in which
+-- its declaration is checked.
 -- Rule: docs/LANGUAGE.md, Scopes 2 to 4.
 use Rattle.std.specs.Prelude.{ℕ, ◌+◌, ◌-◌, List, [], ◌++◌, length, take, Some, None, Option}
 use Rattle.ob0_tree.specs.Tree.{Tree, block, declares, declares_procedure, end, has_body, item, items, module_text, more, procedure}
@@ -13,21 +13,21 @@ use Rattle.ob0_language_types.specs.Expressions.{Object, a_variable}
 use Rattle.ob0_language_types.specs.WellTyped.{Signature, TypeEnvironment, bind_typed, heading, typed_parameters}
 use Rattle.ob0_language_values.specs.Values.{Shape}
 
--- what an environment binds that an earlier one didn't:
--- its first bindings, since the newest come first
+-- the bindings that an environment has in addition to an earlier one: its first ones, because the
+-- newest come first
 abbrev pub since : {A : Type 0} → List A → List A → List A
 since before now = take (length now - length before) now
 
--- the list that is made of a value; an empty one where there is none
+-- the list made from an optional value; empty if there is none
 abbrev pub for_some : {A B : Type 0} → Option A → (A → List B) → List B
 for_some None list = []
 for_some (Some a) list = list a
 
--- a block's constants, types and variables, and then all of its procedures
+-- the bindings of a block: its constants, types and variables, and all of its procedures
 unfoldable mutual
   unfolding declare_procedure typed_parameters
 
-  -- what a block binds; k is the ordinal of its first ARRAY or RECORD
+  -- the bindings of a block; k is the ordinal of its first ARRAY or RECORD
   pub block_bindings : {N : Type 0}
       → Naming N
       → TypeEnvironment N
@@ -40,7 +40,7 @@ unfoldable mutual
       (after_variables k (has_body (declares cs ts vs ps) statements)) ps
       ++ since env inner)
 
-  -- what procedures bind, that of the last one first
+  -- the bindings of procedures, beginning with the bindings of the last procedure
   pub procedures_bindings : {N : Type 0}
       → Naming N
       → TypeEnvironment N
@@ -53,7 +53,7 @@ unfoldable mutual
       (k + procedure_constructors p) rest
       ++ procedure_bindings naming env k p)
 
-  -- a procedure's name, its parameters, and all of its block
+  -- the bindings of a procedure: its name, its parameters and its block
   pub procedure_bindings : {N : Type 0}
       → Naming N
       → TypeEnvironment N
@@ -66,17 +66,17 @@ unfoldable mutual
       (k + formals_constructors (formal_sections fs)) b
       ++ bind_typed ps (heading x ps []))
 
--- the predeclared names, and all of a module
+-- the bindings of the predeclared names and of a whole module
 abbrev pub module_bindings : {N : Type 0} → Naming N → Tree N module_text → TypeEnvironment N
 module_bindings naming m =
     block_bindings naming (outermost naming) 0 (module_block m) ++ outermost naming
 
--- what an ordinal is bound to last
+-- the object in the newest binding of an ordinal
 abbrev pub object_bound : TypeEnvironment Label → ℕ → Option (Object Shape Signature)
 object_bound bindings k = newest (from_binding as_labels bindings (declared k))
 
--- what the declaration of an ordinal is: in the numbered tree its name is the ordinal,
--- and this is what it is bound to
+-- the object that the declaration with ordinal k makes, found in the bindings of the numbered tree,
+-- in which each name is its ordinal
 abbrev pub declared_object : Tree Name module_text → ℕ → Option (Object Shape Signature)
 declared_object m k = object_bound (module_bindings as_labels (numbered m)) k
 

@@ -13,16 +13,16 @@ use Rattle.ob0_language_types.specs.Expressions.{Object}
 use Rattle.ob0_language_types.specs.WellTyped.{Signature, TypeEnvironment, TypedParameter, WellTyped, bind_typed, heading, typed_parameters}
 use Rattle.ob0_language_values.specs.Values.{Shape}
 
--- what is checked, and the environment there
+-- the statements of a body, and the environment in which they are checked
 pub record BodyAt (N : Type 0) : Type 0 where
   pub environment : TypeEnvironment N
   pub statements : Tree N (maybe body)
 
--- a block's statements follow its procedures
+-- the bodies of a block; the body of a block comes after the bodies of its procedures
 unfoldable mutual
   unfolding typed_parameters
 
-  -- those of a block's procedures, and then its own; none where a declaration denotes nothing
+  -- the bodies of a block's procedures, then its own; empty if a declaration has an error
   pub block_bodies : {N : Type 0}
       → Naming N
       → TypeEnvironment N
@@ -34,7 +34,7 @@ unfoldable mutual
       (λ inner. procedures_bodies naming inner
       (after_variables k (has_body (declares cs ts vs ps) statements)) statements ps)
 
-  -- those of procedures, in order, and then the statements of the block
+  -- the bodies of procedures in text order, then the body of their block
   pub procedures_bodies : {N : Type 0}
       → Naming N
       → TypeEnvironment N
@@ -50,7 +50,7 @@ unfoldable mutual
       ++ procedures_bodies naming (heading (procedure_name p) ps env)
       (k + procedure_constructors p) statements rest)
 
-  -- those of a procedure's block, in an environment with its name and parameters
+  -- the bodies of a procedure's block, in an environment with the procedure's name and parameters
   pub procedure_bodies : {N : Type 0}
       → Naming N
       → TypeEnvironment N
@@ -64,10 +64,10 @@ unfoldable mutual
 abbrev pub module_bodies : {N : Type 0} → Naming N → Tree N module_text → List (BodyAt N)
 module_bodies naming m = block_bodies naming (outermost naming) 0 (module_block m)
 
--- a property of the environments in which the procedures and the statements of a block are checked,
--- and those of the blocks in it
+-- states that Q holds of each environment in which procedures or statements of a block, or of a
+-- block inside it, are checked
 abbrev mutual
-  -- after a block's constants, types and variables, and in its procedures
+  -- a block: Q holds after its constants, types and variables, and in its procedures
   pub BlockHas : (TypeEnvironment Label → Type 0)
       → TypeEnvironment Label
       → ℕ
@@ -79,7 +79,7 @@ abbrev mutual
       → Q inner
       × ProceduresHave Q inner (after_variables k (has_body (declares cs ts vs ps) statements)) ps
 
-  -- in each procedure, with its parameters, its name and what was bound before it, and after all
+  -- procedures: Q holds inside each one, after the earlier ones, and after all of them
   pub ProceduresHave : (TypeEnvironment Label → Type 0)
       → TypeEnvironment Label
       → ℕ
@@ -93,7 +93,7 @@ abbrev mutual
       × ProcedureHas Q (bind_typed ps (heading (procedure_name p) ps env)) k p
       × ProceduresHave Q (heading (procedure_name p) ps env) (k + procedure_constructors p) rest
 
-  -- in the block of a procedure
+  -- Q holds in the block of a procedure
   pub ProcedureHas : (TypeEnvironment Label → Type 0)
       → TypeEnvironment Label
       → ℕ
@@ -102,8 +102,8 @@ abbrev mutual
   ProcedureHas Q env k (declares_procedure x fs b closing) =
       BlockHas Q env (k + formals_constructors (formal_sections fs)) b
 
--- in a well-typed module, what a name is bound to where statements are checked is what its
--- declaration is
+-- if the statements of a well-typed module bind a name, they bind it to the object of its
+-- declaration
 abbrev pub NamesAreDeclared : Type 0
 NamesAreDeclared =
     (m : Tree Name module_text) → WellTyped m

@@ -1,5 +1,5 @@
--- What declarations bind, in a checked module and in a run alike: constants and types;
--- and how types are numbered.
+-- The bindings that declarations of constants and types make, in the checker and in a run alike,
+-- and the numbering of types.
 -- Rule: docs/LANGUAGE.md, Scopes 2, Types 1.
 use Rattle.std.specs.Prelude.{ℕ, ◌+◌, ◌∷◌, Some, Option}
 use Rattle.ob0_tree.specs.Tree.{Tree, block, constant, declares, declares_constant, declares_procedure, declares_type, declares_variable, end, further_section, has_body, item, items, more, procedure, then_section, type_name, variable}
@@ -9,7 +9,7 @@ use Rattle.ob0_language_types.specs.Environments.{Environment, meanings}
 use Rattle.ob0_language_types.specs.Expressions.{a_constant, a_type}
 use Rattle.ob0_language_types.specs.Typing.{constant_value, constructors, denoted, ◌>>=◌}
 
--- a constant is bound after its right side
+-- binds constants, each after its right side; None if a right side isn't a constant expression
 unfoldable pub declare_constants : {N V P : Type 0}
     → Naming N
     → Environment N V P
@@ -21,7 +21,7 @@ declare_constants naming env (more (declares_constant x e) cs) = do
   v ← constant_value (meanings naming env) e
   declare_constants naming ((x, a_constant v) ∷ env) cs
 
--- a type is bound after its right side; k is the ordinal of the first ARRAY or RECORD
+-- binds types, each after its right side; k is the ordinal of the first ARRAY or RECORD
 unfoldable pub declare_types : {N V P : Type 0}
     → Naming N
     → Environment N V P
@@ -34,7 +34,7 @@ declare_types naming env k (more (declares_type x u) ds) = do
   s ← denoted (meanings naming env) k u
   declare_types naming ((x, a_type s) ∷ env) (k + constructors u) ds
 
--- constants, then types
+-- binds a block's constants, then its types
 unfoldable pub declare_first : {N V P : Type 0}
     → Naming N
     → Environment N V P
@@ -46,26 +46,26 @@ declare_first naming env k b = do
   with_constants ← declare_constants naming env (block_constants b)
   declare_types naming with_constants k (block_types b)
 
--- how many ARRAY and RECORD are in a TYPE section
+-- the number of ARRAY and RECORD in a TYPE section
 abbrev pub types_constructors : {N : Type 0} → Tree N (items type_name) → ℕ
 types_constructors end = 0
 types_constructors (more (declares_type x u) ds) = constructors u + types_constructors ds
 
--- how many ARRAY and RECORD are in a VAR section
+-- the number of ARRAY and RECORD in a VAR section
 abbrev pub variables_constructors : {N : Type 0} → Tree N (items variable) → ℕ
 variables_constructors end = 0
 variables_constructors (more (declares_variable ns u) gs) =
     constructors u + variables_constructors gs
 
--- how many ARRAY and RECORD are in formal parameters
+-- the number of ARRAY and RECORD in formal parameters
 abbrev pub formals_constructors : {N : Type 0} → Tree N (items further_section) → ℕ
 formals_constructors end = 0
 formals_constructors (more (then_section f) fs) =
     constructors (section_type f) + formals_constructors fs
 
--- how many ARRAY and RECORD are in a block, those of its procedures too
+-- the number of ARRAY and RECORD in a block, including its procedures
 abbrev mutual
-  -- in a block: in its types, its variables and its procedures
+  -- in a block: in its types, variables and procedures
   pub block_constructors : {N : Type 0} → Tree N block → ℕ
   block_constructors (has_body (declares cs ts vs ps) statements) =
       types_constructors (section_types ts)

@@ -1,4 +1,4 @@
--- The environments that declarations leave.
+-- The environments after declarations.
 -- Rule: none; for contracts of inlining and renaming.
 use Rattle.std.specs.Prelude.{ℕ, if◌then◌else◌, Some, None, Option}
 use Rattle.ob0_tree.specs.Tree.{Tree, block, item, procedure}
@@ -8,7 +8,7 @@ use Rattle.ob0_language_types.specs.Declarations.{after_types, declare_first}
 use Rattle.ob0_language_types.specs.Typing.{◌>>=◌}
 use Rattle.ob0_language_types.specs.WellTyped.{TypeEnvironment, bind_typed, declare_typed, heading, procedure_fits, typed_parameters}
 
--- the environment after a procedure that fits
+-- the environment after a procedure, or None if the procedure isn't well-typed
 unfoldable pub declare_procedure : {N : Type 0}
     → Naming N
     → TypeEnvironment N
@@ -22,7 +22,7 @@ declare_procedure naming env k p = do
       then Some (heading (procedure_name p) ps env)
       else None
 
--- the environment after a block's constants, types and variables
+-- the environment after a block's constants, types and variables, or None if one has an error
 abbrev pub declare_block : {N : Type 0}
     → Naming N
     → TypeEnvironment N

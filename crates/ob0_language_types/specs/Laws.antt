@@ -11,13 +11,14 @@ use Rattle.ob0_language_values.specs.Values.{Place, Store, Value, gives}
 use Rattle.ob0_language_names.specs.DeclaredOnce.{declared_once}
 use Rattle.ob0_language_types.specs.WellTyped.{Mode, Typed, WellTyped, fits_over}
 
--- a module fits by name exactly where its numbered tree fits by ordinal
+-- the type check by names accepts a module exactly if the check by ordinals accepts its numbered
+-- tree
 abbrev pub FitsByOrdinal : Type 0
 FitsByOrdinal =
     (m : Tree Name module_text) → fits_over as_names m ≡ fits_over as_labels (numbered m)
 
--- of two modules with one numbered tree, in which no block declares a name twice and closing names
--- are right, both are well-typed or neither is
+-- two modules with the same numbered tree are both well-typed or neither is, if each declares every
+-- name once and its closing names are right
 abbrev pub WellTypedByShape : Type 0
 WellTypedByShape =
     (a b : Tree Name module_text)
@@ -26,8 +27,8 @@ WellTypedByShape =
     → IsTrue (declared_once b)
     → WellTyped a ↔ WellTyped b
 
--- a constant expression has in a run the value that the checker computes,
--- where names mean the same constants
+-- a constant expression has the same value in a run as in the checker, if the names mean the same
+-- constants in both
 abbrev pub ConstantsEvaluate : Type 0
 ConstantsEvaluate =
     (checked : Typed Name) (active : Meanings Name Place (List Mode)) (store : Store)
@@ -38,12 +39,13 @@ ConstantsEvaluate =
     → constant_of (active.object_for x) ≡ Some w)
     → constant_value checked e ≡ Some v → evaluate active store e ≡ gives v
 
--- each use among the occurrences from number k on has the property
+-- states that P holds of each use in a list of occurrences, the first of which has number k
 abbrev pub UsesAre : Uses → (Name → Type 0) → ℕ → List Name → Type 0
 UsesAre uses P k [] = Unit {0}
 UsesAre uses P k (x ∷ xs) = (uses k ≡ true → P x) × UsesAre uses P (suc k) xs
 
--- a factor of a constant's value in place of uses of that constant keeps an expression's evaluation
+-- an expression's evaluation is unchanged if a factor with the constant's value replaces uses of a
+-- constant
 abbrev pub InliningKeepsEvaluation : Type 0
 InliningKeepsEvaluation =
     (meaning : Meanings Name Place (List Mode)) (store : Store) (uses : Uses) (v : Tree Name factor)
@@ -52,7 +54,8 @@ InliningKeepsEvaluation =
     → UsesAre uses (λ x. meaning.object_for x ≡ Some (a_constant w)) k (occurrences e)
     → evaluate meaning store (inline_in uses v k e) ≡ evaluate meaning store e
 
--- a factor of a constant's type in place of uses of that constant keeps an expression's type
+-- an expression's type is unchanged if a factor with the constant's type replaces uses of a
+-- constant
 abbrev pub InliningKeepsTypes : Type 0
 InliningKeepsTypes =
     (checked : Typed Name) (uses : Uses) (v : Tree Name factor) (w : Value) (k : ℕ)

@@ -1,4 +1,4 @@
--- Steps of chains: one operand, one selector.
+-- Steps of chains: the selectors of a designator, and an operation on two optional operands.
 -- Rule: none; for contracts: steps of chains.
 use Rattle.std.specs.Prelude.{ℕ, Option, option_and_then}
 use Rattle.ob0_tree.specs.Tree.{Tree, items, selector}
@@ -9,6 +9,6 @@ use Rattle.ob0_tree.specs.declared.tree.Designator.{Designator, out-Designator}
 abbrev pub selectors_in : Designator → Tree ℕ (items selector)
 selectors_in d = items_of selector_of (out-Designator d).selectors.items
 
--- an operation on two operands, where both are there
+-- an operation on two optional operands; None if one is missing
 abbrev pub both : {A B C : Type 0} → (A → B → Option C) → Option A → Option B → Option C
 both operation a b = option_and_then (λ x. option_and_then (operation x) b) a

@@ -1,4 +1,4 @@
--- Well-typed modules: typing judgements over names and environments.
+-- Valid modules: the type checks of statements, declarations, blocks and modules.
 -- Rule: docs/LANGUAGE.md, Types 8.
 use Rattle.std.specs.Prelude.{ℕ, ◌+◌, Bool, true, false, ◌&&◌, List, [], ◌∷◌, ◌++◌, map, IsTrue, ◌==◌, Some, None, Option}
 use Rattle.ob0_tree.specs.Tree.{Tree, assigns, begins, block, body, branches, calls, declares, declares_procedure, declares_variable, else_branch, else_part, elsif_branch, elsif_part, empty, end, expression, further_section, further_statement, has_body, item, items, maybe, module_text, more, none, one, procedure, repeat_loop, runs, section, selector, sequence, statement, then_section, then_statement, value_section, variable, variable_section, while_loop}
@@ -12,9 +12,10 @@ use Rattle.ob0_language_types.specs.Expressions.{Meanings, Object, a_procedure, 
 use Rattle.ob0_language_types.specs.Typing.{constructors, denoted, lone_designator, type_at, type_of, ◌>>=◌}
 use Rattle.ob0_language_values.specs.Values.{FieldShapes, Shape, array_shape, boolean_shape, integer_shape, next_field_shape, no_field_shape, record_shape}
 
--- two types are the same where they are equal
+-- true if two types are equal
 abbrev mutual
-  -- both scalars of one type, or made by one ARRAY or RECORD of the text, with equal parts
+  -- two types: the same scalar type, or both from the same ARRAY or RECORD of the text, with equal
+  -- parts
   pub same_shape : Shape → Shape → Bool
   same_shape integer_shape integer_shape = true
   same_shape boolean_shape boolean_shape = true
@@ -22,45 +23,46 @@ abbrev mutual
   same_shape (record_shape k fs) (record_shape j gs) = (k == j) && same_fields fs gs
   same_shape _ _ = false
 
-  -- the same number of fields, in order with the same names and types
+  -- two lists of fields with the same names and types, in the same order
   pub same_fields : FieldShapes → FieldShapes → Bool
   same_fields no_field_shape no_field_shape = true
   same_fields (next_field_shape x s rest) (next_field_shape y t others) =
       same_name x y && (same_shape s t && same_fields rest others)
   same_fields _ _ = false
 
--- a VAR parameter is passed by its place, another by its value
+-- the way to pass an argument: by its place for a VAR parameter, otherwise by its value
 pub data Mode : Type 0 where
   by_value by_place : Mode
 
--- VAR or not
+-- the mode of a section of parameters: by place if it begins with VAR
 abbrev pub section_mode : {N : Type 0} → Tree N section → Mode
 section_mode (value_section ns t) = by_value
 section_mode (variable_section ns t) = by_place
 
--- how a parameter is passed, and its type
+-- a formal parameter: how it is passed, and its type
 pub record Formal : Type 0 where
   pub mode : Mode
   pub shape : Shape
 
--- the parameters of a procedure, by mode and type
+-- the parameters of a procedure
 abbrev pub Signature : Type 0
 Signature = List Formal
 
--- what names mean in a checked module: a variable is its type, a procedure its signature
+-- the meanings of names for the checker: a variable means its type, a procedure its signature
 abbrev pub Typed : Type 0 → Type 0
 Typed N = Meanings N Shape Signature
 
--- the bindings of a checked module
+-- the environments of the checker
 abbrev pub TypeEnvironment : Type 0 → Type 0
 TypeEnvironment N = Environment N Shape Signature
 
--- both are there, and the same type
+-- true if both types exist and are the same
 abbrev pub agree : Option Shape → Option Shape → Bool
 agree (Some s) (Some t) = same_shape s t
 agree _ _ = false
 
--- the type of a variable or parameter with its selectors: what may be assigned to, or passed as VAR
+-- the type of a variable or parameter with its selectors, which may be assigned to or passed as
+-- VAR; None for any other expression
 unfoldable pub variable_type : {N P : Type 0}
     → Meanings N Shape P
     → Option (N × Tree N (items selector))
@@ -70,7 +72,7 @@ variable_type meaning None = None
 variable_type meaning (Some (x, path)) =
     elim (meaning.object_for x) [ Some (a_variable s) ↦ type_at meaning s path | _ ↦ None ]
 
--- the parameters of what a name means, where that is a procedure
+-- the signature of the procedure that a name means, or None if it means something else
 abbrev pub signature_of : Option (Object Shape Signature) → Option Signature
 signature_of (Some (a_procedure signature)) = Some signature
 signature_of (Some (a_standard reads)) =
@@ -80,8 +82,8 @@ signature_of (Some (a_standard writes)) =
 signature_of (Some (a_standard writes_line)) = Some []
 signature_of _ = None
 
--- a parameter requires the same type; a VAR argument is a variable or parameter with its selectors,
--- without parentheses
+-- true if an argument has its parameter's type, and, for a VAR parameter, is a variable or
+-- parameter with its selectors, without parentheses
 unfoldable pub argument_fits : {N P : Type 0}
     → Meanings N Shape P
     → Formal
@@ -92,7 +94,7 @@ argument_fits meaning f e =
     agree (Some f.shape) (elim f.mode
     [ by_value ↦ type_of meaning e | by_place ↦ variable_type meaning (lone_designator e) ])
 
--- as many arguments as parameters, each of them fitting (rules 2 and 5)
+-- true if there are as many arguments as parameters, and each argument fits (rules 2 and 5)
 unfoldable pub arguments_fit : {N P : Type 0}
     → Meanings N Shape P
     → Signature
@@ -103,7 +105,7 @@ arguments_fit meaning [] [] = true
 arguments_fit meaning (f ∷ fs) (e ∷ es) = argument_fits meaning f e && arguments_fit meaning fs es
 arguments_fit meaning _ _ = false
 
--- a call is of a procedure, and its arguments fit
+-- true if a call calls a procedure and its arguments fit
 unfoldable pub call_fits : {N P : Type 0}
     → Meanings N Shape P
     → Option Signature
@@ -113,17 +115,17 @@ unfolding arguments_fit
 call_fits meaning None es = false
 call_fits meaning (Some signature) es = arguments_fit meaning signature es
 
--- a condition requires BOOLEAN
+-- true if a condition is BOOLEAN
 unfoldable pub condition_fits : {N P : Type 0} → Meanings N Shape P → Tree N expression → Bool
 unfolding type_of
 condition_fits meaning e = agree (Some boolean_shape) (type_of meaning e)
 
--- a statement is well-typed: both sides of an assignment have one type, the arguments of a call
--- fit, and conditions are BOOLEAN
+-- true if a statement is well-typed: both sides of an assignment have one type, the arguments of a
+-- call fit, and conditions are BOOLEAN
 unfoldable mutual
   unfolding condition_fits call_fits
 
-  -- a statement, and the statements in it
+  -- a statement and the statements in it
   pub statement_fits : {N : Type 0} → Typed N → Tree N statement → Bool
   statement_fits meaning empty = true
   statement_fits meaning (assigns x path e) =
@@ -142,7 +144,7 @@ unfoldable mutual
   pub sequence_fits : {N : Type 0} → Typed N → Tree N sequence → Bool
   sequence_fits meaning (runs a rest) = statement_fits meaning a && statements_fit meaning rest
 
-  -- the statements after the first
+  -- the statements after the first one
   pub statements_fit : {N : Type 0} → Typed N → Tree N (items further_statement) → Bool
   statements_fit meaning end = true
   statements_fit meaning (more (then_statement a) rest) =
@@ -159,7 +161,7 @@ unfoldable mutual
   else_fits meaning none = true
   else_fits meaning (one (else_branch statements)) = sequence_fits meaning statements
 
--- several names bound to one object
+-- binds several names to one object
 abbrev pub bind_names : {N V P : Type 0}
     → List N
     → Object V P
@@ -168,7 +170,7 @@ abbrev pub bind_names : {N V P : Type 0}
 bind_names [] o env = env
 bind_names (x ∷ xs) o env = bind_names xs o ((x, o) ∷ env)
 
--- variables are bound after their type
+-- binds variables, each group after its type
 unfoldable pub declare_typed : {N : Type 0}
     → Naming N
     → ℕ
@@ -186,7 +188,7 @@ pub record TypedParameter (N : Type 0) : Type 0 where
   pub name : N
   pub formal : Formal
 
--- the parameters of a heading, in which each is visible after its type, and the procedure isn't yet
+-- the parameters of a heading; each is visible after its type, and the procedure isn't visible yet
 unfoldable pub typed_parameters : {N : Type 0}
     → Naming N
     → TypeEnvironment N
@@ -203,7 +205,7 @@ typed_parameters naming env k (more (then_section f) fs) = do
       (section_names f)
       ++ rest)
 
--- parameters become visible as variables (rule 4)
+-- binds parameters as variables (rule 4)
 abbrev pub bind_typed : {N : Type 0}
     → List (TypedParameter N)
     → TypeEnvironment N
@@ -211,7 +213,7 @@ abbrev pub bind_typed : {N : Type 0}
 bind_typed [] env = env
 bind_typed (p ∷ ps) env = bind_typed ps ((p.name, a_variable p.formal.shape) ∷ env)
 
--- a procedure becomes visible, with the modes and types of its parameters
+-- binds a procedure to the modes and types of its parameters
 abbrev pub heading : {N : Type 0}
     → N
     → List (TypedParameter N)
@@ -219,19 +221,19 @@ abbrev pub heading : {N : Type 0}
     → TypeEnvironment N
 heading x ps env = (x, a_procedure (map (λ p. p.formal) ps)) ∷ env
 
--- the statements of a body fit
+-- true if the statements of a body are well-typed
 unfoldable pub body_fits : {N : Type 0} → Naming N → TypeEnvironment N → Tree N (maybe body) → Bool
 unfolding statement_fits
 body_fits naming env none = true
 body_fits naming env (one (begins statements)) = sequence_fits (meanings naming env) statements
 
--- something is there and passes a test
+-- true if a value exists and passes a test
 abbrev pub some_and : {A : Type 0} → Option A → (A → Bool) → Bool
 some_and None test = false
 some_and (Some a) test = test a
 
--- a block's declarations bind what they name, its procedures fit one after the other, and its
--- statements fit in the whole environment
+-- true if a block is well-typed: its declarations, then each procedure in the environment of the
+-- earlier ones, then its statements in the whole environment
 unfoldable mutual
   unfolding declare_first declare_typed typed_parameters body_fits
 
@@ -245,7 +247,7 @@ unfoldable mutual
       (λ inner. procedures_fit naming inner
       (after_variables k (has_body (declares cs ts vs ps) statements)) statements ps)
 
-  -- each procedure in the environment of those before it, and then the statements of the block
+  -- each procedure in the environment of the earlier ones, then the statements of the block
   pub procedures_fit : {N : Type 0}
       → Naming N
       → TypeEnvironment N
@@ -260,7 +262,7 @@ unfoldable mutual
       && procedures_fit naming (heading (procedure_name p) ps env) (k + procedure_constructors p)
       statements rest)
 
-  -- a procedure's block, in an environment with its name and parameters
+  -- a procedure's block, in an environment with the procedure's name and parameters
   pub procedure_fits : {N : Type 0}
       → Naming N
       → TypeEnvironment N
@@ -270,12 +272,12 @@ unfoldable mutual
   procedure_fits naming env k (declares_procedure x fs b closing) =
       block_fits naming env (k + formals_constructors (formal_sections fs)) b
 
--- all of a module fits: its names, its types, its statements
+-- true if a module is well-typed, apart from names that are declared twice and wrong closing names
 unfoldable pub fits_over : {N : Type 0} → Naming N → Tree N module_text → Bool
 unfolding block_fits
 fits_over naming m = block_fits naming (outermost naming) 0 (module_block m)
 
--- a module is well-typed
+-- states that a module is well-typed
 unfoldable pub WellTyped : Tree Name module_text → Type 0
 unfolding fits_over
 WellTyped m = IsTrue (declared_once m) × IsTrue (fits_over as_names m)

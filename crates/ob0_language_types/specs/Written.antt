@@ -1,24 +1,25 @@
--- What is written for a constant's value.
+-- The text that is written for a constant's value.
 -- Rule: docs/PROTOCOL.md, Requests on documents 9.
 use Rattle.std.specs.Prelude.{suc, true, false, ℤ, pos, negsuc, if◌then◌else◌, nat_lt, Some, None, codes, Option}
 use Rattle.ob0_tree.specs.declared.tree.Sign.TheVariants as sign
 use Rattle.ob0_tree.specs.declared.tree.AddOperator.TheVariants as add_operator
 use Rattle.ob0_tree.specs.Tree.{Tree, adds, compares, designator, end, factor, integer, more, none, parenthesised, product, sum}
+use Rattle.ob0_scan.specs.Classes.{max_integer}
 use Rattle.ob0_language_names.specs.Names.{Name}
 use Rattle.ob0_language_values.specs.Values.{Value, number, truth}
 
--- a number as its digits, or in parentheses where it is negative;
--- the least number has no digits of its own
+-- a number as its digits, in parentheses if it is negative; the least number is `-2147483647 - 1`
+-- in parentheses, because its digits are too large for a literal
 abbrev pub written_number : ℤ → Tree Name factor
 written_number (pos n) = integer n
 written_number (negsuc n) =
-    if nat_lt n 2147483647
+    if nat_lt n max_integer
     then parenthesised
     (compares (sum (Some sign.Minus) (product (integer (suc n)) end) end) none)
-    else parenthesised (compares (sum (Some sign.Minus) (product (integer 2147483647) end)
+    else parenthesised (compares (sum (Some sign.Minus) (product (integer max_integer) end)
     (more (adds add_operator.Subtract (product (integer 1) end)) end)) none)
 
--- a value of a constant as a factor
+-- a constant's value as a factor
 abbrev pub written_value : Value → Option (Tree Name factor)
 written_value (number n) = Some (written_number n)
 written_value (truth true) = Some (designator (codes "TRUE") end)

@@ -1,8 +1,9 @@
-//! The laws. Each function does nothing: its contract is the law.
+//! The laws of bindings. Each function has an empty body: its contract is the law.
 
 ghost use Rattle.ob0_language_types.specs.Bodies.{NamesAreDeclared};
 
-/// Where statements of a well-typed module are checked, each name is bound to what its declaration is.
+/// States that, if the statements of a well-typed module bind a name, they bind it to the object of
+/// its declaration.
 pub fn names_are_declared()
     ensures { NamesAreDeclared }
 {}

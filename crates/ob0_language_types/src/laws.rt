@@ -1,55 +1,61 @@
-//! The laws. Each function does nothing: its contract is the law.
+//! The laws of types and edits. Each function has an empty body: its contract is the law.
 
 ghost use Rattle.ob0_language_types.specs.Laws.{FitsByOrdinal, WellTypedByShape, ConstantsEvaluate, InliningKeepsEvaluation, InliningKeepsTypes};
 ghost use Rattle.ob0_language_types.specs.EditLaws.{FreeKeepsWellTyped, InliningKeepsWellTyped, LeavingOutKeepsWellTyped, InliningEverywhereKeepsWellTyped, ConstantsAreAlone};
 
-/// A module fits by name exactly where its numbered tree fits by ordinal.
+/// States that the type check by names accepts a module exactly if the check by ordinals accepts
+/// its numbered tree.
 pub fn fits_by_ordinal()
     ensures { FitsByOrdinal }
 {}
 
-/// Of two modules with one numbered tree, in which no block declares a name twice and closing names are right, both are
-/// well-typed or neither is.
+/// States that two modules with the same numbered tree are both well-typed or neither is, if each
+/// declares every name once and its closing names are right.
 pub fn well_typed_by_shape()
     ensures { WellTypedByShape }
 {}
 
-/// A constant expression has in a run the value that the checker computes.
+/// States that a constant expression has the same value in a run as in the checker.
 pub fn constants_evaluate()
     ensures { ConstantsEvaluate }
 {}
 
-/// A factor of a constant's value in place of uses of that constant keeps an expression's evaluation.
+/// States that an expression's evaluation is unchanged if a factor with the constant's value
+/// replaces uses of a constant.
 pub fn inlining_keeps_evaluation()
     ensures { InliningKeepsEvaluation }
 {}
 
-/// A factor of a constant's type in place of uses of that constant keeps an expression's type.
+/// States that an expression's type is unchanged if a factor with the constant's type replaces uses
+/// of a constant.
 pub fn inlining_keeps_types()
     ensures { InliningKeepsTypes }
 {}
 
-/// Where a new name is free, the renamed module is well-typed where the module was.
+/// States that a well-typed module remains well-typed if a declaration is renamed to a free name.
 pub fn free_keeps_well_typed()
     ensures { FreeKeepsWellTyped }
 {}
 
-/// A constant's literal in place of uses of it keeps a module well-typed.
+/// States that a well-typed module remains well-typed if a constant's literal replaces uses at
+/// which it has the constant's value.
 pub fn inlining_keeps_well_typed()
     ensures { InliningKeepsWellTyped }
 {}
 
-/// A constant that no occurrence is bound to may go: the module without its declaration is well-typed.
+/// States that a well-typed module remains well-typed without the declaration of a constant that no
+/// occurrence is bound to.
 pub fn leaving_out_keeps_well_typed()
     ensures { LeavingOutKeepsWellTyped }
 {}
 
-/// A constant's literal in place of all its uses, and its declaration gone: the module stays well-typed.
+/// States that a well-typed module remains well-typed if a constant's literal replaces all its uses
+/// and its declaration is removed. The literal must have the constant's value at each use.
 pub fn inlining_everywhere_keeps_well_typed()
     ensures { InliningEverywhereKeepsWellTyped }
 {}
 
-/// In a well-typed module a constant's names are alone as factors.
+/// States that each use of a constant in a well-typed module is a whole factor.
 pub fn constants_are_alone()
     ensures { ConstantsAreAlone }
 {}

@@ -1,18 +1,18 @@
--- What DIV and MOD give of numbers.
+-- The results of DIV and MOD.
 -- Rule: docs/LANGUAGE.md, Runs 3.
 use Rattle.std.specs.Prelude.{ℕ, zero, suc, ◌-◌, ◌/◌, ◌%◌, ℤ, pos, negsuc, Option, Some, None}
 
--- DIV rounds down, for a divisor above 0
+-- DIV, which rounds down if the divisor is positive
 abbrev pub quotient : ℤ → ℕ → ℤ
 quotient (pos a) b = pos (a / b)
 quotient (negsuc a) b = negsuc (a / b)
 
--- MOD, which is never negative for a divisor above 0
+-- MOD, which is never negative if the divisor is positive
 abbrev pub remainder : ℤ → ℕ → ℤ
 remainder (pos a) b = pos (a % b)
 remainder (negsuc a) b = pos (b - suc (a % b))
 
--- by a divisor below 1 nothing is divided
+-- the result of a division, or None if the divisor is below 1
 abbrev pub divided : (ℤ → ℕ → ℤ) → ℤ → ℤ → Option ℤ
 divided result a (pos zero) = None
 divided result a (pos (suc b)) = Some (result a (suc b))

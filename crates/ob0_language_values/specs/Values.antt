@@ -1,4 +1,4 @@
--- Types, values, places and the store, and what operators give.
+-- Types, values, places and the store, and the results of operators.
 -- Rule: docs/LANGUAGE.md, Types 1, Runs 2 to 5, 10.
 use Rattle.std.specs.Prelude.{ℕ, zero, suc, ◌^◌, Bool, true, false, not, ◌&&◌, ◌||◌, List, [], ◌∷◌, ℤ, pos, negsuc, ◌+ℤ◌, ◌-ℤ◌, ◌*ℤ◌, neg_ℤ, if◌then◌else◌, nat_lt, slice_get, slice_set, int_lt, int_le, Some, None, Option, option_map, option_and_then}
 use Rattle.ob0_tree.specs.declared.tree.Relation.{Relation}
@@ -14,7 +14,7 @@ pub use Rattle.ob0_language_values.specs.Division.{divided, quotient, remainder}
 
 infixl 20 ◌>>=◌
 -- the type of a variable or value; k is the ordinal, in the text, of the ARRAY or RECORD that made
--- it, so two types are the same exactly where they are equal
+-- it, so two types are the same exactly if their shapes are equal
 mutual
   -- INTEGER, BOOLEAN, an array of this length, or a record
   pub data Shape : Type 0 where
@@ -23,22 +23,22 @@ mutual
     array_shape : (k : ℕ) → (length : ℕ) → Shape → Shape
     record_shape : (k : ℕ) → FieldShapes → Shape
 
-  -- the fields of a record in their order, each with its name and type
+  -- the fields of a record in text order, each with its name and type
   pub data FieldShapes : Type 0 where
     no_field_shape : FieldShapes
     next_field_shape : Name → Shape → FieldShapes → FieldShapes
 
--- a value: a number, a truth value, an array's elements, or a record's members, where k is the
--- ordinal of the RECORD that made its type
+-- a value: a number, a truth value, an array's elements, or a record's members; k is the ordinal of
+-- the RECORD that made the record's type
 mutual
-  -- of a scalar, an array or a record
+  -- a scalar, an array or a record
   pub data Value : Type 0 where
     number : ℤ → Value
     truth : Bool → Value
     elements : Values → Value
     members : (k : ℕ) → Members → Value
 
-  -- the elements of an array, from index 0 on
+  -- the elements of an array, in the order of their indexes
   pub data Values : Type 0 where
     no_value : Values
     next_value : Value → Values → Values
@@ -48,47 +48,47 @@ mutual
     no_member : Members
     next_member : Name → Value → Members → Members
 
--- how a run ends
+-- the ways in which a run ends; Stuck is the end of a step that has no meaning
 pub data End : Type 0 where
   Done Overflow Divisor Index InputEnd CallBound TurnBound Stuck : End
 
--- a step of a run gives something, or it ends the run
+-- the outcome of a step: it gives a result, or it ends the run
 pub data Outcome (A : Type 0) : Type 0 where
   gives : A → Outcome A
   ends : End → Outcome A
 
--- one evaluation after another: an end of the first is the end of both
+-- one evaluation after another; if the first one ends the run, the second one isn't made
 abbrev pub ◌>>=◌ : {A B : Type 0} → Outcome A → (A → Outcome B) → Outcome B
 ◌>>=◌ (gives a) next = next a
 ◌>>=◌ (ends e) next = ends e
 
--- what isn't there leaves the run stuck
+-- gives an optional value, or leaves the run stuck if there is none
 abbrev pub or_stuck : {A : Type 0} → Option A → Outcome A
 or_stuck None = ends Stuck
 or_stuck (Some a) = gives a
 
--- a number of 32 bits
+-- true if a number fits in 32 bits
 abbrev pub fits : ℤ → Bool
 fits (pos n) = nat_lt n (2 ^ 31)
 fits (negsuc n) = nat_lt n (2 ^ 31)
 
--- a result of 32 bits, or Overflow (rule 3)
+-- gives a result that fits in 32 bits, otherwise Overflow (rule 3)
 abbrev pub in_range : ℤ → Outcome Value
 in_range n = if fits n then gives (number n) else ends Overflow
 
--- by a divisor below 1 nothing is divided, which ends with Divisor
+-- gives the result of a division, or Divisor if the divisor was below 1
 abbrev pub divided_by : Option ℤ → Outcome Value
 divided_by None = ends Divisor
 divided_by (Some n) = in_range n
 
--- `+`, `-` and OR
+-- the result of `+`, `-` or OR
 abbrev pub add : AddOperator → Value → Value → Outcome Value
 add add_operator.Add (number a) (number b) = in_range (a +ℤ b)
 add add_operator.Subtract (number a) (number b) = in_range (a -ℤ b)
 add add_operator.Or (truth a) (truth b) = gives (truth (a || b))
 add _ _ _ = ends Stuck
 
--- `*`, DIV, MOD and `&`
+-- the result of `*`, DIV, MOD or `&`
 abbrev pub multiply : MultiplyOperator → Value → Value → Outcome Value
 multiply multiply_operator.Multiply (number a) (number b) = in_range (a *ℤ b)
 multiply multiply_operator.Divide (number a) (number b) = divided_by (divided quotient a b)
@@ -96,22 +96,22 @@ multiply multiply_operator.Modulo (number a) (number b) = divided_by (divided re
 multiply multiply_operator.And (truth a) (truth b) = gives (truth (a && b))
 multiply _ _ _ = ends Stuck
 
--- `a OR b` is TRUE without b where a is TRUE
+-- true if the left side makes `a OR b` TRUE, so that b isn't evaluated
 abbrev pub add_is_settled : AddOperator → Value → Bool
 add_is_settled add_operator.Or (truth true) = true
 add_is_settled _ _ = false
 
--- `a & b` is FALSE without b where a is FALSE
+-- true if the left side makes `a & b` FALSE, so that b isn't evaluated
 abbrev pub multiply_is_settled : MultiplyOperator → Value → Bool
 multiply_is_settled multiply_operator.And (truth false) = true
 multiply_is_settled _ _ = false
 
--- two truth values are the same
+-- true if two truth values are equal
 abbrev pub same_truth : Bool → Bool → Bool
 same_truth true b = b
 same_truth false b = not b
 
--- a relation between two numbers
+-- true if a relation holds between two numbers
 abbrev pub compare_numbers : Relation → ℤ → ℤ → Bool
 compare_numbers relation.Equal a b = int_le a b && int_le b a
 compare_numbers relation.NotEqual a b = not (int_le a b && int_le b a)
@@ -120,21 +120,21 @@ compare_numbers relation.LessEqual a b = int_le a b
 compare_numbers relation.Greater a b = int_lt b a
 compare_numbers relation.GreaterEqual a b = int_le b a
 
--- a relation between two numbers, or two truth values
+-- the result of a relation between two numbers or two truth values
 abbrev pub relate : Relation → Value → Value → Outcome Value
 relate r (number a) (number b) = gives (truth (compare_numbers r a b))
 relate relation.Equal (truth a) (truth b) = gives (truth (same_truth a b))
 relate relation.NotEqual (truth a) (truth b) = gives (truth (not (same_truth a b)))
 relate _ _ _ = ends Stuck
 
--- a value with a sign, if there is one
+-- the result of an optional sign before a value
 abbrev pub apply_sign : Option Sign → Value → Outcome Value
 apply_sign None v = gives v
 apply_sign (Some sign.Plus) (number a) = in_range a
 apply_sign (Some sign.Minus) (number a) = in_range (neg_ℤ a)
 apply_sign _ _ = ends Stuck
 
--- `~`
+-- the result of `~`
 abbrev pub negate : Value → Outcome Value
 negate (truth b) = gives (truth (not b))
 negate _ = ends Stuck
@@ -144,56 +144,56 @@ pub data Step : Type 0 where
   at_index : ℕ → Step
   at_field : Name → Step
 
--- a place: a variable and a path into it (rule 4)
+-- a place: a variable, by its index in the store, and a path into it (rule 4)
 pub record Place : Type 0 where
   pub variable : ℕ
   pub path : List Step
 
--- the values of all variables
+-- the values of all variables, by their indexes
 abbrev pub Store : Type 0
 Store = List Value
 
--- an element
+-- the element at index n
 abbrev pub nth_value : Values → ℕ → Option Value
 nth_value no_value n = None
 nth_value (next_value v rest) zero = Some v
 nth_value (next_value v rest) (suc n) = nth_value rest n
 
--- elements with one of them replaced
+-- elements with the one at index n replaced
 abbrev pub with_nth_value : Values → ℕ → Value → Values
 with_nth_value no_value n new = no_value
 with_nth_value (next_value v rest) zero new = next_value new rest
 with_nth_value (next_value v rest) (suc n) new = next_value v (with_nth_value rest n new)
 
--- the first member of this name
+-- the first member with this name
 abbrev pub named_member : Members → Name → Option Value
 named_member no_member x = None
 named_member (next_member y v rest) x = if same_name x y then Some v else named_member rest x
 
--- members with the first of this name replaced
+-- members with the first one of this name replaced
 abbrev pub with_named_member : Members → Name → Value → Members
 with_named_member no_member x new = no_member
 with_named_member (next_member y v rest) x new =
     if same_name x y then next_member y new rest else next_member y v (with_named_member rest x new)
 
--- the part of a value one step further
+-- the part of a value that one step of a path selects
 abbrev pub part : Value → Step → Option Value
 part (elements vs) (at_index i) = nth_value vs i
 part (members k ms) (at_field x) = named_member ms x
 part _ _ = None
 
--- a value with one part replaced
+-- a value with the part that one step selects replaced
 abbrev pub with_part : Value → Step → Value → Value
 with_part (elements vs) (at_index i) new = elements (with_nth_value vs i new)
 with_part (members k ms) (at_field x) new = members k (with_named_member ms x new)
 with_part v _ new = v
 
--- the part of a value at the end of a path
+-- the part of a value that a path selects
 abbrev pub at_path : List Step → Value → Option Value
 at_path [] v = Some v
 at_path (s ∷ path) v = option_and_then (at_path path) (part v s)
 
--- a value with the part at the end of a path replaced
+-- a value with the part that a path selects replaced
 abbrev pub with_at_path : List Step → Value → Value → Option Value
 with_at_path [] new v = Some new
 with_at_path (s ∷ path) new v =
@@ -203,23 +203,23 @@ with_at_path (s ∷ path) new v =
 abbrev pub read_place : Store → Place → Option Value
 read_place store p = option_and_then (at_path p.path) (slice_get store p.variable)
 
--- the store with a value at a place replaced (rule 5)
+-- the store with the value at a place replaced (rule 5)
 abbrev pub write_place : Store → Place → Value → Option Store
 write_place store p new =
     option_and_then (λ old. option_map (slice_set store p.variable) (with_at_path p.path new old))
     (slice_get store p.variable)
 
--- how many elements an array has
+-- the number of elements of an array
 abbrev pub count_values : Values → ℕ
 count_values no_value = 0
 count_values (next_value v rest) = suc (count_values rest)
 
--- n elements of the same value
+-- n elements that all have the same value
 abbrev pub copies : ℕ → Value → Values
 copies zero v = no_value
 copies (suc n) v = next_value v (copies n v)
 
--- variables begin as 0 and FALSE, in all their parts
+-- the first value of a variable: 0 or FALSE in each of its parts
 abbrev mutual
   -- the first value of a variable of this type
   pub initial : Shape → Value

@@ -1,4 +1,5 @@
-//! Numbers and truths, and what the operators give of them (Wirth, Compiler Construction, Oberon-0).
+//! Numbers and truth values, and the results of the operators on them (Wirth, Compiler
+//! Construction, Oberon-0).
 
 ghost use Rattle.std.specs.Prelude.{◌≡◌};
 ghost use Rattle.ob0_language_values.specs.Values.{add, add_is_settled, compare_numbers, divided_by, in_range, multiply, multiply_is_settled, negate, number, relate, apply_sign, truth};
@@ -10,23 +11,23 @@ use ob0_tree::{AddOperator, MultiplyOperator, Relation, Sign};
 /// A value without parts.
 #[derive(Clone, Copy, Debug, PartialEq, Eq)]
 pub enum Scalar {
-    /// A number of 32 bits.
+    /// A 32-bit number.
     Number(i32),
     Truth(bool),
 }
 
-/// Why an operation gives nothing.
+/// The reason why an operation has no result.
 #[derive(Clone, Copy, Debug, PartialEq, Eq)]
 pub enum OperatorFault {
-    /// The result isn't a number of 32 bits.
+    /// The result doesn't fit in 32 bits.
     Overflow,
-    /// DIV or MOD by a divisor below 1.
+    /// The divisor of a DIV or MOD is below 1.
     Divisor,
-    /// An operand of a type that the operator isn't made for. A well-typed module has no such operation.
+    /// The operator isn't defined for an operand's type. A well-typed module has no such operation.
     Operand,
 }
 
-/// A number where it could be computed in 32 bits, else an overflow.
+/// Returns the number, or `Overflow` if it couldn't be computed in 32 bits.
 fn in_range(number: Option<i32>) -> Result<Scalar, OperatorFault>
     ensures { scalar_outcome result ≡ number_outcome number }
 {
@@ -36,7 +37,7 @@ fn in_range(number: Option<i32>) -> Result<Scalar, OperatorFault>
     }
 }
 
-/// What a division gives, else the fault Divisor.
+/// Returns the result of a division, or `Divisor` if there is none.
 fn of_division(number: Option<i32>) -> Result<Scalar, OperatorFault>
     ensures { scalar_outcome result ≡ divided_by number }
 {
@@ -46,25 +47,26 @@ fn of_division(number: Option<i32>) -> Result<Scalar, OperatorFault>
     }
 }
 
-/// DIV, which rounds down, for a divisor from 1 on.
+/// Returns `left DIV right`, rounded down, or `Divisor` if the divisor is below 1.
 fn divide(left: i32, right: i32) -> Result<Scalar, OperatorFault>
     ensures { scalar_outcome result ≡ multiply Divide (number left) (number right) }
 {
     of_division(crate::divide(left, right))
 }
 
-/// MOD, the rest from 0 on, for a divisor from 1 on.
+/// Returns `left MOD right`, which is never negative, or `Divisor` if the divisor is below 1.
 fn modulo(left: i32, right: i32) -> Result<Scalar, OperatorFault>
     ensures { scalar_outcome result ≡ multiply Modulo (number left) (number right) }
 {
     of_division(crate::modulo(left, right))
 }
 
-/// `left + right`, `left - right` or `left OR right`.
+/// Returns `left + right`, `left - right` or `left OR right`.
 ///
 /// # Errors
 ///
-/// `Overflow` past the 32 bits, `Operand` where the operator isn't made for the operands.
+/// `Overflow` if the result doesn't fit in 32 bits, `Operand` if the operator isn't defined for the
+/// operands.
 pub fn add(operator: AddOperator, left: Scalar, right: Scalar) -> Result<Scalar, OperatorFault>
     ensures { scalar_outcome result ≡ add operator (scalar_value left) (scalar_value right) }
 {
@@ -100,13 +102,13 @@ fn add_truths(operator: AddOperator, a: bool, b: bool) -> Result<Scalar, Operato
     }
 }
 
-/// `left * right`, `left DIV right`, `left MOD right` or `left & right`. DIV rounds down, and MOD is the rest from 0
-/// on.
+/// Returns `left * right`, `left DIV right`, `left MOD right` or `left & right`. DIV rounds down,
+/// and MOD is never negative.
 ///
 /// # Errors
 ///
-/// `Overflow` past the 32 bits, `Divisor` for a divisor below 1, `Operand` where the operator isn't made for the
-/// operands.
+/// `Overflow` if the result doesn't fit in 32 bits, `Divisor` if the divisor is below 1, `Operand`
+/// if the operator isn't defined for the operands.
 pub fn multiply(
     operator: MultiplyOperator,
     left: Scalar,
@@ -148,7 +150,8 @@ fn multiply_truths(operator: MultiplyOperator, a: bool, b: bool) -> Result<Scala
     }
 }
 
-/// True where `left OR right` is TRUE whatever the value of the right side, so that it isn't evaluated.
+/// True if `left OR right` is TRUE whatever the right side is, so that the right side isn't
+/// evaluated.
 pub fn add_is_settled(operator: AddOperator, left: Scalar) -> bool
     ensures { result ≡ add_is_settled operator (scalar_value left) }
 {
@@ -162,7 +165,8 @@ pub fn add_is_settled(operator: AddOperator, left: Scalar) -> bool
     }
 }
 
-/// True where `left & right` is FALSE whatever the value of the right side, so that it isn't evaluated.
+/// True if `left & right` is FALSE whatever the right side is, so that the right side isn't
+/// evaluated.
 pub fn multiply_is_settled(operator: MultiplyOperator, left: Scalar) -> bool
     ensures { result ≡ multiply_is_settled operator (scalar_value left) }
 {
@@ -177,11 +181,11 @@ pub fn multiply_is_settled(operator: MultiplyOperator, left: Scalar) -> bool
     }
 }
 
-/// `left = right` and its like, of two numbers or of two truths.
+/// Compares two numbers, or two truth values for `=` and `#`.
 ///
 /// # Errors
 ///
-/// `Operand` where the relation isn't made for the operands.
+/// `Operand` if the relation isn't defined for the operands.
 pub fn relate(relation: Relation, left: Scalar, right: Scalar) -> Result<Scalar, OperatorFault>
     ensures { scalar_outcome result ≡ relate relation (scalar_value left) (scalar_value right) }
 {
@@ -223,11 +227,11 @@ fn relate_truths(relation: Relation, a: bool, b: bool) -> Result<Scalar, Operato
     }
 }
 
-/// A term with its sign, if it has one.
+/// Returns the operand with its sign, or unchanged if it has none.
 ///
 /// # Errors
 ///
-/// `Overflow` for the negative of the least number, `Operand` for the sign of a truth.
+/// `Overflow` for the negative of the least number, `Operand` if a truth value has a sign.
 pub fn apply_sign(sign: Option<Sign>, operand: Scalar) -> Result<Scalar, OperatorFault>
     ensures { scalar_outcome result ≡ apply_sign sign (scalar_value operand) }
 {
@@ -243,7 +247,7 @@ pub fn apply_sign(sign: Option<Sign>, operand: Scalar) -> Result<Scalar, Operato
     }
 }
 
-/// `~ operand`
+/// Returns `~operand`.
 ///
 /// # Errors
 ///

@@ -1,5 +1,7 @@
--- The gaps of a text are between its tokens and comments, and make its layout.
--- Gaps that stay may be left out, and the length of the layout can be counted by those that change (`changed_length`).
+-- The gaps of a text lie between its tokens and comments, and replacing them gives the formatted
+-- text.
+-- Gaps that don't change can be omitted. So the length of the formatted text can be counted from
+-- the gaps that change (`changed_length`).
 use Rattle.std.proofs.Common.{◌≡◌, ℕ, ◌+◌, ◌-◌, ◌≤◌, Bool, true, false, not, cond, List, [], ◌∷◌, ◌++◌, length, take, drop, map, slice_range, refl, sym, ap, ap₂, ◌∙◌, arith, append_assoc, length-append, length-drop}
 use Rattle.std.proofs.Math.Seq.{drop-length}
 use Rattle.std.specs.List.{All}
@@ -24,13 +26,13 @@ use Rattle.ob0_layout.proofs.Apart.{indented}
 use Rattle.ob0_layout.proofs.InText.{AreIn, IsAt, IsSpaced, White, all_in, no_white}
 use Rattle.ob0_layout.proofs.Pieced.{pieced_here, pieced_later, two_parts}
 
--- a gap, at a place or after it: white space alone is there, and is put there
+-- a gap at or after a place: it contains only white space, before and after formatting
 pub record IsGap (text : List ℕ) (at : ℕ) (c : Cut) : Type 0 where
   pub up : at ≤ c.from
   pub old : IsSpaced text c.from c.to
   pub new : White c.new
 
--- gaps from a place on, in order
+-- gaps in order, starting at a place
 unfoldable pub AreGaps : List ℕ → ℕ → List Cut → Type 0
 AreGaps text at [] = Unit {0}
 AreGaps text at (c ∷ cs) = IsGap text at c × AreGaps text c.to cs
@@ -82,7 +84,7 @@ module _ (text : List ℕ) where
     | false ↦ earlier at c.to (changed_gaps text cs) (omega (arith, are.0.up, are.0.old.ordered)) (changed_are c.to cs are.1)
   ]
 
-  -- gaps that stay may be left out
+  -- gaps that don't change can be omitted
   kept_or_changed : (at : ℕ) (cs : List Cut) → AreGaps text at cs → pieced text at (changed_gaps text cs) ≡ pieced text at cs
   unfolding pieced AreGaps
   kept_or_changed at [] are = refl
@@ -130,7 +132,7 @@ module _ (text : List ℕ) where
     unfolding pieced
     nothing_after = drop-length text
 
-    -- a token or comment, and then the gaps after it
+    -- a token or comment, then the gaps after it
     over : (b : PlacedLexeme) (bs : List PlacedLexeme) → IsAt text b → AreIn text b.span.end bs → pieced text b.span.end (gaps_after indent (length text) b bs) ≡ joined (laid_after indent b bs)
         → pieced text b.span.start (gaps_after indent (length text) b bs) ≡ joined (b.lexeme ∷ laid_after indent b bs)
     over b bs is h more =

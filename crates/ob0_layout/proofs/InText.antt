@@ -1,5 +1,6 @@
--- Tokens and comments in their text: in order, with white space alone before, between and after them.
--- No one of them begins or ends inside a line's ending.
+-- Tokens and comments in their text: they are in order, with only white space before, between and
+-- after them.
+-- None begins or ends inside a line ending.
 use Rattle.std.proofs.Common.{◌≡◌, ℕ, ◌+◌, ◌-◌, ◌≤◌, Bool, true, false, ◌||◌, List, [], ◌∷◌, ◌++◌, length, take, drop, get_or, slice_range, sym, ap, ◌∙◌, subst, arith, append_assoc, append-nil, length-drop}
 use Rattle.std.proofs.Math.Seq.{take-append-add}
 use Rattle.std.specs.List.{AllPass}
@@ -26,7 +27,7 @@ White = AllPass is_space
 pub no_white : White []
 no_white = All-nil (λ b. is_space b ≡ true)
 
--- white space alone is from one border of a text to another
+-- states that only white space lies between two borders of a text
 pub record IsSpaced (text : List ℕ) (from to : ℕ) : Type 0 where
   pub ordered : from ≤ to
   pub within : to ≤ length text
@@ -34,12 +35,13 @@ pub record IsSpaced (text : List ℕ) (from to : ℕ) : Type 0 where
   pub start : IsBorder text from
   pub end : IsBorder text to
 
--- a token or comment is at its place
+-- states that a token or comment is at its place
 pub record IsAt (text : List ℕ) (a : PlacedLexeme) : Type 0 where
   pub ordered : a.span.start ≤ a.span.end
   pub here : spanned text a.span ≡ a.lexeme.text
 
--- from a place on a text has these tokens and comments, and else white space alone
+-- states that the text from this place has these tokens and comments, and otherwise only white
+-- space
 unfoldable pub AreIn : List ℕ → ℕ → List PlacedLexeme → Type 0
 AreIn text from [] = IsSpaced text from (length text)
 AreIn text from (a ∷ bs) = IsSpaced text from a.span.start × IsAt text a × AreIn text a.span.end bs
@@ -77,7 +79,7 @@ module _ (text : List ℕ) where
       at_zero : (n : ℕ) → n ≡ n + 0
       at_zero n = omega arith
 
-  -- white space, and more of it after that
+  -- white space, then more white space after it
   longer : (from at : ℕ) (t rest : List ℕ) → from ≤ at → drop at text ≡ t ++ rest → White (slice_range text from at) → White t → White (slice_range text from (at + length t))
   longer from at t rest up here w v =
       let size : at + length t - at ≡ length t + 0 = omega arith in
@@ -89,7 +91,7 @@ module _ (text : List ℕ) where
   empty : (at : ℕ) → White (slice_range text at at)
   empty at = subst White (sym (none_taken at (drop at text))) no_white
 
-  -- from a border on, where white space alone precedes these lexemes
+  -- the lexemes placed after a border, if only white space precedes them
   abbrev Placed : ℕ → List Lexeme → Type 0
   Placed at rest = (from level : ℕ) (broken : Bool) (ss : List LineRole) → from ≤ at → IsBorder text from → White (slice_range text from at) → AreIn text from (placed at level broken ss rest)
 

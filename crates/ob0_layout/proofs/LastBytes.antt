@@ -17,7 +17,7 @@ use Rattle.ob0_scan.proofs.Closings.{Ends, ends_from_comment, counts_other, afte
 use Rattle.ob0_scan.proofs.Cuts.{nonempty}
 use Rattle.ob0_layout.proofs.Apart.{IsSolid}
 
--- the last byte, 0 where there is none
+-- the last byte, or 0 if there is none
 abbrev pub last_byte : List ℕ → ℕ
 last_byte [] = 0
 last_byte (a ∷ []) = a
@@ -58,7 +58,7 @@ marks_some c (d ∷ v) = elim (cases_Bool (is_opening_pair c d)) [
   ]
 ]
 
--- what closes open comments ends with `)`
+-- a text that closes open comments ends with `)`
 closed_last : (depth : ℕ) (w : List ℕ) → 0 < depth → Ends depth (marks w) → last_byte w ≡ 41
 unfolding marks
 closed_last depth [] some h = absurd (omega (arith, h.balanced))

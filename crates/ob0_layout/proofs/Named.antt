@@ -7,7 +7,7 @@ use Rattle.ob0_tree.specs.Tree.{Tree, module_text, spell}
 use Rattle.ob0_tree.specs.Module.{ModuleOf, token_lexeme, text_lexemes}
 use Rattle.ob0_scan.proofs.Spans.{scan_words}
 
--- a word as a tree spells it: identifiers by their text
+-- a word as a tree spells it; an identifier is spelled by its text
 abbrev pub named_lexeme : Word → Terminal (List ℕ)
 named_lexeme w = kind_lexeme w.text w.kind
 

@@ -1,4 +1,4 @@
--- In a tree's spelling no `*` directly follows a `(`.
+-- In a tree's spelling no `*` comes directly after a `(`.
 use Rattle.std.proofs.Common.{◌≡◌, Bool, true, false, Option, Some, None, List, [], ◌∷◌, ◌++◌, refl, sym, ap, subst}
 use Rattle.ob0_scan.specs.declared.lexeme.Symbol.TheVariants as symbol
 use Rattle.ob0_tree.specs.declared.tree.Relation.{Relation}
@@ -21,7 +21,7 @@ abbrev pub is_star : {N : Type 0} → Terminal N → Bool
 is_star (Mark (kind.Symbol symbol.Times)) = true
 is_star other = false
 
--- after each `(` is something, and no `*`
+-- states that a token comes after each `(`, and that it isn't `*`
 pub data Calm {N : Type 0} : List (Terminal N) → Type 0 where
   calm_end : Calm []
   calm_next : {x : Terminal N} {xs : List (Terminal N)} → is_paren x ≡ false → Calm xs → Calm (x ∷ xs)
@@ -32,7 +32,7 @@ calm_append calm_end q = q
 calm_append (calm_next h p) q = calm_next h (calm_append p q)
 calm_append (calm_paren h p) q = calm_paren h (calm_append p q)
 
--- the first is no `*`
+-- states that the first token isn't `*`
 record Starts {N : Type 0} (xs : List (Terminal N)) : Type 0 where
   first : Terminal N
   rest : List (Terminal N)

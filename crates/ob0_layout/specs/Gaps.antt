@@ -12,38 +12,38 @@ use Rattle.ob0_text.specs.Texts.{position_of}
 use Rattle.ob0_layout.specs.declared.line_role.LineRole.{LineRole}
 use Rattle.ob0_layout.specs.Layout.{PlacedLexeme, placed, gap}
 
--- The gaps of a text of this length after a token or comment, where these follow it, each with what
--- is to be there. A line break ends the text
+-- The gaps after a token or comment, given the tokens and comments that follow it and the length of
+-- the text. Each has its text after formatting; the text ends with a line break
 abbrev pub gaps_after : Indent → ℕ → PlacedLexeme → List PlacedLexeme → List Cut
 gaps_after indent len a [] = record { from = a.span.end; to = len; new = 10 ∷ [] } ∷ []
 gaps_after indent len a (b ∷ bs) =
     record { from = a.span.end; to = b.span.start; new = gap indent a b }
     ∷ gaps_after indent len b bs
 
--- all its gaps: nothing is to be at the text's start
+-- all gaps of a text; nothing may precede its first token or comment
 abbrev pub gaps : Indent → ℕ → List PlacedLexeme → List Cut
 gaps indent len [] = record { from = 0; to = len; new = [] } ∷ []
 gaps indent len (a ∷ bs) =
     record { from = 0; to = a.span.start; new = [] } ∷ gaps_after indent len a bs
 
--- the gaps of a text that is cut into these lexemes, whose tokens have these roles
+-- the gaps of a text that is cut into these lexemes; `ss` are the roles of its tokens
 abbrev pub all_gaps : Indent → List ℕ → List LineRole → List Lexeme → List Cut
 all_gaps indent text ss lexemes = gaps indent (length text) (placed 0 0 true ss lexemes)
 
--- whether what is in a gap isn't what is to be there
+-- true if formatting changes the text of a gap
 abbrev pub is_changed : List ℕ → Cut → Bool
 is_changed text c = not (bytes_eq (slice_range text c.from c.to) c.new)
 
--- the gaps that change
+-- the gaps that formatting changes
 abbrev pub changed_gaps : List ℕ → List Cut → List Cut
 changed_gaps text cs = filter (is_changed text) cs
 
--- what an edit says: where, and what is to be there
+-- the content of an edit: its range and its new text
 pub record EditText : Type 0 where
   pub range : Range
   pub text : List ℕ
 
--- the edit of a gap replaces the whole gap by what is to be there
+-- the edit of a gap, which replaces the whole gap
 abbrev pub edit_of : (ℕ → ℕ) → List ℕ → Cut → EditText
 edit_of width content c = record {
   range =
@@ -51,15 +51,15 @@ edit_of width content c = record {
   text = c.new;
 }
 
--- what an edit of the code says
+-- the content of an edit of the code
 abbrev pub edit_text : Edit → EditText
 edit_text e = record { range = e.range; text = string_bytes e.text }
 
--- the length of a text of which these gaps are laid out, counted from a place on
+-- the length of the text from offset `at` after these gaps are formatted
 abbrev pub laid_len : ℕ → ℕ → List Cut → ℕ
 laid_len len at [] = len - at
 laid_len len at (c ∷ cs) = (c.from - at) + (length c.new + laid_len len c.to cs)
 
--- white space alone is in a gap of a text
+-- states that a gap of a text contains only white space
 abbrev pub IsWhite : List ℕ → Cut → Type 0
 IsWhite text c = AllPass is_space (slice_range text c.from c.to)

@@ -6,30 +6,30 @@ use Rattle.ob0_tree.specs.Tree.{Sort, Tree, none, one, end, more, compares, rela
 use Rattle.ob0_layout.specs.declared.line_role.LineRole.{LineRole}
 use Rattle.ob0_layout.specs.declared.line_role.LineRole.TheVariants.{Begins, Opening, Joining, Plain}
 
--- The next level. Levels are numbers of 32 bits; those of a module are far below the last.
+-- The next level. Levels are 32-bit numbers; a module's levels are far below the greatest one.
 abbrev pub deeper : ℕ → ℕ
 deeper k = min (k + 1) 4294967295
 
--- the first of these tokens begins a line at this level
+-- the roles of some tokens if the first of them begins a line of this level
 abbrev pub in_line : ℕ → List LineRole → List LineRole
 in_line level [] = []
 in_line level (s ∷ ss) = Begins level ∷ ss
 
--- a sign, where there is one, is joined to what follows
+-- the role of an optional sign, after which no space comes
 abbrev pub sign_role : Option Sign → List LineRole
 sign_role None = []
 sign_role (Some s) = Joining ∷ []
 
--- what precedes an item of a list
+-- the role of the separator before an item of a list; the first item has none
 abbrev pub separated : Bool → List LineRole
 separated true = []
 separated false = Plain ∷ []
 
--- The role of each token that a tree spells, in the order in which it spells them. The level is
--- that of the block, and in a sequence that of its statements. The module has level 0, and a
--- procedure one level more than the block that declares it. The statements of a body have one level
--- more than its block, and those inside a statement one more than that statement.
--- What is within a line has no level: 0 is said there.
+-- The role of each token of a tree, in text order. The level is the block's, or in a sequence the
+-- level of its statements. The module has level 0, and a procedure one level more than the block
+-- that declares it. The statements of a body have one level more than its block, and statements
+-- inside a statement one more than that statement. Constructs within a line have no level: 0 is
+-- passed for them.
 abbrev pub line_roles : {N : Type 0} {s : Sort} → ℕ → Tree N s → List LineRole
 line_roles k none = []
 line_roles k (one t) = line_roles k t

@@ -1,4 +1,4 @@
-//! The edits that lay out a module's text.
+//! The edits that format a module's text.
 
 ghost use Rattle.std.specs.Prelude.{◌≡◌, ◌≤◌, ◌<◌, ◌⊎◌, ◌↔◌, IsTrue, Some, IfOk, IfErr, IsErrOf, map, length};
 ghost use Rattle.std.specs.List.{All};
@@ -20,9 +20,10 @@ use ob0_text::{Edit, EditRefusal, Indent, Range, TextStore};
 use ob0_tree::Module;
 use std::alloc::{AllocError, Global};
 
-/// One edit for each gap that the layout changes, in text order: it replaces the whole gap by what is to be there. Made
-/// at once in the text of the module, which the store is to hold, they give the layout. Refused where that is longer
-/// than a text may be.
+/// Returns one edit for each gap that formatting changes, in text order; each edit replaces a whole
+/// gap. `store` must hold the text of the module. Applied together to that text, the edits give the
+/// formatted text. Fails with `TooLong` if the formatted text would exceed the limit of a text, and
+/// with `Memory` if an allocation fails.
 pub fn format<T: TextStore>(
     alloc: Global,
     store: &T,
@@ -55,7 +56,7 @@ pub fn format<T: TextStore>(
     Ok(edits(alloc, store, &sites, indent)?)
 }
 
-/// Whether a text of this length isn't too long when these gaps of it are laid out.
+/// True if a text of this length doesn't exceed the limit after these gaps are formatted.
 fn fits(sites: &[GapSite], len: usize, indent: Indent) -> bool
     requires length { len ≤ max_text }
     requires within { All (LiesIn len) sites.now }
@@ -74,7 +75,7 @@ fn fits(sites: &[GapSite], len: usize, indent: Indent) -> bool
     made + len.saturating_sub(at) <= MAX_TEXT
 }
 
-/// The edits of gaps.
+/// Returns the edits for these gaps.
 fn edits<T: TextStore>(
     alloc: Global,
     store: &T,

@@ -1,4 +1,5 @@
-//! The layout of a module: which tokens begin a line, and the edits that make it.
+//! Formatting of a module: the tokens that begin a line, and the edits that give the formatted
+//! text.
 #![tactic(auto)]
 
 mod formatting;

@@ -1,7 +1,7 @@
-//! The gaps of a text, each with what is to be there.
+//! The gaps of a text, each with its text after formatting.
 //!
-//! One pass over tokens and comments keeps the gaps that change alone: of the others nothing is stored, and no text is
-//! made to compare.
+//! One pass over tokens and comments stores only the gaps that change. No text is built for
+//! comparing gaps.
 
 ghost use Rattle.std.specs.Prelude.{◌≡◌, ◌||◌, ◌==◌, ◌++◌, ◌∷◌, [], IfOk, OnOk, is_none, drop, length, map};
 ghost use Rattle.ob0_scan.specs.Scanned.{IsScan};
@@ -15,7 +15,7 @@ use ob0_scan::{LexemeKind, Span, Token, Tokens};
 use ob0_text::Indent;
 use std::alloc::{AllocError, Global};
 
-/// A gap of a text: where it begins and ends, and what is to be there.
+/// A gap of a text: its start, its end, and its form after formatting.
 #[derive(Clone, Copy)]
 pub struct GapSite {
     pub start: usize,
@@ -30,14 +30,15 @@ pub struct Solid {
     pub role: LineRole,
 }
 
-/// What comes next in a text, white space aside.
+/// The next lexeme of a text that isn't white space.
 #[derive(Clone, Copy)]
 pub enum NextLexeme {
     Token(Token),
     Comment(Span),
 }
 
-/// The gaps of a text that change, in text order, where its tokens have these roles.
+/// Returns the gaps of a text that formatting changes, in text order; `roles` are the roles of its
+/// tokens.
 pub fn changed_sites(
     alloc: Global,
     tokens: &Tokens,
@@ -89,7 +90,7 @@ pub fn changed_sites(
     Ok(sites)
 }
 
-/// Adds a gap where it changes.
+/// Adds a gap to the list if formatting changes it.
 fn add(
     sites: &mut Vec<GapSite>,
     text: &[u8],
@@ -106,7 +107,7 @@ fn add(
     Ok(())
 }
 
-/// Whether what is in a gap isn't what is to be there.
+/// True if formatting changes this gap.
 fn is_changed(text: &[u8], site: GapSite, indent: Indent) -> bool
     requires { LiesIn (length text.now) site }
     ensures { result ≡ is_changed text.now (gap_cut indent site) }
@@ -114,7 +115,7 @@ fn is_changed(text: &[u8], site: GapSite, indent: Indent) -> bool
     !site.gap.is_text(&text[site.start..site.end], indent)
 }
 
-/// Of the tokens and comments that are left, which comes first.
+/// Returns the first of the remaining tokens and comments.
 fn next_of(left: &[Token], comments: &[Span]) -> Option<NextLexeme>
     ensures { result ≡ next_of left.now comments.now }
 {
@@ -134,7 +135,7 @@ fn next_of(left: &[Token], comments: &[Span]) -> Option<NextLexeme>
     }
 }
 
-/// The gap before a token or comment.
+/// Returns the gap before a token or comment, which is empty at the start of the text.
 fn gap_before(before: Option<Solid>, kind: LexemeKind, role: LineRole) -> Gap
     ensures { result ≡ gap_before before kind role }
 {
@@ -144,7 +145,7 @@ fn gap_before(before: Option<Solid>, kind: LexemeKind, role: LineRole) -> Gap
     }
 }
 
-/// The gap after the last token or comment.
+/// Returns the gap after the last token or comment.
 fn last_gap(before: Option<Solid>) -> Gap
     ensures { result ≡ last_gap before }
 {
@@ -154,7 +155,7 @@ fn last_gap(before: Option<Solid>) -> Gap
     }
 }
 
-/// The level of the line in which the next token is.
+/// Returns the level of the line that the next token is in, or 0 if no token follows.
 fn next_line(level: u32, roles: &[LineRole]) -> u32
     ensures { result ≡ next_line level roles.now }
 {
@@ -178,7 +179,7 @@ fn next_role(roles: &[LineRole]) -> LineRole
     roles[0]
 }
 
-/// All of a list but the first.
+/// Returns a list without its first item.
 fn after_first<T>(items: &[T]) -> &[T]
     ensures { result.now ≡ drop 1 items.now }
 {
@@ -188,7 +189,7 @@ fn after_first<T>(items: &[T]) -> &[T]
     &items[1..]
 }
 
-/// The role of a comment, by whether a line break precedes it.
+/// Returns the role of a comment, which begins a line if a line break comes before it.
 fn comment_role(broken: bool, level: u32) -> LineRole
     ensures { result ≡ comment_role broken level }
 {
@@ -199,14 +200,14 @@ fn comment_role(broken: bool, level: u32) -> LineRole
     }
 }
 
-/// Whether a line break is in a gap. The text's start counts as one.
+/// True if a gap has a line break. The start of the text counts as a line break.
 fn begins_line(before: Option<Solid>, gap: &[u8]) -> bool
     ensures { result ≡ (is_none before || has_break gap.now) }
 {
     before.is_none() || has_break(gap)
 }
 
-/// Whether white space has a line break.
+/// True if white space contains a line feed or a carriage return.
 fn has_break(gap: &[u8]) -> bool
     ensures { result ≡ has_break gap.now }
 {

@@ -15,7 +15,7 @@ use ob0_tree::{
 };
 use std::alloc::{AllocError, Global};
 
-/// The roles of the tokens of a module in their lines, in text order.
+/// Returns the roles of a module's tokens in their lines, in text order.
 pub(crate) fn line_roles(alloc: Global, module: &Module) -> Result<Vec<LineRole>, AllocError>
     ensures { IfOk result (λ out. out.items ≡ line_roles 0 (tree_of module.now)) }
 {
@@ -30,14 +30,14 @@ pub(crate) fn line_roles(alloc: Global, module: &Module) -> Result<Vec<LineRole>
     Ok(out)
 }
 
-/// The next level.
+/// Returns the next level.
 fn deeper(level: u32) -> u32
     ensures { result ≡ deeper level }
 {
     level.saturating_add(1)
 }
 
-/// A token that is laid out by its kind alone.
+/// Adds a token whose gaps depend only on its kind.
 fn plain(out: &mut Vec<LineRole>) -> Result<(), AllocError>
     ensures { IfOk result (λ _. out.new.items ≡ out.old.items ++ (Plain ∷ [])) }
 {
@@ -150,7 +150,7 @@ fn selector(out: &mut Vec<LineRole>, s: &Selector) -> Result<(), AllocError>
     }
 }
 
-/// What precedes an item of a list: nothing before the first, a `;` or `,` before the others.
+/// Adds the separator before an item of a list, unless the item is the first one.
 fn separator(out: &mut Vec<LineRole>, first: bool) -> Result<(), AllocError>
     ensures { IfOk result (λ _. out.new.items ≡ out.old.items ++ separated first) }
 {
@@ -160,7 +160,7 @@ fn separator(out: &mut Vec<LineRole>, first: bool) -> Result<(), AllocError>
     Ok(())
 }
 
-/// Statements of this level. Between two of them is a `;`.
+/// Adds statements of this level, with a `;` between any two of them.
 #[cycle(statements)]
 fn sequence(
     out: &mut Vec<LineRole>,
@@ -205,7 +205,7 @@ fn statement(out: &mut Vec<LineRole>, level: u32, s: &Statement) -> Result<(), A
     }
 }
 
-/// A token that begins a line.
+/// Adds a token that begins a line of this level.
 fn begin(out: &mut Vec<LineRole>, level: u32) -> Result<(), AllocError>
     ensures { IfOk result (λ _. out.new.items ≡ out.old.items ++ (Begins level ∷ [])) }
 {
@@ -282,7 +282,7 @@ fn elsifs(out: &mut Vec<LineRole>, level: u32, parts: &Vec<Elsif>) -> Result<(),
     Ok(())
 }
 
-/// Names of which the first is so.
+/// Adds a list of names; `first` is the role of the first one.
 fn names(out: &mut Vec<LineRole>, first: LineRole, ns: &Names) -> Result<(), AllocError>
     ensures { IfOk result (λ _. out.new.items
         ≡ out.old.items ++ (first ∷ line_roles 0 (items_of then_name ns.now.more.items))) }
@@ -367,7 +367,7 @@ fn section(out: &mut Vec<LineRole>, s: &Section) -> Result<(), AllocError>
     written_type(out, &s.written)
 }
 
-/// The constants of a block of this level.
+/// Adds the constants of a block of this level.
 fn constants(
     out: &mut Vec<LineRole>,
     level: u32,
@@ -448,7 +448,7 @@ fn body(
     }
 }
 
-/// A block of this level.
+/// Adds a block of this level.
 #[cycle(blocks)]
 fn block(out: &mut Vec<LineRole>, level: u32, b: &Block) -> Result<(), AllocError>
     ensures { IfOk result
@@ -463,7 +463,7 @@ fn block(out: &mut Vec<LineRole>, level: u32, b: &Block) -> Result<(), AllocErro
     body(out, level, &b.body)
 }
 
-/// A procedure that a block of this level declares.
+/// Adds a procedure that a block of this level declares.
 #[cycle(blocks)]
 fn procedure(out: &mut Vec<LineRole>, level: u32, p: &Procedure) -> Result<(), AllocError>
     ensures { IfOk result

@@ -1,4 +1,5 @@
--- Lists that begin with tokens of which it is seen that they differ. To cite these costs little where many facts are at hand.
+-- Lists that begin with different tokens aren't equal. Citing these lemmas costs little even if
+-- many facts are in scope.
 use Rattle.std.proofs.Common.{◌≡◌, ℕ, List, ◌∷◌}
 use Rattle.ob0_scan.specs.declared.lexeme.TokenKind.{TokenKind}
 use Rattle.ob0_scan.specs.declared.lexeme.TokenKind.TheVariants as kind
@@ -33,6 +34,6 @@ becomes_not_paren e = cc
 pub array_not_record : {N : Type 0} {x y : List (Terminal N)} → Mark (kind.Reserved reserved.Array) ∷ x ≡ Mark (kind.Reserved reserved.Record) ∷ y → ⊥
 array_not_record e = cc
 
--- the numbers of two lists that begin with them
+-- the numbers at the head of two equal lists are equal
 pub number_of : {N : Type 0} {i j : ℕ} {x y : List (Terminal N)} → Number i ∷ x ≡ Number j ∷ y → i ≡ j
 number_of e = cc

@@ -1,4 +1,4 @@
--- The descent computed: where it stops, by a bound on its steps.
+-- The descent as a computation of its stop, with a bound on its steps.
 use Rattle.std.proofs.Common.{◌≡◌, ◌==◌, ℕ, zero, suc, ◌+◌, Bool, true, false, Option, Some, None, List, [], ◌∷◌, ◌++◌, refl, sym, ◌∙◌, ap, subst, eqb-true, eq-eqb, true≢false, if◌then◌else◌}
 use Rattle.ob0_scan.specs.declared.lexeme.TokenKind.TheVariants as kind
 use Rattle.ob0_scan.specs.declared.lexeme.Reserved.{Reserved}
@@ -149,7 +149,7 @@ sign_back symbol.RightParen = refl
 sign_back symbol.LeftBracket = refl
 sign_back symbol.RightBracket = refl
 
--- whether the token is this reserved word or symbol
+-- true if a token is this reserved word or symbol
 abbrev pub is_word : Reserved → Terminal ℕ → Bool
 is_word w (Mark (kind.Reserved v)) = word_code w == word_code v
 is_word w x = false

@@ -15,13 +15,13 @@ pub appended : {N : Type 0} {i : Item} → Tree N (items i) → Tree N (items i)
 appended end us = us
 appended (more t ts) us = more t (appended ts us)
 
--- a tree of items begins with these items, and goes on with others
+-- a tree of items begins with the items in `front`, and continues with others
 pub record Ahead {i : Item} (whole front : Tree ℕ (items i)) (z w : List (Terminal ℕ)) : Type 0 where
   pub others : Tree ℕ (items i)
   pub is : whole ≡ appended front others
   pub spelled : spell others ++ z ≡ w
 
--- the items so far, after which another may be
+-- the items read so far, after which another one may come
 pub record Taking {i : Item} (t : Tree ℕ (items i)) (room : ℕ) (ts : List Token) (at next : ℕ) : Type 0 where
   pub spelled : rest ts at ≡ spell t ++ rest ts next
   pub shallow : nesting t ≤ room
@@ -47,7 +47,7 @@ unfolding appended
 appended_snoc f [] x us = refl
 appended_snoc f (y ∷ xs) x us = ap (more (f y)) (appended_snoc f xs x us)
 
--- one item more
+-- adds one item
 ahead_more : {A : Type 0} {i : Item} (f : A → Tree ℕ (item i)) (xs : List A) (x : A) (u others : Tree ℕ (items i)) (z w : List (Terminal ℕ))
     → ((v : Tree ℕ (item i)) (y : List (Terminal ℕ)) → Stops (item_level i) y → spell v ++ y ≡ spell (f x) ++ w → (v ≡ f x) × (y ≡ w))
     → Stops (item_rank i) z → u ≡ appended (items_of f xs) others → spell others ++ z ≡ spell (f x) ++ w → Ahead u (items_of f (xs ++ (x ∷ []))) z w
@@ -80,7 +80,7 @@ ahead_done u t end z w absent is e = (is ∙ appended_end t, e)
 ahead_done {i = i} u t (more v vs) z w absent is e =
     absurd (absent (subst (λ y. Starts (item_rank i) y) (sym (append_assoc (spell v) (spell vs) z) ∙ e) (starts_item v (spell vs ++ z))))
 
--- no further item
+-- no further item comes
 pub taking_done : {i : Item} {room : ℕ} {ts : List Token} {at next : ℕ} (t : Tree ℕ (items i)) → Taking t room ts at next → ¬ Starts (item_rank i) (rest ts next) → Taken t room ts at next
 taking_done {i = i} {ts = ts} {next = next} t p absent = record {
   spelled = p.spelled;

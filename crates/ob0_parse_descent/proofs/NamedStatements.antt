@@ -22,7 +22,7 @@ use Rattle.ob0_tree.specs.View.{selector_of, items_of}
 use Rattle.ob0_parse_descent.proofs.StatementParts.{alike}
 use Rattle.ob0_parse_descent.proofs.Apart.{name_not_mark}
 
--- what parts begin after a tree, where it is this one
+-- parts that begin after a tree, if the tree is this one
 record After {s : Sort} (t : Tree ℕ s) (w : List (Terminal ℕ)) (ps : List Part) : Type 0 where
   other : Tree ℕ s
   left : List (Terminal ℕ)
@@ -46,7 +46,7 @@ known {ps = ps} {qs = qs} {ts = ts} {next = next} {after = after} t p f r = reco
 fails_known : {s : Sort} {room : ℕ} {ps : List Part} {ts : List Token} {at next : ℕ} {e : ParseRefusal} (qs : List Part) → ((o : Stop) → StopsIn qs ts next o → StopsIn ps ts at o) → (t : Tree ℕ s) → Taken t room ts at next → ((w : List (Terminal ℕ)) → SameHead (rest ts next) w → Begins ps (spell t ++ w) → After t w qs) → FailsToRead qs ts next e → FailsToRead ps ts at e
 fails_known qs g t p f q = fails_by g (λ after r. known t p f r) q
 
--- whether an assignment or a call is read after a name
+-- the parts of an assignment or of a call, read after a name
 
 abbrev pub named_statement : ℕ → Bool → List Part
 named_statement room b = if b then name ∷ node (items selector) room ∷ sign symbol.Becomes ∷ node expression room ∷ [] else name ∷ node (maybe arguments) room ∷ []
@@ -67,7 +67,7 @@ pub assigned_next : (ss : Tree ℕ (items selector)) (z y : List (Terminal ℕ))
 assigned_next end z y e = ap is_assigned e
 assigned_next (more f fs) z y e = selector_next f fs z
 
--- what follows the target of an assignment is read
+-- reads the parts after the target of an assignment
 target_read : {room : ℕ} {ts : List Token} {at m : ℕ} (ss : Tree ℕ (items selector)) (x : ℕ) → Taken (designator x ss) room ts at m → is_assigned (spell ss ++ rest ts m) ≡ true → ReadAs (node statement room ∷ []) (token (kind.Symbol symbol.Becomes) ∷ node expression room ∷ []) ts at m
 target_read {room = room} ss x p is = by (read_made (chosen_named room true p.spelled is)) (record {
   on = λ o more r.
@@ -82,7 +82,7 @@ unassigned x w differs lacks = no_next selector (x ∷ w) lacks _ refl
 no_selector_next : (room : ℕ) (w : List (Terminal ℕ)) → ¬ Starts 1 w → chosen (items selector) room w ≡ parts []
 no_selector_next room w lacks = ap (λ b. if b then parts (node (item selector) room ∷ node (items selector) room ∷ []) else parts []) (no_next selector w lacks _ refl)
 
--- what follows the name of a call is read
+-- reads the parts after the name of a call
 call_read : {room : ℕ} {ts : List Token} {at m : ℕ} (x : ℕ) → Taken (designator x end) room ts at m → Other (Mark (kind.Symbol symbol.Becomes)) ts m → ¬ Starts 1 (rest ts m) → ReadAs (node statement room ∷ []) (node (maybe arguments) room ∷ []) ts at m
 call_read {room = room} {ts = ts} {at = at} {m = m} x p o lacks =
     let is : is_assigned (rest ts m) ≡ false = ap is_assigned o.here ∙ unassigned o.fault (rest ts (m + 1)) o.differs (λ s. lacks (subst (λ y. Starts 1 y) (sym o.here) s)) in
@@ -102,7 +102,7 @@ name_mark e = cc
 no_selectors : {x k : ℕ} {f : Tree ℕ (item selector)} {fs : Tree ℕ (items selector)} → designator k end ≡ designator x (more f fs) → ⊥
 no_selectors e = cc
 
--- an assignment and a call as a designator with what follows
+-- an assignment and a call, each as a designator and the tokens after it
 assigned : {N : Type 0} (x k : N) (ss rs : Tree N (items selector)) (v : Tree N expression) (z w : List (Terminal N)) → spell (designator x ss) ++ w ≡ spell (assigns k rs v) ++ z → spell (designator k rs) ++ (Mark (kind.Symbol symbol.Becomes) ∷ (spell v ++ z)) ≡ spell (designator x ss) ++ w
 assigned x k ss rs v z w e = sym (e ∙ ap (λ y. Name k ∷ y) (append_assoc (spell rs) (Mark (kind.Symbol symbol.Becomes) ∷ spell v) z))
 
@@ -207,7 +207,7 @@ starts_next : (w : List (Terminal ℕ)) → is_next selector w ≡ true → Star
 starts_next [] e = true_not_false (sym e)
 starts_next (x ∷ w) e = eqb-true (rank x) 1 e
 
--- selectors that are refused are there
+-- if selectors are refused, a selector begins here
 no_selector_stops : {i : ℕ} {w : List (Terminal ℕ)} {o : Stop} → Descends [] i w o → Descends (token (kind.Symbol symbol.Dot) ∷ []) i w o → ¬ Starts 1 w → ⊥
 no_selector_stops done (taken is r) lacks = lacks (ap rank is)
 
@@ -223,7 +223,7 @@ pub named_fails : {room : ℕ} {ts : List Token} {at : ℕ} {e : ParseRefusal} �
 named_fails {room = room} {ts = ts} {at = at} here q =
     fails_by (λ o r. named_reads room ts at here o r _ refl) (λ after r. select (λ w h b. target_parts room at (rest ts at) w (rest ts (at + 1)) here h b) r) q
 
--- what is taken
+-- reading assignments and calls
 
 calls_only : {room : ℕ} {ts : List Token} {at m n : ℕ} (i : ℕ) (a : Tree ℕ (maybe arguments)) → Taken (designator i end) room ts at m → Other (Mark (kind.Symbol symbol.Becomes)) ts m → Taken a room ts m n → (u : Tree ℕ statement) (z w : List (Terminal ℕ)) → SameHead (rest ts n) w → Stops 8 z → spell u ++ z ≡ Name i ∷ (spell a ++ w) → (u ≡ calls i a) × (z ≡ w)
 calls_only i a p o q empty z w h s e = absurd (not_at z _ _ 8 e (omega arith) s)

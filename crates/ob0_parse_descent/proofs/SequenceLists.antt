@@ -1,4 +1,4 @@
--- A sequence of statements, from its list.
+-- The tree of a sequence of statements, from a list of them.
 use Rattle.std.proofs.Common.{ℕ, List, sym, subst}
 use Rattle.ob0_scan.specs.declared.lexeme.Token.{Token}
 use Rattle.ob0_tree.specs.declared.tree.Statement.{Statement}

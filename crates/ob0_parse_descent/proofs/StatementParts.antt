@@ -1,4 +1,4 @@
--- Statements: what is taken, and what is refused.
+-- Statements: reading them and refusing them.
 use Rattle.std.proofs.Common.{◌≡◌, ◌≢◌, ℕ, ◌+◌, ◌<◌, List, [], ◌∷◌, ◌++◌, length, refl, sym, ◌∙◌, ap, subst, arith, append_assoc}
 use Rattle.ob0_scan.specs.declared.lexeme.TokenKind.{TokenKind}
 use Rattle.ob0_scan.specs.declared.lexeme.TokenKind.TheVariants as kind
@@ -18,7 +18,7 @@ use Rattle.ob0_parse_descent.proofs.Refusals.{fails_weaken, fails_following}
 use Rattle.ob0_parse_descent.proofs.Expressions.{joined, head_at, too_deep_at_once}
 use Rattle.ob0_parse_descent.proofs.Apart.{name_not_mark}
 
--- two lists that begin with the same token
+-- two lists begin with the same token
 pub alike : {xs w : List (Terminal ℕ)} {x y : Terminal ℕ} {a b : List (Terminal ℕ)} → SameHead xs w → xs ≡ x ∷ a → w ≡ y ∷ b → x ≡ y
 alike h p q = head_of (sym p ∙ h.is) ∙ head_of (sym h.alike ∙ q)
 

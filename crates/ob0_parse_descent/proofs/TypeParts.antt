@@ -1,4 +1,4 @@
--- Types: what is taken, and what is refused.
+-- Types: reading them and refusing them.
 use Rattle.std.proofs.Common.{◌≡◌, ◌≢◌, ℕ, ◌+◌, ◌<◌, ◌≤◌, List, [], ◌∷◌, ◌++◌, length, refl, sym, ◌∙◌, ap, subst, arith, append_assoc}
 use Rattle.ob0_scan.specs.declared.lexeme.TokenKind.TheVariants as kind
 use Rattle.ob0_scan.specs.declared.lexeme.Reserved.TheVariants as reserved
@@ -136,7 +136,7 @@ fields_only ns t (some_fields ms v) z w s e =
 abbrev pub typed_following : ℕ → List Part
 typed_following room = node names 0 ∷ token (kind.Symbol symbol.Colon) ∷ node written_type room ∷ []
 
--- names are at the places of fields
+-- names at the beginning of fields
 pub chosen_fields : {xs : List (Terminal ℕ)} (room : ℕ) (ns : Tree ℕ names) (z : List (Terminal ℕ)) → xs ≡ spell ns ++ z → chosen fields room xs ≡ parts (typed_following room)
 chosen_fields room (listed k us) z e = ap (λ w. chosen fields room w) e
 
@@ -150,7 +150,7 @@ taken_fields {room = room} {ts = ts} {m = m} ns t p following q = record {
   forward = omega (arith, p.forward, following.2, q.forward);
 }
 
--- names are not nested
+-- names aren't nested
 pub unnested : (ns : Tree ℕ names) → nesting ns ≤ 0
 unnested (listed k us) = omega arith
 

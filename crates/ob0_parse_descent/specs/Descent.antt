@@ -1,6 +1,7 @@
--- The predictive descent: how a text is read, from left to right, by the productions of the grammar (LANGUAGE.md, Grammar and
--- Syntax faults). The next token, or the next two, choose the production of each construct. So the token at which the descent
--- stops, and what it expects there, depend on the tokens alone.
+-- The predictive descent: how a text is read, from left to right, by the productions of the grammar
+-- (LANGUAGE.md, Grammar and Syntax faults). The next token, or the next two, determine the
+-- production of each construct. So the token at which the descent stops, and what is expected
+-- there, depend only on the tokens.
 -- Rule: docs/LANGUAGE.md, Grammar 1, Nesting and limits 1, Syntax faults.
 use Rattle.std.specs.Prelude.{◌≡◌, ◌==◌, ℕ, zero, suc, ◌+◌, List, [], ◌∷◌, ◌++◌, Option, Some, None, Bool, true, false, drop, if◌then◌else◌}
 use Rattle.ob0_scan.specs.declared.lexeme.TokenKind.{TokenKind}
@@ -16,8 +17,8 @@ use Rattle.ob0_parse_descent.specs.Follow.{rank, item_rank, opens_expression}
 use Rattle.ob0_parse_descent.specs.declared.refusal.Expected.{Expected}
 use Rattle.ob0_parse_descent.specs.declared.refusal.Expected.TheVariants as expected
 
--- A part of a production: a reserved word or symbol, an identifier, an integer, a tree of at most this nesting, or
--- the end of the text.
+-- A part of a production: a reserved word or symbol, an identifier, an integer, a tree with at most
+-- this nesting, or the end of the text.
 pub data Part : Type 0 where
   token : TokenKind → Part
   name : Part
@@ -25,10 +26,10 @@ pub data Part : Type 0 where
   node : Sort → (room : ℕ) → Part
   finish : Part
 
--- ---- which production is read
+-- ---- the choice of a production
 
--- What a construct consists of when these tokens are next: the parts of a production (none when the construct is left
--- out), or a fault.
+-- The choice that the next tokens determine for a construct: the parts of a production (none if the
+-- construct is omitted), or an error.
 pub data Choice : Type 0 where
   parts : List Part → Choice
   missing : Expected → Choice
@@ -42,40 +43,42 @@ word w = token (kind.Reserved w)
 abbrev pub sign : Symbol → Part
 sign s = token (kind.Symbol s)
 
--- A construct that counts for nesting leaves one level less for what is inside it (LANGUAGE.md, Nesting and limits).
+-- The parts inside a construct that counts for nesting, with one level less (LANGUAGE.md, Nesting
+-- and limits); too deep if no level is left.
 abbrev pub nested : ℕ → (ℕ → List Part) → Choice
 nested zero inside = too_deep
 nested (suc room) inside = parts (inside room)
 
--- an item is next
+-- true if an item begins with the next token
 abbrev pub is_next : Item → List (Terminal ℕ) → Bool
 is_next i [] = false
 is_next i (x ∷ tokens) = rank x == item_rank i
 
--- an expression is next
+-- true if an expression begins with the next token
 abbrev pub is_expression_next : List (Terminal ℕ) → Bool
 is_expression_next (Name n ∷ tokens) = true
 is_expression_next (Number n ∷ tokens) = true
 is_expression_next (Mark k ∷ tokens) = opens_expression (Some k)
 is_expression_next tokens = false
 
--- a section of formal parameters is next
+-- true if a section of formal parameters begins with the next token
 abbrev pub is_section_next : List (Terminal ℕ) → Bool
 is_section_next (Name n ∷ tokens) = true
 is_section_next (Mark (kind.Reserved reserved.Var) ∷ tokens) = true
 is_section_next tokens = false
 
--- After its identifier an assignment goes on with `:=`, or with a selector.
+-- True if a statement is an assignment: after its identifier comes `:=` or a selector.
 abbrev pub is_assigned : List (Terminal ℕ) → Bool
 is_assigned (Mark (kind.Symbol symbol.Becomes) ∷ tokens) = true
 is_assigned tokens = is_next selector tokens
 
--- the operator that is next, and its right side
+-- the next operator and its right side
 abbrev pub operation : Sort → ℕ → List (Terminal ℕ) → Choice
 operation s room (Mark k ∷ tokens) = parts (token k ∷ node s room ∷ [])
 operation s room tokens = missing expected.Expression
 
--- The production of an item. It is used only when the item is next, so its value for other tokens doesn't matter.
+-- The production of an item. It is used only if the next token begins the item, so its value for
+-- other tokens doesn't matter.
 abbrev pub chosen_item : Item → (room : ℕ) → List (Terminal ℕ) → Choice
 -- selector = "[" expression "]" | "." ident
 chosen_item selector room (Mark (kind.Symbol symbol.LeftBracket) ∷ tokens) =
@@ -151,7 +154,8 @@ chosen_item procedure room tokens =
 -- [BEGIN sequence]
 chosen_item body room tokens = parts (word reserved.Begin ∷ node sequence room ∷ [])
 
--- the production of a construct (nothing in a list of names counts for nesting, so it needs no level)
+-- the production of a construct (no part of a list of names counts for nesting, so such a list
+-- needs no level)
 abbrev pub chosen : Sort → (room : ℕ) → List (Terminal ℕ) → Choice
 chosen (item i) room tokens = chosen_item i room tokens
 chosen (items i) room tokens =
@@ -258,7 +262,7 @@ chosen module_text room tokens =
 
 -- ---- the stop
 
--- the token is this part
+-- states that a token is this part
 abbrev pub IsPart : Part → Terminal ℕ → Type 0
 IsPart (token k) x = x ≡ Mark k
 IsPart name x = (n : ℕ) × (x ≡ Name n)
@@ -266,15 +270,15 @@ IsPart number x = (n : ℕ) × (x ≡ Number n)
 IsPart (node s room) x = ⊥
 IsPart finish x = x ≡ EndOfText
 
--- a reserved word or symbol is expected as such
+-- a reserved word or symbol that is expected, or None for a token of another kind
 abbrev pub expected_token : TokenKind → Option Expected
 expected_token (kind.Reserved word) = Some (expected.Word word)
 expected_token (kind.Symbol symbol) = Some (expected.Symbol symbol)
 expected_token kind.Identifier = None
 expected_token (kind.Integer value) = None
 
--- What is expected when this part is missing. An integer is a part only where one is next, and a construct is taken
--- apart, so of these nothing is said.
+-- What is expected if this part is missing. It is None for an integer, which is a part only if the
+-- next token is one, and for a construct, whose own parts are read instead.
 abbrev pub expected_part : Part → Option Expected
 expected_part (token k) = expected_token k
 expected_part name = Some expected.Identifier
@@ -282,14 +286,15 @@ expected_part number = None
 expected_part (node s room) = None
 expected_part finish = Some expected.EndOfText
 
--- how the descent ends: all is read; or something else is expected at the token with this index; or that token opens
--- a construct that is nested too deep
+-- the end of the descent: everything was read, or something else is expected at the token with this
+-- index, or that token opens a construct that is nested too deep
 pub data Stop : Type 0 where
   Done : Stop
   Expects : ℕ → Expected → Stop
   Deep : ℕ → Stop
 
--- These parts are read from these tokens, the first of which has this index, and the descent ends in this stop.
+-- States that the descent reads these parts from these tokens, the first of which has index i, and
+-- ends with this stop.
 pub data Descends : List Part → ℕ → List (Terminal ℕ) → Stop → Type 0 where
   -- no part is left
   done : {i : ℕ} {tokens : List (Terminal ℕ)} → Descends [] i tokens Done
@@ -297,25 +302,25 @@ pub data Descends : List Part → ℕ → List (Terminal ℕ) → Stop → Type 
   taken : {p : Part} {ps : List Part} {i : ℕ} {x : Terminal ℕ} {tokens : List (Terminal ℕ)}
       {o : Stop}
       → IsPart p x → Descends ps (i + 1) tokens o → Descends (p ∷ ps) i (x ∷ tokens) o
-  -- it isn't
+  -- the next token isn't the next part
   other : {p : Part} {ps : List Part} {i : ℕ} {x : Terminal ℕ} {tokens : List (Terminal ℕ)}
       {e : Expected}
       → ¬ IsPart p x → expected_part p ≡ Some e → Descends (p ∷ ps) i (x ∷ tokens) (Expects i e)
-  -- the next part is a construct: its own parts come first
+  -- the next part is a construct, so its own parts are read first
   made : {s : Sort} {room : ℕ} {ps : List Part} {i : ℕ} {tokens : List (Terminal ℕ)} {o : Stop}
       (qs : List Part)
       → chosen s room tokens ≡ parts qs
       → Descends (qs ++ ps) i tokens o
       → Descends (node s room ∷ ps) i tokens o
-  -- it can't begin with the next token
+  -- the construct can't begin with the next token
   absent : {s : Sort} {room : ℕ} {ps : List Part} {i : ℕ} {tokens : List (Terminal ℕ)}
       {e : Expected}
       → chosen s room tokens ≡ missing e → Descends (node s room ∷ ps) i tokens (Expects i e)
-  -- it opens a level of nesting, and none is left
+  -- the construct opens a level of nesting, but no level is left
   deep : {s : Sort} {room : ℕ} {ps : List Part} {i : ℕ} {tokens : List (Terminal ℕ)}
       → chosen s room tokens ≡ too_deep → Descends (node s room ∷ ps) i tokens (Deep i)
 
--- there is one stop
+-- the descent has only one stop
 abbrev pub OneStop : Type 0
 OneStop =
     (ps : List Part) (i : ℕ) (tokens : List (Terminal ℕ)) (a b : Stop)
@@ -323,6 +328,7 @@ OneStop =
     → Descends ps i tokens b
     → a ≡ b
 
--- the descent through the tokens of a whole text, the end counted as one, at nesting at most 100
+-- states that the descent through a whole text, whose end counts as a token, ends with this stop;
+-- the nesting may be at most 100
 abbrev pub DescendsText : List (Terminal ℕ) → Stop → Type 0
 DescendsText tokens o = Descends (node module_text max_nesting ∷ finish ∷ []) 0 tokens o

@@ -1,4 +1,5 @@
--- What each function of the parser promises: what it took from the tokens, or why no tree begins with them.
+-- The contracts of the parser's functions: which tokens a function read, or why no tree begins with
+-- them.
 -- Rule: none; for contracts of the parser.
 use Rattle.std.specs.declared.vec.Vec.{Vec}
 use Rattle.std.specs.declared.alloc.Global.{Global}
@@ -23,16 +24,17 @@ use Rattle.ob0_parse_descent.specs.declared.refusal.Expected.TheVariants as expe
 use Rattle.ob0_parse_descent.specs.declared.refusal.ParseRefusal.{ParseRefusal}
 use Rattle.ob0_parse_descent.specs.declared.refusal.ParseRefusal.TheVariants.{Syntax, TooDeep, Memory}
 
--- the token at an index, where none means the end
+-- the terminal for the token at an index; None stands for the end of the text
 abbrev pub lexeme_at : ℕ → Option TokenKind → Terminal ℕ
 lexeme_at i None = EndOfText
 lexeme_at i (Some k) = lexeme_of i k
 
--- what is left to read
+-- the tokens from an index to the end of the text
 unfoldable pub rest : List Token → ℕ → List (Terminal ℕ)
 rest ts i = drop i (lexemes ts)
 
--- the tokens begin with these parts, and each tree among them ends where it must
+-- states that the tokens begin with these parts, and that each tree among the parts ends before a
+-- token that can't continue it
 abbrev pub Begins : List Part → List (Terminal ℕ) → Type 0
 Begins [] w = Unit {0}
 Begins (token k ∷ ps) w = (z : List (Terminal ℕ)) × (w ≡ Mark k ∷ z) × Begins ps z
@@ -47,14 +49,15 @@ Begins (node s room ∷ ps) w =
     × Begins ps z
 Begins (finish ∷ ps) w = (z : List (Terminal ℕ)) × (w ≡ EndOfText ∷ z) × Begins ps z
 
--- The parts cannot begin so: nothing that begins with the tokens before after begins with them.
+-- States that the tokens before `after` can't be the beginning of these parts, whatever follows
+-- them.
 pub record Refused (parts : List Part) (tokens after : List (Terminal ℕ)) : Type 0 where
   pub passed : List (Terminal ℕ)
   pub fault : Terminal ℕ
   pub here : tokens ≡ passed ++ (fault ∷ after)
   pub never : (unseen : List (Terminal ℕ)) → Begins parts (passed ++ (fault ∷ unseen)) → ⊥
 
--- two lists begin with the same token
+-- states that two lists begin with the same token
 pub record SameHead (xs w : List (Terminal ℕ)) : Type 0 where
   pub head : Terminal ℕ
   pub following : List (Terminal ℕ)
@@ -62,13 +65,15 @@ pub record SameHead (xs w : List (Terminal ℕ)) : Type 0 where
   pub is : xs ≡ head ∷ following
   pub alike : w ≡ head ∷ other
 
--- To read these parts from one index on is to read the parts after from the next, whatever follows them.
+-- States that the descent reads the parts `ps` from index `at` if it reads the parts `following`
+-- from index `next`. The stop is the same, whatever parts come after them.
 pub record ReadAs (ps following : List Part) (ts : List Token) (at next : ℕ) : Type 0 where
   pub on : (o : Stop) (more : List Part)
       → Descends (following ++ more) next (rest ts next) o
       → Descends (ps ++ more) at (rest ts at) o
 
--- The tokens from one index to another are this tree's. They and the next token leave no other tree here.
+-- States that the tokens from one index to another are the tokens of this tree. Together with the
+-- next token they allow no other tree here.
 pub record Taken {s : Sort} (t : Tree ℕ s) (room : ℕ) (ts : List Token) (at next : ℕ) : Type 0 where
   pub spelled : rest ts at ≡ spell t ++ rest ts next
   pub shallow : nesting t ≤ room
@@ -81,29 +86,29 @@ pub record Taken {s : Sort} (t : Tree ℕ s) (room : ℕ) (ts : List Token) (at 
   pub within : next ≤ length ts
   pub forward : at ≤ next
 
--- Why something was refused. Nothing is said of out of memory.
+-- States why something was refused. Nothing is stated about running out of memory.
 abbrev pub Why : List Part → List Token → ℕ → ParseRefusal → Type 0
 Why parts ts at (Syntax i expected) = (i ≤ length ts) × Refused parts (rest ts at) (rest ts (i + 1))
 Why parts ts at (TooDeep i) = (i ≤ length ts) × Refused parts (rest ts at) (rest ts (i + 1))
 Why parts ts at Memory = Unit {0}
 
--- the descent over the parts stops there, whatever follows them
+-- states that the descent over the parts ends with this stop, whatever follows them
 abbrev pub StopsIn : List Part → List Token → ℕ → Stop → Type 0
 StopsIn parts ts at o = (more : List Part) → Descends (parts ++ more) at (rest ts at) o
 
--- the descent over these parts stops as the refusal says
+-- states that the descent over the parts ends with the stop that the refusal describes
 abbrev pub StopsBy : List Part → List Token → ℕ → ParseRefusal → Type 0
 StopsBy parts ts at (Syntax i expected) = StopsIn parts ts at (Expects i expected)
 StopsBy parts ts at (TooDeep i) = StopsIn parts ts at (Deep i)
 StopsBy parts ts at Memory = Unit {0}
 
--- no tree begins so with these parts, and the descent over them stops there
+-- states that no tree of these parts begins here, and that the descent over them stops as refused
 pub record FailsToRead
     (parts : List Part) (ts : List Token) (at : ℕ) (e : ParseRefusal) : Type 0 where
   pub why : Why parts ts at e
   pub reads : StopsBy parts ts at e
 
--- what a function of the parser returns for a sort, from a token on
+-- states that the result of a parser function is right for a construct that begins at a token
 abbrev pub Reads : {A : Type 0} {s : Sort}
     → (A → Tree ℕ s)
     → ℕ
@@ -114,62 +119,62 @@ abbrev pub Reads : {A : Type 0} {s : Sort}
 Reads view room ts at (Ok x) = Taken (view x.0) room ts at x.1
 Reads {s = s} view room ts at (Err e) = FailsToRead (node s room ∷ []) ts at e
 
--- another token than this one
+-- states that the token at an index isn't x
 pub record Other (x : Terminal ℕ) (ts : List Token) (at : ℕ) : Type 0 where
   pub fault : Terminal ℕ
   pub here : rest ts at ≡ fault ∷ rest ts (at + 1)
   pub differs : fault ≢ x
   pub within : at ≤ length ts
 
--- another token than an identifier
+-- states that the token at an index isn't an identifier
 pub record NoName (ts : List Token) (at : ℕ) : Type 0 where
   pub fault : Terminal ℕ
   pub here : rest ts at ≡ fault ∷ rest ts (at + 1)
   pub ranked : rank fault ≢ 7
   pub within : at ≤ length ts
 
--- whether a reserved word or symbol is here
+-- states that a test is right: true if this reserved word or symbol is at the index
 abbrev pub TokenIs : TokenKind → List Token → ℕ → Bool → Type 0
 TokenIs k ts at true = (rest ts at ≡ Mark k ∷ rest ts (at + 1)) × (at < length ts)
 TokenIs k ts at false = Other (Mark k) ts at
 
--- whether an identifier is here
+-- states that a test is right: true if an identifier is at the index
 abbrev pub NameIs : List Token → ℕ → Bool → Type 0
 NameIs ts at true = (rest ts at ≡ Name at ∷ rest ts (at + 1)) × (at < length ts)
 NameIs ts at false = NoName ts at
 
--- A reserved word or symbol at this place, and the index after it. Where another token is here, the refusal says that
--- this one is expected here.
+-- States that the result is the index after this reserved word or symbol. If the token is another
+-- one, the refusal says that this one is expected.
 abbrev pub ReadsToken : TokenKind → List Token → ℕ → Result ℕ ParseRefusal → Type 0
 ReadsToken k ts at (Ok next) =
     (rest ts at ≡ Mark k ∷ rest ts next) × (at < length ts) × (next ≡ at + 1)
 ReadsToken k ts at (Err e) =
     Other (Mark k) ts at × (Some e ≡ option_map (Syntax at) (expected_token k))
 
--- An identifier at this place, and the index after it. Where another token is here, the refusal says that an
--- identifier is expected here.
+-- States that the result is the identifier at this index and the index after it. If the token isn't
+-- an identifier, the refusal says that one is expected.
 abbrev pub ReadsName : List Token → ℕ → Result (ℕ × ℕ) ParseRefusal → Type 0
 ReadsName ts at (Ok x) =
     (rest ts at ≡ Name at ∷ rest ts x.1) × (at < length ts) × (x.0 ≡ at) × (x.1 ≡ at + 1)
 ReadsName ts at (Err e) = NoName ts at × (e ≡ Syntax at expected.Identifier)
 
--- one level less, or too deep where none is left
+-- states that the result is one level less, or `TooDeep` if no level is left
 abbrev pub Opens : ℕ → ℕ → Result ℕ ParseRefusal → Type 0
 Opens at room (Ok inner) = room ≡ inner + 1
 Opens at room (Err e) = (room ≡ 0) × (e ≡ TooDeep at)
 
--- a factor of one token, and no token of this level or below is next
+-- states that a factor of one token is here, and that it isn't continued at this level
 pub record IsLone (level : ℕ) (f : Tree ℕ factor) (ts : List Token) (at : ℕ) : Type 0 where
   pub taken : (room : ℕ) → Taken f room ts at (at + 1)
   pub stops : Stops level (rest ts (at + 1))
 
--- an item is here, and is refused
+-- states that an item begins here and is refused
 pub record ItemFails
     (i : Item) (room : ℕ) (ts : List Token) (at : ℕ) (e : ParseRefusal) : Type 0 where
   pub is_here : Starts (item_rank i) (rest ts at)
   pub fails : FailsToRead (node (item i) room ∷ []) ts at e
 
--- an item that need not be there
+-- states that the result of a parser function is right for an optional item
 abbrev pub ReadsItem : {A : Type 0} {i : Item}
     → (A → Tree ℕ (item i))
     → ℕ
@@ -181,12 +186,12 @@ ReadsItem {i = i} view room ts at (Ok None) = ¬ Starts (item_rank i) (rest ts a
 ReadsItem view room ts at (Ok (Some x)) = Taken (view x.0) room ts at x.1 × (at < x.1)
 ReadsItem {i = i} view room ts at (Err e) = ItemFails i room ts at e
 
--- the first token isn't a sign
+-- states that the first token isn't a sign
 pub record Unsigned (w : List (Terminal ℕ)) : Type 0 where
   pub plus : (z : List (Terminal ℕ)) → w ≡ Mark (kind.Symbol symbol.Plus) ∷ z → ⊥
   pub minus : (z : List (Terminal ℕ)) → w ≡ Mark (kind.Symbol symbol.Minus) ∷ z → ⊥
 
--- a sign where there is one, and else no sign
+-- states that `sign` is the sign at this index, or None if there is none
 pub record SignTaken (ts : List Token) (at : ℕ) (sign : Option Sign) (next : ℕ) : Type 0 where
   pub spelled : rest ts at ≡ sign_marks sign ++ rest ts next
   pub forward : at ≤ next
@@ -194,19 +199,22 @@ pub record SignTaken (ts : List Token) (at : ℕ) (sign : Option Sign) (next : �
   pub unsigned : IfNone sign (Unsigned (rest ts at))
   pub counted : next ≡ at + length (sign_marks {N = ℕ} sign)
 
--- a name with its selectors, as the factor that it is alone; no selector is next
+-- states that the result is a name with its selectors, taken as a factor, and that no selector
+-- follows
 abbrev pub ReadsDesignator : ℕ → List Token → ℕ → Result (Designator × ℕ) ParseRefusal → Type 0
 ReadsDesignator room ts at (Ok x) =
     Taken (designator x.0.name (items_of selector_of x.0.selectors.items)) room ts at x.1
     × ¬ Starts 1 (rest ts x.1)
 ReadsDesignator room ts at (Err e) = FailsToRead (name ∷ node (items selector) room ∷ []) ts at e
 
--- the operator that a token is, where tokens of its rank are operators
+-- states that the operator is the one that the token is, or None if the token's rank isn't an
+-- operator's
 abbrev pub IsMarkOf : {A : Type 0} → (A → TokenKind) → ℕ → TokenKind → Option A → Type 0
 IsMarkOf mark r k (Some a) = k ≡ mark a
 IsMarkOf mark r k None = kind_rank k ≢ r
 
--- Elements with something between them: the first, and the further ones. All were taken from one index to another.
+-- States that a list was read: its first element, then the further ones with separators between
+-- them.
 pub record ListRead
     {A : Type 0} {s : Sort} {i : Item} (view : A → Tree ℕ s) (further : A → Tree ℕ (item i))
     (xs : List A) (room : ℕ) (ts : List Token) (at next : ℕ) : Type 0 where
@@ -217,7 +225,7 @@ pub record ListRead
   pub head : Taken (view first) room ts at middle
   pub tail : Taken (items_of further others) room ts middle next
 
--- one or more elements, that need not be a nonterminal of their own
+-- states that the result is a list of one or more elements
 abbrev pub ReadsList : {A : Type 0} {s : Sort} {i : Item}
     → (A → Tree ℕ s)
     → (A → Tree ℕ (item i))
@@ -230,7 +238,7 @@ ReadsList view further room ts at (Ok x) = ListRead view further x.0.items room 
 ReadsList {s = s} {i = i} view further room ts at (Err e) =
     FailsToRead (node s room ∷ node (items i) room ∷ []) ts at e
 
--- names, a colon and a type: the tokens of one group of fields
+-- states that the result is a list of names and a type, with a colon between them
 abbrev pub ReadsTyped : ℕ
     → List Token
     → ℕ
@@ -241,7 +249,8 @@ ReadsTyped room ts at (Err e) =
     FailsToRead (node names 0 ∷ token (kind.Symbol symbol.Colon) ∷ node written_type room ∷ []) ts
     at e
 
--- whether formal parameters may begin here, or a `)` must be
+-- states that a test is right: true if formal parameters may begin here; otherwise only `)` may
+-- come next
 abbrev pub SectionMayBegin : List Token → ℕ → Bool → Type 0
 SectionMayBegin ts at true =
     Other (Mark (kind.Symbol symbol.RightParen)) ts at × (is_section_next (rest ts at) ≡ true)

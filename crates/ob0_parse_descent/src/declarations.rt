@@ -1,4 +1,4 @@
-//! Declarations and blocks.
+//! Parsing of declarations and blocks.
 
 ghost use Rattle.std.specs.Prelude.{◌≤◌, length};
 ghost use Rattle.ob0_tree.specs.View.{section_of, further_section_of, formals_of, constant_of, constants_of, constants_in, type_declaration_of, types_of, types_in, variable_of, variables_of, variables_in, body_of, block_of, procedure_of, procedures_in};
@@ -12,7 +12,7 @@ use ob0_tree::{
 };
 
 impl<'t> Parser<'t> {
-    /// `names ":" type`
+    /// Parses `names ":" type`.
     fn typed_names(&self, at: usize, room: u32) -> Parsed<(Names, WrittenType)>
         requires { at ≤ length self.now.tokens.now }
         ensures { ReadsTyped room self.now.tokens.now at result }
@@ -23,7 +23,7 @@ impl<'t> Parser<'t> {
         Ok(((names, written), end))
     }
 
-    /// `[VAR] names ":" type`
+    /// Parses `[VAR] names ":" type`.
     fn section(&self, at: usize, room: u32) -> Parsed<Section>
         requires { at ≤ length self.now.tokens.now }
         ensures { Reads section_of room self.now.tokens.now at result }
@@ -52,7 +52,7 @@ impl<'t> Parser<'t> {
         ))
     }
 
-    /// Whether a section may begin here.
+    /// True if a section of formal parameters may begin at this token.
     fn section_may_begin(&self, at: usize) -> bool
         requires { at ≤ length self.now.tokens.now }
         ensures { SectionMayBegin self.now.tokens.now at result }
@@ -63,7 +63,7 @@ impl<'t> Parser<'t> {
         self.at_word(at, Reserved::Var)
     }
 
-    /// `";" section`
+    /// Parses an optional `";" section`.
     fn further_section(&self, at: usize, room: u32) -> ParsedItem<Section>
         requires { at ≤ length self.now.tokens.now }
         ensures { ReadsItem further_section_of room self.now.tokens.now at result }
@@ -75,7 +75,7 @@ impl<'t> Parser<'t> {
         Ok(Some((section, next)))
     }
 
-    /// `section {";" section}`
+    /// Parses `section {";" section}`.
     fn section_list(&self, at: usize, room: u32) -> Parsed<Vec<Section>>
         requires { at ≤ length self.now.tokens.now }
         ensures { ReadsList section_of further_section_of room self.now.tokens.now at result }
@@ -90,7 +90,7 @@ impl<'t> Parser<'t> {
         Ok((sections, next))
     }
 
-    /// `"(" [section {";" section}] ")"`
+    /// Parses `"(" [section {";" section}] ")"`.
     fn formals(&self, at: usize, room: u32) -> Parsed<Option<Vec<Section>>>
         requires { at ≤ length self.now.tokens.now }
         ensures { Reads formals_of room self.now.tokens.now at result }
@@ -107,7 +107,7 @@ impl<'t> Parser<'t> {
         Ok((Some(sections), end))
     }
 
-    /// `[CONST {constant}]`
+    /// Parses `[CONST {constant}]`.
     pub fn constants(&self, at: usize, room: u32) -> Parsed<Option<Vec<Constant>>>
         requires { at ≤ length self.now.tokens.now }
         ensures { Reads constants_of room self.now.tokens.now at result }
@@ -132,7 +132,7 @@ impl<'t> Parser<'t> {
         Ok((constants, next))
     }
 
-    /// `identifier "=" expression ";"`
+    /// Parses an optional `identifier "=" expression ";"`.
     fn constant(&self, at: usize, room: u32) -> ParsedItem<Constant>
         requires { at ≤ length self.now.tokens.now }
         ensures { ReadsItem constant_of room self.now.tokens.now at result }
@@ -146,7 +146,7 @@ impl<'t> Parser<'t> {
         Ok(Some((Constant { name: at, value }, end)))
     }
 
-    /// `[TYPE {type declaration}]`
+    /// Parses `[TYPE {type declaration}]`.
     pub fn types(&self, at: usize, room: u32) -> Parsed<Option<Vec<TypeDeclaration>>>
         requires { at ≤ length self.now.tokens.now }
         ensures { Reads types_of room self.now.tokens.now at result }
@@ -171,7 +171,7 @@ impl<'t> Parser<'t> {
         Ok((types, next))
     }
 
-    /// `identifier "=" type ";"`
+    /// Parses an optional `identifier "=" type ";"`.
     fn type_declaration(&self, at: usize, room: u32) -> ParsedItem<TypeDeclaration>
         requires { at ≤ length self.now.tokens.now }
         ensures { ReadsItem type_declaration_of room self.now.tokens.now at result }
@@ -185,7 +185,7 @@ impl<'t> Parser<'t> {
         Ok(Some((TypeDeclaration { name: at, written }, end)))
     }
 
-    /// `[VAR {variables}]`
+    /// Parses `[VAR {variables}]`.
     pub fn variables(&self, at: usize, room: u32) -> Parsed<Option<Vec<Variables>>>
         requires { at ≤ length self.now.tokens.now }
         ensures { Reads variables_of room self.now.tokens.now at result }
@@ -210,7 +210,7 @@ impl<'t> Parser<'t> {
         Ok((variables, next))
     }
 
-    /// `names ":" type ";"`
+    /// Parses an optional `names ":" type ";"`.
     fn variable(&self, at: usize, room: u32) -> ParsedItem<Variables>
         requires { at ≤ length self.now.tokens.now }
         ensures { ReadsItem variable_of room self.now.tokens.now at result }
@@ -223,7 +223,7 @@ impl<'t> Parser<'t> {
         Ok(Some((Variables { names, written }, end)))
     }
 
-    /// `[BEGIN sequence]`
+    /// Parses `[BEGIN sequence]`.
     pub fn body(&self, at: usize, room: u32) -> Parsed<Option<Vec<Statement>>>
         requires { at ≤ length self.now.tokens.now }
         ensures { Reads body_of room self.now.tokens.now at result }
@@ -235,7 +235,7 @@ impl<'t> Parser<'t> {
         Ok((Some(statements), next))
     }
 
-    /// Declarations, and a body where there is one.
+    /// Parses declarations and an optional body.
     #[cycle(blocks)]
     fn block(&self, at: usize, room: u32) -> Parsed<Block>
         requires { at ≤ length self.now.tokens.now }
@@ -258,7 +258,7 @@ impl<'t> Parser<'t> {
         ))
     }
 
-    /// `{procedure ";"}`
+    /// Parses `{procedure ";"}`.
     #[cycle(blocks)]
     fn procedures(&self, at: usize, room: u32) -> Parsed<Vec<Procedure>>
         requires { at ≤ length self.now.tokens.now }
@@ -273,7 +273,7 @@ impl<'t> Parser<'t> {
         Ok((procedures, next))
     }
 
-    /// `PROCEDURE identifier [formals] ";" block END identifier ";"`
+    /// Parses an optional `PROCEDURE identifier [formals] ";" block END identifier ";"`.
     #[cycle(blocks)]
     pub fn procedure(&self, at: usize, room: u32) -> ParsedItem<Procedure>
         requires { at ≤ length self.now.tokens.now }

@@ -1,10 +1,11 @@
-//! Lists that grow from room for one item.
+//! Lists that grow by doubling, from room for one item.
 
 ghost use Rattle.std.specs.Prelude.{◌≡◌, ◌≤◌, ◌++◌, ◌∷◌, [], ◌<◌, OnErr, OnOk, vec_capacity, vec_len};
 
 use std::alloc::AllocError;
 
-/// Puts an item after the others. Most lists of a tree hold one item, so there is room for 1, 2, 4, 8 and so on.
+/// Adds an item at the end of a list. Most lists of a tree hold one item, so the capacity grows as
+/// 1, 2, 4, 8 and so on. If an allocation fails, the list is unchanged.
 pub fn add<T: Drop>(list: &mut Vec<T>, item: T) -> Result<(), AllocError>
     ensures added { OnOk result (list.new.items ≡ list.old.items ++ item ∷ []) }
     ensures same { OnErr result (list.new.items ≡ list.old.items) }
@@ -16,7 +17,8 @@ pub fn add<T: Drop>(list: &mut Vec<T>, item: T) -> Result<(), AllocError>
     Ok(())
 }
 
-/// For how many items there must be room where one is added: as many again where there is none.
+/// Returns how many items to reserve room for before adding one: 1 if there is room or the list is
+/// empty, otherwise its length, so that the capacity doubles.
 fn room_to_add(len: usize, capacity: usize) -> usize
     ensures { (1 ≤ result) × (len < capacity → result ≡ 1) }
 {

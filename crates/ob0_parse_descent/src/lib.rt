@@ -1,5 +1,6 @@
-//! The descent: a function for each production, from its first token to the tree that it spells, or to the token at which
-//! the descent stops (docs/LANGUAGE.md, Grammar, Nesting and limits, Syntax faults).
+//! The descent parser: one function for each production of the grammar. Each function returns the
+//! tree that begins at a token, or the token at which the parser stops (docs/LANGUAGE.md, Grammar,
+//! Nesting and limits, Syntax faults).
 #![tactic(auto)]
 
 mod declarations;

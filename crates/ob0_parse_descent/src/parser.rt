@@ -1,5 +1,6 @@
-//! Recursive descent, one function for each production. Each is given where it begins and how many levels of
-//! nesting are left, and returns what it made with the index of the token after it.
+//! Recursive descent, one function for each production. Each function takes the index of its first
+//! token and the number of nesting levels that are left. It returns the tree and the index of the
+//! token after it.
 
 ghost use Rattle.std.specs.Prelude.{true, ◌≡◌, ◌+◌, ◌<◌, ◌≤◌, ◌∷◌, length, IfSome, IfNone, IfOk, IfErr};
 ghost use Rattle.ob0_scan.specs.declared.lexeme.TokenKind.TheVariants as kind;
@@ -21,7 +22,8 @@ use ob0_tree::{
 };
 use std::alloc::{AllocError, Global};
 
-/// How strongly the token after an operand takes it in (`binding`): the smaller the number, the more strongly.
+/// The strengths with which a token binds the operand before it (see `binding`). A smaller number
+/// binds more strongly.
 const BY_SELECTOR: u8 = 1;
 
 const BY_MULTIPLICATION: u8 = 2;
@@ -32,13 +34,14 @@ const BY_COMPARISON: u8 = 4;
 
 const NOT_AT_ALL: u8 = 5;
 
-/// What was made, and the index of the token after it.
+/// A parsed construct with the index of the token after it, or the refusal.
 pub type Parsed<T> = Result<(T, usize), ParseRefusal>;
 
-/// What was made of an item, which need not be there, and the index of the token after it.
+/// A parsed item with the index of the token after it, None if no such item begins at the token, or
+/// the refusal.
 pub type ParsedItem<T> = Result<Option<(T, usize)>, ParseRefusal>;
 
-/// The tokens that are read, and where what is built gets its memory.
+/// The tokens to parse, and the allocator for the trees.
 #[derive(Clone, Copy)]
 pub struct Parser<'t> {
     pub alloc: Global,
@@ -46,7 +49,7 @@ pub struct Parser<'t> {
 }
 
 impl<'t> Parser<'t> {
-    /// The kind of the token at an index, or none at the end.
+    /// Returns the kind of the token at an index, or None at the end of the text.
     pub fn kind(&self, at: usize) -> Option<TokenKind>
         requires { at ≤ length self.now.tokens.now }
         ensures here { rest self.now.tokens.now at
@@ -61,7 +64,7 @@ impl<'t> Parser<'t> {
         }
     }
 
-    /// Whether this reserved word is here.
+    /// True if the token at `at` is this reserved word.
     pub(crate) fn at_word(&self, at: usize, word: Reserved) -> bool
         requires { at ≤ length self.now.tokens.now }
         ensures { TokenIs (kind.Reserved word) self.now.tokens.now at result }
@@ -69,7 +72,7 @@ impl<'t> Parser<'t> {
         self.kind(at) == Some(TokenKind::Reserved(word))
     }
 
-    /// Whether this symbol is here.
+    /// True if the token at `at` is this symbol.
     pub(crate) fn at_symbol(&self, at: usize, symbol: Symbol) -> bool
         requires { at ≤ length self.now.tokens.now }
         ensures { TokenIs (kind.Symbol symbol) self.now.tokens.now at result }
@@ -77,7 +80,7 @@ impl<'t> Parser<'t> {
         self.kind(at) == Some(TokenKind::Symbol(symbol))
     }
 
-    /// A reserved word: the index after it.
+    /// Returns the index after this reserved word, or a syntax error if the token is another one.
     pub fn expect_word(&self, at: usize, word: Reserved) -> Result<usize, ParseRefusal>
         requires { at ≤ length self.now.tokens.now }
         ensures { ReadsToken (kind.Reserved word) self.now.tokens.now at result }
@@ -89,7 +92,7 @@ impl<'t> Parser<'t> {
         }
     }
 
-    /// A symbol: the index after it.
+    /// Returns the index after this symbol, or a syntax error if the token is another one.
     pub fn expect_symbol(&self, at: usize, symbol: Symbol) -> Result<usize, ParseRefusal>
         requires { at ≤ length self.now.tokens.now }
         ensures { ReadsToken (kind.Symbol symbol) self.now.tokens.now at result }
@@ -101,7 +104,7 @@ impl<'t> Parser<'t> {
         }
     }
 
-    /// An identifier: the index of its token.
+    /// Returns the token index of an identifier, or a syntax error if the token is another one.
     pub fn identifier(&self, at: usize) -> Parsed<usize>
         requires { at ≤ length self.now.tokens.now }
         ensures { ReadsName self.now.tokens.now at result }
@@ -113,7 +116,7 @@ impl<'t> Parser<'t> {
         }
     }
 
-    /// Whether an identifier is here.
+    /// True if the token at `at` is an identifier.
     pub(crate) fn at_name(&self, at: usize) -> bool
         requires { at ≤ length self.now.tokens.now }
         ensures { NameIs self.now.tokens.now at result }
@@ -121,7 +124,7 @@ impl<'t> Parser<'t> {
         self.kind(at) == Some(TokenKind::Identifier)
     }
 
-    /// `"," identifier`
+    /// Parses an optional `"," identifier`.
     fn further_name(&self, at: usize) -> ParsedItem<usize>
         requires { at ≤ length self.now.tokens.now }
         ensures read { ReadsItem then_name 0 self.now.tokens.now at result }
@@ -135,7 +138,7 @@ impl<'t> Parser<'t> {
         }
     }
 
-    /// `identifier {"," identifier}`
+    /// Parses `identifier {"," identifier}`.
     pub(crate) fn names(&self, at: usize) -> Parsed<Names>
         requires { at ≤ length self.now.tokens.now }
         ensures { Reads names_of 0 self.now.tokens.now at result }
@@ -149,7 +152,7 @@ impl<'t> Parser<'t> {
         Ok((Names { first, more }, next))
     }
 
-    /// `simple [relation simple]`, made at once where it is one token.
+    /// Parses `simple [relation simple]`, directly if it is a single token.
     #[cycle(expressions)]
     #[inline(always)]
     pub(crate) fn expression(&self, at: usize, room: u32) -> Parsed<Expression>
@@ -162,7 +165,7 @@ impl<'t> Parser<'t> {
         Ok((Expression::Factor(factor), at + 1))
     }
 
-    /// `simple [relation simple]`
+    /// Parses `simple [relation simple]`.
     #[cycle(expressions)]
     #[inline(never)]
     fn sides(&self, at: usize, room: u32) -> Parsed<Expression>
@@ -180,7 +183,8 @@ impl<'t> Parser<'t> {
         Ok((Expression::Compound(compound), end))
     }
 
-    /// The expression that has no other side than this one: small where this is one factor.
+    /// Makes an expression from one side without a relation, in the compact form if the side is one
+    /// factor.
     #[inline(always)]
     fn lone_side(&self, side: Simple) -> Result<Expression, AllocError>
         ensures { IfOk result (λ e. expression_of e ≡ compares (simple_of side) none) }
@@ -213,7 +217,8 @@ impl<'t> Parser<'t> {
         Ok(Some((Comparison { relation, right }, next)))
     }
 
-    /// A factor of one token, where nothing after it binds as strongly as this level or more.
+    /// Returns a factor of one token, or None if the token after it binds at this level or more
+    /// strongly.
     #[inline(always)]
     fn lone(&self, at: usize, level: u8) -> Option<Factor>
         requires within { at ≤ length self.now.tokens.now }
@@ -242,7 +247,7 @@ impl<'t> Parser<'t> {
         }
     }
 
-    /// A simple expression, made at once where it is one token.
+    /// Parses a simple expression, directly if it is a single token.
     #[cycle(expressions)]
     #[inline(always)]
     fn side(&self, at: usize, room: u32) -> Parsed<Simple>
@@ -268,7 +273,7 @@ impl<'t> Parser<'t> {
         ))
     }
 
-    /// A term, made at once where it is one token.
+    /// Parses a term, directly if it is a single token.
     #[cycle(expressions)]
     #[inline(always)]
     fn summand(&self, at: usize, room: u32) -> Parsed<Term>
@@ -282,7 +287,7 @@ impl<'t> Parser<'t> {
         Ok((Term { first, more }, at + 1))
     }
 
-    /// A factor, made at once where it is one token.
+    /// Parses a factor, directly if it is a single token.
     #[cycle(expressions)]
     #[inline(always)]
     fn operand(&self, at: usize, room: u32) -> Parsed<Factor>
@@ -295,7 +300,7 @@ impl<'t> Parser<'t> {
         Ok((factor, at + 1))
     }
 
-    /// `[sign] term {operator term}`
+    /// Parses `[sign] term {operator term}`.
     #[cycle(expressions)]
     #[inline(never)]
     fn simple(&self, at: usize, room: u32) -> Parsed<Simple>
@@ -312,7 +317,7 @@ impl<'t> Parser<'t> {
         Ok((Simple { sign, first, more }, next))
     }
 
-    /// The sign at this place, where there is one, and the index after it.
+    /// Returns the optional sign at this token, and the index after it.
     fn sign(&self, at: usize) -> (Option<Sign>, usize)
         requires { at ≤ length self.now.tokens.now }
         ensures { SignTaken self.now.tokens.now at result.0 result.1 }
@@ -339,7 +344,7 @@ impl<'t> Parser<'t> {
         Ok(Some((Addend { operator, term }, next)))
     }
 
-    /// `factor {operator factor}`
+    /// Parses `factor {operator factor}`.
     #[cycle(expressions)]
     #[inline(never)]
     fn term(&self, at: usize, room: u32) -> Parsed<Term>
@@ -395,7 +400,7 @@ impl<'t> Parser<'t> {
         }
     }
 
-    /// `"(" expression ")"`
+    /// Parses `"(" expression ")"`.
     #[cycle(expressions)]
     fn parenthesised_factor(&self, at: usize, room: u32) -> Parsed<Factor>
         requires { TokenIs (kind.Symbol symbol.LeftParen) self.now.tokens.now at true }
@@ -408,7 +413,7 @@ impl<'t> Parser<'t> {
         Ok((Factor::Parenthesised(boxed), next))
     }
 
-    /// `"~" factor`
+    /// Parses `"~" factor`.
     #[cycle(expressions)]
     fn negation(&self, at: usize, room: u32) -> Parsed<Factor>
         requires { TokenIs (kind.Symbol symbol.Not) self.now.tokens.now at true }
@@ -420,7 +425,7 @@ impl<'t> Parser<'t> {
         Ok((Factor::Not(boxed), next))
     }
 
-    /// A name and its selectors.
+    /// Parses a name and its selectors.
     #[cycle(expressions)]
     pub(crate) fn designator(&self, at: usize, room: u32) -> Parsed<Designator>
         requires { at ≤ length self.now.tokens.now }
@@ -435,7 +440,7 @@ impl<'t> Parser<'t> {
         Ok((Designator { name, selectors }, next))
     }
 
-    /// `"." identifier | "[" expression "]"`
+    /// Parses an optional `"." identifier | "[" expression "]"`.
     #[cycle(expressions)]
     fn selector(&self, at: usize, room: u32) -> ParsedItem<Selector>
         requires { at ≤ length self.now.tokens.now }
@@ -455,7 +460,7 @@ impl<'t> Parser<'t> {
     }
 }
 
-/// How strongly the token after an operand takes it in.
+/// Returns the strength with which a token binds the operand before it.
 #[inline(always)]
 fn binding(next: Option<TokenKind>) -> u8
     ensures { result ≡ binding next }
@@ -517,14 +522,15 @@ fn multiply_operator_of(kind: TokenKind) -> Option<MultiplyOperator>
     }
 }
 
-/// A syntax fault at this token.
+/// Returns the refusal for a syntax error at this token.
 pub fn missing<T>(token: usize, expected: Expected) -> Result<T, ParseRefusal>
     ensures { result ≡ Err (Syntax token expected) }
 {
     Err(ParseRefusal::Syntax { token, expected })
 }
 
-/// The levels that are left inside the construct that this token opens.
+/// Returns the number of nesting levels left inside the construct that this token opens, or
+/// `TooDeep` if none was left.
 pub(crate) fn levels_inside(at: usize, room: u32) -> Result<u32, ParseRefusal>
     ensures { Opens at room result }
 {

@@ -1,4 +1,4 @@
-//! Why a text isn't a module.
+//! The reasons why a text isn't a module by the grammar.
 
 ghost use Rattle.std.specs.Prelude.{◌≡◌};
 ghost use Rattle.ob0_parse_descent.specs.declared.refusal.ParseRefusal.TheVariants.{Memory};
@@ -7,7 +7,7 @@ use ob0_scan::{Reserved, Symbol};
 use std::alloc::{AllocError, AllocFailed};
 use thiserror::Error;
 
-/// What must be at the place of a syntax fault.
+/// A token or construct that is expected at a syntax error.
 #[derive(Clone, Copy, PartialEq, Eq, Debug)]
 pub enum Expected {
     Type,
@@ -21,7 +21,7 @@ pub enum Expected {
 impl Expected {
     ghost use Rattle.ob0_parse_descent.specs.ExpectedText.{expected_text};
 
-    /// What follows `expected` in the message.
+    /// Returns the text that follows `expected` in the message.
     pub fn text(self) -> &'static str
         ensures { result.now ≡ expected_text self }
     {
@@ -36,7 +36,8 @@ impl Expected {
     }
 }
 
-/// Why a text isn't a module, and at which token. The end of the text counts as the token after the last.
+/// The reason why a text isn't a module, and the index of the token where parsing stopped. The end
+/// of the text counts as the token after the last one.
 #[derive(Debug, Drop, Error)]
 pub enum ParseRefusal {
     #[error("token {token}: expected {}", .expected.text())]

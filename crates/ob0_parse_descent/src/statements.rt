@@ -1,4 +1,4 @@
-//! Statements, and lists of them.
+//! Parsing of statements and of lists of statements.
 
 ghost use Rattle.std.specs.Prelude.{true, ◌≡◌, ◌≤◌, length};
 ghost use Rattle.ob0_scan.specs.declared.lexeme.TokenKind.TheVariants as kind;
@@ -15,7 +15,7 @@ use ob0_scan::{Reserved, Symbol, TokenKind};
 use ob0_tree::{Assignment, Call, Elsif, Expression, If, Repeat, Statement, While};
 
 impl<'t> Parser<'t> {
-    /// `[assignment | call | if | while | repeat]`
+    /// Parses `[assignment | call | if | while | repeat]`.
     #[cycle(statements)]
     fn statement(&self, at: usize, room: u32) -> Parsed<Statement>
         requires { at ≤ length self.now.tokens.now }
@@ -36,7 +36,7 @@ impl<'t> Parser<'t> {
         Ok((Statement::Empty, at))
     }
 
-    /// An assignment or a call. A selector that isn't empty requires `:=`.
+    /// Parses an assignment or a call. A selector that isn't empty requires `:=`.
     fn assignment_or_call(&self, at: usize, room: u32) -> Parsed<Statement>
         requires { NameIs self.now.tokens.now at true }
         ensures { Reads statement_of room self.now.tokens.now at result }
@@ -70,7 +70,7 @@ impl<'t> Parser<'t> {
         ))
     }
 
-    /// `"(" [expression {"," expression}] ")"`
+    /// Parses an optional `"(" [expression {"," expression}] ")"`.
     fn arguments(&self, at: usize, room: u32) -> ParsedItem<Vec<Expression>>
         requires { at ≤ length self.now.tokens.now }
         ensures { ReadsItem arguments_in room self.now.tokens.now at result }
@@ -87,7 +87,7 @@ impl<'t> Parser<'t> {
         Ok(Some((arguments, end)))
     }
 
-    /// `expression {"," expression}`
+    /// Parses `expression {"," expression}`.
     fn argument_list(&self, at: usize, room: u32) -> Parsed<Vec<Expression>>
         requires { at ≤ length self.now.tokens.now }
         ensures { ReadsList expression_of further_argument_of room self.now.tokens.now at result }
@@ -102,7 +102,7 @@ impl<'t> Parser<'t> {
         Ok((arguments, next))
     }
 
-    /// `"," expression`
+    /// Parses an optional `"," expression`.
     fn further_argument(&self, at: usize, room: u32) -> ParsedItem<Expression>
         requires { at ≤ length self.now.tokens.now }
         ensures { ReadsItem further_argument_of room self.now.tokens.now at result }
@@ -114,7 +114,7 @@ impl<'t> Parser<'t> {
         Ok(Some((argument, next)))
     }
 
-    /// `statement {";" statement}`
+    /// Parses `statement {";" statement}`.
     #[cycle(statements)]
     pub(crate) fn sequence(&self, at: usize, room: u32) -> Parsed<Vec<Statement>>
         requires { at ≤ length self.now.tokens.now }
@@ -130,7 +130,7 @@ impl<'t> Parser<'t> {
         Ok((statements, next))
     }
 
-    /// `";" statement`
+    /// Parses an optional `";" statement`.
     #[cycle(statements)]
     fn further_statement(&self, at: usize, room: u32) -> ParsedItem<Statement>
         requires { at ≤ length self.now.tokens.now }
@@ -143,7 +143,7 @@ impl<'t> Parser<'t> {
         Ok(Some((statement, next)))
     }
 
-    /// `IF expression THEN sequence {ELSIF expression THEN sequence} [ELSE sequence] END`
+    /// Parses `IF expression THEN sequence {ELSIF expression THEN sequence} [ELSE sequence] END`.
     #[cycle(statements)]
     fn branches(&self, at: usize, room: u32) -> Parsed<Statement>
         requires { TokenIs (kind.Reserved reserved.If) self.now.tokens.now at true }
@@ -168,7 +168,7 @@ impl<'t> Parser<'t> {
         Ok((Statement::If(boxed), end))
     }
 
-    /// `{ELSIF expression THEN sequence}`
+    /// Parses `{ELSIF expression THEN sequence}`.
     #[cycle(statements)]
     fn elsifs(&self, at: usize, room: u32) -> Parsed<Vec<Elsif>>
         requires { at ≤ length self.now.tokens.now }
@@ -197,7 +197,7 @@ impl<'t> Parser<'t> {
         Ok(Some((Elsif { condition, then }, end)))
     }
 
-    /// `[ELSE sequence]`
+    /// Parses `[ELSE sequence]`.
     #[cycle(statements)]
     fn otherwise(&self, at: usize, room: u32) -> Parsed<Option<Vec<Statement>>>
         requires { at ≤ length self.now.tokens.now }
@@ -210,7 +210,7 @@ impl<'t> Parser<'t> {
         Ok((Some(statements), end))
     }
 
-    /// `WHILE expression DO sequence END`
+    /// Parses `WHILE expression DO sequence END`.
     #[cycle(statements)]
     fn while_loop(&self, at: usize, room: u32) -> Parsed<Statement>
         requires { TokenIs (kind.Reserved reserved.While) self.now.tokens.now at true }
@@ -225,7 +225,7 @@ impl<'t> Parser<'t> {
         Ok((Statement::While(boxed), end))
     }
 
-    /// `REPEAT sequence UNTIL expression`
+    /// Parses `REPEAT sequence UNTIL expression`.
     #[cycle(statements)]
     fn repeat_loop(&self, at: usize, room: u32) -> Parsed<Statement>
         requires { TokenIs (kind.Reserved reserved.Repeat) self.now.tokens.now at true }
@@ -240,7 +240,7 @@ impl<'t> Parser<'t> {
     }
 }
 
-/// Whether an expression may begin with this token.
+/// True if an expression may begin with this token.
 fn opens_expression(first: Option<TokenKind>) -> bool
     ensures { result ≡ opens_expression first }
 {

@@ -1,4 +1,4 @@
-//! Types as they are written.
+//! Parsing of types as they are written.
 
 ghost use Rattle.std.specs.Prelude.{true, ◌≤◌, length};
 ghost use Rattle.ob0_scan.specs.declared.lexeme.TokenKind.TheVariants as kind;
@@ -13,7 +13,7 @@ use ob0_scan::{Reserved, Symbol};
 use ob0_tree::{ArrayType, FieldGroup, Fields, RecordType, WrittenType};
 
 impl<'t> Parser<'t> {
-    /// `type = ident | ARRAY expression OF type | RECORD fields {";" fields} END`
+    /// Parses `ident | ARRAY expression OF type | RECORD fields {";" fields} END`.
     #[cycle(types)]
     pub(crate) fn written_type(&self, at: usize, room: u32) -> Parsed<WrittenType>
         requires { at ≤ length self.now.tokens.now }
@@ -31,7 +31,7 @@ impl<'t> Parser<'t> {
         missing(at, Expected::Type)
     }
 
-    /// `ARRAY expression OF type`
+    /// Parses `ARRAY expression OF type`.
     #[cycle(types)]
     fn array_type(&self, at: usize, room: u32) -> Parsed<WrittenType>
         requires { TokenIs (kind.Reserved reserved.Array) self.now.tokens.now at true }
@@ -45,7 +45,7 @@ impl<'t> Parser<'t> {
         Ok((WrittenType::Array(ArrayType { size, element }), end))
     }
 
-    /// `RECORD fields {";" fields} END`
+    /// Parses `RECORD fields {";" fields} END`.
     #[cycle(types)]
     fn record_type(&self, at: usize, room: u32) -> Parsed<WrittenType>
         requires { TokenIs (kind.Reserved reserved.Record) self.now.tokens.now at true }
@@ -63,7 +63,7 @@ impl<'t> Parser<'t> {
         Ok((WrittenType::Record(RecordType { groups }), end))
     }
 
-    /// `";" fields`
+    /// Parses an optional `";" fields`.
     #[cycle(types)]
     fn further_fields(&self, at: usize, room: u32) -> ParsedItem<Fields>
         requires { at ≤ length self.now.tokens.now }
@@ -76,7 +76,7 @@ impl<'t> Parser<'t> {
         Ok(Some((fields, next)))
     }
 
-    /// `[names ":" type]`
+    /// Parses `[names ":" type]`.
     #[cycle(types)]
     fn fields(&self, at: usize, room: u32) -> Parsed<Fields>
         requires { at ≤ length self.now.tokens.now }

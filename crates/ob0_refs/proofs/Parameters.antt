@@ -1,17 +1,18 @@
--- Parameters gathered from names and a signature side by side.
--- Those found so far and those left are all (`Gathered`). It is over any two lists with a function from each, so that
--- code and definition meet without a `map` in between.
+-- Parameters gathered from two parallel lists, the names and the signature.
+-- `Gathered` states that the parameters found so far and the remaining ones are all parameters. It
+-- takes any two lists, each with a function, so that code and definition can be compared without a
+-- `map` between them.
 use Rattle.std.proofs.Common.{◌≡◌, ℕ, ◌<◌, zero, suc, min, List, [], ◌∷◌, ◌++◌, length, drop, map, get_or, refl, ap, sym, ◌∙◌, arith, append_assoc, append-nil}
 use Rattle.ob0_refs.specs.Declarations.{parameter_hover, parameters_hover}
 use Rattle.ob0_refs.specs.Hovers.{HoverParameter}
 use Rattle.ob0_language_names.specs.Names.{Name}
 use Rattle.ob0_language_types.specs.WellTyped.{Formal}
 
--- those found so far and those that are left are all
+-- the parameters found so far and the remaining ones are all parameters
 abbrev pub Gathered : {A B : Type 0} → (A → Name) → (B → Formal) → List A → List B → ℕ → List HoverParameter → Type 0
 Gathered name formal xs ys n found = found ++ parameters_hover (map name (drop n xs)) (map formal (drop n ys)) ≡ parameters_hover (map name xs) (map formal ys)
 
--- one more of both
+-- one more item of both lists
 shown_further : {A B : Type 0} (name : A → Name) (formal : B → Formal) (xs : List A) (ys : List B) (n : ℕ) → n < length xs → n < length ys → (d : A) (e : B)
     → parameters_hover (map name (drop n xs)) (map formal (drop n ys)) ≡ parameter_hover (name (get_or xs n d)) (formal (get_or ys n e)) ∷ parameters_hover (map name (drop (suc n) xs)) (map formal (drop (suc n) ys))
 shown_further name formal [] ys n h g d e = absurd (omega arith)
@@ -27,7 +28,7 @@ gathered_further name formal xs ys n found x y so_far h g at here =
     ∙ ap (λ z. parameter_hover (name (get_or xs n x)) (formal z) ∷ parameters_hover (map name (drop (suc n) xs)) (map formal (drop (suc n) ys))) (here y) ∙ sym (shown_further name formal xs ys n h g x y))
     ∙ so_far
 
--- where one of both is used up, nothing is left
+-- if one of the lists is used up, no parameter remains
 shown_ends : {A B : Type 0} (name : A → Name) (formal : B → Formal) (xs : List A) (ys : List B) (n : ℕ) → n ≡ min (length xs) (length ys) → parameters_hover (map name (drop n xs)) (map formal (drop n ys)) ≡ []
 shown_ends name formal [] ys zero e = refl
 shown_ends name formal [] ys (suc n) e = refl

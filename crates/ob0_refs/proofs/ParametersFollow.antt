@@ -1,4 +1,4 @@
--- The declaring identifiers after that of a procedure are those of its parameters.
+-- The first declaring identifiers after a procedure's name are the names of its parameters.
 use Rattle.std.proofs.Common.{◌≡◌, ℕ, suc, ◌+◌, ◌-◌, false, if◌then◌else◌, List, [], ◌∷◌, ◌++◌, map, length, take, drop, nat_lt, slice_get, Some, None, refl, sym, ap, ◌∙◌, subst, arith, append_assoc, All, le-ltb}
 use Rattle.std.proofs.lemmas.List.Elements.{All-append, All-cons, All-nil, All-weaker}
 use Rattle.ob0_tree.specs.declared.tree.Role.{Role}
@@ -37,7 +37,7 @@ declaring t = declaring_only (identifiers role.Declaring t)
 abbrev AreAmong : List ℕ → List (ℕ × List ℕ) → Type 0
 AreAmong all hs = All (IsAmong all) hs
 
--- after other identifiers, and before others
+-- a heading among identifiers is also among them if others come before or after
 all_after : (xs ys : List (Role × ℕ)) (hs : List (ℕ × List ℕ)) → AreAmong (declaring_only ys) hs → AreAmong (declaring_only (xs ++ ys)) hs
 all_after xs ys hs h =
     subst (λ all. AreAmong all hs) (sym (declaring_only-append xs ys)) (All-weaker (IsAmong (declaring_only ys)) (IsAmong (declaring_only xs ++ declaring_only ys)) (among_after (declaring_only xs) (declaring_only ys)) hs h)
@@ -75,7 +75,7 @@ mutual
 module_among : (t : Tree ℕ module_text) → AreAmong (declaring t) (block_headings (module_block t))
 module_among (is_module x b closing) = all_before (identifiers role.Declaring b) ((role.ModuleName, closing) ∷ []) (block_headings b) (block_among b)
 
--- ---- what is after it
+-- ---- the identifiers after a heading
 
 got : (before : List ℕ) (x : ℕ) (ys : List ℕ) → slice_get (before ++ (x ∷ ys)) (length before) ≡ Some x
 got [] x ys = refl

@@ -1,17 +1,18 @@
--- What a question about a name gives: where it is, and what it is a name of.
+-- The answer to a question about a name: its span, and the thing it refers to.
 -- Rule: docs/PROTOCOL.md, Requests on documents 3, 4.
 use Rattle.std.specs.Prelude.{ℕ, nat_lt, if◌then◌else◌}
 use Rattle.ob0_tree.specs.Parsed.{Parsed}
+use Rattle.ob0_language_names.specs.Scopes.{predeclared_count}
 use Rattle.ob0_scope_table.specs.Resolution.{span_at}
 use Rattle.ob0_scope.specs.declared.naming.Named as named
 use Rattle.ob0_refs.specs.declared.answers.At as answer
 use Rattle.ob0_refs.specs.declared.answers.Of as of
 use Rattle.ob0_refs.specs.declared.answers.Of.TheVariants as answer_of
 
--- the declarations of the text come after the predeclared names
+-- a predeclared name for the ordinals 0 to 6, a declaration of the text for all others
 abbrev pub of_ordinal : ℕ → of.Of
-of_ordinal ordinal = if nat_lt ordinal 7 then answer_of.Predeclared else answer_of.Declared ordinal
+of_ordinal ordinal = if nat_lt ordinal predeclared_count then answer_of.Predeclared else answer_of.Declared ordinal
 
--- a name at a place: where it is, and which declaration it has
+-- a name at a place: its span and its declaration
 abbrev pub at_name : Parsed → named.Named → answer.At
 at_name m n = record { span = span_at m.source n.token; of = of_ordinal n.ordinal }

@@ -1,4 +1,4 @@
--- Where another name for a declaration isn't free.
+-- The places at which a new name for a declaration isn't free.
 -- Rule: docs/PROTOCOL.md, Refusals of edits.
 use Rattle.std.specs.Prelude.{ℕ, Option, Some, None, option_map, slice_get}
 use Rattle.ob0_scan.specs.declared.lexeme.Span.{Span}
@@ -9,21 +9,22 @@ use Rattle.ob0_language_names.specs.Occurrences.{Capture, at_declaration, at_occ
 use Rattle.ob0_scope_table.specs.Resolution.{span_at}
 use Rattle.ob0_refs.specs.Places.{declaring_span}
 
--- where an occurrence is, by its number
+-- the span of an occurrence, by its number
 abbrev pub occurrence_span : Parsed → ℕ → Option Span
 occurrence_span m k = option_map (span_at m.source) (slice_get (occurrences (tree_of m)) k)
 
--- the text's start where there is no such identifier
+-- a span, or an empty one at the text's start if there is none
 abbrev pub or_start : Option Span → Span
 or_start None = record { start = 0; end = 0 }
 or_start (Some span) = span
 
--- the identifier that declares d, or an occurrence by its number
+-- the span of the identifier that declares d, or of an occurrence, by its number
 abbrev pub capture_span : Parsed → ℕ → Capture → Span
 capture_span m d at_declaration = or_start (declaring_span m d)
 capture_span m d (at_occurrence k) = or_start (occurrence_span m k)
 
--- The identifier that declares d, where another declaration of its block has the new name; else the
--- first occurrence that would be bound to another declaration, if there is one.
+-- The span of the first conflict of a new name, or None if there is none. It is the identifier that
+-- declares d if another declaration of its block has the name, otherwise the first occurrence that
+-- would be bound to another declaration.
 abbrev pub captured_span : Parsed → ℕ → Name → Option Span
 captured_span m d new = option_map (capture_span m d) (first_captured (named_tree_of m) d new)

@@ -1,4 +1,4 @@
--- What the code's values mean.
+-- The values of the definitions that represent the code's declarations.
 -- Rule: none; for contracts: what values of the code mean.
 use Rattle.std.specs.Prelude.{List, map, Option}
 use Rattle.ob0_types_table.specs.declared.known.Formal as formal
@@ -9,7 +9,7 @@ use Rattle.ob0_language_types.specs.Expressions.{Object}
 use Rattle.ob0_language_types.specs.WellTyped.{Signature}
 use Rattle.ob0_language_values.specs.Values.{Shape}
 
--- what a declaration of the table is
+-- the object that a declaration of the table represents
 abbrev pub object_of : Tables → declaration.Object → Option (Object Shape Signature)
 object_of t o = object_in (shapes_of t) o
 

@@ -1,4 +1,4 @@
--- The hover text of a name, by what its declaration binds it to.
+-- The hover text of a name, according to the object that its declaration binds it to.
 -- Rule: docs/PROTOCOL.md, JSON shapes 3.
 use Rattle.std.specs.Prelude.{ℕ, ◌+◌, ◌-◌, Bool, true, false, List, [], ◌∷◌, drop, map, nat_lt, if◌then◌else◌, Option, Some, None, option_and_then}
 use Rattle.ob0_tree.specs.declared.tree.Role.TheVariants as role
@@ -6,6 +6,7 @@ use Rattle.ob0_tree.specs.Parsed.{Parsed, tree_of}
 use Rattle.ob0_tree.specs.Places.{text_at}
 use Rattle.ob0_tree.specs.Tree.{identifiers}
 use Rattle.ob0_language_names.specs.Names.{Name}
+use Rattle.ob0_language_names.specs.Scopes.{predeclared_count}
 use Rattle.ob0_scope_table.specs.Resolution.{declaring_only}
 use Rattle.ob0_scope.specs.declared.naming.Named as named
 use Rattle.ob0_refs.specs.Hovers.{HoverParameter, constant_text, named_type_text, predeclared_text, procedure_text, type_text, variable_text}
@@ -14,14 +15,14 @@ use Rattle.ob0_language_types.specs.WellTyped.{Formal, Mode, Signature, by_place
 use Rattle.ob0_language_values.specs.Values.{Shape, Value, elements, members, number, truth}
 use Rattle.ob0_language_values.specs.declared.scalar.Scalar.TheVariants as scalar
 
--- a constant is a number or a truth
+-- the hover text of a constant, which is a number or a truth value
 abbrev pub constant_hover : Name → Value → Option (List ℕ)
 constant_hover name (number n) = Some (constant_text name (scalar.Number n))
 constant_hover name (truth b) = Some (constant_text name (scalar.Truth b))
 constant_hover name (elements vs) = None
 constant_hover name (members k ms) = None
 
--- a parameter is a VAR parameter
+-- true for a VAR parameter
 abbrev pub is_by_place : Mode → Bool
 is_by_place by_value = false
 is_by_place by_place = true
@@ -31,13 +32,13 @@ abbrev pub parameter_hover : Name → Formal → HoverParameter
 parameter_hover name f =
     record { by_place = is_by_place f.mode; name = name; of = type_text f.shape }
 
--- the parameters of a procedure, by the names that are declared after its own and by its signature
+-- the parameters of a procedure, from the names that are declared after it and from its signature
 abbrev pub parameters_hover : List Name → Signature → List HoverParameter
 parameters_hover (x ∷ xs) (f ∷ fs) = parameter_hover x f ∷ parameters_hover xs fs
 parameters_hover [] fs = []
 parameters_hover (x ∷ xs) [] = []
 
--- a declaration, by what its name is bound to, the name and the names declared after it
+-- the hover text of a declaration, from its name, the names declared after it, and its object
 abbrev pub object_hover : Name → List Name → Object Shape Signature → Option (List ℕ)
 object_hover name following (a_constant v) = constant_hover name v
 object_hover name following (a_type s) = Some (named_type_text name (type_text s))
@@ -46,13 +47,13 @@ object_hover name following (a_procedure fs) =
     Some (procedure_text name (parameters_hover following fs))
 object_hover name following (a_standard s) = Some (predeclared_text name)
 
--- the names that are declared after what has this ordinal, in text order
+-- the names that are declared after the declaration with this ordinal, in text order
 abbrev pub names_after : Parsed → ℕ → List Name
 names_after m ordinal =
     map (text_at m.source)
-    (drop (ordinal + 1 - 7) (declaring_only (identifiers role.Declaring (tree_of m))))
+    (drop (ordinal + 1 - predeclared_count) (declaring_only (identifiers role.Declaring (tree_of m))))
 
--- the name of a declaration of the text, by what this is bound to
+-- the hover text of a name that the text declares, given its object
 abbrev pub declaration_hover : Parsed
     → named.Named
     → Option (Object Shape Signature)
@@ -60,9 +61,9 @@ abbrev pub declaration_hover : Parsed
 declaration_hover m n object =
     option_and_then (object_hover (text_at m.source n.token) (names_after m n.ordinal)) object
 
--- the predeclared names come before the declarations of the text
+-- the hover text of a name; the ordinals 0 to 6 are predeclared
 abbrev pub name_hover : Parsed → named.Named → Option (Object Shape Signature) → Option (List ℕ)
 name_hover m n object =
-    if nat_lt n.ordinal 7
+    if nat_lt n.ordinal predeclared_count
     then Some (predeclared_text (text_at m.source n.token))
     else declaration_hover m n object

@@ -11,12 +11,13 @@ use Rattle.ob0_types.specs.CheckedModules.{IsWellTyped}
 use Rattle.ob0_refs.specs.Questions.{hover_at_place, definition_at, references_at, identified_at}
 use Rattle.ob0_refs.specs.declared.answers.Of.TheVariants as answer_of
 
--- the place is on a field: the identifier there has this span, and this is the field of the record
+-- states that a place is on a field: the identifier there has this span, and refers to field
+-- `index` of the record k
 abbrev pub IsOnField : Resolution → ℕ → Span → ℕ → ℕ → Type 0
 IsOnField r offset span k index =
     identified_at r offset ≡ Some record { span = span; of = answer_of.Field k index }
 
--- In a well-typed module a field has a definition, where it is declared and where it is selected.
+-- A field of a valid module has a definition, both at its declaration and at each selector.
 abbrev pub FieldsAreDefined : Type 0
 FieldsAreDefined =
     (r : Resolution) (offset k index : ℕ) (span : Span)
@@ -24,8 +25,8 @@ FieldsAreDefined =
     → IsOnField r offset span k index
     → is_some (definition_at r offset) ≡ true
 
--- A field that is found at a place is the one that renaming finds there: no name is there, and the
--- references with the declaration are the identifiers that its renaming writes.
+-- States that renaming at a place finds the same field: the place isn't on a name, and the
+-- references, with the declaration, are the identifiers that renaming changes.
 pub record IsRenamedThere (r : Resolution) (offset : ℕ) (span : Span) (k : ℕ) : Type 0 where
   pub token : ℕ
   pub no_name : name_on r.module_read offset ≡ None
@@ -35,14 +36,14 @@ pub record IsRenamedThere (r : Resolution) (offset : ℕ) (span : Span) (k : ℕ
       ≡ map (span_at r.module_read.source) (field_tokens r k (text_at r.module_read.source token))
   pub itself : Contains (references_at r offset true) span
 
--- where a field is found, renaming finds that field, and its references are what renaming writes
+-- if a place is on a field, renaming finds that field there and changes exactly its references
 abbrev pub FieldsAreRenamedThere : Type 0
 FieldsAreRenamedThere =
     (r : Resolution) (offset k index : ℕ) (span : Span)
     → IsOnField r offset span k index
     → IsRenamedThere r offset span k
 
--- In a well-typed module a field has a hover text at each of its places.
+-- A field of a valid module has a hover text at each of its places.
 abbrev pub FieldsHaveHovers : Type 0
 FieldsHaveHovers =
     (r : Resolution) (offset k index : ℕ) (span : Span)

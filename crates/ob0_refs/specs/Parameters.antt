@@ -1,9 +1,9 @@
--- What the code's parameters mean.
+-- The values of the definitions that represent the code's parameters.
 -- Rule: none; for contracts: what values of the code mean.
 use Rattle.std.specs.Prelude.{string_bytes}
 use Rattle.ob0_refs.specs.Hovers as hovers
 use Rattle.ob0_refs.specs.declared.hovers.Parameter.{Parameter}
 
--- a parameter of the code
+-- the parameter that a parameter of the code represents
 abbrev pub parameter_in : Parameter → hovers.HoverParameter
 parameter_in p = record { by_place = p.by_place; name = p.name.now; of = string_bytes p.of }

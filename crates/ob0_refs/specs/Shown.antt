@@ -1,4 +1,4 @@
--- The hover text of a name: what its declaration binds it to.
+-- The hover text of a name, according to the object that its declaration binds it to.
 -- Rule: docs/PROTOCOL.md, Requests on documents 4, JSON shapes 3.
 use Rattle.std.specs.Prelude.{ℕ, List, Option, option_map}
 use Rattle.ob0_scan.specs.declared.lexeme.Span.{Span}
@@ -8,12 +8,12 @@ use Rattle.ob0_scope.specs.declared.naming.Named as named
 use Rattle.ob0_language_types.specs.Bindings.{declared_object}
 use Rattle.ob0_refs.specs.Declarations.{name_hover}
 
--- the hover text, and where the name is
+-- a hover text, and the span of the name
 pub record HoverText : Type 0 where
   pub span : Span
   pub text : List ℕ
 
--- the hover of a name, by what its declaration binds it to
+-- the hover of a name
 abbrev pub hover_of : Parsed → named.Named → Option HoverText
 hover_of m n =
     option_map (λ text. record { span = span_at m.source n.token; text = text })

@@ -1,4 +1,4 @@
-//! Where a name is declared, and where it is named.
+//! The spans at which a declaration is declared and referred to.
 
 ghost use Rattle.std.specs.Prelude.{◌≡◌, IfOk, map};
 ghost use Rattle.ob0_scope_table.specs.Resolution.{span_at};
@@ -9,7 +9,7 @@ use ob0_scope::tokens_bound;
 use ob0_scope_table::{Resolved, token_span};
 use std::alloc::{AllocError, Global};
 
-/// Where that is declared which has an ordinal. None for a predeclared name.
+/// Returns the span of the identifier that declares an ordinal, or None for a predeclared name.
 pub(crate) fn declared_at(names: &Resolved, ordinal: usize) -> Option<Span>
     ensures { result ≡ declaring_span names.now.module_read ordinal }
 {
@@ -20,7 +20,8 @@ pub(crate) fn declared_at(names: &Resolved, ordinal: usize) -> Option<Span>
     }
 }
 
-/// Where a declaration is named, closing names too, in text order: with the identifier that declares it or without.
+/// Returns the spans of all references to a declaration, including closing names, in text order.
+/// The declaring identifier is among them if `include` is true.
 pub(crate) fn references_to(
     alloc: Global,
     names: &Resolved,
@@ -34,7 +35,7 @@ pub(crate) fn references_to(
     spans_of(alloc, names.tokens(), &found)
 }
 
-/// Where tokens are.
+/// Returns the spans of some tokens.
 pub(crate) fn spans_of(
     alloc: Global,
     tokens: &Tokens,

@@ -1,8 +1,9 @@
-//! The laws. Each function does nothing: its contract is the law.
+//! The laws of hover texts. Each function has an empty body: its contract is the law.
 
 ghost use Rattle.ob0_refs.specs.HoverLaws.{ParametersFollow};
 
-/// The first names that are declared after a procedure are those of its parameters, in order.
+/// States that the first names declared after a procedure are the names of its parameters, in
+/// order.
 pub fn parameters_follow()
     ensures { ParametersFollow }
 {}

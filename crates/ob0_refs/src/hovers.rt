@@ -16,7 +16,7 @@ pub(crate) struct Parameter<'a> {
     pub(crate) of: String,
 }
 
-/// The text of an array type, whose element has this text.
+/// Returns the text of an array type, given the text of its element.
 pub(crate) fn array_text(alloc: Global, length: usize, element: &str) -> Result<String, AllocError>
     ensures { IfOk result (λ text. (k : ℕ) (s : Shape)
         → element.now ≡ type_text s
@@ -25,7 +25,7 @@ pub(crate) fn array_text(alloc: Global, length: usize, element: &str) -> Result<
     format!(in alloc; "ARRAY {length} OF {element}")
 }
 
-/// The text of a record type with this number of fields.
+/// Returns the text of a record type with this number of fields.
 pub(crate) fn record_text(alloc: Global, fields: usize) -> Result<String, AllocError>
     ensures { IfOk result (λ text. (k : ℕ) (fs : FieldShapes)
         → fields ≡ fields_count fs
@@ -34,7 +34,7 @@ pub(crate) fn record_text(alloc: Global, fields: usize) -> Result<String, AllocE
     format!(in alloc; "RECORD with {fields} fields")
 }
 
-/// The hover text of a constant.
+/// Returns the hover text of a constant.
 pub(crate) fn constant_text(alloc: Global, name: &str, value: Scalar) -> Result<String, AllocError>
     ensures { IfOk result (λ text. string_bytes text ≡ constant_text name.now value) }
 {
@@ -53,28 +53,28 @@ fn truth_word(b: bool) -> &'static str
     if b { "TRUE" } else { "FALSE" }
 }
 
-/// The hover text of a type, whose text is known.
+/// Returns the hover text of a type, given the type's text.
 pub(crate) fn named_type_text(alloc: Global, name: &str, of: &str) -> Result<String, AllocError>
     ensures { IfOk result (λ text. string_bytes text ≡ named_type_text name.now of.now) }
 {
     format!(in alloc; "TYPE {name} = {of}")
 }
 
-/// The hover text of a variable or parameter of a type.
+/// Returns the hover text of a variable or parameter, given the text of its type.
 pub(crate) fn variable_text(alloc: Global, name: &str, of: &str) -> Result<String, AllocError>
     ensures { IfOk result (λ text. string_bytes text ≡ variable_text name.now of.now) }
 {
     format!(in alloc; "VAR {name}: {of}")
 }
 
-/// The hover text of a predeclared name.
+/// Returns the hover text of a predeclared name.
 pub(crate) fn predeclared_text(alloc: Global, name: &str) -> Result<String, AllocError>
     ensures { IfOk result (λ text. string_bytes text ≡ predeclared_text name.now) }
 {
     format!(in alloc; "predeclared {name}")
 }
 
-/// The hover text of a procedure.
+/// Returns the hover text of a procedure.
 pub(crate) fn procedure_text(
     alloc: Global,
     name: &str,

@@ -1,19 +1,21 @@
-//! The laws. Each function does nothing: its contract is the law.
+//! The laws of fields. Each function has an empty body: its contract is the law.
 
 ghost use Rattle.ob0_refs.specs.Laws.{FieldsAreDefined, FieldsAreRenamedThere, FieldsHaveHovers};
 
-/// In a well-typed module a field has a definition, where it is declared and where it is selected.
+/// States that a field of a valid module has a definition, both at its declaration and at each
+/// selector.
 pub fn fields_are_defined()
     ensures { FieldsAreDefined }
 {}
 
-/// A field that is found at a place is the one that renaming finds there, and its references are what renaming
-/// writes.
+/// States that renaming at a place finds the same field as the questions do, and changes exactly
+/// the field's references.
 pub fn fields_are_renamed_there()
     ensures { FieldsAreRenamedThere }
 {}
 
-/// In a well-typed module a field has a hover text where it is declared and where it is selected.
+/// States that a field of a valid module has a hover text, both at its declaration and at each
+/// selector.
 pub fn fields_have_hovers()
     ensures { FieldsHaveHovers }
 {}

@@ -1,6 +1,6 @@
-//! Questions about the names and fields at the places of a well-typed module: what is at a place, where it is declared
-//! and named, its hover text, and where another name for a declaration isn't free (docs/PROTOCOL.md, Requests on
-//! documents).
+//! Questions about the names and fields of a valid module, by their places. They give the name or
+//! field at a place, its declaration, its references and its hover text. They also give the first
+//! place at which a new name isn't free (docs/PROTOCOL.md, Requests on documents).
 #![tactic(auto)]
 
 mod answers;

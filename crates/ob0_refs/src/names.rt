@@ -1,4 +1,4 @@
-//! What a question about a name gives: where it is, and what it is a name of.
+//! The answer to a question about a name: its span, and the thing it refers to.
 
 ghost use Rattle.std.specs.Prelude.{◌≡◌};
 ghost use Rattle.ob0_refs.specs.Answered.{at_name, of_ordinal};
@@ -7,7 +7,7 @@ use crate::answers::{At, Of};
 use ob0_scope::Named;
 use ob0_scope_table::{PREDECLARED, Resolved, token_span};
 
-/// Where a name is, and what it is a name of.
+/// Returns the span of a name and the thing it refers to.
 pub(crate) fn at_name(names: &Resolved, name: Named) -> At
     ensures { result ≡ at_name names.now.module_read name }
 {

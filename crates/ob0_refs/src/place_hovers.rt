@@ -1,4 +1,4 @@
-//! The hover text at a place: that of the name, or of the field, that the identifier there means.
+//! The hover text at a place, which shows the name or field that the identifier there refers to.
 
 ghost use Rattle.std.specs.Prelude.{◌≡◌, IfOk, option_map};
 ghost use Rattle.ob0_refs.specs.Parts.{hover_in};
@@ -17,9 +17,9 @@ use ob0_types_fields::{FieldName, typed_field};
 use ob0_types_table::{DeclarationTable, TypeId};
 use std::alloc::{AllocError, Global};
 
-/// The hover text at a place, where it lies in a name or at its end: of a name its declaration, and of a field its
-/// type, where it is declared and where it is selected. A closing name of a procedure has that of the procedure. None
-/// elsewhere, and at the module's name.
+/// Returns the hover text of the identifier that contains a place or ends there. For a name it is
+/// the declaration, for a field the type, and for the closing name of a procedure the procedure.
+/// Returns None if there is no such identifier, or if it is the module's name.
 pub fn hover(
     alloc: Global,
     well_typed: &WellTyped<'_>,
@@ -48,7 +48,7 @@ fn meant_hover(
     }
 }
 
-/// The hover of a name. None where its declaration is nothing.
+/// Returns the hover of a name, or None if the name has no declaration.
 fn hover_of(
     alloc: Global,
     well_typed: &WellTyped<'_>,
@@ -64,7 +64,7 @@ fn hover_of(
     }
 }
 
-/// The hover of a field, by an identifier of it.
+/// Returns the hover of a field at one of its identifiers.
 fn field_hover(
     alloc: Global,
     well_typed: &WellTyped<'_>,

@@ -1,9 +1,10 @@
-//! Questions about a place: about the name that is there, or else about the field.
+//! Questions about a place: about the name there, or otherwise about the field.
 //!
-//! Each is a match on what the identifier there means (`meant_at` of `ob0_types`), and so is the hover text
-//! (`place_hovers`). Renaming asks the same, so what can be renamed at a place is what is answered there, and the
-//! references to a field are the identifiers that its renaming writes. References take one pass over the table of
-//! ordinals, from the declaring token on, or over the module's fields.
+//! Each question, and also the hover text (`place_hovers`), is a match on the meaning of the
+//! identifier at the place (`meant_at` of `ob0_types`). Renaming asks the same, so it renames the
+//! name or field of these answers. The references to a field are the identifiers that its renaming
+//! changes. References to a name take one pass over the table of ordinals, starting at the
+//! declaring token; references to a field take one pass over the module's fields.
 
 ghost use Rattle.std.specs.Prelude.{◌≡◌, IfOk, Some};
 ghost use Rattle.ob0_refs.specs.Questions.{AreReferencesAt, at_field, at_meant, declared_meant, definition_at, field_declared, field_named, field_references, index_of, identified_at, named_meant, other_tokens, renamable_at, renamable_meant};
@@ -21,9 +22,9 @@ use ob0_types::{
 use ob0_types_fields::FieldName;
 use std::alloc::{AllocError, Global};
 
-/// What a place is on, where it lies in an identifier or at its end: a name, or a field, at the identifier that
-/// declares it and at each that selects it. A closing name of a procedure is the procedure's. None at the module's
-/// name.
+/// Returns the name or field of the identifier that contains a place or ends there. For a field
+/// this may be the declaring identifier or a selector. The closing name of a procedure is the
+/// procedure's name. Returns None if there is no such identifier, or if it is the module's name.
 pub fn at(well_typed: &WellTyped<'_>, offset: usize) -> Option<At>
     ensures { result ≡ identified_at well_typed.now offset }
 {
@@ -55,7 +56,7 @@ fn at_field(well_typed: &WellTyped<'_>, field: FieldName) -> At
     }
 }
 
-/// The place of a field in its record.
+/// Returns the index of a field in its record.
 fn index_of(well_typed: &WellTyped<'_>, field: FieldName) -> usize
     ensures { result ≡ index_of well_typed.now.module_read field }
 {
@@ -67,8 +68,8 @@ fn index_of(well_typed: &WellTyped<'_>, field: FieldName) -> usize
     }
 }
 
-/// Where the identifier is that a place is on, if it can be renamed: a field, or a name that isn't predeclared. None
-/// elsewhere.
+/// Returns the span of the identifier at a place if it can be renamed: a field, or a name that
+/// isn't predeclared. Otherwise returns None.
 pub fn renamable(well_typed: &WellTyped<'_>, offset: usize) -> Option<Span>
     ensures { result ≡ renamable_at well_typed.now offset }
 {
@@ -94,8 +95,9 @@ fn renamable_meant(well_typed: &WellTyped<'_>, found: Identified) -> Option<Span
     }
 }
 
-/// Where it is declared what a place is on. A field is declared in its RECORD. None where there is no name, and for a
-/// predeclared one.
+/// Returns the span of the identifier that declares the name or field at a place. A field is
+/// declared in its RECORD. Returns None if the place is on no name or field, or on a predeclared
+/// name.
 pub fn definition(well_typed: &WellTyped<'_>, offset: usize) -> Option<Span>
     ensures { result ≡ definition_at well_typed.now offset }
 {
@@ -126,8 +128,9 @@ fn field_declared(well_typed: &WellTyped<'_>, field: FieldName) -> Option<Span>
     }
 }
 
-/// Where it is named what a place is on, in text order: with the identifier that declares it or without. None where
-/// there is no name.
+/// Returns the spans of all references to the name or field at a place, in text order. The
+/// declaring identifier is among them if `include` is true. The list is empty if the place is on no
+/// name or field.
 pub fn references(
     alloc: Global,
     well_typed: &WellTyped<'_>,
@@ -172,7 +175,8 @@ fn field_named(
     Ok(spans)
 }
 
-/// The tokens of a field, in text order: with the one that declares it or without.
+/// Returns the tokens of a field, in text order; the declaring token is among them if `include` is
+/// true.
 fn field_references(
     alloc: Global,
     well_typed: &WellTyped<'_>,
@@ -192,7 +196,7 @@ fn field_references(
     Ok(uses)
 }
 
-/// The tokens other than one.
+/// Returns all tokens except `token`.
 fn without(
     alloc: Global,
     token: Option<usize>,

@@ -1,7 +1,8 @@
-//! The hover texts of names, by what their declarations are.
+//! The hover texts of names, according to their declarations.
 //!
-//! A procedure is bound to its signature, which has no names: its parameters are the declarations after its own in the
-//! text, as many as the signature has. Predeclared names are known by their ordinals (0 to 6).
+//! A procedure is bound to its signature, which has no names. Its parameters are the declarations
+//! after its own in the text, as many as the signature has. Predeclared names are recognized by
+//! their ordinals (0 to 6).
 
 ghost use Rattle.std.specs.Prelude.{◌≡◌, ◌+◌, ◌-◌, [], IfOk, Some, drop, map, option_map, string_bytes};
 ghost use Rattle.ob0_tree.specs.Parsed.{tree_of};
@@ -15,6 +16,7 @@ ghost use Rattle.ob0_refs.specs.Hovers.{field_text, named_type_text, procedure_t
 ghost use Rattle.ob0_refs.specs.Parameters.{parameter_in};
 ghost use Rattle.ob0_types_table.specs.KnownTables.{declared_in, shapes_of};
 ghost use Rattle.ob0_types_table.specs.Tables.{formal_in, type_shape};
+ghost use Rattle.ob0_language_names.specs.Scopes.{predeclared_count};
 
 use crate::hovers::{
     Parameter, constant_text, named_type_text, predeclared_text, procedure_text, variable_text,
@@ -27,7 +29,7 @@ use ob0_tree::text_at;
 use ob0_types_table::{DeclarationTable, Formal, Object, TypeId};
 use std::alloc::{AllocError, Global};
 
-/// The hover text of a name. None where its declaration is nothing.
+/// Returns the hover text of a name, or None if the name has no declaration.
 pub(crate) fn name_text(
     alloc: Global,
     known: &DeclarationTable,
@@ -97,7 +99,7 @@ fn variable_line(
     variable_text(alloc, name, of.as_str())
 }
 
-/// The hover text of a field of a type.
+/// Returns the hover text of a field of a type.
 pub(crate) fn field_line(
     alloc: Global,
     known: &DeclarationTable,
@@ -133,13 +135,13 @@ fn procedure_line(
     )
 }
 
-/// The tokens of the declarations after that with an ordinal.
+/// Returns the declaring tokens after the declaration with this ordinal.
 fn declared_after<'r>(names: &'r Resolved<'_>, ordinal: usize) -> &'r [usize]
     ensures { result.now
-        ≡ drop (ordinal + 1 - 7)
+        ≡ drop (ordinal + 1 - predeclared_count)
         (declaring_only (identifiers role.Declaring (tree_of names.now.module_read))) }
 {
-    // For the proof: what the contract of this call says.
+    // For the proof: introduces the contract of `module`.
     let _module = names.module();
     let declarations = names.declarations();
     let skipped = ordinal.saturating_sub(PREDECLARED - 1);
@@ -150,7 +152,7 @@ fn declared_after<'r>(names: &'r Resolved<'_>, ordinal: usize) -> &'r [usize]
     }
 }
 
-/// The parameters of a procedure, by the tokens of the declarations after it.
+/// Returns the parameters of a procedure, given the tokens of the declarations after it.
 fn parameters_of<'s>(
     alloc: Global,
     known: &DeclarationTable,

@@ -1,6 +1,7 @@
 //! The texts of types.
 //!
-//! A text is made by the shape, level by level; that of an array of arrays is copied once for each level (100 at most).
+//! A text is built from the shape of the type, level by level. The text of an array of arrays is
+//! copied once for each level (100 at most).
 
 ghost use Rattle.std.specs.Prelude.{◌≡◌, IfOk, string_bytes};
 ghost use Rattle.ob0_refs.specs.Hovers.{type_text};
@@ -12,7 +13,8 @@ use crate::hovers::{array_text, record_text};
 use ob0_types_table::{ArrayShape, DeclarationTable, Parts, TypeId};
 use std::alloc::{AllocError, Global};
 
-/// The text of a type, arrays level by level; a record by the number of its fields.
+/// Returns the text of a type: an array with its elements' type, a record with the number of its
+/// fields.
 #[cycle(types)]
 pub(crate) fn type_text(
     alloc: Global,

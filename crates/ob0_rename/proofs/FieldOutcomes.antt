@@ -1,6 +1,6 @@
--- What is answered for a field: by another field of its record that has the new name, or by the edits.
--- `field_there` makes the tree with the new name at the tokens of a field the module with the field renamed; where the
--- new name is the old one, each of these tokens has it (`written-so`).
+-- The answer for a field: a refusal because of another field of its record, or the edits.
+-- `field_there`: the tree with the new name at the tokens of a field is the module with the field
+-- renamed. If the new name is the old one, each of these tokens already has it (`written-so`).
 use Rattle.std.proofs.Common.{◌≡◌, ℕ, ◌<◌, Bool, true, false, not, is_some, ◌&&◌, ◌||◌, ◌==◌, if◌then◌else◌, Option, Some, None, Result, Ok, Err, Vec, List, [], ◌∷◌, length, option_map, inl, inr, refl, sym, ap, ◌∙◌, subst, arith, eqb-true}
 use Rattle.std.specs.List.{list_any}
 use Rattle.std.specs.declared.alloc.Global.{Global}
@@ -37,7 +37,7 @@ among-any : (k : ℕ) (places : List ℕ) → is_among k places ≡ list_any (λ
 among-any k [] = refl
 among-any k (p ∷ ps) = ap (λ b. (k == p) || b) (among-any k ps)
 
--- each token of a field is written as the field
+-- each token of a field has the field's name
 written-so : (source : Scanned) (k : ℕ) (f : Name) (i : ℕ) (xs : List FieldName) → list_any (λ token. i == token) (tokens_among source k f xs) ≡ true → place.text_at source i ≡ f
 written-so source k f i [] e = absurd (cc)
 written-so source k f i (x ∷ xs) e = one (x.owner == k) (same_name (place.text_at source x.token) f) refl (written-so source k f i xs) e
@@ -73,7 +73,7 @@ field_there r k f new well by_tokens = one (same_name new f) refl
         (λ j. mapped (λ i. if among-any i (field_tokens r k f) j then new else text_same s i j) (λ i. number_same s i j) (tree_of r.module_read))
         ∙ sym (by_tokens r k f new well.resolved well.well_typed)
 
--- ---- another field of the name
+-- ---- another field with the new name
 
 pub other_some : (b : Bool) (o : Option ℕ) (token : ℕ) → (if b then None else o) ≡ Some token → ((not b && is_some o) ≡ true) × (o ≡ Some token)
 other_some false (Some t) token e = (refl, e)
@@ -112,7 +112,7 @@ module _ (unit : counting.Unit) (text : List ℕ) (place : Position) (new : Name
         | inr e ↦ inl e
       ]
 
-  -- the name that is there makes no text longer
+  -- renaming to the present name doesn't make the text too long
   pub own_field_answered : (r : Resolution) → IsScan r.module_read.source → new ≡ f
       → (result : Result (Vec Edit Global) EditRefusal) → Edited unit text new r.module_read.source (field_tokens_to_rename r k f new) result → OnlyMemory result
   own_field_answered r scan own (Ok edits) made = tt
@@ -129,7 +129,7 @@ module _ (unit : counting.Unit) (text : List ℕ) (place : Position) (new : Name
           let same = subst (λ places. max_text < length (with_text_at r.module_read.source places new)) none long in
           omega (arith, same, whole r.module_read.source.text, scan.short)
 
--- ---- an answer for the field that is named at the place is the answer
+-- ---- an answer for the field at the place is the answer
 
 field_refused_there : (a : Renaming) (k : ℕ) (f : Name) → MeansField a k f → (why : EditRefusal) → IsRefusedToField a k f why → IsRefused a why
 field_refused_there a k f means refusal.BadName h = inr (k, (f, means, h))

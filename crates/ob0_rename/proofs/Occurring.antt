@@ -18,7 +18,7 @@ first_inside (x ∷ xs) (y ∷ ys) k e = one (same_binding x y) (first_differenc
     one false o is e later = let same : 0 ≡ k = cc in omega (arith, same)
 first_inside _ _ k e = absurd (cc)
 
--- an occurrence that is bound elsewhere has a token
+-- an occurrence that is bound to another declaration has a token
 pub occurrence_is_there : (r : Resolution) (bound : List Label) (k : ℕ) → IsResolution r → first_difference bound (bindings (named_tree_of r.module_read)) ≡ Some k
     → (token : ℕ) × (slice_get (occurrences (tree_of r.module_read)) k ≡ Some token)
 occurrence_is_there r bound k is e =

@@ -1,4 +1,4 @@
--- What is answered for a declaration: by what conflicts with the new name, or by the edits.
+-- The answer for a declaration: a refusal because of a conflict, or the edits.
 use Rattle.std.proofs.Common.{◌≡◌, ◌⊎◌, ℕ, ◌≤◌, ◌<◌, Bool, true, false, if◌then◌else◌, Option, Some, None, Result, Ok, Err, Vec, List, [], ◌∷◌, length, map, slice_get, option_map, option_and_then, inl, inr, refl, sym, ap, ◌∙◌, subst, arith}
 use Rattle.std.proofs.lemmas.Bool.{ltb-false, ltb-true}
 use Rattle.std.specs.Prelude.{IfErr, IfOk, IsErrOf, nat_lt}
@@ -45,7 +45,7 @@ use Rattle.ob0_rename.proofs.Owned.{other_is_declared}
 use Rattle.ob0_rename.proofs.Rewritten.{of_renamed}
 use Rattle.ob0_rename.proofs.Occurring.{occurrence_is_there}
 
--- what is known of edits at places, where the text is scanned so
+-- the facts about edits at places of a text that is scanned like this
 pub record Edited (unit : counting.Unit) (text : List ℕ) (new : Name) (s : Scanned) (places : List ℕ) (result : Result (Vec Edit Global) EditRefusal) : Type 0 where
   pub edits : IfOk result (λ edits. map parts edits.items ≡ map (edit_at unit text s.tokens new) places)
   pub short : IfOk result (λ edits. length (with_text_at s places new) ≤ max_text)
@@ -82,7 +82,8 @@ module _ (unit : counting.Unit) (text : List ℕ) (place : Position) (new : Name
       let is_there = occurrence_is_there r bound k is found in
       subst (IsRefusedTo (requested r) d) (sym (occurrence k is_there.0 refl is_there.1)) (id, (k, sym first, ap (option_map (token_range (requested r))) is_there.1))
 
-  -- edits at places leave a text of a tree that the new name makes there, where that tree is well-typed and runs as the module
+  -- if a well-typed tree has the new name at some places and runs like the module, edits at these
+  -- places leave a text of the tree
   pub written : (r : Resolution) (tree : Tree Name module_text) (places : List ℕ) → IsIdentifier new → ((name : List ℕ) → IsIdentifier name → ReplacesName name (name_word name ∷ []))
       → ((after : Scanned) → IsScan after → words_of after ≡ changed_words (at_each places (name_word new ∷ [])) 0 (words_of r.module_read.source) → ModuleOf after tree)
       → WellTyped tree × SameRuns tree (named_tree_of r.module_read)
@@ -123,7 +124,7 @@ pub whole : (text : List ℕ) → length (pieced text 0 []) ≡ length text
 unfolding pieced
 whole text = refl
 
--- the name that is there makes no text longer
+-- renaming to the present name doesn't make the text too long
 pub own_answered : (unit : counting.Unit) (text : List ℕ) (new : Name) (d : ℕ) (m : Parsed) → IsScan m.source → is_declared_as m d new ≡ true
     → (result : Result (Vec Edit Global) EditRefusal) → Edited unit text new m.source (tokens_to_rename m d new) result → IfErr result (λ why. why ≡ refusal.Memory)
 own_answered unit text new d m scan own (Ok edits) made = tt
@@ -140,7 +141,7 @@ own_answered unit text new d m scan own (Err why) made =
     own_places places true e = refl
     own_places places false e = absurd (cc)
 
--- ---- an answer for what is named at the place is the answer
+-- ---- an answer for the declaration or field at the place is the answer
 
 refused_there : (a : Renaming) (d : ℕ) → NamesDeclaration a d → (why : EditRefusal) → IsRefusedTo a d why → IsRefused a why
 refused_there a d means refusal.BadName h = inl (d, means, h)
@@ -153,11 +154,11 @@ pub answered_there : (a : Renaming) (d : ℕ) → NamesDeclaration a d → (resu
 answered_there a d means (Ok edits) h = inl (d, means, h)
 answered_there a d means (Err why) h = elim h [ inl e ↦ inl e | inr e ↦ inr (refused_there a d means why e) ]
 
--- what is named at the place is one thing
+-- the target at the place is unique
 
--- ---- what is at the place
+-- ---- the target at the place
 
--- what an identifier is as what is to be renamed
+-- the target that an identifier's meaning gives
 abbrev pub target_of : Scanned → ℕ → Meant → Target
 target_of source token (name_of ordinal) = by_ordinal ordinal
 target_of source token (Field k) = field_of k (text_at source token)
@@ -188,7 +189,7 @@ is_predeclared ordinal low = one (nat_lt ordinal 7) refl
     one true e = refl
     one false e = absurd (omega (arith, low, ltb-false ordinal 7 e))
 
--- ---- the name that is there already
+-- ---- renaming to the present name
 
 pub takes_declaration : (a : Renaming) (d : ℕ) (result : Result (Vec Edit Global) EditRefusal) → NamesDeclaration a d → (is_declared_as (module_of a) d a.new ≡ true → OnlyMemory result) → TakesOwnName a result
 takes_declaration a d result means own = (

@@ -1,4 +1,4 @@
--- The names that are declared in a module's text, by their tokens.
+-- The names that a module's text declares, by their tokens.
 use Rattle.std.proofs.Common.{◌≡◌, ℕ, zero, suc, ◌+◌, ◌-◌, ◌≤◌, ◌<◌, Bool, true, false, if◌then◌else◌, Option, Some, None, List, [], ◌∷◌, ◌++◌, length, map, slice_get, get_or, nat_lt, option_map, refl, sym, ap, ◌∙◌, subst, arith}
 use Rattle.std.proofs.lemmas.Bool.{ltb-false, ltb-true}
 use Rattle.std.proofs.lemmas.List.{length-map, map-append}
@@ -39,7 +39,7 @@ module _ {N M : Type 0} (f : N → M) (g : ℕ → ℕ) where
     procedure_with (declares_procedure x fs b closing) =
         ap (λ xs. f x ∷ xs) ((λ i. formals-with f g fs i ++ block_with b i) ∙ sym (map-append f (formal_names (formal_sections fs)) (names_in b)))
 
--- the tokens of the names that are declared, and these names
+-- the tokens of the declared names, and these names
 
 abbrev pub declaring_tokens : Parsed → List ℕ
 declaring_tokens m = declaring_only (identifiers role.Declaring (tree_of m))
@@ -83,7 +83,7 @@ module _ (m : Parsed) where
         slice_get_map (declaring_tokens m) j ∙ (ap (λ n. option_map (text_at m.source) (slice_get (declaring_tokens m) n)) (sym index) ∙ (ap (option_map (text_at m.source)) by.there ∙ ap Some by.written)) in
         some_inverse (sym here ∙ (ap (λ xs. slice_get xs j) names_there ∙ got)))
 
-    -- a declaration under its own name
+    -- renaming a declaration to its own name
     pub own_module : is_declared_as m d new ≡ true → declared_once (named_tree_of m) ≡ true → renamed (named_tree_of m) d new ≡ named_tree_of m
     own_module e once = let found = declared_by e in same_module d new (named_tree_of m) found.1.ordinal (all_so e) once
 

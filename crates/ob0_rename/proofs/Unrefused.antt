@@ -1,5 +1,6 @@
--- A declaration's own name is free, and what has a name in its block is declared in the module.
--- No other declaration of its block has the name, since names are declared once (`own_name_free`).
+-- A declaration's own name is free, and each declaration of a block is a declaration of the module.
+-- No other declaration of the block has the name, because names are declared once
+-- (`own_name_free`).
 use Rattle.std.proofs.Common.{◌≡◌, ℕ, suc, ◌≤◌, ◌<◌, ◌==◌, ◌&&◌, ◌||◌, not, Bool, true, false, if◌then◌else◌, Option, Some, None, List, [], ◌∷◌, ◌++◌, refl, sym, ap, ◌∙◌, arith, append-nil, le_trans, le_refl, subst}
 use Rattle.std.specs.List.{list_any}
 use Rattle.std.specs.Option.{option_or}
@@ -124,7 +125,7 @@ module _ (d : ℕ) (new : Name) where
       let onces = and_parts (same_name x closing) (block_once [] b) once in
       (block_clear 7 [] b tt h onces.1, ap bindings (same_module d new (is_module x b closing) high h once))
 
--- ---- what is declared in blocks has an ordinal of the module's
+-- ---- declarations in blocks have ordinals of the module
 
 abbrev Within : ℕ → ℕ → Scope Name → Type 0
 Within low high [] = Unit {0}

@@ -1,5 +1,5 @@
-//! Renaming a declaration or a field of a well-typed module: the edits, which leave one with the same runs, or why it
-//! is refused (docs/PROTOCOL.md, Requests on documents and Refusals of edits).
+//! Renaming a declaration or a field of a well-typed module: the edits, which leave a module with
+//! the same runs, or the refusal. (docs/PROTOCOL.md, Requests on documents and Refusals of edits.)
 #![tactic(auto)]
 
 mod fields;

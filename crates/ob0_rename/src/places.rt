@@ -1,5 +1,5 @@
-//! Places of a text: what the identifier there means, the tokens at which a new name is to be written, and ranges of
-//! tokens.
+//! Places of a text: the meaning of the identifier at a place, the tokens that a renaming changes,
+//! and ranges of tokens.
 
 ghost use Rattle.std.specs.Prelude.{◌≡◌, ℕ, IfOk, IfSome, Some};
 ghost use Rattle.ob0_scan.specs.Classes.{IsIdentifier};
@@ -19,18 +19,19 @@ use ob0_text::{Range, TextStore};
 use ob0_types::{Identified, WellTyped, meant_at};
 use std::alloc::{AllocError, Global};
 
-/// The identifier that a place is on, and what it means. That of a field is written as an identifier.
+/// Returns the identifier at a place, and its meaning. The text of a field's name is an identifier.
 pub(crate) fn identified(well_typed: &WellTyped<'_>, offset: usize) -> Option<Identified>
     ensures found { result ≡ meant_at well_typed.now offset }
     ensures spelled { IfSome result (λ x. IsField x.means
         → IsIdentifier (text_at well_typed.now.module_read.source x.token)) }
 {
-    // For the proof: what the contract of this call says.
+    // For the proof: the contract of this call is needed.
     let _text = well_typed.resolved().tokens().text();
     meant_at(well_typed, offset)
 }
 
-/// The tokens of a declaration's name, in text order; none where it has the new name.
+/// Returns the tokens of a declaration's name in text order, or no tokens if it already has the new
+/// name.
 pub(crate) fn tokens_to_rename(
     alloc: Global,
     names: &Resolved,
@@ -48,11 +49,11 @@ pub(crate) fn tokens_to_rename(
     renamed_tokens(alloc, names, declaration)
 }
 
-/// Whether a declaration has this name.
+/// Returns whether a declaration has this name.
 fn is_declared_as(names: &Resolved, declaration: usize, name: &str) -> bool
     ensures { result ≡ is_declared_as names.now.module_read declaration name.now }
 {
-    // For the proof: what the contract of this call says.
+    // For the proof: the contract of this call is needed.
     let _module = names.module();
     match names.declaring_token(declaration) {
         Some(token) => is_written(names.tokens(), token, name),
@@ -60,7 +61,7 @@ fn is_declared_as(names: &Resolved, declaration: usize, name: &str) -> bool
     }
 }
 
-/// The range of a token; the empty one at the text's start where there is none.
+/// Returns the range of a token, or an empty range at the text's start if there is no token.
 pub(crate) fn token_range<T: TextStore>(store: &T, tokens: &Tokens, token: Option<usize>) -> Range
     ensures { (index : ℕ)
         → token ≡ Some index

@@ -1,4 +1,4 @@
-//! The edits that give a declaration or a field another name.
+//! The edits that rename a declaration or a field.
 
 ghost use Rattle.std.specs.Prelude.{◌≡◌, ℕ, Err, Some, slice_get, true};
 ghost use Rattle.std.specs.Str.{chars};
@@ -12,7 +12,7 @@ ghost use Rattle.ob0_scope.specs.declared.capturing.FirstCapture.TheVariants.{Du
 ghost use Rattle.ob0_text.specs.declared.refusals.EditRefusal.TheVariants as refused;
 ghost use Rattle.ob0_edits_tokens.specs.Ranges.{range_of};
 ghost use Rattle.ob0_rename.specs.Answers.{RenameAnswers, AnswersDeclaration, AllocatesOnly, OnlyMemory, TakesOwnName};
-ghost use Rattle.ob0_rename.specs.Renaming.{declaring_token, is_declared_as};
+ghost use Rattle.ob0_rename.specs.Renaming.{declaring_token, is_declared_as, renaming_of};
 
 use crate::fields::rename_field;
 use crate::places::{identified, token_range, tokens_to_rename};
@@ -26,12 +26,14 @@ use ob0_text::{Edit, EditRefusal, Position, TextStore};
 use ob0_types::{Meant, WellTyped};
 use std::alloc::Global;
 
-/// The edits that write `new` for the declaration or the field that is named at a place, in text order: one for each
-/// identifier that declares, closes or is bound to the declaration, or declares or selects the field; none where it has
-/// that name. The place may lie in the name or at its end. Refused are, the first of these where several apply:
-/// `NoName` where there is no name, and at the module's; `Predeclared`; `BadName`; `Duplicate` with the range of the
-/// other declaration, or of the other field of the record; `Captures` with that of the first occurrence that would be
-/// bound to another declaration, never for a field; `TooLong`.
+/// Returns the edits that rename the declaration or field at a place to `new`, in text order. There
+/// is one for each identifier that declares, closes or is bound to the declaration, or that
+/// declares or selects the field. There are none if it already has that name. The place may be in
+/// the name or at its end. If several refusals apply, the first in this order is returned: `NoName`
+/// (no name, or the module's name), `Predeclared`, `BadName`, `Duplicate`, `Captures`, `TooLong`.
+/// `Duplicate` has the range of the other declaration, or of the other field of the record.
+/// `Captures` has the range of the first occurrence that would be bound to another declaration; it
+/// is never returned for a field.
 pub fn rename<T: TextStore>(
     alloc: Global,
     store: &T,
@@ -40,28 +42,10 @@ pub fn rename<T: TextStore>(
     new: &str,
 ) -> Result<Vec<Edit>, EditRefusal>
     requires { T.content store.now ≡ chars well_typed.now.module_read.source.text }
-    ensures answers { RenameAnswers (record {
-      unit = T.unit_of store.now;
-      text = T.content store.now;
-      names = well_typed.now;
-      place = place;
-      new = new.now;
-    }) result }
+    ensures answers { RenameAnswers (renaming_of (T.unit_of store.now) (T.content store.now) well_typed.now place new.now) result }
     ensures memory { result ≡ Err refused.Memory
-        → AllocatesOnly (record {
-          unit = T.unit_of store.now;
-          text = T.content store.now;
-          names = well_typed.now;
-          place = place;
-          new = new.now;
-        }) }
-    ensures own_name { TakesOwnName (record {
-      unit = T.unit_of store.now;
-      text = T.content store.now;
-      names = well_typed.now;
-      place = place;
-      new = new.now;
-    }) result }
+        → AllocatesOnly (renaming_of (T.unit_of store.now) (T.content store.now) well_typed.now place new.now) }
+    ensures own_name { TakesOwnName (renaming_of (T.unit_of store.now) (T.content store.now) well_typed.now place new.now) result }
 {
     let offset = store.offset(place);
     match identified(well_typed, offset) {
@@ -82,7 +66,7 @@ pub fn rename<T: TextStore>(
     }
 }
 
-/// The edits that write `new` for the declaration with an ordinal, in text order.
+/// Returns the edits that rename the declaration with an ordinal to `new`, in text order.
 fn rename_declaration<T: TextStore>(
     alloc: Global,
     store: &T,
@@ -92,13 +76,7 @@ fn rename_declaration<T: TextStore>(
 ) -> Result<Vec<Edit>, EditRefusal>
     requires { T.content store.now ≡ chars well_typed.now.module_read.source.text }
     ensures answers { (place : positions.Position)
-        → AnswersDeclaration (record {
-          unit = T.unit_of store.now;
-          text = T.content store.now;
-          names = well_typed.now;
-          place = place;
-          new = new.now;
-        }) declaration result }
+        → AnswersDeclaration (renaming_of (T.unit_of store.now) (T.content store.now) well_typed.now place new.now) declaration result }
     ensures memory { result ≡ Err refused.Memory → IsIdentifier new.now }
     ensures own_name { is_declared_as well_typed.now.module_read declaration new.now ≡ true
         → OnlyMemory result }
@@ -107,7 +85,7 @@ fn rename_declaration<T: TextStore>(
     renamed_words_spell();
     free_keeps_modules();
     let names = well_typed.resolved();
-    // For the proof: what the contract of this call says.
+    // For the proof: the contract of this call is needed.
     let _text = names.tokens().text();
     if !is_identifier(new) {
         return Err(EditRefusal::BadName);
@@ -121,7 +99,7 @@ fn rename_declaration<T: TextStore>(
     }
 }
 
-/// Why a name that isn't free is refused.
+/// Returns the refusal of a name that isn't free.
 fn refusal_of<T: TextStore>(store: &T, names: &Resolved, capture: FirstCapture) -> EditRefusal
     ensures duplicate { (other token : ℕ) → capture ≡ Duplicate other
         → declaring_token names.now.module_read other ≡ Some token
@@ -132,7 +110,7 @@ fn refusal_of<T: TextStore>(store: &T, names: &Resolved, capture: FirstCapture) 
         → result ≡ refused.Captures (range_of (width_of (T.unit_of store.now))
         (T.content store.now) (span_at names.now.module_read.source token)) }
 {
-    // For the proof: what the contract of this call says.
+    // For the proof: the contract of this call is needed.
     let _module = names.module();
     match capture {
         FirstCapture::Duplicate(other) => EditRefusal::Duplicate {

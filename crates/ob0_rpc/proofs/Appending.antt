@@ -1,8 +1,9 @@
--- Values whose texts are written one after the other, and read back.
--- `object_of` is the one lemma for every object: the calls are handed to it in order, and that the names need no escape
--- and are in order is `refl` twice where they are literals. `array_of` ends a list, whose loop uses `each_none`,
--- `each_next`, `each_done`. `written` ends a message: what was written after nothing has the value's text, and reads
--- back. A range's pieces are taken in order by `position_written` and `range_text`.
+-- Values whose texts are written one after another, and read back.
+-- `object_of` is the single lemma for every object. It takes the calls in order; if the names are
+-- literals, two proofs by `refl` show that they need no escape and are in order. `array_of` ends a
+-- list, whose loop uses `each_none`, `each_next` and `each_done`. `written` ends a message: if
+-- nothing was written before, the bytes are the value's text and read back. `position_written` and
+-- `range_text` take the pieces of a range in order.
 use Rattle.std.proofs.Common.{◌≡◌, ◌∙◌, ◌≤◌, ◌<◌, ◌^◌, ℕ, zero, suc, ℤ, pos, negsuc, List, [], ◌∷◌, ◌++◌, Bool, true, false, Option, Some, option_map, option_and_then, decimal, SFits, w64, length, take, get_or, map, ◌+◌, refl, sym, ap, ap₂, subst, arith, add-one, append_assoc, append-nil, take_all, nat_le, nat_lt, ◌&&◌, ◌==◌, not, codes}
 use Rattle.std.proofs.Math.Bool.{and-true as and_true}
 use Rattle.std.proofs.lemmas.Bool.{and_parts, eqb-false, leb-true, lt-ltb, not-true}
@@ -55,7 +56,7 @@ mutual
 
 -- ---- a whole text
 
--- the tokens of a value's text are those of its outline
+-- the tokens of a value's text are the tokens of its outline
 tokens_of_text : (d : Data) → IsReadBack d → tokens (compact_text d) ≡ tree.json_tokens (outline d)
 tokens_of_text d r = ap tokens (sym (print-outline d)) ∙ tokens-print (tree.json_tokens (outline d)) (ArePrintable-json_tokens (outline d) r.numbers)
 
@@ -66,7 +67,7 @@ reads_as : (d : Data) → IsReadBack d → depth d ≤ 127 → read (compact_tex
 reads_as d r shallow =
     ap whole (ap (json.value max_depth) (tokens_of_text d r ∙ sym (append-nil _)) ∙ value-json_tokens (outline d) max_depth [] (omega (arith, outline_depth d))) ∙ r.reads
 
--- what was written after nothing is the text of the value
+-- if nothing was written before, the bytes are the text of the value
 pub written : (d : Data) (start bytes : List ℕ) → start ≡ [] → Appends d start bytes → depth d ≤ 127 → Writes d bytes
 written d start bytes none a shallow =
     let is : bytes ≡ compact_text d = a.text ∙ ap (λ b. b ++ compact_text d) none in
@@ -77,7 +78,7 @@ written d start bytes none a shallow =
 abbrev is_plain_byte : ℕ → Bool
 is_plain_byte x = nat_le 32 x && nat_lt x 127 && not (x == 34) && not (x == 92)
 
--- these are printable ASCII without quotes and backslashes
+-- true if all bytes are printable ASCII other than quotes and backslashes
 abbrev pub are_plain : List ℕ → Bool
 are_plain [] = true
 are_plain (x ∷ xs) = is_plain_byte x && are_plain xs
@@ -93,7 +94,7 @@ escape_plain (x ∷ xs) h =
     let t = and_parts (nat_le 32 x) _ r.0 in
     ap₂ (λ a b. a ++ b) (escape_byte_plain x (eqb-false x 34 (not-true _ r.1)) (eqb-false x 92 (not-true _ q.1)) (leb-true 32 x t.0)) (escape_plain xs p.1)
 
--- a text that is plain so far, and one more byte of it
+-- a text that is plain so far, with one more byte
 
 escape_joined : (xs ys : List ℕ) → escape (xs ++ ys) ≡ escape xs ++ escape ys
 escape_joined [] ys = refl
@@ -127,7 +128,7 @@ integer_written (negsuc n) old new fits utf8 is = record {
 
 -- ---- objects
 
--- a name of a member that is in order: its text is the name between quotes
+-- states that a member's name needs no escape: its text is the name in quotes
 pub record IsName (k : List ℕ) : Type 0 where
   pub plain : escape k ≡ k
   pub utf8 : IsUtf8 (quoted k)
@@ -138,29 +139,29 @@ name k plain ascii = record { plain = escape_plain k plain; utf8 = IsUtf8-quoted
 brace : IsUtf8 (125 ∷ [])
 brace = IsUtf8-are_ascii _ refl
 
--- a member's text after a comma or a bracket, and what follows it
+-- the text of a member after a comma or a bracket, with the rest, is UTF-8
 utf8_member : (before : ℕ) (k t rest : List ℕ) → are_ascii (before ∷ []) ≡ true → IsUtf8 (quoted k) → IsUtf8 t → IsUtf8 rest → IsUtf8 (before ∷ (quoted k ++ 58 ∷ (t ++ rest)))
 utf8_member before k t rest ascii uk ut ur =
     IsUtf8-append (before ∷ []) _ (IsUtf8-are_ascii _ ascii) (IsUtf8-append (quoted k) _ uk (IsUtf8-append (58 ∷ []) _ (IsUtf8-are_ascii _ refl) (IsUtf8-append t rest ut ur)))
 
--- a name's text, and what follows the colon
+-- a name in quotes, a colon, and the rest
 abbrev pub named : List ℕ → List ℕ → List ℕ
 named k rest = 34 ∷ (k ++ 34 ∷ 58 ∷ rest)
 
 name_text : (k rest : List ℕ) → IsName k → named k rest ≡ quoted k ++ 58 ∷ rest
 name_text k rest n = rw n.plain (ap (λ t. 34 ∷ t) (sym (append_assoc k (34 ∷ []) (58 ∷ rest))))
 
--- names that need no escape
+-- true if no name needs an escape
 abbrev pub are_names : Members → Bool
 are_names no_members = true
 are_names (member k d ms) = (are_plain k && are_ascii k) && are_names ms
 
--- what reading these members one after another makes
+-- the members that result from reading these one after another
 abbrev pub rebuilt : Members → Members → Members
 rebuilt no_members found = found
 rebuilt (member k d ms) found = rebuilt ms (put k d found)
 
--- members that read back
+-- states that the members read back
 record AreMembers (ms : Members) : Type 0 where
   reads : (found : Members) → of_members (members_outline ms) found ≡ Some (rebuilt ms found)
   numbers : tree.MembersHaveNumbers (members_outline ms)
@@ -173,7 +174,7 @@ more_members k d ms n r rest = record {
   utf8 = utf8_member 44 k (compact_text d) (members_text true ms) refl n.utf8 r.utf8 rest.utf8;
 }
 
--- the text of a member, and what follows it
+-- the text of a member, and the rest
 member_text : (before : ℕ) (k : List ℕ) (d : Data) (old mid rest : List ℕ) → IsName k → AppendsMember before k d old mid
     → mid ++ rest ≡ old ++ before ∷ (quoted k ++ 58 ∷ (compact_text d ++ rest))
 member_text before k d old mid rest n a =
@@ -188,7 +189,7 @@ members_written (member k d ms) old new names (mid, first, others) =
     let rest = members_written ms mid new both.1 others in
     (rest.0 ∙ member_text 44 k d old mid (members_text true ms) n first, more_members k d ms n first.reads rest.1)
 
--- an object was written member by member: its names need no escape, and are in order
+-- an object that was written member by member, if its names need no escape and are in order
 pub object_of : (k : List ℕ) (d : Data) (ms : Members) (old new : List ℕ) → are_names (member k d ms) ≡ true → rebuilt (member k d ms) no_members ≡ member k d ms
     → AppendsMembers 123 (member k d ms) old new → Appends (object (member k d ms)) old new
 object_of k d ms old new names order (mid, first, others) =
@@ -205,7 +206,7 @@ object_of k d ms old new names order (mid, first, others) =
       };
     }
 
--- an object of one member whose name is a text of its own
+-- an object with one member, whose name is any text
 pub object_named : (k : List ℕ) (d : Data) (t0 t1 t2 t3 t4 t5 : List ℕ) → t1 ≡ t0 ++ 123 ∷ [] → Appends (string k) t1 t2 → t3 ≡ t2 ++ 58 ∷ [] → Appends d t3 t4 → t5 ≡ t4 ++ 125 ∷ []
     → Appends (object (member k d no_members)) t0 t5
 object_named k d t0 t1 t2 t3 t4 t5 h1 h2 h3 h4 h5 = record {
@@ -217,7 +218,7 @@ object_named k d t0 t1 t2 t3 t4 t5 h1 h2 h3 h4 h5 = record {
   };
 }
 
--- the text of an object of two members, before another text
+-- the text of an object with two members, before another text
 pub object_text_of_two : (k l : List ℕ) (d e : Data) (rest : List ℕ) → IsName k → IsName l
     → 123 ∷ named k (compact_text d ++ 44 ∷ named l (compact_text e ++ 125 ∷ rest)) ≡ compact_text (object (member k d (member l e no_members))) ++ rest
 object_text_of_two k l d e rest n o =
@@ -248,13 +249,13 @@ position_read p fits fit =
     read_two (codes "character") (codes "line") (number (unsigned p.character)) (number (unsigned p.line)) (name (codes "character") refl refl) (name (codes "line") refl refl) refl
     (count_read p.character fits) (count_read p.line fit)
 
--- a position's text, put together from its end on before another text
+-- a position's text, built from its end backwards, before another text
 pub position_written : (p : Position) (t0 t1 t2 t3 t4 t5 : List ℕ) → t1 ≡ (125 ∷ []) ++ t0 → t2 ≡ decimal p.line ++ t1 → t3 ≡ (44 ∷ named (codes "line") []) ++ t2 → t4 ≡ decimal p.character ++ t3
     → t5 ≡ (123 ∷ named (codes "character") []) ++ t4 → t5 ≡ compact_text (position_value p) ++ t0
 position_written p t0 t1 t2 t3 t4 t5 h1 h2 h3 h4 h5 =
     rw (h5, h4, h3, h2, h1) (object_text_of_two (codes "character") (codes "line") (number (unsigned p.character)) (number (unsigned p.line)) t0 (name (codes "character") refl refl) (name (codes "line") refl refl))
 
--- a range's text, put together from its end on before another text
+-- a range's text, built from its end backwards, before another text
 pub range_text : (start end : Position) (t0 t1 t2 t3 t4 t5 : List ℕ) → t1 ≡ (125 ∷ []) ++ t0 → t2 ≡ compact_text (position_value start) ++ t1 → t3 ≡ (44 ∷ named (codes "start") []) ++ t2
     → t4 ≡ compact_text (position_value end) ++ t3 → t5 ≡ (123 ∷ named (codes "end") []) ++ t4 → t5 ≡ compact_text (range_value start end) ++ t0
 range_text start end t0 t1 t2 t3 t4 t5 h1 h2 h3 h4 h5 =
@@ -263,11 +264,11 @@ range_text start end t0 t1 t2 t3 t4 t5 h1 h2 h3 h4 h5 =
 pub range_read : (start end : Position) → IsReadBack (position_value start) → IsReadBack (position_value end) → IsReadBack (range_value start end)
 range_read start end r q = read_two (codes "end") (codes "start") (position_value end) (position_value start) (name (codes "end") refl refl) (name (codes "start") refl refl) refl q r
 
--- a value's text, put together before nothing, follows another
+-- a value's text that was built in a buffer of its size is appended
 pub put_down : (d : Data) (old new t0 t1 : List ℕ) → t0 ≡ [] → t1 ≡ compact_text d ++ t0 → new ≡ old ++ t1 → IsReadBack d → Appends d old new
 put_down d old new t0 t1 none put is r = record { text = is ∙ ap (λ t. old ++ t) (put ∙ ap (λ t. compact_text d ++ t) none ∙ append-nil _); reads = r }
 
--- an edit's text, whose range was put down with what is around it
+-- an edit's text, whose range was written together with the text around it
 pub edit_put_down : (said : List ℕ) (start end : Position) (t0 t1 t2 t3 : List ℕ) → IsUtf8 said → t1 ≡ t0 ++ (123 ∷ named (codes "newText") (34 ∷ [])) → t2 ≡ t1 ++ escape said
     → t3 ≡ t2 ++ (codes "\",\"range\":" ++ (compact_text (range_value start end) ++ 125 ∷ [])) → IsReadBack (range_value start end)
     → Appends (object (member (codes "newText") (string said) (member (codes "range") (range_value start end) no_members))) t0 t3
@@ -287,7 +288,7 @@ each_none later t = record { text = sym (append-nil t); reads = tt }
 pub each_one : (d : Data) (old new : List ℕ) → Appends d old new → AppendsEach false (d ∷ []) old new
 each_one d old new a = record { text = a.text ∙ ap (λ t. old ++ t) (sym (append-nil (compact_text d))); reads = (a.reads, tt) }
 
--- whether there is one
+-- true if there is a value
 abbrev pub some : List Data → Bool
 some [] = false
 some (d ∷ ds) = true

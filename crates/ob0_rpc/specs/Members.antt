@@ -1,4 +1,4 @@
--- What the members of params hold.
+-- The members of params.
 -- Rule: docs/PROTOCOL.md, Contents 4, 5, JSON shapes 4.
 use Rattle.std.specs.Prelude.{ℕ, ℤ, List, Bool, true, false, Option, Some, None, option_map, option_and_then, codes}
 use Rattle.std.specs.Str.{chars}
@@ -7,7 +7,7 @@ use Rattle.serde_json.specs.Find.{get, as_str, as_bool, as_number, as_i64, as_u6
 use Rattle.ob0_text.specs.declared.position_types.Position.{Position}
 use Rattle.ob0_text.specs.declared.position_types.Range.{Range}
 
--- a member that is null counts as absent
+-- true if a member is absent or null
 abbrev pub is_absent : Option Data → Bool
 is_absent None = true
 is_absent (Some null) = true
@@ -17,7 +17,7 @@ is_absent (Some (string s)) = false
 is_absent (Some (array ds)) = false
 is_absent (Some (object ms)) = false
 
--- a member's text
+-- the text of a member
 abbrev pub text_member : List ℕ → Data → Option (List ℕ)
 text_member name d = option_and_then as_str (get name d)
 
@@ -25,11 +25,11 @@ text_member name d = option_and_then as_str (get name d)
 abbrev pub truth_member : List ℕ → Data → Option Bool
 truth_member name d = option_and_then as_bool (get name d)
 
--- a member's whole number from 0 to 2^64-1
+-- the number of a member, if it is a whole number from 0 to 2^64-1
 abbrev pub count_member : List ℕ → Data → Option ℕ
 count_member name d = option_and_then as_u64 (option_and_then as_number (get name d))
 
--- a member of the member `textDocument`
+-- a member of the object `textDocument` in params
 abbrev pub of_document : List ℕ → Data → Option Data
 of_document name params = option_and_then (get name) (get (codes "textDocument") params)
 
@@ -37,7 +37,7 @@ of_document name params = option_and_then (get name) (get (codes "textDocument")
 abbrev pub document_uri : Data → Option (List ℕ)
 document_uri params = option_and_then as_str (of_document (codes "uri") params)
 
--- a whole number of 64 bits with a sign
+-- the version of the document in params, a signed whole number of 64 bits
 abbrev pub document_version : Data → Option ℤ
 document_version params =
     option_and_then as_i64 (option_and_then as_number (of_document (codes "version") params))
@@ -46,13 +46,13 @@ document_version params =
 abbrev pub document_text : Data → Option (List ℕ)
 document_text params = option_map chars (option_and_then as_str (of_document (codes "text") params))
 
--- a position, where both numbers can be read
+-- a position, if both numbers can be read
 abbrev pub position_by : Option ℕ → Option ℕ → Option Position
 position_by (Some line) (Some character) = Some (record { line = line; character = character })
 position_by (Some line) None = None
 position_by None character = None
 
--- {"character":c,"line":l}
+-- reads a position, {"character":c,"line":l}
 abbrev pub json_position : Data → Option Position
 json_position d = position_by (count_member (codes "line") d) (count_member (codes "character") d)
 
@@ -60,13 +60,13 @@ json_position d = position_by (count_member (codes "line") d) (count_member (cod
 abbrev pub position_member : List ℕ → Data → Option Position
 position_member name d = option_and_then json_position (get name d)
 
--- a range, where both positions can be read
+-- a range, if both positions can be read
 abbrev pub range_by : Option Position → Option Position → Option Range
 range_by (Some start) (Some end) = Some (record { start = start; end = end })
 range_by (Some start) None = None
 range_by None end = None
 
--- {"end":P,"start":P}
+-- reads a range, {"end":P,"start":P}
 abbrev pub json_range : Data → Option Range
 json_range d = range_by (position_member (codes "start") d) (position_member (codes "end") d)
 

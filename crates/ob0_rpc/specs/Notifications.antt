@@ -1,4 +1,4 @@
--- What notifications say, by their method and params (LSP 3.17, text document synchronization).
+-- The meaning of notifications, by method and params (LSP 3.17, text document synchronization).
 -- Rule: docs/PROTOCOL.md, Documents, JSON shapes 4; LSP 3.17, text document synchronization.
 use Rattle.std.specs.Prelude.{ℕ, ℤ, List, [], ◌∷◌, Option, Some, None, if◌then◌else◌, option_map, option_and_then, codes}
 use Rattle.std.specs.Str.{bytes_eq, chars}
@@ -8,7 +8,7 @@ use Rattle.ob0_text.specs.OpenDocuments.{TextChange}
 use Rattle.ob0_text.specs.declared.position_types.Range.{Range}
 use Rattle.ob0_rpc.specs.Members.{is_absent, text_member, document_uri, document_version, document_text, json_range}
 
--- what a notification says
+-- the meaning of a notification
 pub data Notification : Type 0 where
   exits : Notification
   -- the uri, the version and the characters of the text
@@ -16,58 +16,58 @@ pub data Notification : Type 0 where
   -- the uri, the version and the changes in order
   changes : List ℕ → ℤ → List TextChange → Notification
   closes : List ℕ → Notification
-  -- an open, a change or a close that can't be read, with its uri where that can be read
+  -- an open, a change or a close that can't be read, with its uri if that can be read
   unreadable : Option (List ℕ) → Notification
   other : Notification
 
--- the range that a change has, or that it has none; none where it can't be read
+-- reads the range of a change: Some None if it has no range, None if the range can't be read
 abbrev pub range_of_change : Option Data → Option (Option Range)
 range_of_change found =
     if is_absent found then Some None else option_map Some (option_and_then json_range found)
 
--- a change, where its range and its text can be read
+-- a change, if its range and its text can be read
 abbrev pub change_by : Option (Option Range) → Option (List ℕ) → Option TextChange
 change_by (Some range) (Some text) = Some (record { range = range; text = chars text })
 change_by (Some range) None = None
 change_by None text = None
 
--- A change of a range, or of the whole text.
+-- Reads a change of a range, or of the whole text.
 abbrev pub change_in : Data → Option TextChange
 change_in entry =
     change_by (range_of_change (get (codes "range") entry)) (text_member (codes "text") entry)
 
--- all changes; none where one of them can't be read
+-- all changes, or None if one of them can't be read
 abbrev pub all_changes : Items → Option (List TextChange)
 all_changes no_items = Some []
 all_changes (item entry later) =
     option_and_then (λ change. option_map (λ changes. change ∷ changes) (all_changes later))
     (change_in entry)
 
--- the changes in params, where all of them can be read
+-- the changes in params, or None if one of them can't be read
 abbrev pub changes_of : Data → Option (List TextChange)
 changes_of params =
     option_and_then all_changes (option_and_then as_array (get (codes "contentChanges") params))
 
--- `textDocument/didOpen`, with the uri alone where the rest can't be read
+-- `textDocument/didOpen`, with only the uri if the rest can't be read
 abbrev pub open_of : Option (List ℕ) → Option ℤ → Option (List ℕ) → Notification
 open_of None version text = unreadable None
 open_of (Some uri) (Some version) (Some text) = opens uri version text
 open_of (Some uri) (Some version) None = unreadable (Some uri)
 open_of (Some uri) None text = unreadable (Some uri)
 
--- `textDocument/didChange`, with the uri alone where the rest can't be read
+-- `textDocument/didChange`, with only the uri if the rest can't be read
 abbrev pub change_of : Option (List ℕ) → Option ℤ → Option (List TextChange) → Notification
 change_of None version all = unreadable None
 change_of (Some uri) (Some version) (Some all) = changes uri version all
 change_of (Some uri) (Some version) None = unreadable (Some uri)
 change_of (Some uri) None all = unreadable (Some uri)
 
--- `textDocument/didClose`
+-- `textDocument/didClose`, if its uri can be read
 abbrev pub close_of : Option (List ℕ) → Notification
 close_of None = unreadable None
 close_of (Some uri) = closes uri
 
--- a notification by its method
+-- reads a notification by its method
 abbrev pub note_of : List ℕ → Data → Notification
 note_of method params =
     if bytes_eq method (codes "exit") then exits

@@ -1,4 +1,4 @@
--- What requests mean, by their method and params (LSP 3.17).
+-- The meaning of requests, by method and params (LSP 3.17).
 -- Rule: docs/PROTOCOL.md, JSON shapes 4, Capabilities; LSP 3.17, requests.
 use Rattle.std.specs.Prelude.{ℕ, List, [], ◌∷◌, Bool, false, Option, Some, None, is_some, if◌then◌else◌, ◌||◌, option_map, option_and_then, unwrap_or, codes, Result, Ok, Err}
 use Rattle.std.specs.Str.{bytes_eq}
@@ -14,53 +14,53 @@ use Rattle.ob0_rpc.specs.declared.clients.Client.{Client}
 use Rattle.ob0_rpc.specs.declared.incoming.RpcFault.{RpcFault}
 use Rattle.ob0_rpc.specs.declared.incoming.RpcFault.TheVariants.{UnknownMethod, BadParams}
 
--- a document and a place in it
+-- a document and a position in it
 pub record At : Type 0 where
   pub uri : List ℕ
   pub position : Position
 
--- a request; texts are their bytes
+-- a request; its texts are bytes
 pub data ClientRequest : Type 0 where
   initialize : Client → ClientRequest
   shutdown : ClientRequest
   hover : At → ClientRequest
   definition : At → ClientRequest
-  -- whether the declaration is requested too
+  -- the truth value says whether the declaration is also requested
   references : At → Bool → ClientRequest
   prepare_rename : At → ClientRequest
   -- the new name
   rename : At → List ℕ → ClientRequest
-  -- the document, the range, and the kinds of which the actions must be, where there are such
+  -- the document, the range, and the requested kinds of actions, if there are any
   code_action : List ℕ → Range → Option (List (List ℕ)) → ClientRequest
   formatting : List ℕ → Indent → ClientRequest
 
--- ---- what a client can do
+-- ---- the capabilities of a client
 
--- the value that these members lead to, one inside the other
+-- the value at the end of a path of member names
 abbrev pub within : List (List ℕ) → Data → Option Data
 within [] d = Some d
 within (name ∷ names) d = option_and_then (within names) (get name d)
 
--- a value that is true; another value counts as absent
+-- true if a member is true; any other value counts as absent
 abbrev pub is_true : Option Data → Bool
 is_true found = unwrap_or (option_and_then as_bool found) false
 
--- a member is this text
+-- true if a member is this text
 abbrev pub is_text : List ℕ → Option (List ℕ) → Bool
 is_text text None = false
 is_text text (Some other) = bytes_eq other text
 
--- one of the items is this text
+-- true if one of the items is this text
 abbrev pub has_text : List ℕ → Items → Bool
 has_text text no_items = false
 has_text text (item d ds) = is_text text (as_str d) || has_text text ds
 
--- a list has this text
+-- true if there is a list that contains this text
 abbrev pub lists_text : List ℕ → Option Items → Bool
 lists_text text None = false
 lists_text text (Some items) = has_text text items
 
--- what the client of an `initialize` can do
+-- the capabilities of a client, from the params of `initialize`
 abbrev pub client_of : Data → Client
 client_of params = record {
   counts_utf8 =
@@ -84,63 +84,63 @@ client_of params = record {
       ∷ []) params);
 }
 
--- `initialize` requires only that its params are an object
+-- reads `initialize`, whose params only have to be an object
 abbrev pub initialize_of : Data → Option ClientRequest
 initialize_of params =
     if is_some (as_object params) then Some (initialize (client_of params)) else None
 
 -- ---- requests about a document
 
--- a document and a place, where both can be read
+-- a document and a position, if both can be read
 abbrev pub at_by : Option (List ℕ) → Option Position → Option At
 at_by (Some uri) (Some position) = Some (record { uri = uri; position = position })
 at_by (Some uri) None = None
 at_by None position = None
 
--- the document and the place in params
+-- the document and the position in params
 abbrev pub at_of : Data → Option At
 at_of params = at_by (document_uri params) (position_member (codes "position") params)
 
--- {"context":{"includeDeclaration":b}} beside the place
+-- a request for references, if the place and {"context":{"includeDeclaration":b}} can be read
 abbrev pub references_by : Option At → Option Bool → Option ClientRequest
 references_by (Some at) (Some include) = Some (references at include)
 references_by (Some at) None = None
 references_by None include = None
 
--- `textDocument/references`
+-- reads the params of `textDocument/references`
 abbrev pub references_of : Data → Option ClientRequest
 references_of params =
     references_by (at_of params)
     (option_and_then (truth_member (codes "includeDeclaration")) (get (codes "context") params))
 
--- a rename, where the place and the name can be read
+-- a rename, if the place and the name can be read
 abbrev pub rename_by : Option At → Option (List ℕ) → Option ClientRequest
 rename_by (Some at) (Some name) = Some (rename at name)
 rename_by (Some at) None = None
 rename_by None name = None
 
--- `textDocument/rename`
+-- reads the params of `textDocument/rename`
 abbrev pub rename_of : Data → Option ClientRequest
 rename_of params = rename_by (at_of params) (text_member (codes "newName") params)
 
--- texts; none where an item isn't a text
+-- the texts of a list, or None if an item isn't a text
 abbrev pub texts_of : Items → Option (List (List ℕ))
 texts_of no_items = Some []
 texts_of (item d ds) =
     option_and_then (λ text. option_map (λ texts. text ∷ texts) (texts_of ds)) (as_str d)
 
--- a list of texts, which may be absent
+-- reads a list of texts, which may be absent
 abbrev pub only_by : Option Data → Option (Option (List (List ℕ)))
 only_by found =
     if is_absent found
     then Some None
     else option_map Some (option_and_then texts_of (option_and_then as_array found))
 
--- the kinds that a context allows; none where it isn't an object
+-- the kinds that a context requests, or None if they can't be read or the context isn't an object
 abbrev pub only_of : Data → Option (Option (List (List ℕ)))
 only_of context = if is_some (as_object context) then only_by (get (codes "only") context) else None
 
--- a code action, where its parts can be read
+-- a code action, if its parts can be read
 abbrev pub code_action_by : Option (List ℕ)
     → Option Range
     → Option (Option (List (List ℕ)))
@@ -150,42 +150,42 @@ code_action_by (Some uri) (Some range) None = None
 code_action_by (Some uri) None only = None
 code_action_by None range only = None
 
--- `textDocument/codeAction`
+-- reads the params of `textDocument/codeAction`
 abbrev pub code_action_of : Data → Option ClientRequest
 code_action_of params =
     code_action_by (document_uri params) (range_member (codes "range") params)
     (option_and_then only_of (get (codes "context") params))
 
--- a level is one tab, or some spaces
+-- the indentation, if both options can be read: a level is one tab or some spaces
 abbrev pub indent_by : Option ℕ → Option Bool → Option Indent
 indent_by (Some size) (Some spaces) = Some (if spaces then Spaces (level_spaces size) else Tab)
 indent_by (Some size) None = None
 indent_by None spaces = None
 
--- the indent in formatting options
+-- reads the indentation from formatting options
 abbrev pub indent_of : Data → Option Indent
 indent_of options =
     indent_by (count_member (codes "tabSize") options) (truth_member (codes "insertSpaces") options)
 
--- a formatting, where the document and the options can be read
+-- a formatting request, if the document and the options can be read
 abbrev pub formatting_by : Option (List ℕ) → Option Indent → Option ClientRequest
 formatting_by (Some uri) (Some indent) = Some (formatting uri indent)
 formatting_by (Some uri) None = None
 formatting_by None indent = None
 
--- `textDocument/formatting`
+-- reads the params of `textDocument/formatting`
 abbrev pub formatting_of : Data → Option ClientRequest
 formatting_of params =
     formatting_by (document_uri params) (option_and_then indent_of (get (codes "options") params))
 
 -- ---- requests
 
--- the request, or `bad params`
+-- the request, or the error `bad params`
 abbrev pub or_bad : Option ClientRequest → Result ClientRequest RpcFault
 or_bad (Some ask) = Ok ask
 or_bad None = Err BadParams
 
--- a request of the language, by the name after `textDocument/`
+-- reads a request about a document, by its method
 abbrev pub language_call_of : List ℕ → Data → Result ClientRequest RpcFault
 language_call_of method params =
     if bytes_eq method (codes "textDocument/hover") then or_bad (option_map hover (at_of params))
@@ -199,7 +199,7 @@ language_call_of method params =
     else if bytes_eq method (codes "textDocument/formatting") then or_bad (formatting_of params)
     else Err UnknownMethod
 
--- a request by its method; `shutdown` takes whatever params come
+-- reads a request by its method; `shutdown` accepts any params
 abbrev pub request_by_method : List ℕ → Data → Result ClientRequest RpcFault
 request_by_method method params =
     if bytes_eq method (codes "initialize") then or_bad (initialize_of params)

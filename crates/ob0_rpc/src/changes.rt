@@ -1,9 +1,10 @@
-//! The changes of a document, as they are reported.
+//! Reads the changes of a document from the params of a notification.
 //!
-//! A text that is reported isn't copied here: params are taken out of the message by value, and the text out of them,
-//! last, when all that is borrowed from the same map has been read. A uri and a method are copied, since they are short
-//! and the value that they are in is still needed. A range that is null counts as absent (the whole text); one that
-//! can't be read makes the whole notification one that can't be read.
+//! A reported text isn't copied here: the params are moved out of the message, and the text out of
+//! the params. This happens last, after everything that is borrowed from the same map has been
+//! read. A uri and a method are copied, because they are short and the value that contains them is
+//! still needed. A range that is null counts as absent (the whole text). If a range can't be read,
+//! neither can the whole notification.
 ghost use Rattle.std.specs.Prelude.{◌≡◌, IfOk, codes, option_and_then, option_map, map};
 ghost use Rattle.ob0_text.specs.OpenDocuments.{change_in_text};
 ghost use Rattle.serde_json.specs.Find.{get, as_array};
@@ -15,7 +16,7 @@ use ob0_text::{Change, Range};
 use serde_json::Value;
 use std::alloc::{AllocError, Global};
 
-/// The changes, none where an entry can't be read.
+/// Returns the changes, or None if an entry can't be read.
 pub fn read_changes(alloc: Global, params: Value) -> Result<Option<Vec<Change>>, AllocError>
     ensures { IfOk result (λ found. option_map (λ cs. map change_in_text cs.items) found
         ≡ changes_in (view params)) }
@@ -53,7 +54,7 @@ fn into_list(value: Value) -> Option<Vec<Value>>
     }
 }
 
-/// A change of a range, or one of the whole text.
+/// Reads a change of a range or of the whole text.
 fn read_change_in(entry: Value) -> Option<Change>
     ensures { option_map change_in_text result ≡ change_in (view entry) }
 {
@@ -62,7 +63,8 @@ fn read_change_in(entry: Value) -> Option<Change>
     Some(Change { range, text })
 }
 
-/// The range of a change; `Some(None)` where it has none, `None` where it can't be read.
+/// Reads the range of a change. Returns `Some(None)` if it has no range, and `None` if the range
+/// can't be read.
 fn read_range(member: Option<&Value>) -> Option<Option<Range>>
     ensures { result ≡ range_of_change (option_map (λ v. view v.now) member.entry) }
 {

@@ -1,6 +1,6 @@
-//! What clients can do.
+//! The capabilities of clients.
 //!
-//! A member of another shape counts as absent, also on the way to it.
+//! A member counts as absent if it, or an object on the path to it, has another shape.
 ghost use Rattle.std.specs.Prelude.{◌≡◌, ◌∷◌, [], codes, is_some, option_map, option_and_then};
 ghost use Rattle.serde_json.specs.Find.{as_object, as_str};
 ghost use Rattle.serde_json.specs.View.{view, items_view};
@@ -8,20 +8,21 @@ ghost use Rattle.ob0_rpc.specs.Requesting.{client_of as client_in, has_text, is_
 
 use serde_json::Value;
 
-/// What a client says that it can do.
+/// The capabilities that a client announces.
 #[derive(Clone, Copy, Debug, Drop, PartialEq, Eq)]
 pub struct Client {
-    /// It offers positions that count bytes of UTF-8.
+    /// It offers positions in bytes of UTF-8.
     pub counts_utf8: bool,
     /// It sends `prepareRename` before it requests a rename.
     pub prepares_renames: bool,
-    /// It takes code actions that aren't commands.
+    /// It accepts code actions that aren't commands.
     pub takes_literal_actions: bool,
-    /// It takes edits with the versions of the documents that they are for.
+    /// It accepts edits that specify the versions of their documents.
     pub takes_document_changes: bool,
 }
 
-/// What the params of `initialize` say. Members of another shape count as absent.
+/// Reads a client's capabilities from the params of `initialize`. Members of another shape count as
+/// absent.
 pub fn client_of(params: &Value) -> Client
     ensures { result ≡ client_in (view params.now) }
 {

@@ -1,4 +1,4 @@
-//! What the content of a message means.
+//! The meaning of a message's content.
 ghost use Rattle.std.specs.Prelude.{◌≡◌, true, false, IfOk, MatchOption};
 ghost use Rattle.serde_json.specs.View.{view, number_view};
 ghost use Rattle.serde_json.specs.Data.{number};
@@ -45,7 +45,7 @@ impl RpcFault {
     ghost use Rattle.std.specs.Prelude.{◌≡◌};
     ghost use Rattle.ob0_rpc.specs.Faults.{error_code, error_text};
 
-    /// The code of the error that reports it (JSON-RPC 2.0).
+    /// Returns the code of the error that reports this fault (JSON-RPC 2.0).
     pub fn code(self) -> i32
         ensures { result ≡ error_code self }
     {
@@ -58,7 +58,7 @@ impl RpcFault {
         }
     }
 
-    /// The message of that error.
+    /// Returns the message of that error.
     pub fn text(self) -> &'static str
         ensures { result.now ≡ error_text self }
     {
@@ -108,7 +108,7 @@ pub fn read(alloc: Global, content: &[u8]) -> Result<Incoming, RpcFault>
     }
 }
 
-// What a JSON value means.
+// Returns the message that a JSON value represents.
 fn meaning(alloc: Global, message: Value) -> Result<Incoming, RpcFault>
     ensures { MeansAs (view message) result }
 {
@@ -133,7 +133,7 @@ fn meaning(alloc: Global, message: Value) -> Result<Incoming, RpcFault>
     Ok(Incoming::Request(id, method, params_in(message)))
 }
 
-// The params, taken out of a message; null where they are absent.
+// Moves the params out of a message. They are null if they are absent.
 fn params_in(message: Value) -> Value
     ensures { view result ≡ params_of (view message) }
 {
@@ -143,7 +143,7 @@ fn params_in(message: Value) -> Value
     }
 }
 
-// A whole number or a text.
+// Reads an id, which is a whole number or a text.
 fn read_id(alloc: Global, value: &Value) -> Result<Option<Id>, AllocError>
     ensures { IfOk result (λ found. MatchOption found
         (is_id (view value.now) ≡ false)

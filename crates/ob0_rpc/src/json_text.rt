@@ -1,9 +1,9 @@
-//! What is written as JSON, straight into the text of a message.
+//! Writes JSON values directly into the text of a message.
 //!
-//! Each message that the server sends, and each part of one, is a type that says which JSON value it is and writes it
-//! (`WriteJson`); nothing is made as a `Value` first. A writing function has `Appends` of its value as its contract: the
-//! value's compact text comes after what was there, and it reads back as the value. A text without escapes is put down
-//! whole.
+//! Each message that the server sends, and each part of it, has a type that defines its JSON value
+//! and writes it (`WriteJson`). No `Value` is made first. The contract of a writing function is
+//! `Appends` for its value: the value's compact text is appended, and it reads back as the value. A
+//! text without escapes is written in one piece.
 ghost use Rattle.std.specs.Prelude.{◌≡◌, ◌<◌, ◌≤◌, ◌^◌, ◌++◌, [], ◌∷◌, true, false, OnOk, map};
 ghost use Rattle.std.specs.Char.{digit_char};
 ghost use Rattle.json.specs.Print.{escape, escape_byte, escape_letter};
@@ -14,12 +14,13 @@ ghost use Rattle.ob0_rpc.specs.Appending.{Appends, AppendsEach, AppendsItem, or_
 
 use std::alloc::AllocError;
 
-/// No more capacity is reserved at once for the items of a list, in bytes.
+/// The greatest capacity, in bytes, that is reserved at once for the items of a list.
 const MAX_CAPACITY: usize = 1 << 26;
 
-/// What is written as a JSON value. No contract says what `out` has after an error: whoever made it drops it.
+/// A type whose values are written as JSON. After an error `out` may have any contents; its owner
+/// drops it.
 pub trait WriteJson {
-    /// The value that is written.
+    /// The JSON value that is written.
     ghost value: { Self → Data };
 
     fn write(&self, out: &mut Vec<u8>) -> Result<(), AllocError>
@@ -111,7 +112,8 @@ fn write_each<W: WriteJson>(out: &mut Vec<u8>, values: &[W]) -> Result<(), Alloc
     Ok(())
 }
 
-/// Writes an item of a list. After the first there is capacity for the others, where they are about as long.
+/// Writes an item of a list. After the first item, reserves capacity for the others, as if they
+/// were about as long.
 fn write_one_of<W: WriteJson>(
     out: &mut Vec<u8>,
     count: usize,
@@ -128,7 +130,7 @@ fn write_one_of<W: WriteJson>(
     Ok(())
 }
 
-/// The capacity for the other items of a list, where they are about as long as this one.
+/// Returns the capacity for the other items of a list, if they are about as long as this one.
 fn capacity_for(count: usize, len: usize) -> usize
     ensures { result ≤ 2 ^ 26 }
 {
@@ -145,7 +147,7 @@ pub fn begin_list(out: &mut Vec<u8>) -> Result<(), AllocError>
     write_piece(out, b"[")
 }
 
-/// Writes an item of a list, after a comma where it isn't the first.
+/// Writes an item of a list, after a comma if it isn't the first.
 #[inline(always)]
 pub fn write_item<W: WriteJson>(out: &mut Vec<u8>, later: bool, value: &W) -> Result<(), AllocError>
     ensures { OnOk result (AppendsItem later (W.value value.now) out.old.items out.new.items) }
@@ -163,14 +165,14 @@ pub fn end_list(out: &mut Vec<u8>) -> Result<(), AllocError>
     write_piece(out, b"]")
 }
 
-/// Writes a piece of text as it is: brackets, names of members and what is between.
+/// Writes a piece of text unchanged: brackets, names of members, and the characters between them.
 pub(crate) fn write_piece(out: &mut Vec<u8>, piece: &[u8]) -> Result<(), AllocError>
     ensures { OnOk result (out.new.items ≡ out.old.items ++ piece.now) }
 {
     out.extend_from_slice(piece)
 }
 
-/// Writes a text.
+/// Writes a text in quotes, with escapes.
 fn write_text(out: &mut Vec<u8>, text: &str) -> Result<(), AllocError>
     ensures { OnOk result (Appends (string text.now) out.old.items out.new.items) }
 {
@@ -188,7 +190,7 @@ pub(crate) fn write_escaped(out: &mut Vec<u8>, text: &[u8]) -> Result<(), AllocE
     write_each_byte(out, text)
 }
 
-/// Whether no byte of a text has an escape.
+/// Returns whether no byte of a text needs an escape.
 fn is_plain(text: &[u8]) -> bool
     ensures plain { result ≡ true → escape text.now ≡ text.now }
 {
@@ -209,7 +211,7 @@ fn write_each_byte(out: &mut Vec<u8>, text: &[u8]) -> Result<(), AllocError>
     Ok(())
 }
 
-/// Writes a byte of a text: two that have a meaning of their own, and those of control characters, by their escape.
+/// Writes a byte of a text. Quotes, backslashes and control characters are written as escapes.
 fn write_byte(out: &mut Vec<u8>, byte: u8) -> Result<(), AllocError>
     ensures { OnOk result (out.new.items ≡ out.old.items ++ escape_byte byte) }
 {
@@ -227,7 +229,7 @@ fn write_byte(out: &mut Vec<u8>, byte: u8) -> Result<(), AllocError>
     Ok(())
 }
 
-/// The letter of a byte's short escape, or 0 where it has none.
+/// Returns the letter of a byte's short escape, or 0 if it has none.
 fn letter(byte: u8) -> u8
     ensures { result ≡ escape_letter byte }
 {
@@ -242,7 +244,7 @@ fn letter(byte: u8) -> u8
     }
 }
 
-/// A hexadecimal digit.
+/// Returns a hexadecimal digit.
 fn digit(value: u8) -> u8
     requires { value < 16 }
     ensures { result ≡ digit_char value }

@@ -1,5 +1,5 @@
-//! The messages of the protocol (JSON-RPC 2.0, and the params of LSP 3.17 that this server knows): contents are read,
-//! and answers are written.
+//! Reads and writes the messages of the protocol (JSON-RPC 2.0, and the params of LSP 3.17 that
+//! this server knows).
 #![tactic(auto)]
 
 mod changes;
@@ -19,7 +19,7 @@ pub use incoming::{Id, Incoming, RpcFault, read};
 pub use json_text::{WriteJson, begin_list, end_list, write_item};
 pub use members::{range_in, text_in};
 pub use notifications::{ClientNotification, notice};
-/// What a notification says, by its short name.
+/// The short name of a client's notification.
 pub use notifications::ClientNotification as Note;
 pub use objects::{OneMember, end_object, first_member, next_member};
 pub use outgoing::{
@@ -27,6 +27,6 @@ pub use outgoing::{
 };
 pub use ranges::{piece_before, range_before};
 pub use requests::{ClientRequest, DocumentPosition, request};
-/// What a request says, by its short name.
+/// The short name of a client's request.
 pub use requests::ClientRequest as Call;
 pub use values::{notification, result};

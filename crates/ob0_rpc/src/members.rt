@@ -1,4 +1,4 @@
-//! What the members of params and results hold.
+//! Reads the members of params and results.
 ghost use Rattle.std.specs.Prelude.{◌≡◌, option_map, string_bytes};
 ghost use Rattle.std.specs.Str.{chars};
 ghost use Rattle.serde_json.specs.Find.{as_str, get};
@@ -8,7 +8,7 @@ ghost use Rattle.ob0_rpc.specs.Members.{is_absent as absent, text_member, truth_
 use ob0_text::{Position, Range};
 use serde_json::Value;
 
-/// A member that is null counts as absent.
+/// Returns whether a member is absent or null.
 pub fn is_absent(member: Option<&Value>) -> bool
     ensures { result ≡ absent (option_map (λ v. view v.now) member.entry) }
 {
@@ -18,56 +18,56 @@ pub fn is_absent(member: Option<&Value>) -> bool
     }
 }
 
-/// The text of a member; None where it is absent, or isn't a text.
+/// Returns the text of a member, or None if the member is absent or isn't a text.
 pub fn text_in<'v>(value: &'v Value, name: &str) -> Option<&'v str>
     ensures { option_map (λ s. s.now) result ≡ text_member name.now (view value.now) }
 {
     value.get(name)?.as_str()
 }
 
-/// The truth value of a member; None where it is absent, or isn't a truth value.
+/// Returns the truth value of a member, or None if the member is absent or isn't a truth value.
 pub fn truth_in(value: &Value, name: &str) -> Option<bool>
     ensures { result ≡ truth_member name.now (view value.now) }
 {
     value.get(name)?.as_bool()
 }
 
-/// A whole number from 0 to 2^64-1.
+/// Returns the number of a member, or None if it isn't a whole number from 0 to 2^64-1.
 pub fn count_in(value: &Value, name: &str) -> Option<u64>
     ensures { result ≡ count_member name.now (view value.now) }
 {
     value.get(name)?.as_u64()
 }
 
-/// The document that params name.
+/// Returns the uri of the document in params.
 pub fn uri_of(params: &Value) -> Option<&str>
     ensures { option_map (λ s. s.now) result ≡ document_uri (view params.now) }
 {
     params.get("textDocument")?.get("uri")?.as_str()
 }
 
-/// The version of the document that params name, a whole number of 64 bits with a sign.
+/// Returns the version of the document in params, a signed whole number of 64 bits.
 pub fn version_of(params: &Value) -> Option<i64>
     ensures { result ≡ document_version (view params.now) }
 {
     params.get("textDocument")?.get("version")?.as_i64()
 }
 
-/// The text of the document that params name, taken out of them.
+/// Moves the text of the document out of params.
 pub fn into_document_text(params: Value) -> Option<String>
     ensures { option_map (λ s. chars (string_bytes s)) result ≡ document_text (view params) }
 {
     into_text_in(into_member(params, "textDocument")?, "text")
 }
 
-/// The text of a member, taken out of a value.
+/// Moves the text of a member out of a value.
 pub fn into_text_in(value: Value, name: &str) -> Option<String>
     ensures { option_map string_bytes result ≡ text_member name.now (view value) }
 {
     into_text(into_member(value, name)?)
 }
 
-/// A member, taken out of a value.
+/// Moves a member out of a value.
 pub fn into_member(value: Value, name: &str) -> Option<Value>
     ensures { option_map view result ≡ get name.now (view value) }
 {
@@ -94,7 +94,7 @@ fn into_text(value: Value) -> Option<String>
     }
 }
 
-/// A position: a line and a character, both whole numbers from 0 to 2^64-1.
+/// Reads a position: a line and a character, both whole numbers from 0 to 2^64-1.
 pub fn position_of(value: &Value) -> Option<Position>
     ensures { result ≡ json_position (view value.now) }
 {
@@ -103,14 +103,14 @@ pub fn position_of(value: &Value) -> Option<Position>
     Some(Position { line, character })
 }
 
-/// The position of a member.
+/// Reads the position of a member.
 pub fn position_in(value: &Value, name: &str) -> Option<Position>
     ensures { result ≡ position_member name.now (view value.now) }
 {
     position_of(value.get(name)?)
 }
 
-/// A range: its start and its end, in whatever order they are.
+/// Reads a range: its start and its end, in either order.
 pub fn range_of(value: &Value) -> Option<Range>
     ensures { result ≡ json_range (view value.now) }
 {
@@ -119,7 +119,7 @@ pub fn range_of(value: &Value) -> Option<Range>
     Some(Range { start, end })
 }
 
-/// The range of a member.
+/// Reads the range of a member.
 pub fn range_in(value: &Value, name: &str) -> Option<Range>
     ensures { result ≡ range_member name.now (view value.now) }
 {

@@ -1,4 +1,4 @@
-//! What notifications say.
+//! Reads a client's notifications.
 ghost use Rattle.std.specs.Prelude.{◌≡◌, IfOk};
 ghost use Rattle.serde_json.specs.View.{view};
 ghost use Rattle.ob0_rpc.specs.Members.{document_uri, document_version, document_text};
@@ -12,7 +12,7 @@ use ob0_text::Change;
 use serde_json::Value;
 use std::alloc::{AllocError, Global};
 
-/// A notification.
+/// A notification of a client.
 #[derive(Drop)]
 pub enum ClientNotification {
     Exit,
@@ -36,7 +36,8 @@ pub enum ClientNotification {
     Other,
 }
 
-/// Reads a notification by its method, and takes its texts out of the params. The only fault is running out of memory.
+/// Reads a notification by its method, and moves its texts out of the params. The only error is a
+/// failed allocation.
 pub fn notice(alloc: Global, method: &str, params: Value) -> Result<ClientNotification, RpcFault>
     ensures { ReportsAs method.now (view params) result }
 {

@@ -1,4 +1,4 @@
-//! Objects, member by member. A name is written as it is, so it is one that needs no escape.
+//! Writes objects member by member. Names are written without escapes, so they must not need any.
 ghost use Rattle.std.specs.Prelude.{◌≡◌, ◌++◌, [], ◌∷◌, OnOk};
 ghost use Rattle.serde_json.specs.Data.{member, no_members, object};
 ghost use Rattle.ob0_rpc.specs.Appending.{AppendsMember};
@@ -6,7 +6,7 @@ ghost use Rattle.ob0_rpc.specs.Appending.{AppendsMember};
 use crate::json_text::{WriteJson, write_piece};
 use std::alloc::AllocError;
 
-/// Writes the first member of an object, after the bracket that opens it.
+/// Writes an object's opening bracket and its first member.
 #[inline(always)]
 pub fn first_member<W: WriteJson>(
     out: &mut Vec<u8>,
@@ -22,7 +22,7 @@ pub fn first_member<W: WriteJson>(
     value.write(out)
 }
 
-/// Writes a further member of an object.
+/// Writes a comma and a further member of an object.
 #[inline(always)]
 pub fn next_member<W: WriteJson>(out: &mut Vec<u8>, name: &str, value: &W) -> Result<(), AllocError>
     ensures { OnOk result
@@ -42,7 +42,7 @@ pub fn end_object(out: &mut Vec<u8>) -> Result<(), AllocError>
     write_piece(out, b"}")
 }
 
-/// An object of one member, whose name is a text that may need escapes.
+/// An object with one member, whose name may need escapes.
 #[derive(Drop)]
 pub struct OneMember<'a, W> {
     pub key: &'a str,

@@ -28,7 +28,7 @@ impl<'a, W: WriteJson> WriteJson for Response<'a, W> {
     }
 }
 
-/// Why a request is refused.
+/// The reason why a request is refused.
 #[derive(Drop)]
 pub struct ResponseError<'a> {
     pub code: i32,
@@ -102,7 +102,7 @@ impl<'a> WriteJson for &'a Id {
     }
 }
 
-/// The text of a message, which reads back as that message where it isn't nested deeper than 127.
+/// Returns the text of a message. It reads back as the message if that is nested at most 127 deep.
 pub fn content_of<W: WriteJson>(alloc: Global, message: &W) -> Result<Vec<u8>, AllocError>
     ensures { IfOk result
         (λ bytes. depth (W.value message.now) ≤ 127 → Writes (W.value message.now) bytes.items) }
@@ -112,7 +112,7 @@ pub fn content_of<W: WriteJson>(alloc: Global, message: &W) -> Result<Vec<u8>, A
     Ok(out)
 }
 
-/// The answer to a request, with a value that isn't nested deeper than 126.
+/// Returns the answer to a request, with a value that is nested at most 126 deep.
 pub fn result_of<W: WriteJson>(alloc: Global, id: &Id, value: &W) -> Result<Vec<u8>, AllocError>
     ensures { IfOk result (λ bytes. CanBeSent (W.value value.now)
         → Writes (result_message (id_data id.now) (W.value value.now)) bytes.items) }
@@ -120,7 +120,7 @@ pub fn result_of<W: WriteJson>(alloc: Global, id: &Id, value: &W) -> Result<Vec<
     content_of(alloc, &Response { id, result: value })
 }
 
-/// The refusal of a request, or of a content that isn't a message.
+/// Returns the refusal of a request, or of a content that isn't a message.
 pub fn error(
     alloc: Global,
     id: Option<&Id>,
@@ -135,7 +135,7 @@ pub fn error(
     content_of(alloc, &ErrorResponse { error, id })
 }
 
-/// A notification, with params that aren't nested deeper than 126.
+/// Returns a notification, with params that are nested at most 126 deep.
 pub fn notify<W: WriteJson>(alloc: Global, method: &str, params: &W) -> Result<Vec<u8>, AllocError>
     ensures { IfOk result (λ bytes. CanBeSent (W.value params.now)
         → Writes (notification_message method.now (W.value params.now)) bytes.items) }

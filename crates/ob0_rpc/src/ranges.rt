@@ -1,7 +1,8 @@
-//! Positions, ranges and edits. A range is put together from its end on, so that its digits are where they are made.
+//! Writes positions, ranges and edits. A range is built from its end backwards, so its digits are
+//! produced in their final place.
 //!
-//! It is made in an array of fixed size on the stack and put down once: put down piece by piece, each of its sixteen
-//! pieces would cost a test of the capacity and a copy.
+//! It is built in a fixed array on the stack and copied once. Appended piece by piece, each of its
+//! sixteen pieces would cost a capacity check and a copy.
 
 ghost use Rattle.std.specs.Prelude.{◌≡◌, ◌++◌, ◌∷◌, [], ◌+◌, ◌<◌, ◌≤◌, ◌^◌, OnOk, codes, decimal, drop, length};
 ghost use Rattle.serde_json.specs.Written.{compact_text};
@@ -14,7 +15,7 @@ use itoa::write_digits;
 use ob0_text::{Edit, Position, Range};
 use std::alloc::AllocError;
 
-/// The length that a range's text has at most, with what is put before and after it.
+/// The greatest length of a range's text, together with the text around it.
 const RANGE_CAPACITY: usize = 176;
 
 impl WriteJson for Position {
@@ -45,7 +46,7 @@ impl WriteJson for Edit {
     }
 }
 
-/// Writes what follows the text of an edit.
+/// Writes the part of an edit that follows its text.
 fn write_end_of_edit(out: &mut Vec<u8>, start: Position, end: Position) -> Result<(), AllocError>
     ensures text { OnOk result (out.new.items ≡ out.old.items
         ++ (codes "\",\"range\":" ++ (compact_text (range_value start end) ++ 125 ∷ []))) }
@@ -67,7 +68,7 @@ fn write_range(out: &mut Vec<u8>, start: Position, end: Position) -> Result<(), 
     write_piece(out, &buffer[at..])
 }
 
-/// Puts a range's text before a place, and returns where it begins.
+/// Puts a range's text before a place in the buffer, and returns the place at which it begins.
 pub fn range_before(buffer: &mut [u8], at: usize, start: Position, end: Position) -> usize
     requires { (160 ≤ at) × (at ≤ length buffer.old) }
     ensures within { (at ≤ result + 160) × (result ≤ at) }
@@ -82,7 +83,7 @@ pub fn range_before(buffer: &mut [u8], at: usize, start: Position, end: Position
     piece_before(buffer, at_end, b"{\"end\":")
 }
 
-/// Puts a position's text before a place, and returns where it begins.
+/// Puts a position's text before a place in the buffer, and returns the place at which it begins.
 fn position_before(buffer: &mut [u8], at: usize, position: Position) -> usize
     requires { (62 ≤ at) × (at ≤ length buffer.old) }
     ensures within { (at ≤ result + 62) × (result ≤ at) }
@@ -97,7 +98,8 @@ fn position_before(buffer: &mut [u8], at: usize, position: Position) -> usize
     piece_before(buffer, at_character, b"{\"character\":")
 }
 
-/// Puts a whole number's digits before a place.
+/// Puts a whole number's digits before a place in the buffer, and returns the place at which they
+/// begin.
 #[inline(always)]
 fn count_before(buffer: &mut [u8], at: usize, count: u64) -> usize
     requires { (20 ≤ at) × (at ≤ length buffer.old) }
@@ -108,7 +110,7 @@ fn count_before(buffer: &mut [u8], at: usize, count: u64) -> usize
     write_digits(count, buffer, at)
 }
 
-/// Puts a piece of text before a place, and returns where it begins.
+/// Puts a piece of text before a place in the buffer, and returns the place at which it begins.
 #[inline(always)]
 pub fn piece_before(buffer: &mut [u8], at: usize, piece: &[u8]) -> usize
     requires { (length piece.now ≤ at) × (at ≤ length buffer.old) }

@@ -1,4 +1,4 @@
-//! Requests of the client (LSP 3.17), by method and params.
+//! Reads a client's requests (LSP 3.17) by method and params.
 ghost use Rattle.std.specs.Prelude.{◌≡◌, IfOk, option_map, option_and_then, map, string_bytes, codes};
 ghost use Rattle.serde_json.specs.Find.{get};
 ghost use Rattle.serde_json.specs.View.{view, items_view};
@@ -41,7 +41,7 @@ pub enum ClientRequest {
     CodeAction {
         uri: String,
         range: Range,
-        /// The kinds that are requested, where there are any.
+        /// The requested kinds of actions, if there are any.
         only: Option<Vec<String>>,
     },
     Formatting {
@@ -50,7 +50,8 @@ pub enum ClientRequest {
     },
 }
 
-/// Reads a request by its method. `initialize` requires params that are an object, `shutdown` requires nothing.
+/// Reads a request by its method. The params of `initialize` must be an object; `shutdown` accepts
+/// any params.
 pub fn request(alloc: Global, method: &str, params: &Value) -> Result<ClientRequest, RpcFault>
     ensures { Requests (request_by_method method.now (view params.now)) result }
 {
@@ -204,7 +205,7 @@ fn includes_declaration(params: &Value) -> Option<bool>
     truth_in(params.get("context")?, "includeDeclaration")
 }
 
-/// The indent of formatting options.
+/// Reads the indentation from formatting options.
 fn indent_of(params: &Value) -> Option<Indent>
     ensures { result ≡ option_and_then indent_in (get (codes "options") (view params.now)) }
 {
@@ -218,14 +219,14 @@ fn indent_of(params: &Value) -> Option<Indent>
     })
 }
 
-/// The spaces of a level where this many are requested: from 1 to [`MAX_INDENT`].
+/// Returns the number of spaces in a level if this many are requested: from 1 to [`MAX_INDENT`].
 fn spaces_of(size: u64) -> u8
     ensures { result ≡ level_spaces size }
 {
     size.min(MAX_INDENT as u64).max(1) as u8
 }
 
-/// The kinds that a context requests; None where it can't be read.
+/// Returns the kinds that a context requests, or None if the context can't be read.
 fn kinds_of(
     alloc: Global,
     context: Option<&Value>,
@@ -261,7 +262,7 @@ fn only_in(alloc: Global, only: Option<&Value>) -> Result<Option<Option<Vec<Stri
     }
 }
 
-/// The texts of a list; None where an item isn't a text.
+/// Returns the texts of a list, or None if an item isn't a text.
 fn texts_of(alloc: Global, items: &[Value]) -> Result<Option<Vec<String>>, AllocError>
     ensures { IfOk result (λ found. option_map (λ texts. map string_bytes texts.items) found
         ≡ texts_in (items_view items.now)) }

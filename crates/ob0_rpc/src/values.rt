@@ -1,4 +1,4 @@
-//! Messages whose result or params are a JSON value.
+//! Messages with a result or params that are a `Value`.
 ghost use Rattle.std.specs.Prelude.{◌≡◌, ◌≤◌, false, IfOk};
 ghost use Rattle.serde_json.specs.Data.{depth};
 ghost use Rattle.serde_json.specs.View.{view};
@@ -11,7 +11,8 @@ use crate::incoming::Id;
 use serde_json::{Value, json};
 use std::alloc::{AllocError, Global};
 
-/// The answer to a request, with a value that isn't nested deeper than 126 and whose numbers are whole ones.
+/// Returns the answer to a request, with a value that is nested at most 126 deep and has only whole
+/// numbers.
 pub fn result(alloc: Global, id: &Id, value: Value) -> Result<Vec<u8>, AllocError>
     ensures { IfOk result (λ bytes. has_float (view value) ≡ false
         → CanBeSent (view value)
@@ -21,7 +22,8 @@ pub fn result(alloc: Global, id: &Id, value: Value) -> Result<Vec<u8>, AllocErro
     text_of(alloc, &message)
 }
 
-/// A notification, with params that aren't nested deeper than 126 and whose numbers are whole ones.
+/// Returns a notification, with params that are nested at most 126 deep and have only whole
+/// numbers.
 pub fn notification(alloc: Global, method: &str, params: Value) -> Result<Vec<u8>, AllocError>
     ensures { IfOk result (λ bytes. has_float (view params) ≡ false
         → CanBeSent (view params)

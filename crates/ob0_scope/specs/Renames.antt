@@ -13,7 +13,7 @@ use Rattle.ob0_language_names.specs.Names.{Name, as_names, same_name}
 use Rattle.ob0_language_names.specs.Occurrences.{Capture, at_declaration, at_occurrence, blocks_in, declares_ordinal}
 use Rattle.ob0_language_names.specs.Parts.{module_block}
 use Rattle.ob0_scope_table.specs.Resolution.{Resolution, ordinal_in}
-use Rattle.ob0_language_names.specs.Scopes.{Scope, as_label, numbered, renamed}
+use Rattle.ob0_language_names.specs.Scopes.{Scope, as_label, numbered, predeclared_count, renamed}
 use Rattle.ob0_scope_numbering.specs.Written.{Writing, name_at}
 
 -- the newest of these declarations that has the name and isn't d
@@ -31,7 +31,7 @@ namesake_in (own ∷ others) d new =
 
 -- the declaration of d's block, other than d, that has the name; if there are several, the last one
 abbrev pub namesake : Tree Name module_text → ℕ → Name → Option ℕ
-namesake m d new = namesake_in (blocks_in 7 [] (module_block m)) d new
+namesake m d new = namesake_in (blocks_in predeclared_count [] (module_block m)) d new
 
 -- the place of a capture
 abbrev pub place_of : reported.FirstCapture → Capture

@@ -5,7 +5,7 @@ use Rattle.std.specs.Prelude.{ℕ, ◌+◌, nat_lt, List, [], ◌∷◌, ◌++�
 use Rattle.ob0_tree.specs.Tree.{Tree, block, body, declares, declares_procedure, end, has_body, is_module, item, items, maybe, module_text, more, procedure}
 use Rattle.ob0_language_names.specs.Names.{as_names}
 use Rattle.ob0_language_names.specs.Parts.{procedure_name}
-use Rattle.ob0_language_names.specs.Scopes.{predeclared_scope}
+use Rattle.ob0_language_names.specs.Scopes.{predeclared_count, predeclared_scope}
 use Rattle.ob0_scope_numbering.specs.Tabling as tabling
 use Rattle.ob0_scope_numbering.specs.Visiting.{Visit, after_heading, numbered_at, used, visible, visit_constant_section, visit_formals, visit_type_section, visit_variable_section}
 use Rattle.ob0_scope_numbering.specs.Written.{Writing}
@@ -29,7 +29,7 @@ counted token v = record v { declarations = v.declarations ++ (token ∷ []) }
 
 -- makes a procedure's name visible, and skips its content
 abbrev pub passed_over : {M : Type 0} → ℕ → Visit M → Visit M
-passed_over x v = visible x (7 + length v.declarations) v
+passed_over x v = visible x (predeclared_count + length v.declarations) v
 
 -- `put` adds an identifier's ordinal to the others; `all` are the module's declarations, and the
 -- range begins at `low`

@@ -9,7 +9,7 @@ use Rattle.ob0_tree.specs.Visited.{visited, visited_all}
 use Rattle.ob0_scope_numbering.specs.Written.{Writing, name_at}
 use Rattle.ob0_language_names.specs.Names.{Name, as_names}
 use Rattle.ob0_language_names.specs.Parts.{names_listed}
-use Rattle.ob0_language_names.specs.Scopes.{Scope, declare_names, ordinal_of}
+use Rattle.ob0_language_names.specs.Scopes.{Scope, declare_names, ordinal_of, predeclared_count}
 
 -- The state of the walk: the spellings of identifiers, the visible names, the declaring tokens, the
 -- tokens of the occurrences, and the ordinals of the identifiers so far.
@@ -29,7 +29,7 @@ abbrev pub visible_from : {M : Type 0} → ℕ → Visit M → Visit M
 visible_from first v =
     record v {
       scope
-          = declare_names (7 + first) (map (name_at v.writing) (drop first v.declarations)) v.scope;
+          = declare_names (predeclared_count + first) (map (name_at v.writing) (drop first v.declarations)) v.scope;
     }
 
 -- keeps only the oldest `len` bindings
@@ -56,7 +56,7 @@ module _ {M : Type 0} (put : ℕ → Option ℕ → M → M) where
   numbered_at i v =
       record v {
         declarations = v.declarations ++ (i ∷ []);
-        marks = put i (Some (7 + length v.declarations)) v.marks;
+        marks = put i (Some (predeclared_count + length v.declarations)) v.marks;
       }
 
   abbrev pub numbered_all : List ℕ → Visit M → Visit M
@@ -148,8 +148,8 @@ module _ {M : Type 0} (put : ℕ → Option ℕ → M → M) where
     -- a procedure: its name, its parameters, its block and its closing name
     pub visit_procedure : Tree ℕ (item procedure) → Visit M → Visit M
     visit_procedure (declares_procedure x fs b closing) v =
-        marked closing (Some (7 + length v.declarations))
-        (leave_block x (7 + length v.declarations) (length v.scope)
+        marked closing (Some (predeclared_count + length v.declarations))
+        (leave_block x (predeclared_count + length v.declarations) (length v.scope)
         (visit_block b (after_heading (length v.declarations) (length v.scope)
         (visit_formals fs (numbered_at x v)))))
 

@@ -27,7 +27,7 @@ ghost use Rattle.ob0_tree.specs.View.{names_of, constant_of, constants_of, type_
 ghost use Rattle.ob0_language_names.specs.Names.{as_names};
 ghost use Rattle.ob0_language_names.specs.Parts.{names_listed};
 ghost use Rattle.ob0_scope_table.specs.Resolution.{ordinal_in};
-ghost use Rattle.ob0_language_names.specs.Scopes.{ordinal_of, predeclared_scope};
+ghost use Rattle.ob0_language_names.specs.Scopes.{ordinal_of, predeclared_count, predeclared_scope};
 ghost use Rattle.ob0_scope_numbering.specs.Shadowing.{with_scope};
 ghost use Rattle.ob0_scope_numbering.specs.Written.{as_in, is_renamed, name_at};
 ghost use Rattle.ob0_scope_numbering.specs.Tabling.{marked, numbered_at, numbered_all, visible, visible_from, left_to, found, visit_constant, visit_constant_section, visit_type, visit_type_section, visit_variable, visit_variable_section, visit_section, visit_formals, visit_procedure, visit_block, visit_module, started, module_numbered, put};
@@ -97,7 +97,7 @@ impl<'t> Visitor for Numbering<'t> {
 /// Returns the ordinal of a declaration from its index among the declarations of the text.
 fn ordinal_at_index(index: usize) -> usize
     requires { index < 2 ^ 63 }
-    ensures { result ≡ 7 + index }
+    ensures { result ≡ predeclared_count + index }
 {
     PREDECLARED + index
 }
@@ -235,7 +235,7 @@ impl<'t> Numbering<'t> {
 
     /// Gives a declaring name the next ordinal.
     fn number(&mut self, token: usize) -> Result<usize, AllocError>
-        ensures next { IfOk result (λ ordinal. ordinal ≡ 7 + length self.old.declarations) }
+        ensures next { IfOk result (λ ordinal. ordinal ≡ predeclared_count + length self.old.declarations) }
         ensures numbered { OnOk result (self.new ≡ numbered_at token self.old) }
     {
         let ordinal = ordinal_at_index(self.declarations.len());

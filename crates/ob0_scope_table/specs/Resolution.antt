@@ -13,7 +13,7 @@ use Rattle.ob0_tree.specs.Tree.{mapped, occurrences, identifiers}
 use Rattle.ob0_tree.specs.Parsed.{Parsed, IsParsed, tree_of, named_tree_of}
 use Rattle.ob0_tree.specs.Places.{text_at, value_at}
 use Rattle.ob0_language_names.specs.Names.{Label, Name, as_names, as_written, declared}
-use Rattle.ob0_language_names.specs.Scopes.{Labels, as_label, numbered, relabelled}
+use Rattle.ob0_language_names.specs.Scopes.{Labels, as_label, numbered, predeclared_count, relabelled}
 use Rattle.ob0_language_names.specs.Occurrences.{bindings}
 use Rattle.ob0_language_names.specs.DeclaredOnce.{declared_once}
 use Rattle.ob0_scope_table.specs.DeclaredTwice.{twice_in}
@@ -40,7 +40,9 @@ declaring_only ((role.ModuleName, n) ∷ xs) = declaring_only xs
 -- the token that declares the object with an ordinal; none for the predeclared names
 abbrev pub token_declaring : List ℕ → ℕ → Option ℕ
 token_declaring declarations ordinal =
-    if nat_lt ordinal 7 then None else slice_get declarations (ordinal - 7)
+    if nat_lt ordinal predeclared_count
+    then None
+    else slice_get declarations (ordinal - predeclared_count)
 
 -- true for the label of an unbound name
 abbrev pub is_unbound : Label → Bool
@@ -68,8 +70,8 @@ undeclared_at source ordinals (token ∷ tokens) =
     else record { code = code.Undeclared; span = span_at source token }
     ∷ undeclared_at source ordinals tokens
 
--- A module with its resolved names. It has the ordinals by token, the declaring tokens by ordinal,
--- which begins at 7, the tokens of the occurrences in text order, and the faults.
+-- A module with its resolved names. It has the ordinals by token; the declaring tokens by ordinal,
+-- which begins at `predeclared_count`; the tokens of the occurrences in text order; and the faults.
 pub record Resolution : Type 0 where
   pub module_read : Parsed
   pub ordinals : List (Option ℕ)

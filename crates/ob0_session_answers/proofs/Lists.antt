@@ -1,4 +1,4 @@
--- The diagnostics of what is reported, one after the other.
+-- The diagnostics of the reported diagnoses, one after another.
 use Rattle.std.proofs.Common.{◌≡◌, ◌∙◌, List, [], ◌∷◌, ◌++◌, map, refl}
 use Rattle.std.proofs.lemmas.List.{map-append}
 use mathlib.Core.List.{map-map}
@@ -8,10 +8,10 @@ use Rattle.ob0_session_json.specs.Made.{DiagnosticsAre, diagnostic_in}
 use Rattle.ob0_session_json.specs.Shapes as shapes
 use Rattle.ob0_session_json.specs.declared.publication.Diagnostic.{Diagnostic}
 
--- the diagnostic of the next one that is reported
+-- the diagnostic of the next diagnosis
 pub diagnostics_next : (shown : Diagnosis → shapes.Diagnostic) (listed : List Diagnosis) (d : Diagnosis) (vs : List Diagnostic) (v : Diagnostic) → DiagnosticsAre (map shown listed) vs → diagnostic_in v ≡ shown d → DiagnosticsAre (map shown (listed ++ d ∷ [])) (vs ++ v ∷ [])
 diagnostics_next shown listed d vs v are is = rw (map-append shown listed (d ∷ []), map-append diagnostic_in vs (v ∷ []), are, is) refl
 
--- what is shown of a list, one after the other
+-- the diagnostics of a whole list
 pub diagnostics_of_all : (shown : Complaint → shapes.Diagnostic) (reported : List Diagnosis) (vs : List Diagnostic) → DiagnosticsAre (map (λ d. shown (complaint_in d)) reported) vs → DiagnosticsAre (map shown (map complaint_in reported)) vs
 diagnostics_of_all shown reported vs are = map-map shown complaint_in reported ∙ are

@@ -1,4 +1,4 @@
--- What is found about the name at a position, and that it can be sent.
+-- The answer about the name at a position, and that it can be sent.
 use Rattle.std.proofs.Common.{◌≡◌, ◌≤◌, ℕ, List, [], ◌∷◌, Option, Some, None, map, subst, arith}
 use Rattle.std.specs.Str.{chars, IsUtf8}
 use Rattle.serde_json.specs.Data.{null, array, items_depth}
@@ -13,7 +13,7 @@ use Rattle.ob0_analysis.specs.Texts.{utf8}
 use Rattle.ob0_session_answers.specs.Questions.{location_at}
 use Rattle.ob0_analysis.proofs.Scanning.{utf8_of}
 
--- what was found of the module that a text is, or that there is none
+-- the answer about the module that the text is, or that the text isn't a module
 abbrev pub FoundOf : {A : Type 0} → List ℕ → (Resolution → A → Type 0) → Option A → Type 0
 FoundOf text is (Some answer) = (names : Resolution) × IsModuleIn (utf8 text) names × is names answer
 FoundOf text is None = IsWellTypedModule (utf8 text) → ⊥
@@ -24,7 +24,7 @@ found_of bytes text is (Some answer) u same h =
     (h.0, subst (λ (t : List ℕ). IsModuleIn t h.0) (utf8_of bytes text u same) h.1, h.2)
 found_of bytes text is None u same h = subst (λ (t : List ℕ). IsWellTypedModule t → ⊥) (utf8_of bytes text u same) h
 
--- ---- what can be sent
+-- ---- values that can be sent
 
 shallow_locations : (unit : Unit) (uri text : List ℕ) (spans : List Span) → items_depth (items_of (map (location_at unit uri text) spans)) ≤ 3
 shallow_locations unit uri text [] = omega arith

@@ -1,4 +1,4 @@
--- Laying out a text on request: the answer.
+-- The answer to a request for formatting.
 -- Rule: docs/PROTOCOL.md, Requests on documents 8.
 use Rattle.std.specs.Prelude.{◌≡◌, ◌⊎◌, ℕ, List, codes}
 use Rattle.serde_json.specs.Data.{Data}
@@ -14,7 +14,7 @@ use Rattle.ob0_analysis.specs.Texts.{utf8}
 use Rattle.ob0_edits.specs.Layouts.{IsTooLongLaidOut, LaysOut}
 use Rattle.ob0_session_json.specs.Shapes.{edits_value, edit_refused}
 
--- this message answers a request with this id to lay out a text
+-- states that a message answers a request for formatting with this id
 abbrev pub AnswersFormatting : Unit → Data → Indent → List ℕ → Data → Type 0
 AnswersFormatting unit id indent text message =
     ((edits : List Edit)
@@ -23,7 +23,7 @@ AnswersFormatting unit id indent text message =
     ⊎ ((IsTooLongLaidOut indent text × (message ≡ edit_refused id (refusal_text TooLong)))
     ⊎ (¬ IsWellTypedModule (utf8 text) × (message ≡ edit_refused id (codes "ill-typed"))))
 
--- this content answers it
+-- states that a content answers the request
 abbrev pub RepliesToFormatting : Unit → Data → Indent → List ℕ → List ℕ → Type 0
 RepliesToFormatting unit id indent text content =
     (message : Data) × AnswersFormatting unit id indent text message × Writes message content

@@ -1,4 +1,4 @@
--- Renaming on request: the edits, and the answer.
+-- The answer to a request for renaming, and its edits.
 -- Rule: docs/PROTOCOL.md, Requests on documents 6.
 use Rattle.std.specs.Prelude.{◌≡◌, ◌⊎◌, ℕ, ℤ, List, codes}
 use Rattle.serde_json.specs.Data.{Data}
@@ -17,8 +17,8 @@ use Rattle.ob0_analysis.specs.Texts.{utf8}
 use Rattle.ob0_session_json.specs.Shapes.{edit_refused, workspace_edit}
 use Rattle.ob0_session_answers.specs.declared.renaming.RenameRequest.{RenameRequest}
 
--- a request for another name: its id, the client, the place in a document,
--- the document's version, and the name
+-- a request for renaming: its id, the client, the place in a document, the document's version, and
+-- the new name
 pub record RequestedRename : Type 0 where
   pub id : Data
   pub client : Client
@@ -26,7 +26,7 @@ pub record RequestedRename : Type 0 where
   pub version : ℤ
   pub new : List ℕ
 
--- a request of the code for a rename in a document of this version
+-- the meaning of a request for renaming in a document of this version
 abbrev pub rename_requested : RenameRequest → ℤ → RequestedRename
 rename_requested r version =
     record {
@@ -37,13 +37,13 @@ rename_requested r version =
       new = r.new.now;
     }
 
--- the edits as they are sent to the client
+-- the JSON value of the edits, in the form that the client accepts
 abbrev pub edits_for_client : RequestedRename → List Edit → Data
 edits_for_client requested edits =
     workspace_edit requested.client requested.at.uri requested.version edits
 
--- this message answers the request, where positions are counted in the unit
--- and the document has the text
+-- states that a message answers the request for a document with this text, if positions are counted
+-- in this unit
 abbrev pub AnswersRenaming : Unit → RequestedRename → List ℕ → Data → Type 0
 AnswersRenaming unit requested text message =
     ((edits : List Edit)
@@ -54,7 +54,7 @@ AnswersRenaming unit requested text message =
     × (message ≡ edit_refused requested.id (refusal_text refusal)))
     ⊎ (¬ IsWellTypedModule (utf8 text) × (message ≡ edit_refused requested.id (codes "ill-typed"))))
 
--- this content answers it
+-- states that a content answers the request
 abbrev pub RepliesToRename : Unit → RequestedRename → List ℕ → List ℕ → Type 0
 RepliesToRename unit requested text content =
     (message : Data) × AnswersRenaming unit requested text message × Writes message content

@@ -1,9 +1,9 @@
-//! Code actions on request: a constant is inlined, here or everywhere.
+//! Answers requests for code actions: inlining a constant, at one use or everywhere.
 //!
-//! `inline_in` of `ob0_edits` makes the edits. `place_of` compares offsets, so that a swapped range needs no law on the
-//! order of positions (`actions_offset` is the lesser of two offsets). An action is made of an `Inlining` (`Here`,
-//! `Everywhere`), so that title, relation and edits go by one argument. A further action: an `Inlining` with a line in
-//! `title`.
+//! `inline_in` of `ob0_edits` makes the edits. `place_of` compares offsets, so that a swapped range
+//! needs no law about the order of positions (`actions_offset` is the smaller of two offsets). An
+//! action is made from an `Inlining` (`Here`, `Everywhere`), so title, relation and edits depend on
+//! one argument. A further action needs one more `Inlining` and a line in `title`.
 
 ghost use Rattle.std.specs.Prelude.{◌≡◌, IfOk, map, string_bytes};
 ghost use Rattle.std.specs.List.{list_any};
@@ -24,7 +24,7 @@ use ob0_session_json::edits::{CodeAction, WorkspaceEdit};
 use ob0_text::{Edit, Position, Range, TextStore};
 use std::alloc::{AllocError, Global};
 
-/// The start of a range, and the end of one that is swapped.
+/// Returns the start of a range, or its end if the range is swapped.
 fn place_of<T: TextStore>(store: &T, range: Range) -> Position
     ensures { offset_of (width_of (T.unit_of store.now)) (T.content store.now) result
         ≡ place_in (T.unit_of store.now) (T.content store.now) range }
@@ -36,14 +36,14 @@ fn place_of<T: TextStore>(store: &T, range: Range) -> Position
     }
 }
 
-/// The code actions in a range of a document.
+/// A request for the code actions in a range of a document.
 #[derive(Drop)]
 pub struct ActionsRequest<'a> {
     pub id: &'a Id,
     pub client: Client,
     pub uri: &'a str,
     pub range: Range,
-    /// The kinds of which the actions must be, where there are such.
+    /// The requested kinds of actions, if there are any.
     pub only: &'a Option<Vec<String>>,
 }
 
@@ -70,14 +70,15 @@ impl<'a, T: TextStore> DocumentRequest<T> for ActionsRequest<'a> {
 }
 
 impl<'a> ActionsRequest<'a> {
-    /// Whether the client takes actions that aren't commands, and these among them.
+    /// Returns whether the client accepts actions that aren't commands, and requests actions of
+    /// this kind.
     fn wants_inlining(&self) -> bool
         ensures { result ≡ wants self.now.client (kinds_seen self.now.only.now) }
     {
         self.client.takes_literal_actions && allows_inlining(self.only)
     }
 
-    /// The actions that are offered: inlining here before inlining everywhere.
+    /// Returns the offered actions: first inlining at this use, then inlining everywhere.
     fn list(&self, alloc: Global, version: i64, found: &Inlinings) -> Result<Vec<u8>, AllocError>
         ensures { IfOk result (λ bytes. Writes (result_message (id_data self.now.id.now)
             (actions_value (actions_requested self.now version)
@@ -117,7 +118,7 @@ impl<'a> ActionsRequest<'a> {
         result_of(alloc, self.id, &actions.as_slice())
     }
 
-    /// The action that makes these edits.
+    /// Returns the action that applies these edits.
     fn action<'b>(&'b self, version: i64, how: Inlining, edits: &'b [Edit]) -> CodeAction<'b>
         ensures { action_in result ≡ action_of (actions_requested self.now version) how edits.now }
     {
@@ -160,7 +161,7 @@ fn any_of_kind(kinds: &[String]) -> bool
     false
 }
 
-/// Whether inlining is of this kind.
+/// Returns whether inlining is an action of this kind.
 fn is_of_kind(kind: &str) -> bool
     ensures { result ≡ of_kind kind.now }
 {

@@ -1,8 +1,8 @@
-//! The diagnostics of a text.
+//! The diagnostics of a text, and their publication.
 //!
-//! The offsets of all starts and ends are sorted, and their positions found in one pass (`TextStore::positions`); each
-//! is then looked up by halving. That the look-up finds it isn't needed: where it doesn't, the store gives the one
-//! position.
+//! The offsets of all starts and ends are sorted, and their positions are found in one pass
+//! (`TextStore::positions`). Each position is then looked up by binary search. The proof doesn't
+//! need that the look-up succeeds: if it fails, the store computes the position.
 
 ghost use Rattle.std.specs.Prelude.{◌≡◌, List, IfOk, map};
 ghost use Rattle.std.specs.Str.{chars};
@@ -19,7 +19,7 @@ use ob0_session_json::publication::{Diagnostic, publication};
 use ob0_text::{Position, Range, TextStore};
 use std::alloc::{AllocError, Global};
 
-/// The diagnostics of a document, as they are published.
+/// A request for the diagnostics of a document, as they are published.
 #[derive(Drop)]
 pub struct PublishRequest<'a> {
     pub uri: &'a str,
@@ -41,7 +41,7 @@ impl<'a, T: TextStore> DocumentRequest<T> for PublishRequest<'a> {
     }
 }
 
-/// The list that is published for a text.
+/// Returns the diagnostics that are published for a text.
 pub fn diagnostics<T: TextStore>(
     alloc: Global,
     store: &T,
@@ -56,7 +56,7 @@ pub fn diagnostics<T: TextStore>(
     all_diagnostics(alloc, store, reported)
 }
 
-/// The diagnostics at their positions, which are found in one pass over the text.
+/// Returns the diagnostics with their positions, which are found in one pass over the text.
 fn all_diagnostics<T: TextStore>(
     alloc: Global,
     store: &T,
@@ -77,7 +77,7 @@ fn all_diagnostics<T: TextStore>(
     )
 }
 
-/// Where diagnostics start and end, in text order.
+/// Returns the offsets at which diagnostics start and end, in text order.
 fn offsets_of(alloc: Global, reported: &[Diagnosis]) -> Result<Vec<usize>, AllocError> {
     let mut offsets = Vec::new(alloc);
     for diagnosis in reported {
@@ -88,7 +88,7 @@ fn offsets_of(alloc: Global, reported: &[Diagnosis]) -> Result<Vec<usize>, Alloc
     Ok(offsets)
 }
 
-/// The diagnostics, by some offsets in text order and their positions.
+/// Returns the diagnostics. Their positions are looked up among offsets in text order.
 fn list_diagnostics<T: TextStore>(
     alloc: Global,
     store: &T,
@@ -111,7 +111,7 @@ fn list_diagnostics<T: TextStore>(
     Ok(list)
 }
 
-/// The position of an offset, which is looked up among some in text order.
+/// Returns the position of an offset, which is looked up among offsets in text order.
 fn position_at<T: TextStore>(
     store: &T,
     offsets: &[usize],
@@ -128,7 +128,7 @@ fn position_at<T: TextStore>(
     }
 }
 
-/// The diagnostic of what is reported, whose message it takes over.
+/// Returns the diagnostic of a diagnosis, whose message is moved.
 fn diagnostic(diagnosis: Diagnosis, start: Position, end: Position) -> Diagnostic
     ensures { diagnostic_in result ≡ record {
       code = (complaint_in diagnosis).code;

@@ -1,4 +1,4 @@
-//! Laying out a text on request.
+//! Answers requests for formatting.
 ghost use Rattle.ob0_rpc.specs.Seen.{id_data};
 ghost use Rattle.ob0_session_answers.specs.Formatted.{RepliesToFormatting};
 
@@ -6,11 +6,11 @@ use ob0_analysis::Analysis;
 use ob0_edits::layout_in;
 use ob0_rpc::{Id, result_of};
 use ob0_session_documents::DocumentRequest;
-use ob0_session_json::refusals::{refuse, refuse_ill_typed};
+use ob0_session_json::refusals::{refuse_because, refuse_ill_typed};
 use ob0_text::{Indent, TextStore};
 use std::alloc::{AllocError, Global};
 
-/// The edits that lay out the text of a document.
+/// A request for the edits that format a document.
 #[derive(Drop)]
 pub struct LayoutRequest<'a> {
     pub id: &'a Id,
@@ -31,7 +31,7 @@ impl<'a, T: TextStore> DocumentRequest<T> for LayoutRequest<'a> {
         match layout_in(alloc, text, analysis, self.indent)? {
             Some(outcome) => match outcome {
                 Ok(edits) => result_of(alloc, self.id, &edits.as_slice()),
-                Err(refusal) => refuse(alloc, self.id, refusal.text(alloc)?.as_str()),
+                Err(refusal) => refuse_because(alloc, self.id, refusal),
             },
             None => refuse_ill_typed(alloc, self.id),
         }

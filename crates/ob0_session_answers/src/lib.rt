@@ -1,5 +1,6 @@
-//! The requests about a document, each as one type that answers of the document's text: for the name or field at a
-//! position, for edits, and for the publication of its diagnostics.
+//! The requests about a document. Each is a type that answers from the document's text. There are
+//! questions about the name or field at a position, requests for edits, and the publication of the
+//! diagnostics.
 #![tactic(auto)]
 
 mod actions;

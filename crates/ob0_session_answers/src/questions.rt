@@ -1,6 +1,7 @@
-//! The requests about the name or field at a position: hover, definition, references, prepareRename.
+//! Requests about the name or field at a position: hover, definition, references, prepareRename.
 //!
-//! Each is one type, which answers of a document (`DocumentRequest`); what it asks of the module is a `Question`.
+//! Each request is a type that answers from a document (`DocumentRequest`). What it needs to know
+//! about the module is a `Question`.
 
 ghost use Rattle.std.specs.Prelude.{◌≡◌, IfOk, option_map, map};
 ghost use Rattle.serde_json.specs.Data.{array};
@@ -22,7 +23,7 @@ use ob0_session_json::places::{HoverResult, Location, Locations, MarkupContent};
 use ob0_text::TextStore;
 use std::alloc::{AllocError, Global};
 
-/// What is the hover text at this place of the text?
+/// Asks for the hover text at this place of the text.
 #[derive(Drop)]
 struct HoverAt {
     offset: usize,
@@ -42,7 +43,7 @@ impl Question for HoverAt {
     }
 }
 
-/// Where is declared what is named at this place of the text?
+/// Asks for the declaration of the name or field at this place of the text.
 #[derive(Drop)]
 struct DefinitionAt {
     offset: usize,
@@ -58,7 +59,7 @@ impl Question for DefinitionAt {
     }
 }
 
-/// Where is the declaration named that is named at this place of the text?
+/// Asks for all places that refer to the same declaration as this place of the text.
 #[derive(Drop)]
 struct ReferencesAt {
     offset: usize,
@@ -76,7 +77,7 @@ impl Question for ReferencesAt {
     }
 }
 
-/// Which name or field at this place of the text could be renamed?
+/// Asks for the name or field at this place of the text that could be renamed.
 #[derive(Drop)]
 struct RenamableAt {
     offset: usize,
@@ -92,7 +93,7 @@ impl Question for RenamableAt {
     }
 }
 
-/// The hover text at a place of a document.
+/// A request for the hover text at a place of a document.
 #[derive(Drop)]
 pub struct HoverRequest<'a> {
     pub id: &'a Id,
@@ -118,7 +119,7 @@ impl<'a, T: TextStore> DocumentRequest<T> for HoverRequest<'a> {
     }
 }
 
-/// Where it is declared what is at a place of a document.
+/// A request for the declaration of the name or field at a place of a document.
 #[derive(Drop)]
 pub struct DefinitionRequest<'a> {
     pub id: &'a Id,
@@ -145,7 +146,7 @@ impl<'a, T: TextStore> DocumentRequest<T> for DefinitionRequest<'a> {
     }
 }
 
-/// Where it is named what is at a place of a document.
+/// A request for all references to the name or field at a place of a document.
 #[derive(Drop)]
 pub struct ReferencesRequest<'a> {
     pub id: &'a Id,
@@ -177,7 +178,7 @@ impl<'a, T: TextStore> DocumentRequest<T> for ReferencesRequest<'a> {
     }
 }
 
-/// Whether what is at a place of a document can be renamed, and where its name is.
+/// A request for the range of the name or field at a place of a document, if it can be renamed.
 #[derive(Drop)]
 pub struct PrepareRenameRequest<'a> {
     pub id: &'a Id,
@@ -263,7 +264,8 @@ fn range_or_null<T: TextStore>(
     }
 }
 
-/// Spans in text order as places of a document, found in one pass.
+/// Returns the answer that lists spans as places of a document. If the spans are in text order, one
+/// pass finds them.
 fn locations<T: TextStore>(
     alloc: Global,
     id: &Id,

@@ -1,4 +1,4 @@
-//! Renaming on request.
+//! Answers requests for renaming.
 
 ghost use Rattle.std.specs.Prelude.{IfOk};
 ghost use Rattle.ob0_rpc.specs.Seen.{id_data};
@@ -15,7 +15,7 @@ use ob0_session_json::refusals::{refuse_because, refuse_ill_typed};
 use ob0_text::{Edit, TextStore};
 use std::alloc::{AllocError, Global};
 
-/// Another name for what is at a place of a document.
+/// A request to rename the name or field at a place of a document.
 #[derive(Drop)]
 pub struct RenameRequest<'a> {
     pub id: &'a Id,
@@ -46,7 +46,7 @@ impl<'a, T: TextStore> DocumentRequest<T> for RenameRequest<'a> {
 }
 
 impl<'a> RenameRequest<'a> {
-    /// The edits, in the form that the client takes.
+    /// Returns the answer with these edits, in the form that the client accepts.
     fn reply(&self, alloc: Global, version: i64, edits: &[Edit]) -> Result<Vec<u8>, AllocError>
         ensures { IfOk result (λ bytes. Writes (result_message (id_data self.now.id.now)
             (edits_for_client (rename_requested self.now version) edits.now)) bytes.items) }

@@ -1,4 +1,4 @@
--- What changes one document leaves the others, and the analyses that are kept of them.
+-- A change of one document leaves the other documents, and their kept analyses, unchanged.
 use Rattle.std.proofs.Common.{◌≡◌, ◌∙◌, ℕ, ℤ, true, false, cond, List, Option, Some, None, refl, ap}
 use Rattle.std.specs.Ordering.{nat_cmp, eq_by_cmp}
 use Rattle.std.specs.Cmp.Lexicographic.{slice_cmp, nat_list_cmp_total}
@@ -31,7 +31,7 @@ module _ (m : Documents) (uri u : List ℕ) (other : u ≡ uri → ⊥) where
   updated_at f None e = ap (λ n. map_of.get n u) (updated-none m uri f e)
   updated_at f (Some d) e = ap (λ n. map_of.get n u) (updated-some m uri f d e) ∙ inserted (f d)
 
--- at each other uri both have the same
+-- states that at every other uri both have the same document
 abbrev pub AgreesElsewhere : OpenDocuments → List ℕ → OpenDocuments → Type 0
 AgreesElsewhere old uri new = (u : List ℕ) → (u ≡ uri → ⊥) → document_at new u ≡ document_at old u
 
@@ -48,7 +48,8 @@ lost_elsewhere old new uri is u other = ap (λ d. document_at d u) is ∙ update
 pub closed_elsewhere : (old new : OpenDocuments) (uri : List ℕ) → new ≡ closed old uri → AgreesElsewhere old uri new
 closed_elsewhere old new uri is u other = ap (λ d. document_at d u) is ∙ removed old.by_uri uri u other
 
--- where the analysis of a document was taken out, whatever became of this document
+-- after the analysis of a document was removed, the other analyses still belong to their texts,
+-- however this document changed
 pub still_theirs : (old new : OpenDocuments) (before after : Analyses) (uri : List ℕ)
     → AreOfTheirTexts old before → KeepsOthers before uri after → AgreesElsewhere old uri new → AreOfTheirTexts new after
 still_theirs old new before after uri theirs others agrees u text kept =

@@ -1,10 +1,11 @@
-//! The open documents, with the analyses of those that were reported or queried last.
+//! The open documents, with analyses of the most recently reported or queried ones.
 //!
-//! The value is that of the documents, so `ServerState` and all promises are as without analyses. The invariant says
-//! that each analysis that is kept is of the text that its document has now (`AreOfTheirTexts` of
-//! `specs/KeptAnalyses`): what changes a document takes its analysis out before (`still_theirs` of
-//! `proofs/OtherDocuments`), and puts in that of the new text. No text is compared. One notification makes one
-//! analysis, however many changes it has.
+//! The model is the model of the documents, so `ServerState` and all promises are the same as
+//! without analyses. The invariant says that each kept analysis belongs to the current text of its
+//! document (`AreOfTheirTexts` of `specs/KeptAnalyses`). Before a document is changed, its analysis
+//! is removed (`still_theirs` of `proofs/OtherDocuments`); afterwards the analysis of the new text
+//! is added. No texts are compared. One notification causes one analysis, however many changes it
+//! has.
 
 ghost use Rattle.std.specs.Prelude.{◌≡◌, ◌⊎◌, IfSome, IfOk, OnOk, OnErr, is_some, map, string_bytes};
 ghost use Rattle.std.specs.Str.{chars};
@@ -18,8 +19,9 @@ use ob0_text::{Change, Documents, Held, TextStore};
 use std::alloc::{AllocError, Global};
 use std::marker::Model;
 
-/// The open documents, and analyses of their texts. Contracts see the documents alone: an analysis that is kept is of
-/// the text that its document has, since what changes a text takes the analysis of the text before out.
+/// The open documents, and analyses of their texts. Contracts see only the documents. A kept
+/// analysis always belongs to the current text of its document, because each change removes the
+/// analysis of the previous text first.
 #[derive(Drop)]
 pub struct AnalysedDocuments<T: TextStore> {
     alloc: Global,
@@ -41,7 +43,7 @@ impl<T: TextStore> Model for AnalysedDocuments<T> {
 }
 
 impl<T: TextStore> AnalysedDocuments<T> {
-    /// These documents, without an analysis.
+    /// Returns these documents, without any analysis.
     pub fn new(alloc: Global, documents: Documents<T>) -> AnalysedDocuments<T>
         ensures { result ≡ documents }
     {
@@ -52,15 +54,16 @@ impl<T: TextStore> AnalysedDocuments<T> {
         }
     }
 
-    /// The documents.
+    /// Returns the documents.
     pub fn documents(&self) -> &Documents<T>
         ensures { result.now ≡ self.now }
     {
         &self.documents
     }
 
-    /// Opens a document, or opens it again, and analyses its text. The text as it came is dropped before. Where an
-    /// allocation fails nothing was opened, or this text was.
+    /// Opens a document, or replaces its version and text if it is open, and analyses the text. The
+    /// received text is dropped before the analysis. If an allocation fails, either nothing has
+    /// changed or the document has been opened with this text.
     pub fn did_open(&mut self, uri: &str, version: i64, text: String) -> Result<(), AllocError>
         ensures ok { OnOk result
             (self.new ≡ opened self.old uri.now version (chars (string_bytes text))) }
@@ -73,8 +76,9 @@ impl<T: TextStore> AnalysedDocuments<T> {
         self.analyse(uri, before)
     }
 
-    /// Makes the changes in order, and analyses the text that they leave. The changes as they came are dropped before.
-    /// Where an allocation fails the document is out of step, or all changes were made.
+    /// Applies the changes in order, and analyses the resulting text. The received changes are
+    /// dropped before the analysis. If an allocation fails, the document is out of step, or all
+    /// changes have been applied.
     pub fn did_change(
         &mut self,
         uri: &str,
@@ -92,7 +96,7 @@ impl<T: TextStore> AnalysedDocuments<T> {
         self.analyse(uri, before)
     }
 
-    /// Notes that the client's text of an open document isn't known any more.
+    /// Marks an open document as out of step: the client's text is no longer known.
     pub fn lose(&mut self, uri: &str)
         ensures { self.new ≡ lost self.old uri.now }
     {
@@ -100,7 +104,7 @@ impl<T: TextStore> AnalysedDocuments<T> {
         self.documents.lose(uri);
     }
 
-    /// Closes a document, and says whether it was open.
+    /// Closes a document and returns whether it was open.
     pub fn did_close(&mut self, uri: &str) -> bool
         ensures after { self.new ≡ closed self.old uri.now }
         ensures was_open { result ≡ is_some (document_at self.old uri.now) }
@@ -109,8 +113,8 @@ impl<T: TextStore> AnalysedDocuments<T> {
         self.documents.did_close(uri)
     }
 
-    /// Makes a request of a document that is in step. The analysis of its text that is kept is read where it is; where
-    /// none is, one is made, and kept for what comes next.
+    /// Answers a request about a document that is in step. A kept analysis of its text is used in
+    /// place. Otherwise one is made and kept for later requests.
     pub fn ask<Q: DocumentRequest<T>>(
         &mut self,
         uri: &str,
@@ -136,7 +140,8 @@ impl<T: TextStore> AnalysedDocuments<T> {
         }
     }
 
-    /// Analyses the text of a document, from the analysis of the text before, and keeps that.
+    /// Analyses the text of a document, starting from the analysis of its previous text, and keeps
+    /// the result.
     fn analyse(&mut self, uri: &str, before: Option<Analysis>) -> Result<(), AllocError>
         ensures { self.new ≡ self.old }
     {
@@ -150,7 +155,7 @@ impl<T: TextStore> AnalysedDocuments<T> {
     }
 }
 
-/// The analysis of a text, from one of another text where there is one.
+/// Returns the analysis of a text, starting from the analysis of another text if there is one.
 fn analysis_after(
     alloc: Global,
     before: Option<Analysis>,

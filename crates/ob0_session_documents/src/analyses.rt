@@ -1,8 +1,9 @@
-//! The analyses of the documents that were reported or queried last.
+//! The analyses of the most recently reported or queried documents.
 //!
-//! The contracts say one thing, from one side: what is kept after a call was kept before (`KeepsOnly`), for another
-//! document (`KeepsOthers`), or was put in (`KeepsAlso`). So what drops more meets them too. `put` drops those that
-//! weren't used for longest where there is too much in all.
+//! The contracts state only one direction. An analysis that is kept after a call was kept before it
+//! (`KeepsOnly`), belongs to another document (`KeepsOthers`), or is the added one (`KeepsAlso`).
+//! So code that drops more analyses meets them as well. `put` drops the least recently used
+//! analyses if the total is too large.
 
 ghost use Rattle.std.specs.Prelude.{◌≡◌, ◌∷◌, ◌≤◌, [], IfSome, IfOk};
 ghost use Rattle.ob0_session_documents.specs.KeptAnalyses.{KeepsAnalysis, KeepsAlso, KeepsOnly, KeepsOthers};
@@ -11,26 +12,26 @@ use lru::LruCache;
 use ob0_analysis::Analysis;
 use std::alloc::{AllocError, Global};
 
-/// How many bytes the analyses that are kept count for together, at most, where there are several: those of four of the
-/// longest texts.
+/// The greatest total size of the kept analyses, in bytes, if there are several: about the size of
+/// four analyses of the longest texts.
 const MAX_BYTES: usize = 4_198_400;
 
-/// What an analysis counts for beside the bytes of its uri and of what it keeps, so that those of empty texts are bounded
-/// too.
+/// The size that each analysis counts for, in addition to the bytes of its uri and of its data. It
+/// also bounds the number of analyses of empty texts.
 const BYTES_PER_ANALYSIS: usize = 1_024;
 
-/// Analyses of texts by the uris of their documents. What is put in may be dropped at any time.
+/// Analyses of texts by the uris of their documents. An added analysis may be dropped at any time.
 #[derive(Drop)]
 pub struct Analyses {
     alloc: Global,
-    /// None until the first is kept, since a cache allocates when it is made.
+    /// None until the first analysis is kept, because making a cache allocates.
     by_uri: Option<LruCache<String, Analysis>>,
-    /// What those that are kept count for together.
+    /// The total size of the kept analyses, in bytes.
     bytes: usize,
 }
 
 impl Analyses {
-    /// No analysis of any document.
+    /// Returns a state without analyses.
     pub fn new(alloc: Global) -> Analyses
         ensures { (uri : _) (text : _) → KeepsAnalysis result uri text → ⊥ }
     {
@@ -41,20 +42,20 @@ impl Analyses {
         }
     }
 
-    /// Takes the analysis of a document out, where one is kept.
+    /// Removes the analysis of a document and returns it, if one is kept.
     pub fn take(&mut self, uri: &str) -> Option<Analysis>
         ensures found { IfSome result (KeepsAnalysis self.old uri.now) }
         ensures others { KeepsOthers self.old uri.now self.new }
     {
         let by_uri = self.by_uri.as_mut()?;
-        // For the proof: what the contract of this call says.
+        // For the proof: the contract of this call is needed.
         let _count = by_uri.len();
         let analysis = by_uri.pop(uri)?;
         self.bytes = self.bytes.saturating_sub(bytes_of(uri, &analysis));
         Some(analysis)
     }
 
-    /// The analysis of a document, where one is kept.
+    /// Returns the analysis of a document, if one is kept.
     pub fn get(&self, uri: &str) -> Option<&Analysis>
         ensures { IfSome result (λ a. KeepsAnalysis self.now uri.now a.now) }
     {
@@ -62,7 +63,7 @@ impl Analyses {
         by_uri.peek(uri)
     }
 
-    /// Takes the analysis of a document, where one is kept, for the one that was used last.
+    /// Marks the analysis of a document, if one is kept, as the most recently used.
     pub fn promote(&mut self, uri: &str)
         ensures { KeepsOnly self.old self.new }
     {
@@ -71,8 +72,9 @@ impl Analyses {
         }
     }
 
-    /// Keeps the analysis of a document, and drops those that weren't used for longest where there is too much in all.
-    /// One that is too much alone, as that of a text that is too long, is kept alone.
+    /// Keeps the analysis of a document, and drops the least recently used ones if the total is too
+    /// large. An analysis that by itself is too large, such as an analysis of a text that is too
+    /// long, is the only one kept.
     pub fn put(&mut self, uri: &str, analysis: Analysis) -> Result<(), AllocError>
         ensures { KeepsAlso self.old uri.now analysis self.new }
     {
@@ -93,7 +95,8 @@ impl Analyses {
         Ok(())
     }
 
-    /// Counts this many bytes more, and drops what wasn't used for longest until all is within the bound.
+    /// Counts this many bytes more, and drops the least recently used analyses until the total is
+    /// within the bound.
     fn free(&mut self, bytes: usize)
         ensures { KeepsOnly self.old self.new }
     {
@@ -115,7 +118,8 @@ impl Analyses {
     }
 }
 
-/// What an analysis counts for under its uri, which the cache has beside the documents.
+/// Returns the size that an analysis counts for. Its uri is included, because the cache stores its
+/// own copy.
 fn bytes_of(uri: &str, analysis: &Analysis) -> usize
     ensures { BYTES_PER_ANALYSIS ≤ result }
 {
@@ -125,7 +129,7 @@ fn bytes_of(uri: &str, analysis: &Analysis) -> usize
         .saturating_add(BYTES_PER_ANALYSIS)
 }
 
-/// A cache with one analysis.
+/// Returns a cache that contains one analysis.
 fn cache_of(
     alloc: Global,
     uri: String,

@@ -1,4 +1,4 @@
-//! Requests about a document, and what comes of them.
+//! Requests about a document, and their outcomes.
 
 ghost use Rattle.std.specs.Prelude.{◌≡◌, ℕ, ℤ, List, IfOk};
 ghost use Rattle.std.specs.Str.{chars};
@@ -10,7 +10,8 @@ use std::alloc::{AllocError, Global};
 
 /// A request about a document that is in step.
 pub trait DocumentRequest<T: TextStore> {
-    /// What a message says of the document's version, of its text, and of the unit in which positions are counted.
+    /// States that a message answers the request for this version of the document, unit of
+    /// positions and text.
     ghost answers: { Self → ℤ → Unit → List ℕ → List ℕ → Type 0 };
 
     fn answer(
@@ -25,7 +26,7 @@ pub trait DocumentRequest<T: TextStore> {
             (T.content text.now) message.items) };
 }
 
-/// What comes of a request about a document: a message, or why there is none.
+/// The outcome of a request about a document: a message, or the reason why there is none.
 #[derive(Drop)]
 pub enum RequestOutcome {
     Answered(Vec<u8>),

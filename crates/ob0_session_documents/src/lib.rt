@@ -1,4 +1,4 @@
-//! The open documents, with the analyses that are kept of their texts.
+//! The open documents, with kept analyses of their texts.
 #![tactic(auto)]
 
 mod analysed_documents;

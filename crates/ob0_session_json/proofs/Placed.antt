@@ -1,4 +1,4 @@
--- A place's text, put together from its end on.
+-- The text of a place, built from its end backwards.
 use Rattle.std.proofs.Common.{◌≡◌, ◌∙◌, ◌≤◌, ◌+◌, ◌-◌, ℕ, List, [], ◌∷◌, ◌++◌, Bool, true, false, length, drop, codes, ap, arith, refl, sym, append-nil, length-append, if◌then◌else◌}
 use Rattle.std.proofs.lemmas.List.{drop-drop, drop_at, length-drop}
 use Rattle.serde_json.specs.Data.{string}
@@ -10,7 +10,7 @@ use Rattle.ob0_rpc.proofs.Appending.{name, object_text_of_two, read_two}
 use Rattle.ob0_session_json.specs.Places.{EndsInUri}
 use Rattle.ob0_session_json.specs.Shapes.{location_in}
 
--- what follows the range stays
+-- the text after the range is unchanged
 pub kept : (old new text : List ℕ) (at : ℕ) → length new ≡ length old → 192 ≤ length old → at ≤ 192 → drop at new ≡ text ++ drop 192 old → drop 192 new ≡ drop 192 old
 kept old new text at same long low is =
     let count : length text ≡ 192 - at = omega (arith, ap length is, length-drop at new, length-append text (drop 192 old), length-drop 192 old, same, long, low) in
@@ -27,7 +27,7 @@ module _ (uri : List ℕ) (range : Range) (at : ℕ) (before buffer : List ℕ) 
   text_put true old new is = is ∙ ap (λ t. old ++ t) whole
   text_put false old new is = is ∙ ap (λ t. old ++ t) (sym (drop-drop 1 at buffer) ∙ ap (drop 1) whole)
 
-  -- a place's text was put together in such buffer, and written from there, with a comma or without
+  -- a place's text that was built in such a buffer and appended, with a comma or without
   pub location_put : (later : Bool) (old new : List ℕ) → IsReadBack (range_value range.start range.end) → new ≡ old ++ drop (if later then at else at + 1) buffer → AppendsItem later (location_in uri range) old new
   location_put later old new reads is = record {
     text = text_put later old new is;

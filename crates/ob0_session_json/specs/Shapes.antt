@@ -1,4 +1,4 @@
--- The messages that a server writes, as JSON values. Members are in byte order of their names.
+-- The messages that the server writes, as JSON values. Members are in byte order of their names.
 -- Rule: docs/PROTOCOL.md, JSON shapes 2, Capabilities.
 use Rattle.std.specs.Prelude.{ℕ, ℤ, List, true, Bool, Option, Some, None, if◌then◌else◌, codes, map}
 use Rattle.serde_json.specs.Data.{Data, boolean, number, array, object, unsigned, Members, member, no_members, item, no_items}
@@ -11,34 +11,35 @@ pub use Rattle.ob0_rpc.specs.Shapes.{edit_value}
 use Rattle.ob0_rpc.specs.Shapes.{text, whole_number, range_value, error_message, notification_message}
 use Rattle.ob0_rpc.specs.declared.clients.Client.{Client}
 
--- {"change":2,"openClose":true}
+-- the synchronization of documents, {"change":2,"openClose":true}
 abbrev pub synchronisation : Data
 synchronisation =
     object (member (codes "change") (number (unsigned 2))
     (member (codes "openClose") (boolean true) no_members))
 
--- {"prepareProvider":true} for a client that sends `prepareRename` before it requests a rename
+-- {"prepareProvider":true} for a client that sends `prepareRename` before it requests a rename,
+-- otherwise true
 abbrev pub rename_provider : Bool → Data
 rename_provider prepares =
     if prepares
     then object (member (codes "prepareProvider") (boolean true) no_members)
     else boolean true
 
--- {"codeActionKinds":["refactor.inline"]}
+-- the kinds of code actions, {"codeActionKinds":["refactor.inline"]}
 abbrev pub action_provider : Data
 action_provider =
     object (member (codes "codeActionKinds")
     (array (item (text (codes "refactor.inline")) no_items)) no_members)
 
--- "referencesProvider":true,"renameProvider":R,"textDocumentSync":{..}
+-- the last members: "referencesProvider":true,"renameProvider":R,"textDocumentSync":{..}
 abbrev pub last_members : Client → Members
 last_members client =
     member (codes "referencesProvider") (boolean true) (member (codes "renameProvider")
     (rename_provider client.prepares_renames)
     (member (codes "textDocumentSync") synchronisation no_members))
 
--- "documentFormattingProvider":true,"hoverProvider":true, and "positionEncoding":"utf-8" for a
--- client that offers that; then those
+-- "documentFormattingProvider":true,"hoverProvider":true, then "positionEncoding":"utf-8" if the
+-- client offers that, then the last members
 abbrev pub further_members : Client → Members
 further_members client =
     member (codes "documentFormattingProvider") (boolean true)
@@ -47,8 +48,8 @@ further_members client =
     then member (codes "positionEncoding") (text (codes "utf-8")) (last_members client)
     else last_members client))
 
--- "definitionProvider":true and those, and before them "codeActionProvider":{..} for a client that
--- takes actions that aren't commands
+-- the server's capabilities: "codeActionProvider":{..} if the client accepts actions that aren't
+-- commands, then "definitionProvider":true and the further members
 abbrev pub server_capabilities : Client → Data
 server_capabilities client =
     let members = member (codes "definitionProvider") (boolean true) (further_members client) in
@@ -57,7 +58,7 @@ server_capabilities client =
     then member (codes "codeActionProvider") action_provider members
     else members)
 
--- {"capabilities":{..}}
+-- the result of `initialize`, {"capabilities":{..}}
 abbrev pub capabilities : Client → Data
 capabilities client =
     object (member (codes "capabilities") (server_capabilities client) no_members)
@@ -71,43 +72,43 @@ pub record Diagnostic : Type 0 where
   pub start : Position
   pub end : Position
 
--- {"range":R,"uri":u}
+-- a place in a document, {"range":R,"uri":u}
 abbrev pub location_value : List ℕ → Data → Data
 location_value uri range =
     object (member (codes "range") range (member (codes "uri") (text uri) no_members))
 
--- a range of the document with this uri
+-- the JSON value of a range of the document with this uri
 abbrev pub location_in : List ℕ → Range → Data
 location_in uri range = location_value uri (range_value range.start range.end)
 
--- {"kind":"plaintext","value":h}
+-- a text to display, {"kind":"plaintext","value":h}
 abbrev pub plain_text : List ℕ → Data
 plain_text said =
     object (member (codes "kind") (text (codes "plaintext"))
     (member (codes "value") (text said) no_members))
 
--- {"contents":{..},"range":R}
+-- a hover, {"contents":{..},"range":R}
 abbrev pub hover_value : List ℕ → Data → Data
 hover_value said range =
     object (member (codes "contents") (plain_text said) (member (codes "range") range no_members))
 
--- `[E,..]`
+-- a list of edits, `[E,..]`
 abbrev pub edits_value : List Edit → Data
 edits_value es = array (items_of (map edit_value es))
 
--- {"uri":u,"version":v}
+-- a document at a version, {"uri":u,"version":v}
 abbrev pub versioned_document : List ℕ → ℤ → Data
 versioned_document uri version =
     object
     (member (codes "uri") (text uri) (member (codes "version") (whole_number version) no_members))
 
--- {"edits":[E,..],"textDocument":{..}}
+-- the edits of a document at a version, {"edits":[E,..],"textDocument":{..}}
 abbrev pub document_edit : List ℕ → ℤ → List Edit → Data
 document_edit uri version es =
     object (member (codes "edits") (edits_value es)
     (member (codes "textDocument") (versioned_document uri version) no_members))
 
--- {"documentChanges":[..]} for a client that takes these, and else {"changes":{u:[E,..]}}
+-- {"documentChanges":[..]} for a client that accepts it, otherwise {"changes":{u:[E,..]}}
 abbrev pub workspace_edit : Client → List ℕ → ℤ → List Edit → Data
 workspace_edit client uri version es =
     if client.takes_document_changes
@@ -116,17 +117,17 @@ workspace_edit client uri version es =
     else object
     (member (codes "changes") (object (member uri (edits_value es) no_members)) no_members)
 
--- {"edit":W,"kind":"refactor.inline","title":t}
+-- a code action, {"edit":W,"kind":"refactor.inline","title":t}
 abbrev pub action_value : Data → List ℕ → Data
 action_value edit title =
     object (member (codes "edit") edit (member (codes "kind") (text (codes "refactor.inline"))
     (member (codes "title") (text title) no_members)))
 
--- a request for edits that is refused
+-- the refusal of a request for edits
 abbrev pub edit_refused : Data → List ℕ → Data
 edit_refused id said = error_message id (minus 32803) said
 
--- {"code":name,"message":m,"range":R,"severity":1}
+-- a diagnostic, {"code":name,"message":m,"range":R,"severity":1}
 abbrev pub diagnostic_value : Diagnostic → Data
 diagnostic_value d =
     object (member (codes "code") (text d.code)
@@ -134,11 +135,12 @@ diagnostic_value d =
     (member (codes "range") (range_value d.start d.end)
     (member (codes "severity") (number (unsigned 1)) no_members))))
 
--- `[D,..]`
+-- a list of diagnostics, `[D,..]`
 abbrev pub diagnostics_value : List Diagnostic → Data
 diagnostics_value ds = array (items_of (map diagnostic_value ds))
 
--- {"diagnostics":[D,..],"uri":u,"version":v}, without `version` after a close
+-- the params of a publication, {"diagnostics":[D,..],"uri":u,"version":v}, without `version` after
+-- a close
 abbrev pub publication_params : List ℕ → Option ℤ → List Diagnostic → Data
 publication_params uri (Some version) ds =
     object (member (codes "diagnostics") (diagnostics_value ds) (member (codes "uri") (text uri)

@@ -1,4 +1,4 @@
-//! What the server can do for a client.
+//! The server's capabilities, in the answer to `initialize`.
 ghost use Rattle.std.specs.Prelude.{IfOk, OnOk};
 ghost use Rattle.ob0_rpc.specs.Appending.{AppendsMembers};
 ghost use Rattle.ob0_rpc.specs.Seen.{id_data};
@@ -9,7 +9,7 @@ ghost use Rattle.ob0_session_json.specs.Shapes.{action_provider, capabilities, f
 use ob0_rpc::{Client, Id, WriteJson, end_object, first_member, next_member, result_of};
 use std::alloc::{AllocError, Global};
 
-/// The answer to `initialize`.
+/// Returns the answer to `initialize`.
 pub fn initialize_answer(alloc: Global, id: &Id, client: Client) -> Result<Vec<u8>, AllocError>
     ensures { IfOk result
         (λ bytes. Writes (result_message (id_data id.now) (capabilities client)) bytes.items) }
@@ -18,7 +18,7 @@ pub fn initialize_answer(alloc: Global, id: &Id, client: Client) -> Result<Vec<u
     result_of(alloc, id, &InitializeResult { capabilities })
 }
 
-/// What the server can do, in an object of its own.
+/// The result of `initialize`: an object that contains the server's capabilities.
 #[derive(Drop)]
 pub struct InitializeResult {
     pub capabilities: ServerCapabilities,
@@ -33,7 +33,7 @@ impl WriteJson for InitializeResult {
     }
 }
 
-/// What the server can do, which goes by what the client can.
+/// The server's capabilities, which depend on the client's.
 #[derive(Drop)]
 pub struct ServerCapabilities {
     pub client: Client,
@@ -81,7 +81,7 @@ impl ServerCapabilities {
     }
 }
 
-/// The kinds of code actions.
+/// The kinds of code actions that the server offers.
 #[derive(Drop)]
 pub struct CodeActionOptions {}
 
@@ -95,7 +95,7 @@ impl WriteJson for CodeActionOptions {
     }
 }
 
-/// That names can be changed, and whether a client may request where.
+/// Announces renaming, and `prepareRename` if the client sends it.
 #[derive(Drop)]
 pub struct RenameProvider {
     pub prepares: bool,
@@ -114,7 +114,7 @@ impl WriteJson for RenameProvider {
     }
 }
 
-/// How documents are kept in step: opened, changed by ranges, and closed.
+/// How documents are synchronized: they are opened, changed by ranges, and closed.
 #[derive(Drop)]
 pub struct TextDocumentSyncOptions {}
 

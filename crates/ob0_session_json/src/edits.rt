@@ -1,4 +1,4 @@
-//! Edits of documents, and the actions that make them.
+//! Edits of documents, and the code actions that apply them.
 ghost use Rattle.ob0_session_json.specs.Made.{action_in, workspace_edit_of};
 ghost use Rattle.ob0_session_json.specs.Shapes.{document_edit, versioned_document};
 
@@ -6,7 +6,8 @@ use ob0_rpc::{Client, OneMember, WriteJson, end_object, first_member, next_membe
 use ob0_text::Edit;
 use std::alloc::AllocError;
 
-/// The edits of one document, in the form that a client takes: with the version of the document, or by its uri alone.
+/// The edits of one document, in the form that the client accepts: with the document's version, or
+/// with only its uri.
 #[derive(Drop)]
 pub struct WorkspaceEdit<'a> {
     pub client: Client,
@@ -39,7 +40,7 @@ impl<'a> WriteJson for WorkspaceEdit<'a> {
     }
 }
 
-/// The edits of a version of a document.
+/// The edits of a document at a version.
 #[derive(Drop)]
 struct TextDocumentEdit<'a> {
     edits: &'a [Edit],
@@ -57,7 +58,7 @@ impl<'a> WriteJson for TextDocumentEdit<'a> {
     }
 }
 
-/// A version of a document.
+/// A document at a version.
 #[derive(Drop)]
 struct VersionedDocument<'a> {
     uri: &'a str,
@@ -74,7 +75,7 @@ impl<'a> WriteJson for VersionedDocument<'a> {
     }
 }
 
-/// An action that makes these edits, under a title.
+/// A code action that applies these edits, with its title.
 #[derive(Drop)]
 pub struct CodeAction<'a> {
     pub edit: WorkspaceEdit<'a>,

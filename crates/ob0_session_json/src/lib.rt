@@ -1,5 +1,5 @@
-//! How results look as JSON (docs/PROTOCOL.md, JSON shapes), as types: capabilities, diagnostics, places, edits and
-//! actions.
+//! Results as types that write JSON (docs/PROTOCOL.md, JSON shapes): capabilities, diagnostics,
+//! places, edits and actions.
 #![tactic(auto)]
 
 pub mod capabilities;

@@ -1,4 +1,4 @@
-//! Places in documents, and what is displayed of them.
+//! Places in documents, and the text that hover displays for them.
 ghost use Rattle.std.specs.Prelude.{◌≡◌, ◌++◌, ◌<◌, ◌≤◌, false, IfOk, OnOk, codes, drop, length, map};
 ghost use Rattle.serde_json.specs.Data.{array};
 ghost use Rattle.serde_json.specs.View.{items_of};
@@ -15,10 +15,10 @@ use ob0_rpc::{
 use ob0_text::Range;
 use std::alloc::{AllocError, Global};
 
-/// The length that a place's text has at most before its uri.
+/// The greatest length of a place's text before its uri.
 const PREFIX_CAPACITY: usize = 192;
 
-/// The length that most places' texts have at most before their uri.
+/// An upper bound of that length for most places.
 const TYPICAL_PREFIX: usize = 96;
 
 /// A range of a document.
@@ -74,8 +74,8 @@ fn write_locations(out: &mut Vec<u8>, uri: &str, ranges: &[Range]) -> Result<(),
     Ok(())
 }
 
-/// A buffer in which a place's text is put together: what follows its range is written once, after free space for
-/// what is before.
+/// Returns a buffer in which a place's text is built. The text after the range is written once,
+/// behind free space for the text before it.
 fn buffer_for_uri(alloc: Global, uri: &str) -> Result<Vec<u8>, AllocError>
     ensures { IfOk result (λ buffer. EndsInUri uri.now buffer.items) }
 {
@@ -85,7 +85,8 @@ fn buffer_for_uri(alloc: Global, uri: &str) -> Result<Vec<u8>, AllocError>
     Ok(buffer)
 }
 
-/// Puts a place's text, with a comma before it, before what follows its range, and returns where it begins.
+/// Puts a comma and the beginning of a place's text, up to its range, before the text after the
+/// range. Returns the place in the buffer at which this begins.
 fn location_before(buffer: &mut [u8], range: Range) -> usize
     requires { 192 ≤ length buffer.old }
     ensures within { result < 192 }
@@ -98,7 +99,7 @@ fn location_before(buffer: &mut [u8], range: Range) -> usize
     piece_before(buffer, at, b",{\"range\":")
 }
 
-/// Plain text that is displayed of a range.
+/// Plain text that is displayed for a range.
 #[derive(Drop)]
 pub struct HoverResult<'a> {
     pub contents: MarkupContent<'a>,
@@ -115,7 +116,7 @@ impl<'a> WriteJson for HoverResult<'a> {
     }
 }
 
-/// A text that is displayed as it is.
+/// A text that is displayed unchanged.
 #[derive(Drop)]
 pub struct MarkupContent<'a> {
     pub value: &'a str,

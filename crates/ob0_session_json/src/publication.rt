@@ -1,4 +1,4 @@
-//! The diagnostics of a document, which are published.
+//! The publication of a document's diagnostics.
 ghost use Rattle.std.specs.Prelude.{IfOk, List, map};
 ghost use Rattle.ob0_rpc.specs.Writing.{Writes};
 ghost use Rattle.ob0_session_json.specs.Shapes.{Diagnostic as Reported, diagnostic_value, publication as published_as, publication_params};
@@ -8,7 +8,7 @@ use ob0_rpc::{WriteJson, end_object, first_member, next_member, notify};
 use ob0_text::Range;
 use std::alloc::{AllocError, Global};
 
-/// What is reported of a range of a document.
+/// A diagnostic: its code, its message and its range in a document.
 #[derive(Drop)]
 pub struct Diagnostic {
     pub code: &'static str,
@@ -28,7 +28,7 @@ impl WriteJson for Diagnostic {
     }
 }
 
-/// The diagnostics of a document of some version, or of none.
+/// The diagnostics of a document, with its version or without.
 #[derive(Drop)]
 pub struct PublishDiagnostics<'a> {
     pub diagnostics: &'a [Diagnostic],
@@ -57,7 +57,7 @@ impl<'a> WriteJson for PublishDiagnostics<'a> {
     }
 }
 
-/// The publication of a list of diagnostics.
+/// Returns the notification that publishes a list of diagnostics.
 pub fn publication(
     alloc: Global,
     uri: &str,

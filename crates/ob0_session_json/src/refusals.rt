@@ -9,14 +9,14 @@ use ob0_rpc::{Id, error};
 use ob0_text::EditRefusal;
 use std::alloc::{AllocError, Global};
 
-/// The refusal of a request for edits.
+/// Returns the refusal of a request for edits, with this message.
 pub fn refuse(alloc: Global, id: &Id, said: &str) -> Result<Vec<u8>, AllocError>
     ensures { IfOk result (λ bytes. Writes (edit_refused (id_data id.now) said.now) bytes.items) }
 {
     error(alloc, Some(id), -32803, said)
 }
 
-/// The refusal of such a request for a reason that is reported.
+/// Returns the refusal of a request for edits for this reason.
 pub fn refuse_because(alloc: Global, id: &Id, refusal: EditRefusal) -> Result<Vec<u8>, AllocError>
     ensures { IfOk result
         (λ bytes. Writes (edit_refused (id_data id.now) (refusal_text refusal)) bytes.items) }
@@ -25,7 +25,7 @@ pub fn refuse_because(alloc: Global, id: &Id, refusal: EditRefusal) -> Result<Ve
     refuse(alloc, id, text.as_str())
 }
 
-/// The refusal of such a request where the text isn't a well-typed module.
+/// Returns the refusal of a request for edits if the text isn't a well-typed module.
 pub fn refuse_ill_typed(alloc: Global, id: &Id) -> Result<Vec<u8>, AllocError>
     ensures { IfOk result
         (λ bytes. Writes (edit_refused (id_data id.now) (codes "ill-typed")) bytes.items) }

@@ -1,4 +1,4 @@
--- From what a reader and a reaction say to the answers of a content.
+-- From the contracts of the reader and of a reaction to the answers to a content.
 use Rattle.std.proofs.Common.{◌≡◌, ◌≢◌, ◌∙◌, ℕ, ℤ, List, [], ◌∷◌, Option, Some, None, Result, Err, Vec, Global, option_map, map, sym, subst, ap, refl}
 use Rattle.std.specs.Option.{option_to_list}
 use Rattle.serde_json.specs.Data.{Data, null}
@@ -39,7 +39,7 @@ refused before content Memory sent reads apart h = absurd (apart refl)
 refused before content UnknownMethod sent reads apart h = absurd reads.2
 refused before content BadParams sent reads apart h = absurd reads.2
 
--- so is a request
+-- a request that can't be read is refused as well
 pub request_refused : (s : ServerState) (id : Data) (requested : Result ClientRequest RpcFault) (fault : RpcFault) (sent : Option (Vec ℕ Global))
     → Requests requested (Err fault) → fault ≢ Memory → Reacts (refuses_fault s id fault) sent s
     → Reacts (answer_request s id requested) sent s
@@ -72,7 +72,7 @@ ended_step s content step status none next end =
     let empty : map (λ (v : Vec ℕ Global). v.items) step.send.items ≡ [] = ap (map (λ (v : Vec ℕ Global). v.items)) none in
     record { answers = subst P (sym empty) (ended s.phase status s content (sym end)); next = next ∙ end }
 
--- what is published after a change of the held documents
+-- the publication after a change of the open documents
 pub publishes : (before after : ServerState) (uri reported : List ℕ) (held : OpenDocuments) (sent : Option (Vec ℕ Global))
     → reported ≡ uri → after ≡ record before { held = held }
     → SaysReply (published after.held.unit reported (document_at after.held reported)) (option_to_list (option_map (λ v. v.items) sent))
@@ -82,7 +82,7 @@ publishes before after uri reported held sent same is said =
     let Q : OpenDocuments → Type 0 = λ h. SaysReply (published h.unit reported (document_at h reported)) (option_to_list (option_map (λ v. v.items) sent)) in
     (is, subst P same (subst Q (ap (λ (s : ServerState). s.held) is) said))
 
--- what comes of a request about a document, of the server's fields
+-- the reply to a request about a document, in terms of the server's fields
 pub replies_about : (phase : Phase) (client : Client) (old new : OpenDocuments) (s : ServerState) (id : Data) (uri : List ℕ) (answers : ℤ → Unit → List ℕ → List ℕ → Type 0)
     → (outcome : RequestOutcome) (sent : Option (Vec ℕ Global)) → record { phase = phase; client = client; held = old } ≡ s → new ≡ old → ComesOfRequest answers old uri outcome
     → RepliesWith id outcome sent → RepliesAbout answers s id uri sent (record { phase = phase; client = client; held = new })
@@ -90,7 +90,7 @@ replies_about phase client old new s id uri answers outcome sent is same comes r
     let P : ServerState → Type 0 = λ t. RepliesAbout answers t id uri sent (record { phase = phase; client = client; held = new }) in
     subst P is (ap (λ held. record { phase = phase; client = client; held = held }) same, (outcome, comes, replies))
 
--- what is sent for a request about a document, where the documents stay as they are
+-- the messages that are sent for a request about a document, if the documents are unchanged
 pub reacts_about : (s new : ServerState) (id : Data) (uri : List ℕ) (say : ℤ → List ℕ → Reply) (answers : ℤ → Unit → List ℕ → List ℕ → Type 0) (sent : Option (Vec ℕ Global))
     → ((version : ℤ) (text message : List ℕ) → answers version s.held.unit text message → SaysReply (say version text) (message ∷ []))
     → RepliesAbout answers s id uri sent new → Reacts (answers_about s id (document_at s.held uri) say) sent new
@@ -110,7 +110,7 @@ reacts_about s new id uri say answers sent says (same, (outcome, comes, replies)
         let P : Option Document → Type 0 = λ d. Reacts (answers_about s id d say) sent s in
         subst P (sym comes) (refl, is)
 
--- what is published of a document
+-- the publication of a document
 pub published_with : (held : OpenDocuments) (uri : List ℕ) (outcome : RequestOutcome) (sent : Option (Vec ℕ Global))
     → ComesOfRequest (λ version unit text message. Publishes unit uri version text message) held uri outcome → sent ≡ message_of outcome
     → SendsReply (published held.unit uri (document_at held uri)) sent

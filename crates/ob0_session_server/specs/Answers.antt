@@ -1,4 +1,4 @@
--- The answers of a server, message by message.
+-- The server's answers, message by message.
 -- Rule: docs/PROTOCOL.md, Order of checks, and errors; Lifecycle; Documents; Publishing; Requests on documents.
 use Rattle.std.specs.Prelude.{◌≡◌, ℕ, ℤ, List, [], ◌∷◌, ◌++◌, false, Option, Some, None, is_some, Result, Ok, Err, if◌then◌else◌, codes}
 use Rattle.std.specs.Str.{bytes_eq}
@@ -27,18 +27,18 @@ use Rattle.ob0_session_json.specs.Shapes.{Diagnostic, capabilities, edit_refused
 use Rattle.ob0_session_server.specs.declared.session.Phase.{Phase}
 use Rattle.ob0_session_server.specs.declared.session.Phase.TheVariants.{Starting, Running, ShutDown, Ended, Failed}
 
--- ---- what a server keeps from message to message
+-- ---- the state that a server keeps between messages
 
--- what a session knows: how far the lifecycle is, the client, the documents
+-- the state of a session: its phase, the client, and the documents
 pub record ServerState : Type 0 where
-  -- how far the lifecycle has come
+  -- the phase of the lifecycle
   pub phase : Phase
-  -- what the editor has said that it can do
+  -- the editor's capabilities
   pub client : Client
   -- the documents that the client has open, and the unit of positions
   pub held : OpenDocuments
 
--- nothing was said yet
+-- the capabilities of a client that hasn't announced any
 abbrev pub no_client : Client
 no_client =
     record {
@@ -48,36 +48,38 @@ no_client =
       takes_document_changes = false;
     }
 
--- before `initialize`
+-- the state before `initialize`
 abbrev pub start : ServerState
 start = record { phase = Starting; client = no_client; held = none_open Utf16 }
 
--- ---- what it sends back for one message
+-- ---- the reply to one message
 
--- what is sent for one message: nothing, a message, or diagnostics
+-- the reply to one message: nothing, a message, or diagnostics or an answer about a document's text
 pub data Reply : Type 0 where
   nothing : Reply
   -- this message
   says : Data → Reply
-  -- the diagnostics of a document, at positions of this unit: its uri, its version and the characters of its text
+  -- the diagnostics of a document: the unit of positions, its uri, its version and the characters
+  -- of its text
   diagnoses : Unit → List ℕ → ℤ → List ℕ → Reply
-  -- the edits that lay out a text, or why there are none: the unit, the request's id, the indent and the characters of
-  -- the text
+  -- the edits that format a text, or the refusal: the unit, the request's id, the indentation and
+  -- the characters of the text
   lays_out : Unit → Data → Indent → List ℕ → Reply
-  -- the answer about what is at a position: the unit, the request's id, the document and position, the question and the
-  -- characters of the text
+  -- the answer about a position: the unit, the request's id, the document and position, the
+  -- question and the characters of the text
   answers_name : Unit → Data → At → NameQuestion → List ℕ → Reply
-  -- the edits that write another name, or why there are none: the unit, the request and the characters of the text
+  -- the edits that rename a declaration, or the refusal: the unit, the request and the characters
+  -- of the text
   renames : Unit → RequestedRename → List ℕ → Reply
-  -- the code actions that are offered: the unit, the request and the characters of the text
+  -- the offered code actions: the unit, the request and the characters of the text
   offers_actions : Unit → RequestedActions → List ℕ → Reply
 
--- one message is sent, of which this is the text
+-- states that exactly one content is sent, which is the text of this message
 abbrev pub Sends : Data → List (List ℕ) → Type 0
 Sends message sent = (bytes : List ℕ) × (sent ≡ bytes ∷ []) × Writes message bytes
 
--- These bytes say it. The diagnostics are those of the text: where it isn't a module, the one of the token at which the
--- parser stops.
+-- States that these contents are the reply. The diagnostics are the text's: if it isn't a module by
+-- the grammar, the single diagnostic of the token at which the parser stops.
 abbrev pub SaysReply : Reply → List (List ℕ) → Type 0
 SaysReply nothing sent = sent ≡ []
 SaysReply (says message) sent = Sends message sent
@@ -92,50 +94,51 @@ SaysReply (renames unit requested text) sent =
 SaysReply (offers_actions unit requested text) sent =
     (message : Data) × AnswersActions unit requested text message × Sends message sent
 
--- the state after a message, and what is sent
+-- the state after a message, and the reply
 pub record Reaction : Type 0 where
   pub after : ServerState
   pub say : Reply
 
--- the state stays as it is
+-- a reaction that leaves the state unchanged
 abbrev pub stays : ServerState → Reply → Reaction
 stays s say = record { after = s; say = say }
 
--- the lifecycle comes to this phase
+-- a reaction that moves the lifecycle to this phase
 abbrev pub with_phase : Phase → ServerState → Reply → Reaction
 with_phase phase s say = record { after = record s { phase = phase }; say = say }
 
--- the documents are these from now on
+-- a reaction that replaces the documents
 abbrev pub with_documents : OpenDocuments → ServerState → Reply → Reaction
 with_documents held s say = record { after = record s { held = held }; say = say }
 
--- an error is answered, and the state stays as it is
+-- a reaction that answers with an error and leaves the state unchanged
 abbrev pub refuses : ServerState → Data → ℤ → List ℕ → Reaction
 refuses s id code said = stays s (says (error_message id code said))
 
--- an error for a message that can't be read or isn't known
+-- the error for a message that can't be read or isn't known
 abbrev pub refuses_fault : ServerState → Data → RpcFault → Reaction
 refuses_fault s id fault = refuses s id (error_code fault) (error_text fault)
 
--- ---- requests: the lifecycle is looked at first, then the method, then the params
+-- ---- requests: first the lifecycle is checked, then the method, then the params
 
--- a client begins with no document
+-- the state in which a client begins, without any document
 abbrev pub begins : Client → ServerState
 begins client = record { phase = Running; client = client; held = none_open (unit_for client) }
 
--- what is said of the version and the text of a document that is open and in step; else the request is refused
+-- the reply about the version and text of a document that is open and in step; otherwise the
+-- request is refused
 abbrev pub answers_about : ServerState → Data → Option Document → (ℤ → List ℕ → Reply) → Reaction
 answers_about s id (Some (InStep version text)) say = stays s (say version text)
 answers_about s id (Some OutOfStep) say = stays s (says (edit_refused id (codes "out of step")))
 answers_about s id None say = stays s (says (edit_refused id (codes "unopened")))
 
--- a question about what is at a position
+-- a question about a position
 abbrev pub requests_name : ServerState → Data → At → NameQuestion → Reaction
 requests_name s id at question =
     answers_about s id (document_at s.held at.uri)
     (λ version. answers_name s.held.unit id at question)
 
--- a request for another name of what is named at a position
+-- a request to rename the name or field at a position
 abbrev pub requests_rename : ServerState → Data → At → List ℕ → Reaction
 requests_rename s id at new =
     answers_about s id (document_at s.held at.uri) (λ version. renames s.held.unit
@@ -153,12 +156,12 @@ requests_actions s id uri range only =
     (λ version. offers_actions s.held.unit (record
     { id = id; client = s.client; uri = uri; version = version; range = range; only = only }))
 
--- a request for a layout
+-- a request for formatting
 abbrev pub requests_layout : ServerState → Data → List ℕ → Indent → Reaction
 requests_layout s id uri indent =
     answers_about s id (document_at s.held uri) (λ version. lays_out s.held.unit id indent)
 
--- what comes of a request of a known method, once its params are read
+-- the reaction to a request of a known method whose params have been read
 abbrev pub answer_request : ServerState → Data → Result ClientRequest RpcFault → Reaction
 answer_request s id (Ok (initialize client)) =
     record { after = begins client; say = says (result_message id (capabilities client)) }
@@ -172,11 +175,11 @@ answer_request s id (Ok (code_action uri range only)) = requests_actions s id ur
 answer_request s id (Ok (formatting uri indent)) = requests_layout s id uri indent
 answer_request s id (Err fault) = refuses_fault s id fault
 
--- what comes of a request while the session runs
+-- the reaction to a request while the session runs
 abbrev pub answer_method : ServerState → Data → List ℕ → Data → Reaction
 answer_method s id method params = answer_request s id (request_by_method method params)
 
--- what comes of a request, by the lifecycle
+-- the reaction to a request, by the phase of the lifecycle
 abbrev pub react_to_request : Phase → ServerState → Data → List ℕ → Data → Reaction
 react_to_request Starting s id method params =
     if bytes_eq method (codes "initialize") then answer_method s id method params
@@ -190,34 +193,34 @@ react_to_request phase s id method params = stays s nothing
 
 -- ---- notifications
 
--- `exit` ends with 0 after a shutdown, and else with 1
+-- the status of `exit`: 0 after a shutdown, otherwise 1
 abbrev pub end_status : Phase → ℕ
 end_status ShutDown = 0
 end_status phase = 1
 
--- `exit` ends the session, with 0 after `shutdown` and with 1 otherwise
+-- the reaction to `exit`, which ends the session: with 0 after `shutdown`, otherwise with 1
 abbrev pub ends : ServerState → Reaction
 ends s = with_phase (Ended (end_status s.phase)) s nothing
 
--- a document in step is diagnosed
+-- the diagnostics of a document that is in step
 abbrev pub published : Unit → List ℕ → Option Document → Reply
 published unit uri (Some (InStep version text)) = diagnoses unit uri version text
 published unit uri (Some OutOfStep) = nothing
 published unit uri None = nothing
 
--- the documents are changed, and what is now held under the uri is published
+-- the reaction that replaces the documents and publishes the diagnostics of the one with this uri
 abbrev pub publish_documents : List ℕ → OpenDocuments → ServerState → Reaction
 publish_documents uri held s =
     with_documents held s (published held.unit uri (document_at held uri))
 
--- what comes of a notification while the session runs
+-- the reaction to a notification while the session runs
 abbrev pub apply_notification : ServerState → Notification → Reaction
 apply_notification s exits = ends s
 apply_notification s (opens uri version text) =
     publish_documents uri (opened s.held uri version text) s
 apply_notification s (changes uri version all) =
     publish_documents uri (changed s.held uri version all) s
--- the close of a held document takes its diagnostics back
+-- the close of an open document clears its diagnostics
 apply_notification s (closes uri) =
     with_documents (closed s.held uri) s
     (if is_some (document_at s.held uri) then says (publication uri None []) else nothing)
@@ -225,7 +228,8 @@ apply_notification s (unreadable (Some uri)) = with_documents (lost s.held uri) 
 apply_notification s (unreadable None) = stays s nothing
 apply_notification s other = stays s nothing
 
--- before `initialize` and after `shutdown` only `exit` is heard
+-- the reaction to a notification; before `initialize` and after `shutdown` every notification
+-- except `exit` is dropped
 abbrev pub react_to_notification : Phase → ServerState → List ℕ → Data → Reaction
 react_to_notification Running s method params = apply_notification s (note_of method params)
 react_to_notification phase s method params =
@@ -233,7 +237,7 @@ react_to_notification phase s method params =
 
 -- ---- messages
 
--- what comes of a content
+-- the reaction to a content
 abbrev pub react : ServerState → MessageMeaning → Reaction
 react s not_json = refuses_fault s null NotJson
 react s not_a_message = refuses_fault s null NotAMessage
@@ -241,23 +245,26 @@ react s response = stays s nothing
 react s (request id method params) = react_to_request s.phase s id method params
 react s (notice method params) = react_to_notification s.phase s method params
 
--- the answers of a server that has not ended, and has not failed
+-- states the answers of a server that has neither ended nor failed
 abbrev pub AnswersGoingOn : ServerState → List ℕ → List (List ℕ) → ServerState → Type 0
 AnswersGoingOn before content sent after =
     (json : Option Data) × ReadsContent content json
     × (let r = react before (meaning json) in (after ≡ r.after) × SaysReply r.say sent)
 
--- after its end it sends nothing and stays as it is, and where an allocation has failed it doesn't answer
+-- states the answers in each phase: after its end the server sends nothing and its state is
+-- unchanged; after a failed allocation it doesn't answer
 abbrev pub AnswersInState : Phase → ServerState → List ℕ → List (List ℕ) → ServerState → Type 0
 AnswersInState (Ended status) before content sent after = (sent ≡ []) × (after ≡ before)
 AnswersInState Failed before content sent after = ⊥
 AnswersInState phase before content sent after = AnswersGoingOn before content sent after
 
--- In the one state the server replies to this content with these messages, and then it is in the other state.
+-- States that a server in the first state replies to this content with these messages, and is then
+-- in the second state.
 abbrev pub Answers : ServerState → List ℕ → List (List ℕ) → ServerState → Type 0
 Answers before content sent after = AnswersInState before.phase before content sent after
 
--- The server replies to this content, and then, from the state in which it is, to what follows.
+-- States that the server replies to this content first and then, from the state that results, to
+-- the contents after it.
 pub record AnswersFirst (before : ServerState) (content : List ℕ) (sent : List (List ℕ))
     (Follows : ServerState → List (List ℕ) → Type 0) : Type 0 where
   pub between : ServerState
@@ -267,8 +274,8 @@ pub record AnswersFirst (before : ServerState) (content : List ℕ) (sent : List
   pub follows : Follows between later
   pub all : sent ≡ first ++ later
 
--- In the one state the server replies to these contents in turn with these messages, in that order, and then it is in
--- the other state.
+-- States that a server in the first state replies to these contents, one after another, with these
+-- messages in this order. It is then in the second state.
 abbrev pub Conversation : ServerState → List (List ℕ) → List (List ℕ) → ServerState → Type 0
 Conversation before [] sent after = (sent ≡ []) × (after ≡ before)
 Conversation before (content ∷ contents) sent after =

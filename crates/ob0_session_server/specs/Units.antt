@@ -1,10 +1,10 @@
--- In which unit positions are counted.
+-- The unit in which positions are counted.
 -- Rule: docs/PROTOCOL.md, Capabilities (`positionEncoding`), Positions 1.
 use Rattle.std.specs.Prelude.{if◌then◌else◌}
 use Rattle.ob0_text.specs.declared.position_types.Unit.{Unit}
 use Rattle.ob0_text.specs.declared.position_types.Unit.TheVariants.{Utf16, Utf8}
 use Rattle.ob0_rpc.specs.declared.clients.Client.{Client}
 
--- positions count bytes of UTF-8 where the client offers that
+-- bytes of UTF-8 if the client offers that, otherwise UTF-16 units
 abbrev pub unit_for : Client → Unit
 unit_for client = if client.counts_utf8 then Utf8 else Utf16

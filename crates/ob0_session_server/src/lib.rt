@@ -1,4 +1,5 @@
-//! The server (docs/PROTOCOL.md): contents of messages in, contents of answers out.
+//! The server (docs/PROTOCOL.md): it reads the contents of messages, and returns the contents of
+//! its answers.
 #![tactic(auto)]
 
 mod session;

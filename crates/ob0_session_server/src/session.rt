@@ -1,4 +1,5 @@
-//! A session: how far its lifecycle has come, and what it answers there (docs/PROTOCOL.md, Lifecycle).
+//! A session: the phase of its lifecycle, and its answers in each phase (docs/PROTOCOL.md,
+//! Lifecycle).
 ghost use Rattle.std.specs.Prelude.{◌≡◌, ◌≢◌, Ok, IfOk, IfErr, map, option_map, string_bytes};
 ghost use Rattle.ob0_rpc.specs.Seen.{id_data};
 ghost use Rattle.ob0_text.specs.OpenDocuments.{none_open};
@@ -23,33 +24,33 @@ use std::alloc::{AllocError, Global};
 use std::marker::Model;
 use thiserror::Error;
 
-/// How far the lifecycle has come.
+/// The phase of a session's lifecycle.
 #[derive(Clone, Copy, Debug, Drop, PartialEq, Eq)]
 pub enum Phase {
     Starting,
     Running,
     ShutDown,
-    /// After `exit`, with this status.
+    /// After `exit`; the session has ended with this status.
     Ended(u8),
-    /// After an allocation that failed.
+    /// After a failed allocation.
     Failed,
 }
 
-/// Whether a session goes on after a step, or ends with a status.
+/// Says whether a session continues after a step, or has ended with a status.
 #[derive(Clone, Copy, Debug, Drop, PartialEq, Eq)]
 pub enum Next {
     Continue,
     End(u8),
 }
 
-/// What a session makes of one content.
+/// The result of a step: the messages to send, and whether the session continues.
 #[derive(Drop)]
 pub struct Step {
     pub send: Vec<Vec<u8>>,
     pub next: Next,
 }
 
-/// Why a step has no answer: out of memory, or the session failed at an earlier step.
+/// Why a step has no answer: an allocation failed, now or at an earlier step.
 #[derive(Clone, Copy, Debug, Drop, PartialEq, Eq, Error)]
 pub enum SessionFault {
     #[error("Memory")]
@@ -91,7 +92,8 @@ impl<T: TextStore> Session<T> {
     ghost use Rattle.std.specs.Str.{chars};
     ghost use Rattle.ob0_text.specs.OpenDocuments.{change_in_text, document_at};
 
-    /// A session before `initialize`, with no open document; positions are in UTF-16 units.
+    /// Returns a session before `initialize`. No document is open, and positions are in UTF-16
+    /// units.
     pub fn new(alloc: Global) -> Session<T>
         ensures { result ≡ start }
     {
@@ -108,14 +110,15 @@ impl<T: TextStore> Session<T> {
         }
     }
 
-    /// The documents that the client has open. Nothing is promised of them once an allocation failed.
+    /// Returns the open documents of the client. After a failed allocation nothing is promised
+    /// about them.
     pub fn documents(&self) -> &Documents<T>
         ensures { result.now ≡ self.now.held }
     {
         self.documents.documents()
     }
 
-    /// Takes the content of one message, and gives the answers to it.
+    /// Reads the content of one message and returns the answers to it.
     pub fn step(&mut self, content: &[u8]) -> Result<Step, SessionFault>
         ensures ok { IfOk result (λ step. SessionSteps self.old content.now step self.new) }
         ensures err { IfErr result (λ fault. SessionFails self.old fault self.new) }
@@ -144,7 +147,7 @@ impl<T: TextStore> Session<T> {
         }
     }
 
-    /// Whether the session goes on, or the status with which it has ended.
+    /// Returns whether the session continues, or the status with which it has ended.
     fn next(&self) -> Next
         ensures { result ≡ next_after self.now.phase }
     {
@@ -154,7 +157,7 @@ impl<T: TextStore> Session<T> {
         }
     }
 
-    /// The messages that answer a content: one, or none.
+    /// Returns the messages that answer a content: at most one.
     fn answer(&mut self, content: &[u8]) -> Result<Vec<Vec<u8>>, AllocError>
         ensures { IfOk result
             (λ sent. AnswersGoingOn self.old content.now (map (λ v. v.items) sent.items) self.new) }
@@ -191,7 +194,8 @@ impl<T: TextStore> Session<T> {
         Ok(Some(error(self.alloc, id, code, said)?))
     }
 
-    /// Why a message can't be read is answered, unless it is that memory ran out.
+    /// Answers with the reason why a message can't be read. If the reason is a failed allocation,
+    /// returns that error instead.
     fn refuse_fault(&self, id: Option<&Id>, fault: RpcFault) -> Result<Option<Vec<u8>>, AllocError>
         ensures { IfOk result (λ sent. (fault ≢ RpcFault.Memory) × Reacts
             (refuses_fault self.now (id_or_null (option_map (λ i. i.now) id.entry)) fault) sent
@@ -223,7 +227,7 @@ impl<T: TextStore> Session<T> {
         }
     }
 
-    /// A request in a phase in which it is heard.
+    /// Answers a request in a phase that allows it.
     fn reply_to_known(
         &mut self,
         id: &Id,
@@ -339,7 +343,7 @@ impl<T: TextStore> Session<T> {
         self.ask(id, uri, &request)
     }
 
-    /// The answer to a request about a document.
+    /// Returns the answer to a request about a document.
     fn ask<Q: DocumentRequest<T>>(
         &mut self,
         id: &Id,
@@ -353,7 +357,7 @@ impl<T: TextStore> Session<T> {
         reply_with(self.alloc, id, outcome)
     }
 
-    /// Begins with a client that can do this, and with no document.
+    /// Begins the session for a client with these capabilities, without any document.
     fn begin(&mut self, client: Client)
         ensures { self.new ≡ begins client }
     {
@@ -469,7 +473,7 @@ impl<T: TextStore> Session<T> {
         Ok(Some(publication(self.alloc, uri, None, none)?))
     }
 
-    /// The diagnostics of a document that is in step.
+    /// Returns the publication of a document's diagnostics if the document is in step.
     fn publish(&mut self, uri: &str) -> Result<Option<Vec<u8>>, AllocError>
         ensures same { self.new ≡ self.old }
         ensures says { IfOk result (λ sent. SaysReply
@@ -481,7 +485,7 @@ impl<T: TextStore> Session<T> {
     }
 }
 
-/// The answer to a request, by what came of it.
+/// Returns the answer to a request with this outcome.
 fn reply_with(
     alloc: Global,
     id: &Id,
@@ -496,7 +500,7 @@ fn reply_with(
     }
 }
 
-/// The message that came of a request about a document, where one did.
+/// Returns the message of an outcome, if it has one.
 fn message_of(outcome: RequestOutcome) -> Option<Vec<u8>>
     ensures { result ≡ what_is_sent outcome }
 {
@@ -507,7 +511,7 @@ fn message_of(outcome: RequestOutcome) -> Option<Vec<u8>>
     }
 }
 
-/// No documents, in the unit of positions that a client wants.
+/// Returns a state without documents, in the unit of positions that the client offers.
 fn documents_for<T: TextStore>(alloc: Global, client: Client) -> Documents<T>
     ensures { result ≡ none_open (unit_for client) }
 {

@@ -1,4 +1,4 @@
-//! What these tests ask of texts, in tables, and the one way in which they do.
+//! The questions that these tests ask about texts, in tables, and the function that asks them.
 
 ghost use Rattle.std.specs.Prelude.{⊤};
 
@@ -12,31 +12,33 @@ use ob0_text::{Indent, Position};
 use ob0_types::WellTyped;
 use std::alloc::{AllocError, Global};
 
-/// What is asked of a well-typed module.
+/// A question about a well-typed module.
 #[derive(Clone, Copy)]
 pub enum Asked {
-    /// Nothing: so a text is answered by what is wrong with it alone.
+    /// No question: only the faults of the text are reported.
     Faults,
-    /// The type of what has an ordinal.
+    /// The type of the declaration with an ordinal.
     TypeOf(usize),
-    /// Where another name for what has an ordinal isn't free.
+    /// The place at which another name for the declaration with an ordinal isn't free.
     Free(usize, &'static str),
-    /// What the occurrences are bound to where what has an ordinal has another name.
+    /// The bindings of the occurrences after the declaration with an ordinal is renamed.
     Bound(usize, &'static str),
-    /// What is said of the name at a byte.
+    /// The facts about the name at a byte.
     NameAt(usize),
-    /// What is shown of each name, with a bar after it.
+    /// The hover text of each name, followed by a bar.
     Shown,
-    /// What a run on an input outputs, and how it ends: with how many open calls, and turns of a loop.
+    /// The output of a run on an input, and how it ends, with bounds on open calls and on
+    /// iterations of a loop.
     Run(&'static [i32], u32, u32),
-    /// The text with another name for what is at a place, or why it has none. So are the edits that follow.
+    /// The text after a renaming at a place, or the refusal. The next questions are for the text
+    /// after other edits.
     Rename(u64, u64, &'static str),
     InlineHere(u64, u64),
     InlineAll(u64, u64),
     LayOut(Indent),
 }
 
-/// A text, what is asked of it, and the answer, or what is wrong with the text.
+/// A text, a question about it, and the answer, or the text's faults instead.
 pub type Row = (&'static str, Asked, &'static str);
 
 /// A table: `TEXT, ASKED => ANSWER;` for each row, or `TEXT => FAULTS;`.
@@ -47,17 +49,17 @@ macro_rules! rows {
 
 pub(crate) use rows;
 
-/// How a table is gone over.
+/// The way in which a table is checked.
 #[derive(Clone, Copy, PartialEq, Eq)]
 pub enum Walk {
     Asking,
-    /// Where an allocation may fail.
+    /// With allocations that may fail.
     Refused,
-    /// Each row is a renaming, by way of the analysis.
+    /// Each row is a renaming, made through the analysis.
     RenamingInAnalysis,
 }
 
-// Texts of several tables.
+// Texts that several tables use.
 
 pub const BLOCKS: &str =
     "MODULE M;\nVAR Q: INTEGER;\nPROCEDURE A;\nPROCEDURE P; BEGIN Q := 7 END P;\n\
@@ -103,8 +105,8 @@ fn push_answer(
     }
 }
 
-/// What is answered to a text. (What owns an analysis is expensive to prove, at each of its steps: so it only passes it
-/// on.)
+/// Returns the answer for a row. (A function that owns an analysis is expensive to prove at each of
+/// its steps, so this one only passes it on.)
 fn answer_for_row(alloc: Global, row: &Row, walk: Walk) -> Result<String, AllocError> {
     let analysis = Analysis::of(alloc, row.0)?;
     answer_or_faults(alloc, &analysis, &row.1, walk)
@@ -132,7 +134,8 @@ fn is_said(alloc: Global, row: &Row, walk: Walk) -> bool {
     }
 }
 
-/// The text and the wanted answer of the first row that is answered otherwise; of none two empty ones.
+/// Returns the text and the expected answer of the first row that is answered otherwise, or two
+/// empty texts if there is no such row.
 pub fn first_wrong(
     alloc: Global,
     rows: &'static [Row],
@@ -150,13 +153,13 @@ pub fn at(line: u64, character: u64) -> Position {
     Position { line, character }
 }
 
-/// What is wrong with an analysed text.
+/// Returns the faults of an analysed text.
 pub fn faults_of(alloc: Global, analysis: &Analysis) -> Result<String, AllocError> {
     let faults = analysis.diagnoses(alloc)?;
     reported_faults(alloc, faults.as_slice())
 }
 
-/// Each fault's code and bytes, and what a syntax fault expects.
+/// Returns each fault's code and bytes, and what a syntax fault expects.
 fn reported_faults(alloc: Global, faults: &[Diagnosis]) -> Result<String, AllocError> {
     let mut out = String::new(alloc);
     for fault in faults {
@@ -180,7 +183,7 @@ pub fn push_number(out: &mut String, before: &str, number: usize) -> Result<(), 
     write!(out, "{before}{number}")
 }
 
-/// Adds where a span begins and ends, after a text.
+/// Adds the start and the end of a span after a text.
 pub fn push_span(out: &mut String, before: &str, span: Span) -> Result<(), AllocError> {
     let (start, end) = (span.start, span.end);
     write!(out, "{before}{start}-{end}")

@@ -1,4 +1,4 @@
-//! The types of declarations, and where another name for one isn't free.
+//! The types of declarations, and the places at which another name for one isn't free.
 
 use crate::asking::Asked::{Bound, Free, TypeOf};
 use crate::asking::{Row, Walk, first_wrong, push_number, push_span, rows};
@@ -8,7 +8,7 @@ use ob0_types::{ArrayShape, Parts, RecordShape, Shape, WellTyped};
 use std::alloc::{AllocError, Global};
 use std::process::Abort;
 
-/// Adds the type of what has an ordinal.
+/// Adds the type of the declaration with an ordinal.
 pub fn push_type(
     out: &mut String,
     module: &WellTyped<'_>,
@@ -53,7 +53,7 @@ fn push_record(out: &mut String, record: &RecordShape) -> Result<(), AllocError>
     write!(out, "RECORD {ordinal} with {fields}")
 }
 
-/// Adds where another name for what has an ordinal isn't free.
+/// Adds the place at which another name for the declaration with an ordinal isn't free.
 pub fn push_capture(
     alloc: Global,
     out: &mut String,
@@ -67,7 +67,7 @@ pub fn push_capture(
     }
 }
 
-/// Adds what the occurrences are bound to where what has an ordinal has another name.
+/// Adds the bindings of the occurrences after the declaration with an ordinal is renamed.
 pub fn push_bound(
     alloc: Global,
     out: &mut String,

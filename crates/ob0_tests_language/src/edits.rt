@@ -1,4 +1,4 @@
-//! Renamed, inlined and laid out texts, and why edits are refused.
+//! Renamed, inlined and formatted texts, and refusals of edits.
 
 ghost use Rattle.std.specs.Prelude.{◌≡◌};
 ghost use Rattle.std.specs.Str.{chars};
@@ -17,7 +17,7 @@ use ob0_types::WellTyped;
 use std::alloc::{AllocError, Global};
 use std::process::Abort;
 
-/// Adds what an edit makes of a module's text, or why there is none.
+/// Adds a module's text after an edit, or the refusal.
 pub fn push_edited(
     alloc: Global,
     out: &mut String,
@@ -29,7 +29,7 @@ pub fn push_edited(
     out.push_str(apply_or_refuse(alloc, &store, edits)?.as_str())
 }
 
-/// The edits, none for what else may be asked.
+/// Returns the edits; for questions that aren't about edits, an empty list.
 fn edits_of<T: TextStore>(
     alloc: Global,
     store: &T,
@@ -47,7 +47,7 @@ fn edits_of<T: TextStore>(
     }
 }
 
-/// What edits make of a text, or why there are none.
+/// Returns the text with the edits applied, or the refusal.
 fn apply_or_refuse(
     alloc: Global,
     store: &Whole,
@@ -63,7 +63,7 @@ fn apply_or_refuse(
     }
 }
 
-/// What a renaming makes of an analysed text, or what is wrong with it.
+/// Returns an analysed text after a renaming, or the refusal, or the text's faults.
 pub fn rename_or_faults(
     alloc: Global,
     analysis: &Analysis,
@@ -166,7 +166,7 @@ const COMMENTED: &str = "MODULE M; CONST c (* five *) = 5; (* on *) BEGIN Write(
 const SEVERAL: &str =
     "MODULE M; CONST a = 9; c = -5; d = c; BEGIN Write(a - c); Write(c DIV 3) END M.";
 
-/// The value is written in parentheses, one level too many.
+/// The value is written in parentheses, which nest one level too deep.
 const DEEP: &str = "MODULE M; CONST c = -1; VAR x: INTEGER; BEGIN x := \
     ((((((((((((((((((((((((((((((((((((((((((((((((((\
     ((((((((((((((((((((((((((((((((((((((((((((((((((c\
@@ -214,7 +214,8 @@ fn constants_are_inlined(rt: HostRuntime) {
 
 const TWO: Indent = Indent::Spaces(2);
 
-/// Texts, how they are laid out, and what comes of it, which stays as it is: `TEXT, INDENT => LAID OUT;`.
+/// Texts, their indentation, and the formatted texts, which formatting leaves unchanged: `TEXT,
+/// INDENT => LAID OUT;`.
 macro_rules! layouts {
     ($($text:expr, $indent:expr => $wanted:expr;)*) => {
         &[$(($text, LayOut($indent), $wanted), ($wanted, LayOut($indent), $wanted)),*]

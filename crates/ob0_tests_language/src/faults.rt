@@ -1,4 +1,4 @@
-//! Faults of worked texts: code, start and end of each, in the order of their places.
+//! The faults of example texts: the code, start and end of each, in text order.
 
 use crate::asking::Asked::Faults;
 use crate::asking::{Row, Walk, at, faults_of, first_wrong, rows};
@@ -29,7 +29,7 @@ static ROWS: &[Row] = rows![
     "MODULE M; PROCEDURE P; BEGIN Q END P; PROCEDURE Q; END Q; END M." => "Undeclared 29-30; ";
     "MODULE M; VAR r: RECORD a: RECORD a: INTEGER END; a: INTEGER END; END M." => "Duplicate 50-51; ";
     "MODULE M; PROCEDURE P(x: INTEGER); VAR x: INTEGER; END P; END M." => "Duplicate 39-40; ";
-    // One of each of ten kinds.
+    // One fault of each of ten kinds.
     "MODULE M;\nCONST k = 1 DIV 0; m = 1;\nVAR i: INTEGER; b: BOOLEAN;\n\
         PROCEDURE P(VAR j: INTEGER); BEGIN j := 1 END Q;\n\
         BEGIN i := b; P(3); P; z := 1; i.f := 1; i[0] := 1; Write(P); m := 2 END M." =>
@@ -97,31 +97,32 @@ const RECORDS: &str =
     "MODULE M; TYPE T = RECORD f, g: INTEGER END; VAR t: T; PROCEDURE P(a, b: T); BEGIN a := b; a.f := t.g END P; \
     BEGIN P(t, t); z := t END M.";
 
-/// Texts of one line that are changed where no identifier is, and where one is: from a place to another, with what comes
-/// there.
+/// Texts of one line, and changes outside or inside identifiers: the start, the end, and the new
+/// text.
 static CHANGES: &[(&str, u64, u64, &str)] = changes![
-    // A number that the types depend on.
+    // A number on which types depend.
     "MODULE M; CONST n = 2; VAR a: ARRAY n OF INTEGER; BEGIN a[n - 1] := 1; a[2] := n END M.", 20, 21, "20";
-    // A number before a name that nothing declares, and before one that is declared twice.
+    // A number before an undeclared name, and before a name that is declared twice.
     "MODULE M; CONST n = 2; VAR x, x: INTEGER; BEGIN y := n END M.", 20, 21, "234";
-    // White space beside a name.
+    // White space next to a name.
     "MODULE M; VAR x: INTEGER; BEGIN x := TRUE END M.", 15, 15, " ";
-    // A name, by another and by one that is declared already.
+    // A name that is replaced by another one, and by one that is already declared.
     TWO_VARIABLES, 17, 18, "z";
     TWO_VARIABLES, 17, 18, "x";
-    // A statement more in a procedure before another one, and half a statement.
+    // One more statement in a procedure before another one, and half a statement.
     "MODULE M; VAR x: INTEGER; PROCEDURE P; BEGIN x := 1 END P; PROCEDURE Q; BEGIN P; y := 1 END Q; BEGIN Q END M.",
         51, 51, "; x := TRUE";
     "MODULE M; VAR x: INTEGER; PROCEDURE P; BEGIN x := z END P; PROCEDURE Q; BEGIN P; y := 1 END Q; BEGIN Q END M.", 86, 88, "";
-    // A statement more in a body of a module without faults: one that fits, one that doesn't, one with a name that nothing
-    // declares, and one that selects fields before others do.
+    // One more statement in a body of a valid module: a well-typed one, one with an error, one with
+    // an undeclared name, and one that selects fields before others do.
     TWO_VARIABLES, 41, 41, "; y := x + 1";
     TWO_VARIABLES, 41, 41, "; y := TRUE";
     TWO_VARIABLES, 41, 41, "; z := 1";
     "MODULE M; TYPE T = RECORD f, g: INTEGER END; VAR t: T; PROCEDURE P(a, b: T); BEGIN a := b; a.f := t.g END P; \
         BEGIN P(t, t); t := t END M.", 101, 101, "; a.g := b.f";
-    // A name in the body of a procedure in another one: a local one, a parameter, one of a block around it, one that is
-    // declared after it, its own, and one that nothing declares; with names at fault before it, in it and after it.
+    // A name in the body of a nested procedure: a local one, a parameter, one of an enclosing
+    // block, a later one, its own name, and an undeclared one. There are undeclared names before
+    // it, in it and after it.
     "MODULE M; VAR x, u: INTEGER; PROCEDURE P(a: INTEGER); VAR y: BOOLEAN; PROCEDURE Q(x: BOOLEAN); BEGIN x := y \
         END Q; PROCEDURE R; BEGIN q := 1 END R; BEGIN x := a END P; BEGIN P(x); v := u END M.", 106, 107, "R";
     "MODULE M; VAR x, u: INTEGER; PROCEDURE P(a: INTEGER); VAR y: BOOLEAN; PROCEDURE Q(x: BOOLEAN); BEGIN x := y \
@@ -132,16 +133,16 @@ static CHANGES: &[(&str, u64, u64, &str)] = changes![
     // The first name of a body, a number before it, the last name, and two changes at once.
     "MODULE M; VAR x, y: INTEGER; PROCEDURE P; BEGIN IF 1 < x THEN y := x END END P; BEGIN P; z := x END M.", 51, 56, "2 < q";
     ONE_PROCEDURE, 48, 54, "q := r";
-    // A closing name, and that name with the last one of its body.
+    // A closing name, and a closing name together with the last name of its body.
     ONE_PROCEDURE, 59, 60, "Q";
     ONE_PROCEDURE, 53, 60, "q END Q";
-    // A parameter, a field where it is written and where it is selected, and a type.
+    // A parameter, a field at its declaration and at a selection, and a type.
     RECORDS, 70, 71, "a";
     RECORDS, 29, 30, "f";
     RECORDS, 100, 101, "h";
 ];
 
-/// What is wrong with a text, by an analysis that is made from that of the text before.
+/// Returns the faults of a text, from an analysis that reuses the analysis of the previous text.
 fn faults_after(alloc: Global, old: &str, new: &str) -> Result<String, AllocError> {
     let analysis = Analysis::of(alloc, old)?.after(alloc, new)?;
     faults_of(alloc, &analysis)
@@ -152,14 +153,15 @@ fn faults_from_nothing(alloc: Global, text: &str) -> Result<String, AllocError> 
     faults_of(alloc, &analysis)
 }
 
-/// Whether a changed text has the faults that an analysis of it from nothing finds.
+/// Returns whether a changed text has the faults that an analysis from scratch finds.
 fn is_as_new(alloc: Global, old: &str, new: &str) -> Result<bool, AllocError> {
     let found = faults_after(alloc, old, new)?;
     let wanted = faults_from_nothing(alloc, new)?;
     Ok(found.as_str() == wanted.as_str())
 }
 
-/// Whether a text that is changed, and back, has the faults that an analysis of it from nothing finds.
+/// Returns whether a text that is changed, and changed back, has the faults that an analysis from
+/// scratch finds.
 fn are_as_new(alloc: Global, row: &(&str, u64, u64, &str)) -> Result<bool, AllocError> {
     let (text, start, end, new) = *row;
     let mut store = Whole::from_str(alloc, text)?;
@@ -168,7 +170,7 @@ fn are_as_new(alloc: Global, row: &(&str, u64, u64, &str)) -> Result<bool, Alloc
     Ok(is_as_new(alloc, text, store.as_str())? && is_as_new(alloc, store.as_str(), text)?)
 }
 
-/// The number of the first change after which a text has other faults.
+/// Returns the number of the first change after which a text has other faults.
 fn first_unlike_new(alloc: Global, changes: &[(&str, u64, u64, &str)]) -> Option<usize> {
     for i in 0..changes.len() {
         if are_as_new(alloc, &changes[i]) != Ok(true) {

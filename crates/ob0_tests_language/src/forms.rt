@@ -1,5 +1,5 @@
-//! The forms that the parser gives to expressions, which no contract distinguishes, and the sizes of nodes and of what
-//! a token is bound to.
+//! The forms in which the parser represents expressions, which no contract distinguishes. Also the
+//! sizes of nodes and of the entries for the bindings of tokens.
 
 use ob0_parse::parse;
 use ob0_scan::{Tokens, scan};
@@ -23,7 +23,7 @@ const ONE_FACTOR: &str =
 const OPERATIONS: &str =
     "MODULE M; VAR x: INTEGER; BEGIN x := -x; x := +1; x := (x) * 2; x := a[i].b + 1; x := ~b & c; x := x = 1; x := (x) # y; x := a.b < 3; x := -(x) END M.";
 
-/// Whether a statement assigns a value of the small form.
+/// Returns whether a statement assigns a value of the small form.
 fn assigns_factor(s: &Statement) -> Option<bool> {
     match s {
         Statement::Assign(a) => match &a.value {
@@ -34,7 +34,8 @@ fn assigns_factor(s: &Statement) -> Option<bool> {
     }
 }
 
-/// Whether statements are this many assignments, all of a value of the small form or none.
+/// Returns whether statements are this many assignments, all with a value of the small form, or all
+/// with another one.
 fn are_assignments(statements: &[Statement], count: usize, factor: bool) -> bool {
     for s in statements {
         if assigns_factor(s) != Some(factor) {
@@ -58,7 +59,8 @@ fn are_parsed(alloc: Global, tokens: &Tokens, count: usize, factor: bool) -> boo
     }
 }
 
-/// Whether the body of a text has this many assignments, all of a value of the small form or none.
+/// Returns whether the body of a text has this many assignments, all with a value of the small
+/// form, or all with another one.
 fn all_assign(alloc: Global, text: &str, count: usize, factor: bool) -> bool {
     match scan(alloc, text) {
         Ok(tokens) => are_parsed(alloc, &tokens, count, factor),

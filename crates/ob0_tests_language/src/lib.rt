@@ -1,5 +1,5 @@
-//! Tests of what needs a module: syntax and faults, names, runs, edits that keep the run, layout. They are examples
-//! with known answers.
+//! Tests that need a module: syntax and faults, names, runs, edits that keep the runs, formatting.
+//! They are examples with known answers.
 #![tactic(auto)]
 
 #[cfg(test)]

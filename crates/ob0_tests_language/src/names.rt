@@ -1,4 +1,4 @@
-//! What is answered of the names of worked modules, and what is shown of them.
+//! The answers about the names of example modules, and their hover texts.
 
 use crate::asking::Asked::{NameAt, Shown};
 use crate::asking::{FIELDS, RECURSIVE, Row, Walk, first_wrong, push_number, push_span, rows};
@@ -8,7 +8,8 @@ use ob0_types::WellTyped;
 use std::alloc::{AllocError, Global};
 use std::process::Abort;
 
-/// Adds what the name at a byte is one of, where that is declared, where it is named, and what is shown of it.
+/// Adds what the name at a byte refers to, the places of its declaration and of its uses, and its
+/// hover text.
 pub fn push_name(
     alloc: Global,
     out: &mut String,
@@ -34,7 +35,7 @@ fn push_of(out: &mut String, of: Of) -> Result<(), AllocError> {
     }
 }
 
-/// Adds where else it is named.
+/// Adds the other places of that name.
 fn push_named(
     alloc: Global,
     out: &mut String,
@@ -53,7 +54,7 @@ fn push_spans(out: &mut String, spans: &[Span]) -> Result<(), AllocError> {
     Ok(())
 }
 
-/// Adds what is shown of it, and where: at the name itself.
+/// Adds the hover text and its range, which must be the name itself.
 fn push_shown(
     alloc: Global,
     out: &mut String,
@@ -99,7 +100,7 @@ fn names_and_fields_are_found(rt: HostRuntime) {
     assert!(rt; text.is_empty(), "{wanted} in {text}");
 }
 
-/// Adds what is shown of each identifier that something is shown of.
+/// Adds the hover text of each identifier that has one.
 pub fn push_all_shown(
     alloc: Global,
     out: &mut String,
@@ -115,7 +116,7 @@ pub fn push_all_shown(
     Ok(())
 }
 
-/// Adds what is shown of the name at a place, and says whether something is.
+/// Adds the hover text of the name at a place, and returns whether there is one.
 fn push_if_shown(
     alloc: Global,
     out: &mut String,
@@ -184,7 +185,7 @@ fn each_kind_of_name_is_shown(rt: HostRuntime) {
     assert!(rt; text.is_empty(), "{text}");
 }
 
-// `make faults` runs this with each allocation refused in turn.
+// `make faults` runs this once for each allocation, which is then refused.
 #[test]
 fn a_refused_allocation_changes_no_answer(rt: HostRuntime) {
     let (text, _) = first_wrong(rt.alloc(), shown_rows(), Walk::Refused);

@@ -1,5 +1,5 @@
-//! What is held of documents while they are opened, changed, lost and closed, in both stores; and what documents and a
-//! text are left as where the memory of a call is refused.
+//! The state of documents while they are opened, changed, lost and closed, in both stores. Also the
+//! state of documents and of a text after an allocation was refused.
 
 use crate::cases::{Case, first_wrong};
 use crate::documents::Act::{Close, Lose, Note, Open};
@@ -9,20 +9,21 @@ use ob0_text::{Change, Documents, Held, Lines, ReplacedBytes, TextStore, Unit, W
 use std::alloc::{AllocError, Global};
 use std::process::Abort;
 
-/// Where a change begins and ends, and what comes in its place.
+/// The start and the end of a change, and its new text.
 type ChangeRow = ((u64, u64), (u64, u64), &'static str);
 
-/// What happens to a document.
+/// An action on a document.
 enum Act {
     Open(i64, &'static str),
-    /// A note with changes; and the bytes around them in the text before: from where, how many gave way, and to how many.
+    /// A notification with changes; and the bytes around them: their offset, how many were removed,
+    /// and how many were added.
     Note(i64, &'static [ChangeRow], Option<(usize, usize, usize)>),
     Lose,
-    /// It was open, or wasn't.
+    /// Says whether the document was open.
     Close(bool),
 }
 
-/// What is held of a document.
+/// The state of a document.
 #[derive(Clone, Copy)]
 enum Known {
     InStep(i64, &'static str),
@@ -32,7 +33,7 @@ enum Known {
 
 const OPENED: &str = "a\rb";
 
-/// Three changes of that text in one note, and what they make of it.
+/// Three changes of that text in one notification; `CHANGED_BY_THREE` is the result.
 const THREE_CHANGES: &[ChangeRow] =
     rows![((1, 0), (1, 0), "\n"); ((1, 1), (1, 1), "\nc"); ((2, 0), (2, 1), "d");];
 
@@ -40,7 +41,7 @@ const CHANGED_BY_THREE: &str = "a\r\nb\nd";
 
 const TWO_CHANGES: &[ChangeRow] = &[((0, 9), (0, 10), "yz"), ((0, 4), (0, 4), "!")];
 
-/// What happens to a document, in a unit, and what is held of it after each act.
+/// The unit of positions, and actions on a document, each with the expected state after it.
 struct Row(Unit, &'static [(Act, Known)]);
 
 static ROWS: &[Row] = rows![
@@ -78,7 +79,7 @@ fn changes_of(alloc: Global, rows: &[ChangeRow]) -> Result<Vec<Change>, AllocErr
     Ok(changes)
 }
 
-/// Whether this is what is held of a document.
+/// Returns whether a document has the expected state.
 fn is_known<T: TextStore>(documents: &Documents<T>, uri: &str, wanted: Known) -> bool {
     match (documents.get(uri), wanted) {
         (Some(Held::InStep { version, text }), InStep(number, content)) => {
@@ -98,7 +99,7 @@ fn are_bytes(found: Option<ReplacedBytes>, wanted: Option<(usize, usize, usize)>
     }
 }
 
-/// Whether an act gives what it is to give.
+/// Performs an action, and returns whether its result is the expected one.
 fn does<T: TextStore>(
     alloc: Global,
     documents: &mut Documents<T>,
@@ -132,7 +133,7 @@ fn do_all<T: TextStore>(
     Ok(true)
 }
 
-/// Whether acts do what they are to do, in the unit that was set before.
+/// Returns whether all actions of a row have their expected results, in the row's unit.
 fn are_done<T: TextStore>(alloc: Global, row: &Row) -> Result<bool, AllocError> {
     let mut documents: Documents<T> = Documents::new(alloc);
     if row.0 == Unit::Utf8 {
@@ -153,7 +154,8 @@ fn a_document_is_held_until_it_is_closed_or_lost(rt: HostRuntime) {
     assert!(rt; wrong.is_none(), "row {wrong:?}");
 }
 
-/// Opens a document, and once more where an allocation failed; then whether it was as before in between.
+/// Opens a document, and tries again if an allocation failed. Returns whether it was closed in
+/// between and is open now.
 fn opens(documents: &mut Documents<Lines>, uri: &str) -> bool {
     if documents.did_open(uri, 1, OPENED).is_err() {
         if documents.get(uri).is_some() || documents.did_open(uri, 1, OPENED).is_err() {
@@ -163,7 +165,8 @@ fn opens(documents: &mut Documents<Lines>, uri: &str) -> bool {
     is_known(documents, uri, InStep(1, OPENED))
 }
 
-/// Changes a document by a note: it is in step where the note was taken, and else out of step.
+/// Changes a document. Returns whether it is then in step if the call succeeded, and out of step
+/// otherwise.
 fn changes(documents: &mut Documents<Lines>, uri: &str, note: &[Change]) -> bool {
     match documents.did_change(uri, 2, note) {
         Ok(_bytes) => is_known(documents, uri, InStep(2, CHANGED_BY_THREE)),
@@ -171,7 +174,7 @@ fn changes(documents: &mut Documents<Lines>, uri: &str, note: &[Change]) -> bool
     }
 }
 
-/// Opens two documents and changes one of them. Whether they are held as they are to be.
+/// Opens two documents and changes one of them. Returns whether both have their expected states.
 fn are_held(alloc: Global) -> Result<bool, AllocError> {
     let note = changes_of(alloc, THREE_CHANGES)?;
     let mut documents: Documents<Lines> = Documents::new(alloc);
@@ -183,7 +186,7 @@ fn are_held(alloc: Global) -> Result<bool, AllocError> {
     )
 }
 
-/// Whether a text is as it was where a replacement is refused.
+/// Returns whether a refused replacement leaves the text unchanged.
 fn is_text_left(alloc: Global) -> Result<bool, AllocError> {
     let mut store = Lines::from_str(alloc, OPENED)?;
     match store.replace(range_of((1, 0), (1, 0)), "\nmore than there was room for") {
@@ -192,14 +195,15 @@ fn is_text_left(alloc: Global) -> Result<bool, AllocError> {
     }
 }
 
-// `make test` runs this with each allocation refused in turn. (What it allocates for itself it tries a second time.)
+// `make test` runs this once for each allocation, which is then refused. (The test repeats its own
+// allocations.)
 #[test]
 fn a_refused_note_leaves_its_document_alone_out_of_step(rt: HostRuntime) {
     let held = are_held(rt.alloc());
     assert!(rt; held == Ok(true) || held.is_err() && are_held(rt.alloc()) == Ok(true));
 }
 
-// In the same way.
+// `make test` runs this in the same way.
 #[test]
 fn a_refused_replacement_leaves_the_text(rt: HostRuntime) {
     let left = is_text_left(rt.alloc());

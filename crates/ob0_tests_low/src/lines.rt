@@ -1,4 +1,4 @@
-//! Stores of lines beside whole texts: each change of short texts, and long lines.
+//! Compares stores of lines with whole texts: after each change of short texts, and in long lines.
 
 use crate::cases::{Case, first_wrong};
 use crate::lines::Row::{Changed, Cut, Long};
@@ -8,9 +8,10 @@ use std::alloc::{AllocError, Global};
 use std::process::Abort;
 
 enum Row {
-    /// A short text in which changes are made.
+    /// A short text, to which changes are applied.
     Changed(&'static str),
-    /// A text of long lines: of ASCII alone, with other characters far in, or with a tab.
+    /// A text of long lines: with only ASCII, with other characters far to the right, or with a
+    /// tab.
     Long(&'static str),
     /// A text, and its lines with their endings.
     Cut(&'static str, &'static [&'static str]),
@@ -53,7 +54,7 @@ fn stores_of(alloc: Global, text: &str, unit: Unit) -> Result<Stores, AllocError
 }
 
 impl Stores {
-    /// Whether they have the same text, and the same places up to a line and a character.
+    /// Returns whether both have the same text, and the same offsets up to a line and a character.
     fn are_alike(&self, lines: u64, characters: u64) -> bool {
         for line in 0..lines {
             for character in 0..characters {
@@ -76,7 +77,7 @@ impl Stores {
         self.whole.replace(range, new)
     }
 
-    /// Whether a change gives the same text in both, and replaces the same bytes.
+    /// Returns whether a change gives the same text in both stores and replaces the same bytes.
     fn change(&mut self, line: u64, column: u64) -> Result<bool, AllocError> {
         let range = range_of((line, column), (line, column.saturating_add(2)));
         let bytes = self.lines.replace_at(range, "é-")?;
@@ -84,7 +85,7 @@ impl Stores {
         Ok(bytes == others && self.lines.as_str() == self.whole.as_str())
     }
 
-    /// Whether they stay alike while the lines are changed at these columns.
+    /// Returns whether both stores agree after each change of the lines at these columns.
     fn change_lines(&mut self, columns: &[u64]) -> Result<bool, AllocError> {
         for line in 0..3 {
             for column in columns {
@@ -97,7 +98,7 @@ impl Stores {
     }
 }
 
-/// Whether a store has the lines of one that is made again of its text; there are fewer than 16.
+/// Returns whether a store has the same lines as a new store of its text; there are fewer than 16.
 fn is_as_new(alloc: Global, lines: &Lines, unit: Unit) -> Result<bool, AllocError> {
     let again = Lines::from_str_in(alloc, lines.as_str(), unit)?;
     for k in 0..16 {
@@ -108,7 +109,8 @@ fn is_as_new(alloc: Global, lines: &Lines, unit: Unit) -> Result<bool, AllocErro
     Ok(lines.as_str() == again.as_str())
 }
 
-/// Whether one change leaves the same text and places in both stores, with the lines of a store made again.
+/// Returns whether both stores have the same text and places after one change, with the lines of a
+/// new store.
 fn agree(
     alloc: Global,
     text: &str,
@@ -121,8 +123,8 @@ fn agree(
     Ok(is_as_new(alloc, &stores.lines, unit)? && stores.are_alike(10, 8))
 }
 
-/// Whether they agree after a change that begins in a line and ends some lines further, in one unit, and after one
-/// that begins and ends in the line, in the other.
+/// Returns whether the stores agree after a change over several lines, in one unit, and after a
+/// change within a line, in the other unit.
 fn agree_from(
     alloc: Global,
     text: &str,
@@ -135,7 +137,8 @@ fn agree_from(
     Ok(agree(alloc, text, Unit::Utf16, wide, new)? && agree(alloc, text, Unit::Utf8, narrow, new)?)
 }
 
-/// Whether they agree after each change that begins in one of the first lines and ends there or in one of the next two.
+/// Returns whether they agree after each change that begins in one of the first lines and ends
+/// there or in one of the next two.
 fn agree_after_changes(alloc: Global, text: &str, new: &str) -> Result<bool, AllocError> {
     for line in 0..4 {
         for further in 0..3 {
@@ -158,14 +161,15 @@ fn agree_after_each(alloc: Global, text: &str) -> Result<bool, AllocError> {
     Ok(true)
 }
 
-/// Columns at which lines are changed one after the other: onward, back, to and fro.
+/// Columns at which lines are changed one after another: forwards, backwards, and alternating.
 static COLUMNS: &[&[u64]] = &[
     &[0, 3, 70, 71, 130, 140],
     &[150, 140, 100, 99, 66, 30, 2, 0],
     &[10, 120, 60, 64, 128, 1, 90, 89],
 ];
 
-/// Whether the stores of a text are alike far in its lines, and stay so while these are changed at all columns.
+/// Returns whether the stores of a text agree far to the right in its lines, also while these are
+/// changed at all columns.
 fn are_alike_far_in(alloc: Global, text: &str, unit: Unit) -> Result<bool, AllocError> {
     if !stores_of(alloc, text, unit)?.are_alike(4, 160) {
         return Ok(false);
@@ -178,7 +182,7 @@ fn are_alike_far_in(alloc: Global, text: &str, unit: Unit) -> Result<bool, Alloc
     Ok(true)
 }
 
-/// Whether a store has just these lines.
+/// Returns whether a store has exactly these lines.
 fn has_lines(lines: &Lines, wanted: &[&str]) -> bool {
     for k in 0..wanted.len() {
         if lines.line(k) != Some(wanted[k]) {

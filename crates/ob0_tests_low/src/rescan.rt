@@ -1,5 +1,5 @@
-//! Texts that are changed at one place: scanned again, they have the tokens, comments and faults of a scan from
-//! nothing.
+//! Texts that are changed at one place and scanned again: they have the tokens, comments and faults
+//! of a scan from scratch.
 
 ghost use Rattle.std.specs.Prelude.{◌≡◌, ◌++◌, IfOk, string_bytes};
 ghost use Rattle.ob0_scan.specs.Reused.{IsReplaced};
@@ -14,10 +14,11 @@ use ob0_scan::{
 use std::alloc::{AllocError, Global};
 use std::process::Abort;
 
-/// What comes of scanning a changed text again, beside a scan of it from nothing.
+/// The outcome of scanning a changed text again, compared with a scan from scratch.
 #[derive(Clone, Copy, PartialEq, Eq)]
 enum Outcome {
-    /// Both give the same: how many tokens and comments are read again, and whether the tokens stay of the same kinds.
+    /// Both give the same. The number of tokens and comments that are read again, and whether all
+    /// tokens keep their kinds.
     Read(usize, bool),
     /// Both refuse it for the same faults.
     Refused,
@@ -26,7 +27,8 @@ enum Outcome {
     Different,
 }
 
-/// A text of four parts: what is in front of the change, what gives way, what comes in its place, and what follows.
+/// A text in four parts: the text before the change, the old text, the new text, and the text after
+/// the change.
 type Parts = (&'static str, &'static str, &'static str, &'static str);
 
 enum Row {
@@ -49,12 +51,13 @@ fn join_texts(
     Ok(text)
 }
 
-/// Whether both have the same text, tokens and comments.
+/// Returns whether both have the same text, tokens and comments.
 fn are_same(a: &Tokens, b: &Tokens) -> bool {
     a.text() == b.text() && a.tokens() == b.tokens() && a.comments() == b.comments()
 }
 
-/// What comes of a scan in place, beside one from nothing. A text with faults gives back the tokens of the one before.
+/// Returns the outcome of a scan in place, compared with a scan from scratch. If the new text has
+/// faults, the scan in place returns the old tokens.
 fn outcome_in_place(
     placed: &Result<RescanInPlace, NotRescanned>,
     scanned: &Result<Tokens, ScanRefusal>,
@@ -70,7 +73,7 @@ fn outcome_in_place(
     }
 }
 
-/// Whether this comes of a scan beside the old tokens too.
+/// Returns whether a scan that keeps the old tokens has this outcome as well.
 fn has_outcome(
     found: &Result<Rescan, ScanRefusal>,
     scanned: &Result<Tokens, ScanRefusal>,
@@ -87,7 +90,7 @@ fn has_outcome(
     }
 }
 
-/// Where a text is changed: the bytes before, those that are removed and those that are added.
+/// The place of a change: the numbers of bytes before it, of removed bytes and of added bytes.
 #[derive(Clone, Copy)]
 struct ChangedRange {
     from: usize,
@@ -95,7 +98,7 @@ struct ChangedRange {
     added: usize,
 }
 
-/// Scans a changed text again: beside the old tokens, and in their place.
+/// Scans a changed text again, once with the old tokens kept and once in their place.
 fn rescan_both(
     alloc: Global,
     old: Tokens,
@@ -125,7 +128,7 @@ fn compare(
     }
 }
 
-/// Scans a text again in which `other` comes in place of `middle`.
+/// Replaces `middle` by `other`, and scans the text again.
 fn change(
     alloc: Global,
     front: &str,
@@ -154,7 +157,7 @@ fn push_statements(text: &mut String) -> Result<(), AllocError> {
     Ok(())
 }
 
-/// What comes of a change between these statements and as many more.
+/// Returns the outcome of a change between these statements and as many more.
 fn change_between(alloc: Global, statements: &str, parts: &Parts) -> Result<Outcome, AllocError> {
     let (front, middle, other, following) = *parts;
     let front = join_texts(alloc, "MODULE M; VAR x: INTEGER; BEGIN ", statements, front)?;
@@ -168,7 +171,7 @@ fn change_long(alloc: Global, parts: &Parts) -> Result<Outcome, AllocError> {
     change_between(alloc, statements.as_str(), parts)
 }
 
-/// Little is read again in a long text.
+/// Few tokens are read again in a long text.
 static LONG: &[Row] = rows![
     Long(("x := ", "1", "2", "; "), Read(1, true));
     Long(("x := ", "1", "(* one *) 1", "; "), Read(2, true));
@@ -177,11 +180,11 @@ static LONG: &[Row] = rows![
 ];
 
 static SHORT: &[Row] = rows![
-    // A comment is opened in front.
+    // A comment is opened at the front.
     Short(("", "", "(*", "MODULE M; END M."), Refused);
     Short(("", "", "(*", "x *)"), Read(1, false));
     Short(("", "", "(*", "$"), Unscanned);
-    // Tokens stay of the same kinds, or don't.
+    // The tokens keep their kinds, or don't.
     Short(("x := ", "1", "21", " + y"), Read(1, true));
     Short(("x := ", "1", "(* one *) 1", " + y"), Read(2, true));
     Short(("x := ", "1", "z", " + y"), Read(1, false));
@@ -212,14 +215,14 @@ fn a_changed_text_is_read_as_from_nothing(rt: HostRuntime) {
     assert!(rt; wrong.is_none(), "row {wrong:?}");
 }
 
-/// A row of numbers that look random.
+/// A sequence of numbers that look random.
 #[derive(Drop)]
 struct Numbers {
     seed: u64,
 }
 
 impl Numbers {
-    /// The next one, below a bound.
+    /// Returns the next number, which is below a bound.
     fn below(&mut self, most: usize) -> usize {
         self.seed = self
             .seed
@@ -249,7 +252,7 @@ fn random_text(alloc: Global, numbers: &mut Numbers, most: usize) -> Result<Stri
     Ok(text)
 }
 
-/// Random texts of at most this many pieces each.
+/// Returns random texts of at most this many pieces each.
 fn random_texts(
     alloc: Global,
     numbers: &mut Numbers,
@@ -276,7 +279,8 @@ fn random_change(alloc: Global, numbers: &mut Numbers) -> Result<Outcome, AllocE
     }
 }
 
-/// Whether random changes are read as from nothing, and enough of them are read and refused.
+/// Returns whether random changes are scanned as if from scratch, and enough of them are read and
+/// refused.
 fn are_random_changes_read(alloc: Global) -> bool {
     let mut numbers = Numbers { seed: 1 };
     let mut read: usize = 0;

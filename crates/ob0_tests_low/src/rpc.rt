@@ -1,4 +1,5 @@
-//! Messages from outside: what they mean, and which contents aren't messages; and the bytes of answers.
+//! Messages from a client and their meanings, contents that aren't messages, and the bytes of
+//! answers.
 
 use crate::cases::{Case, first_wrong};
 use crate::rpc::Asked::{Content, Notification, Request, Sent};
@@ -13,7 +14,8 @@ use serde_json::{Value, json};
 use std::alloc::{AllocError, Global};
 use std::process::Abort;
 
-/// A content, or a method with its params, and what is said of it in a word; or a message, and its content.
+/// A content, or a method with its params, whose meaning is expected as a word; or a message, whose
+/// content is expected.
 #[derive(Clone, Copy)]
 enum Asked {
     Content(&'static str),
@@ -22,7 +24,7 @@ enum Asked {
     Sent(Message),
 }
 
-/// What is sent: mostly an answer to a request with this value.
+/// A message that is sent: usually an answer to a request with this value.
 #[derive(Clone, Copy)]
 enum Message {
     Nothing,
@@ -35,7 +37,7 @@ enum Message {
     Text,
     Truths,
     Member,
-    /// A value with members of each kind but a fraction.
+    /// A value with members of each kind except a fraction.
     EachKind,
     NoteOfEachKind,
 }
@@ -136,7 +138,7 @@ static ROWS: &[Row] = rows![
     Sent(NoteOfEachKind) => r#"{"jsonrpc":"2.0","method":"m","params":{"a":{"c":"\"\n"},"b":[true,null,-1]}}"#;
 ];
 
-/// In a word what a content is.
+/// Returns the kind of a content, in a word.
 fn kind_of(alloc: Global, content: &str) -> &'static str {
     match read(alloc, content.as_bytes()) {
         Ok(message) => word_of_message(&message),
@@ -185,7 +187,7 @@ fn said_of_kinds(only: &Option<Vec<String>>) -> &'static str {
     }
 }
 
-/// A request, in a word.
+/// Returns the meaning of a request, in a word.
 fn word_of(call: &Call) -> &'static str {
     match call {
         Call::Initialize(client) => said_of(*client),
@@ -211,7 +213,7 @@ fn word_requested(alloc: Global, method: &str, params: &Value) -> &'static str {
     }
 }
 
-/// In a word what a notification says.
+/// Returns the meaning of a notification, in a word.
 fn word_of_note(note: &Note) -> &'static str {
     match note {
         Note::Unreadable { uri: None } => "unreadable",
@@ -259,7 +261,7 @@ fn member_written(alloc: Global) -> Result<Vec<u8>, AllocError> {
     result_of(alloc, &Id::Signed(0), &OneMember { key, value })
 }
 
-/// The content of a message.
+/// Returns the content of a message.
 fn written(alloc: Global, message: Message) -> Result<Vec<u8>, AllocError> {
     const MOST: (u64, u64) = (u64::MAX, u64::MAX);
     match message {

@@ -1,4 +1,4 @@
-//! Worked rows of numbers and truth values.
+//! Examples of calculations with numbers and truth values.
 
 use crate::cases::{Case, first_wrong};
 use crate::values::Reckoned::{Add, Multiply, Negate, Relate, SignOf};

@@ -1,4 +1,4 @@
-//! Commands over writers that pass on what is written only when they are flushed, and command lines.
+//! Commands with writers that pass written bytes on only when they are flushed; and command lines.
 
 use crate::devices::{Count, Counter, Source};
 use ob0_cli::{CommandFault, CommandLine, command};
@@ -9,7 +9,8 @@ use std::process::Abort;
 
 const READS: &[u8] = b"MODULE M; VAR x: INTEGER; BEGIN Read(x); Write(x) END M.";
 
-/// A check of an empty file, a run of a module on an input, and a rename in it at a column of its line.
+/// A check of an empty file, a run of a module on an input, or a rename in that module at a column
+/// of its line.
 #[derive(Clone, Copy)]
 enum Called {
     Check,
@@ -17,7 +18,7 @@ enum Called {
     Rename(u64),
 }
 
-/// The status of a run on this input.
+/// Returns the status of a run on this input.
 fn run_status(
     alloc: Global,
     input: &[u8],
@@ -48,7 +49,8 @@ fn status_of(
     }
 }
 
-/// The status of a call where `flushes` flushes succeed, and how many bytes are passed on.
+/// Returns the status of a command if `flushes` flushes succeed, and the number of bytes that are
+/// passed on.
 fn outcome_of(alloc: Global, called: Called, flushes: u32) -> (u8, usize) {
     let (mut printed, mut reported) = (Count::new(512, flushes), Count::new(512, 1));
     let mut out = TrackedWriter::new(Counter {
@@ -61,7 +63,8 @@ fn outcome_of(alloc: Global, called: Called, flushes: u32) -> (u8, usize) {
     (status, printed.passed_on)
 }
 
-/// Calls, how many flushes succeed, the status, and how many bytes are passed on.
+/// Commands, the number of flushes that succeed, the status, and the number of bytes that are
+/// passed on.
 static CALLS: &[(Called, u32, (u8, usize))] = &[
     (
         Called::Check,
@@ -76,7 +79,7 @@ static CALLS: &[(Called, u32, (u8, usize))] = &[
     (Called::Rename(0), 1, (1, 0)),
 ];
 
-/// The number of the first call that ends otherwise.
+/// Returns the number of the first command that ends otherwise.
 fn first_astray(alloc: Global, calls: &[(Called, u32, (u8, usize))]) -> Option<usize> {
     for i in 0..calls.len() {
         if outcome_of(alloc, calls[i].0, calls[i].1) != calls[i].2 {
@@ -92,7 +95,7 @@ fn commands_print_what_they_flush(rt: HostRuntime) {
     assert!(rt; number.is_none(), "call {number:?}");
 }
 
-/// What a command line requests, in a word.
+/// Returns the request of a command line, in a word.
 fn word_of(line: &CommandLine<'_>) -> &'static str {
     match line {
         CommandLine::Serve => "serve",

@@ -1,4 +1,5 @@
-//! Conversations over devices that fail, and a writer that passes on what it is given only where it is flushed.
+//! Conversations with failing devices, and with a writer that passes bytes on only when it is
+//! flushed.
 
 use crate::devices::{Count, Counter, Source};
 use ob0_session::{DeviceFault, Noted, ServeFault, serve, status_of};
@@ -14,13 +15,13 @@ const INPUT: &[u8] = b"Content-Length: 75\r\n\r\n\
     Content-Length: 44\r\n\r\n{\"id\":2,\"jsonrpc\":\"2.0\",\"method\":\"shutdown\"}\
     Content-Length: 33\r\n\r\n{\"jsonrpc\":\"2.0\",\"method\":\"exit\"}";
 
-/// The first message, and a head that is bad.
+/// The first message, followed by a bad head.
 const BAD_HEAD: &[u8] = b"Content-Length: 75\r\n\r\n\
     {\"id\":1,\"jsonrpc\":\"2.0\",\"method\":\"initialize\",\"params\":{\"capabilities\":{}}}\
     Content-Length: x\r\n\r\n";
 
-/// How a conversation ends: the first `len` of its bytes are read, in pieces of `given` bytes by `reads` reads at most,
-/// and its writer takes `capacity` bytes and `flushes` flushes.
+/// A conversation and its expected end. The first `len` of its bytes are read, by at most `reads`
+/// reads of at most `given` bytes. Its writer accepts `capacity` bytes and `flushes` flushes.
 struct ServeEnd {
     bytes: &'static [u8],
     len: usize,
@@ -31,7 +32,7 @@ struct ServeEnd {
     result: Result<u8, ServeFault>,
 }
 
-/// `BYTES to LEN, GIVEN a read, READS; CAPACITY, FLUSHES => RESULT;` for each.
+/// `BYTES to LEN, GIVEN a read, READS; CAPACITY, FLUSHES => RESULT;` for each conversation.
 macro_rules! ends {
     ($($bytes:ident to $len:expr, $given:expr, $reads:expr; $capacity:expr, $flushes:expr => $result:expr;)*) => {
         &[$(ServeEnd { bytes: $bytes, len: $len, given: $given, reads: $reads, capacity: $capacity, flushes: $flushes,
@@ -50,7 +51,8 @@ static ENDS: &[ServeEnd] = ends![
     BAD_HEAD to 118, 40, u32::MAX; 512, 3 => Err(ServeFault::BadHead);
 ];
 
-/// How a conversation ended, which of its devices know that they failed, and whether all was flushed.
+/// The end of a conversation, which of its devices recorded a failure, and whether everything was
+/// flushed.
 #[derive(Clone, Copy)]
 struct Found {
     result: Result<u8, ServeFault>,
@@ -59,7 +61,7 @@ struct Found {
     flushed: bool,
 }
 
-/// How a conversation ends over this writer.
+/// Holds a conversation with this writer, and returns how it ended.
 fn converse(alloc: Global, end: &ServeEnd, count: &mut Count) -> Found {
     let mut reader = Noted::new(Source {
         bytes: &end.bytes[..end.len.min(end.bytes.len())],
@@ -76,15 +78,15 @@ fn converse(alloc: Global, end: &ServeEnd, count: &mut Count) -> Found {
     }
 }
 
-/// Whether the devices know afterwards that all was flushed and which of them failed.
+/// Returns whether the devices report that everything was flushed, and which of them failed.
 fn is_reported(found: Found) -> bool {
     found.read_failed == (found.result == Err(ServeFault::Read))
         && found.write_failed == (found.result == Err(ServeFault::Write))
         && found.flushed
 }
 
-/// Whether a conversation ends as it is to end where this many flushes succeed: by a write that failed where one is
-/// lacking, and else with all that was written passed on.
+/// Returns whether a conversation ends as expected if this many flushes succeed. If a flush is
+/// missing, a write has failed; otherwise all written bytes are passed on.
 fn ends_flushed(alloc: Global, end: &ServeEnd, flushes: u32) -> bool {
     let mut count = Count::new(end.capacity, flushes);
     let found = converse(alloc, end, &mut count);
@@ -94,7 +96,7 @@ fn ends_flushed(alloc: Global, end: &ServeEnd, flushes: u32) -> bool {
     found.result == end.result && is_reported(found) && count.passed_on == count.written
 }
 
-/// Whether a conversation needs each of its flushes.
+/// Returns whether a conversation needs each of its flushes.
 fn needs_each_flush(alloc: Global, end: &ServeEnd) -> bool {
     for flushes in 0..end.flushes {
         if !ends_flushed(alloc, end, flushes) {
@@ -104,7 +106,7 @@ fn needs_each_flush(alloc: Global, end: &ServeEnd) -> bool {
     ends_flushed(alloc, end, end.flushes)
 }
 
-/// The number of the first conversation that goes otherwise.
+/// Returns the number of the first conversation that ends otherwise.
 fn first_astray(alloc: Global, ends: &[ServeEnd]) -> Option<usize> {
     for i in 0..ends.len() {
         if !needs_each_flush(alloc, &ends[i]) {
@@ -120,7 +122,7 @@ fn each_piece_is_flushed_at_its_end(rt: HostRuntime) {
     assert!(rt; number.is_none(), "conversation {number:?}");
 }
 
-/// Whether a reader is passed on as it is, and its failure is kept.
+/// Returns whether a reader's bytes are passed on unchanged, and its failure is recorded.
 fn is_reader_noted() -> bool {
     let mut reader = Noted::new(Source {
         bytes: b"ab",
@@ -132,7 +134,7 @@ fn is_reader_noted() -> bool {
     is_read && reader.read(&mut piece) == Err(DeviceFault) && reader.failed()
 }
 
-/// Whether a writer is passed on as it is, and its failure is kept.
+/// Returns whether a writer's bytes are passed on unchanged, and its failure is recorded.
 fn is_writer_noted() -> bool {
     let mut count = Count::new(1, 1);
     let mut writer = Noted::new(Counter { count: &mut count });
@@ -145,7 +147,7 @@ fn a_device_that_failed_is_noted(rt: HostRuntime) {
     assert!(rt; is_reader_noted() && is_writer_noted());
 }
 
-/// Why a conversation breaks off, and the status of the program then.
+/// The faults with which a conversation breaks off, and the status of the program for each.
 static STATUSES: &[(ServeFault, u8)] = &[
     (ServeFault::BadHead, 3),
     (ServeFault::Truncated, 3),

@@ -1,4 +1,4 @@
--- One turn of a loop that collects what a function gives of each element.
+-- One iteration of a loop that collects the results of a function for each element.
 use Rattle.std.proofs.Common.{◌≡◌, ℕ, ◌+◌, ◌<◌, List, [], ◌∷◌, ◌++◌, map, length, take, get_or, sym, ◌∙◌}
 use Rattle.std.proofs.lemmas.List.{map_more}
 

@@ -19,7 +19,7 @@ use Rattle.ob0_text.proofs.PlaceSteps.{sought_at_start, sought_dropped, sought_p
 use Rattle.ob0_text.proofs.StartLaws.{following_ends, ends-here, ends-on, starts-lines, table, table-split, table-mended, start_before}
 use Rattle.ob0_text.proofs.Halving.{before}
 
--- what holds at each of some starts, of which the first is that of a line
+-- a property of each of some starts, the first of which is the start of the line `line`
 abbrev AtEach : (ℕ → ℕ → Type 0) → ℕ → List ℕ → Type 0
 AtEach P line starts = (k : ℕ) → k < length starts → P (get_or starts k 0) (line + k)
 
@@ -55,7 +55,7 @@ module _ (width : ℕ → ℕ) (narrow : (c : ℕ) → width c ≤ len_utf8 c) (
           let there = counted_past_char width text _ offset line character h c (encode_utf8_all cs) refl (narrow c) (test ∙ e) (grind (arith, nat_tests)) in
           subst (AtEach StartsLine (line + 1)) (sym (ends-on offset c cs e)) (later line (character + width c) there)
 
-  -- each start of a line is a place from which positions are counted on
+  -- positions can be counted from each start of a line
   pub line_counted : IsUtf8 text → (k : ℕ) → k < length (line_starts (chars text)) → StartsLine (get_or (line_starts (chars text)) k 0) k
   line_counted u k l =
       let start = counted_at_start width text u in
@@ -64,7 +64,7 @@ module _ (width : ℕ → ℕ) (narrow : (c : ℕ) → width c ≤ len_utf8 c) (
       subst (StartsLine (get_or (line_starts (chars text)) k 0)) (omega arith) (all k l)
 
 module _ (width : ℕ → ℕ) (text : List ℕ) (p : Position) where
-  -- the same of what precedes a position, for the lines up to its own
+  -- the same for the characters before a position, for the lines up to the position's line
   abbrev pub SeeksFrom : ℕ → ℕ → Type 0
   SeeksFrom s line = line ≤ p.line → IsSought width text p (drop s text) s line 0
 
@@ -96,11 +96,11 @@ module _ (width : ℕ → ℕ) (text : List ℕ) (p : Position) where
       let all : AtEach SeeksFrom 0 (line_starts (chars text)) = subst (AtEach SeeksFrom 0) (sym (starts-lines 0 (chars text))) (at_next SeeksFrom 0 0 (following_ends 0 (chars text)) (λ low. start) more) in
       subst (SeeksFrom (get_or (line_starts (chars text)) k 0)) (omega arith) (all k l)
 
--- there is a line
+-- a text has at least one line
 pub some_start : (text : List ℕ) → 0 < length (line_starts text)
 some_start text = omega (arith, ap length (starts-lines 0 text))
 
--- the places where the passes of a look-up begin
+-- the places at which the passes of a look-up begin
 pub seeks : (width : ℕ → ℕ) (text starts : List ℕ) (p : Position) (place : PassState) → IsUtf8 text → starts ≡ line_starts (chars text) → place.offset ≡ get_or starts place.line 0 → place.line ≡ min p.line (length starts - 1) → place.character ≡ 0 → IsPlaceBefore width text p place
 seeks width text starts p place u is here line none =
     let some : 0 < length starts = subst (λ t. 0 < length t) (sym is) (some_start (chars text)) in
@@ -140,7 +140,7 @@ moved_starts bs starts to moved u is within moved_is =
     let moved_here : moved ≡ length far_front = moved_is far_front _ (old ∙ far.whole) (subst (λ k. AllUnder k far_front) next far.under) (subst (λ k. AllFrom k (starts_after (suc to) (drop to bs) [])) next far.from) in
     (λ i. drop (moved_here i) ((old ∙ far.whole) i)) ∙ drop-append_seam far_front _
 
--- the table of a text of which a part was replaced
+-- the table of a text after a part of it was replaced
 pub mended_starts : (bs new starts later : List ℕ) (from to kept moved : ℕ) → IsUtf8 bs → starts ≡ line_starts (chars bs) → from ≤ to → to ≤ length bs → ((front back : List ℕ) → starts ≡ front ++ back → AllUnder from front → AllFrom from back → kept ≡ length front) → ((front back : List ℕ) → starts ≡ front ++ back → AllUnder (to + 1) front → AllFrom (to + 1) back → moved ≡ length front) → later ≡ starts_after from (get_or (LF ∷ bs) from 0 ∷ new) (drop to bs) ++ map (λ s. s - to + (from + length new)) (drop moved starts) → IsUtf8 ((take from bs ++ new) ++ drop to bs) → take kept starts ++ later ≡ line_starts (chars ((take from bs ++ new) ++ drop to bs))
 mended_starts bs new starts later from to kept moved u is order within kept_is moved_is later_is v =
     let old : starts ≡ starts_after 0 (LF ∷ bs) [] = is ∙ table bs u in

@@ -1,4 +1,4 @@
--- A range of a text is replaced.
+-- Replacing a range of a text.
 use Rattle.std.proofs.Common.{◌≡◌, ℕ, List, ◌++◌, take, drop, min, max, sym, ap, ◌∙◌, subst, Some, Ok, Err}
 use Rattle.std.specs.Prelude.{Result, OnOk}
 use Rattle.std.specs.Str.{IsUtf8, IsCharBoundary, chars}

@@ -1,4 +1,4 @@
--- Passes over a text, past the characters of a stretch.
+-- The steps of passes over the characters of a stretch.
 use Rattle.std.proofs.Common.{◌≡◌, ℕ, ◌+◌, ◌-◌, ◌≤◌, List, [], ◌∷◌, ◌++◌, length, take, drop, sym, ap, ◌∙◌, subst, append_assoc, arith, length-drop}
 use Rattle.std.specs.Prelude.{encode_utf8, encode_utf8_all, sum_by}
 use Rattle.std.specs.List.{All}
@@ -23,7 +23,7 @@ no_cr : (c : ℕ) → EndsNoLine c → c ≡ CR → ⊥
 no_cr c h e = grind (arith, nat_tests)
 
 module _ (width : ℕ → ℕ) (text : List ℕ) where
-  -- what is split at a stretch's end
+  -- the text, split at a stretch's end
   module _ (from : ℕ) (s : Stretch) (is : IsPieceOfLine width text from s) where
     piece : List ℕ
     piece = take (s.end - from) (drop from text)

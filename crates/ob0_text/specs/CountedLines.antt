@@ -1,4 +1,4 @@
--- What the store of lines keeps beside a text.
+-- The data that the store of lines keeps in addition to a text.
 -- Rule: none; for the invariant of `Lines`.
 use Rattle.std.specs.Prelude.{ℕ, List}
 use Rattle.ob0_text.specs.declared.counted_pieces.CountedPiece.{CountedPiece}
@@ -7,7 +7,7 @@ use Rattle.ob0_text.specs.LineStarts.{HasLines, Table}
 use Rattle.ob0_text.specs.Stretches.{IsPieceOfLine}
 use Rattle.ob0_text.specs.Units.{width_of}
 
--- the text's table of lines, and characters of one of its lines
+-- states that a table is the text's, and that a piece consists of characters of one line
 pub record AreLinesOf (text : List ℕ) (unit : Unit) (table : Table) (c : CountedPiece) : Type 0 where
   pub lines : HasLines text table
   pub counted : IsPieceOfLine (width_of unit) text c.start c.counted

@@ -1,11 +1,11 @@
--- How many spaces one level of indent is.
+-- The number of spaces in one level of indentation.
 -- Rule: docs/PROTOCOL.md, Requests on documents 8.
 use Rattle.std.specs.Prelude.{ℕ, max, min}
 
--- the most spaces that a level may be
+-- the greatest number of spaces in a level
 abbrev pub max_indent : ℕ
 max_indent = 16
 
--- the spaces of a level where n are requested: at least one
+-- the number of spaces in a level if n are requested: at least 1 and at most 16
 abbrev pub level_spaces : ℕ → ℕ
 level_spaces n = max 1 (min n max_indent)

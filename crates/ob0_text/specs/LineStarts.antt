@@ -1,11 +1,13 @@
--- Where the lines of a text start, in bytes.
--- A line starts at an offset by the bytes on both sides alone: after LF, and after a CR that no LF follows.
--- `starts_after` says it of a run of bytes, with what follows them; the text's start is an offset after an LF that
--- precedes the text, so the whole table is `starts_after 0 (LF ∷ bytes) []` (`StartLaws.table`, by the characters'
--- starts `following_ends`). It splits at any place (`following-append`), sees only the first byte after
--- (`following-next`), and moves (`following-moved`). So a change keeps the starts before it, tests its own bytes with
--- one on either side, and moves the starts after it (`table-mended`): CR and LF that join or part at a border are no
--- case of their own.
+-- The byte offsets at which the lines of a text start.
+-- Only the bytes on both sides decide whether a line starts at an offset: it starts after LF, and
+-- after a CR that no LF follows. `starts_after` gives the starts in a run of bytes, if the bytes
+-- after the run are known. The text's start counts as an offset after an LF, so the whole table is
+-- `starts_after 0 (LF ∷ bytes) []`. `StartLaws.table` proves this, by the starts after each
+-- character (`following_ends`). The function can be split at any place (`following-append`),
+-- depends only on the first byte after the run (`following-next`), and shifts with its offset
+-- (`following-moved`). So a change keeps the starts before it, tests its own bytes and one on
+-- either side, and shifts the starts after it (`table-mended`). A CR and an LF that a change joins
+-- or separates need no separate case.
 -- Rule: docs/PROTOCOL.md, Positions 2 (by bytes, for the table of lines).
 use Rattle.std.specs.Prelude.{◌≡◌, ℕ, suc, ◌+◌, ◌-◌, ◌<◌, ◌≤◌, if◌then◌else◌, List, [], ◌∷◌, ◌++◌, length, map, reverse, slice_index, refl}
 use Rattle.std.specs.Str.{chars}
@@ -14,21 +16,21 @@ use Rattle.ob0_text.specs.declared.position_types.Unit.{Unit}
 use Rattle.ob0_text.specs.Units.{unit_code}
 use Rattle.ob0_text.specs.Texts.{Line, lines, ends_line, byte_len}
 
--- a line's characters with those of its ending
+-- a line's characters and its ending
 abbrev pub with_ending : Line → List ℕ
 with_ending l = l.body ++ l.ending
 
--- where lines that are one after another start, the first of them at some offset
+-- the offsets where consecutive lines start, if the first of them starts at a given offset
 unfoldable pub starts_from : ℕ → List Line → List ℕ
 starts_from at [] = []
 starts_from at (l ∷ ls) = at ∷ starts_from (at + byte_len (with_ending l)) ls
 
--- the running lengths of a text's lines
+-- the offsets at which the lines of a text start
 abbrev pub line_starts : List ℕ → List ℕ
 line_starts text = starts_from 0 (lines text)
 
 -- The offsets at which a line starts right after one of these bytes. The first byte precedes the
--- offset `at`, and `next` follows the last
+-- offset `at`, and `next` follows the last byte
 unfoldable pub starts_after : ℕ → List ℕ → List ℕ → List ℕ
 starts_after at [] next = []
 starts_after at (b ∷ bs) next =
@@ -36,15 +38,16 @@ starts_after at (b ∷ bs) next =
     then at ∷ starts_after (suc at) bs next
     else starts_after (suc at) bs next
 
--- each number of a list is below a bound
+-- states that each number of a list is below a bound
 abbrev pub AllUnder : ℕ → List ℕ → Type 0
 AllUnder bound ns = (k : ℕ) → k < length ns → slice_index ns k < bound
 
--- no number of a list is below a bound
+-- states that no number of a list is below a bound
 abbrev pub AllFrom : ℕ → List ℕ → Type 0
 AllFrom bound ns = (k : ℕ) → k < length ns → bound ≤ slice_index ns k
 
--- as many starts as this are before an offset, wherever the starts are cut there
+-- states that this many starts are before an offset: if the starts are split at that offset, the
+-- first part has this length
 abbrev pub IsCountBefore : List ℕ → ℕ → ℕ → Type 0
 IsCountBefore starts offset count =
     (front back : List ℕ) → starts ≡ front ++ back → AllUnder offset front → AllFrom offset back
@@ -55,23 +58,23 @@ pub record TextInUnit : Type 0 where
   pub text : List ℕ
   pub unit : Unit
 
--- the code of a text with its unit
+-- the encoding (`Coded`) of a text with its unit
 abbrev pub text_code : Coded TextInUnit
 text_code =
     code_by (List ℕ × Unit) (coded× (coded_list coded_ℕ) unit_code) (λ t. (t.text, t.unit))
     (λ p. record { text = p.0; unit = p.1 }) (λ t. refl)
 
--- Starts, of which the later ones are kept as distances from the end of a text of this length,
--- the last of them first
+-- The offsets where lines start, from two parts. The second part has distances from the end of a
+-- text of length `len`, the last line first
 abbrev pub starts_in : ℕ → List ℕ → List ℕ → List ℕ
 starts_in len front back = front ++ map (λ d. len - d) (reverse back)
 
--- offsets where lines start, and a length
+-- the offsets where lines start, and a text's length
 pub record Table : Type 0 where
   pub starts : List ℕ
   pub len : ℕ
 
--- the table is that of a text
+-- states that a table is the table of a text
 pub record HasLines (text : List ℕ) (t : Table) : Type 0 where
   pub starts : t.starts ≡ line_starts (chars text)
   pub len : t.len ≡ length text

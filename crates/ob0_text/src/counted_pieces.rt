@@ -1,11 +1,14 @@
-//! The piece of a line that was counted last. The next position is mostly near its end, so it is counted from there.
+//! The part of a line that was counted last. The next position is usually near its end, so counting
+//! starts there.
 //!
-//! `Lines` keeps what it counted of the line of the last change, from the line's start, up to 64 bytes before the change
-//! at most. The start of the next change is looked for from there: stretches are taken off its end or added
-//! (`take_off`, `count_on`), so a replace-all in one long line costs what lies between its changes, in either order. Only
-//! the text before the change counts for it (`up_to`), so it holds after the change, whatever lines that makes; whether a
-//! line still starts where it starts is tested (`place_after_counted`). Changes of one long line that go to and fro pass
-//! over what lies between them each time.
+//! `Lines` keeps the counted part of the line of the last change: from the line's start to at most
+//! 64 bytes before the change. The search for the start of the next change begins there: stretches
+//! are removed from the part's end or added to it (`take_off`, `count_on`). So replacing all
+//! occurrences in one long line costs only the text between the changes, in either order. The part
+//! contains only text before the change (`up_to`). Therefore it is valid after the change as well,
+//! whatever lines that makes. `place_after_counted` tests whether a line still starts at the part's
+//! start. Changes that alternate between two places of one long line pass over the text between
+//! them each time.
 
 ghost use Rattle.std.specs.Prelude.{◌≡◌, ◌+◌, ◌-◌, ◌<◌, ◌≤◌, ◌++◌, ℕ, List, IfSome, length, take};
 ghost use Rattle.ob0_text.specs.Units.{width_of};
@@ -14,14 +17,14 @@ ghost use Rattle.ob0_text.specs.Stretches.{IsPieceOfLine, IsStretch};
 use crate::position_types::Unit;
 use crate::stretches::{BYTES, Stretch, next_stretch, units_of};
 
-/// Characters of a line that were counted, from an offset on.
+/// Counted characters of a line, starting at the byte offset `start`.
 #[derive(Clone, Copy, Drop)]
 pub struct CountedPiece {
     pub start: usize,
     pub counted: Stretch,
 }
 
-/// No characters.
+/// Returns a piece without characters.
 pub fn nothing_counted() -> CountedPiece
     ensures { (width : ℕ → ℕ) (text : List ℕ)
         → IsPieceOfLine width text result.start result.counted }
@@ -33,7 +36,8 @@ pub fn nothing_counted() -> CountedPiece
 }
 
 impl CountedPiece {
-    /// What is left of it where the text stays up to an offset: all, or nothing.
+    /// Returns this piece if it ends at or before `offset`, otherwise an empty piece. The text up
+    /// to `offset` must stay the same.
     pub fn up_to(self, offset: usize) -> CountedPiece
         ensures { (width : ℕ → ℕ) (text rest : List ℕ)
             → IsPieceOfLine width text self.start self.counted
@@ -47,8 +51,9 @@ impl CountedPiece {
     }
 }
 
-/// Characters from an offset on that have at most this many units, and nearly as many where the line goes so far. Where
-/// the last ones begin there too, these are taken, with more or less at their end.
+/// Counts characters of a line from `start`: at most `units` units, and nearly as many if the line
+/// is long enough. If the characters that were counted last begin at the same offset, only the
+/// difference is counted.
 pub fn counted_to(text: &str, unit: Unit, start: usize, last: CountedPiece, units: u64) -> Stretch
     requires start { start ≤ length text.now }
     requires last { IsPieceOfLine (width_of unit) text.now last.start last.counted }
@@ -66,7 +71,7 @@ pub fn counted_to(text: &str, unit: Unit, start: usize, last: CountedPiece, unit
     count_on(text, unit, start, nothing, units)
 }
 
-/// A piece without as many characters at its end as make it fit.
+/// Removes characters from the end of a piece until it has at most `units` units.
 fn take_off(text: &str, unit: Unit, start: usize, from: Stretch, units: u64) -> Stretch
     requires start { start ≤ length text.now }
     requires is { IsPieceOfLine (width_of unit) text.now start from }
@@ -86,7 +91,8 @@ fn take_off(text: &str, unit: Unit, start: usize, from: Stretch, units: u64) -> 
     kept
 }
 
-/// A piece without its last characters, of 64 bytes at most. None where it is no longer than these.
+/// Removes the last characters of a piece, at most 64 bytes. Returns None if the piece has no more
+/// than these.
 fn without_last(text: &str, unit: Unit, start: usize, piece: Stretch) -> Option<Stretch>
     requires { IsPieceOfLine (width_of unit) text.now start piece }
     ensures is { IfSome result (IsPieceOfLine (width_of unit) text.now start) }
@@ -99,7 +105,7 @@ fn without_last(text: &str, unit: Unit, start: usize, piece: Stretch) -> Option<
     if !text.is_char_boundary(start) || !text.is_char_boundary(piece.end) {
         return None;
     }
-    // For the proof: what is left is characters too.
+    // For the proof: the rest also consists of whole characters.
     let _left = &text[start..end];
     let last = units_of(&text[end..piece.end], unit)?;
     if piece.units < last {
@@ -111,7 +117,7 @@ fn without_last(text: &str, unit: Unit, start: usize, piece: Stretch) -> Option<
     })
 }
 
-/// A piece with the stretches after it that fit.
+/// Extends a piece by the stretches after it, as long as `units` isn't exceeded.
 fn count_on(text: &str, unit: Unit, start: usize, from: Stretch, units: u64) -> Stretch
     requires few { from.units ≤ units }
     requires is { IsPieceOfLine (width_of unit) text.now start from }
@@ -128,7 +134,7 @@ fn count_on(text: &str, unit: Unit, start: usize, from: Stretch, units: u64) -> 
     counted
 }
 
-/// The stretch after a piece, where both together fit.
+/// Returns the stretch after a piece if both together have at most `units` units.
 fn stretch_after(text: &str, unit: Unit, piece: Stretch, units: u64) -> Option<Stretch>
     ensures is { IfSome result (IsStretch (width_of unit) text.now piece.end) }
     ensures fits { IfSome result (λ s. piece.units + (s.end - piece.end) ≤ units) }

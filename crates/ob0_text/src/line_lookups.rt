@@ -1,14 +1,16 @@
-//! What is found by the table of a text's lines.
+//! Look-ups in the table of a text's lines.
 //!
-//! Halving: `starts_before` returns the length of the prefix, wherever the table is cut into what is below a bound and
-//! what isn't; the loop keeps that this length is between its two ends (`in_front`, `not_in_front` in `Halving`). A
-//! pass may begin at any line's start (`line_counted`, `line_sought` in `LinePlaces`), so correctness doesn't need the
-//! nearest line; the nearest is for cost alone.
+//! `starts_before` is a binary search. Its contract covers each split of the table into offsets
+//! below a bound and offsets not below it: the result is the length of the first part. The loop
+//! keeps this length between its two ends (`in_front`, `not_in_front` in `Halving`). A pass may
+//! begin at the start of any line (`line_counted`, `line_sought` in `LinePlaces`). So correctness
+//! doesn't depend on finding the nearest line; that only saves time.
 //!
-//! Positions and offsets of a list go on from the place before where it is at most 32 bytes away or in the same line,
-//! and else from the start of the line, which is found in the table (`nearest_before`, `place_after`). So they cost
-//! what lies between places in one line, and a halving for each other place; on one long line they are one pass, as
-//! those of the plain store are. Both ends of a changed range are looked for in one pass where they are in one line
+//! For a list, each look-up continues from the previous place if the next one follows in the same
+//! line or less than 32 bytes later. Otherwise it starts at the beginning of the line, which the
+//! table gives (`nearest_before`, `place_after`). So places in one line cost only the text between
+//! them, and each other place costs a binary search. In one long line this is a single pass, as in
+//! the plain store. If both ends of a changed range are in one line, one pass finds them
 //! (`bounds_in`).
 
 ghost use Rattle.std.specs.Prelude.{◌≡◌, ◌+◌, ◌-◌, ◌<◌, ◌≤◌, IfOk, length, map, min, slice_get, slice_index};
@@ -27,10 +29,11 @@ use crate::passes::{PassState, START, is_from, onward_to_offset, onward_to_posit
 use crate::position_types::{Position, Range, Unit};
 use std::alloc::{AllocError, Global};
 
-/// How many bytes after a place a pass goes on from it without looking its line up.
+/// A pass continues without a look-up to an offset that is less than this many bytes after its
+/// place.
 const NEAR: usize = 32;
 
-/// Where a position is, in bytes.
+/// Returns the byte offset of a position.
 pub fn offset_in(text: &str, table: &LineTable, unit: Unit, position: Position) -> usize
     requires { HasLines text.now table.now }
     ensures { result ≡ offset_of (width_of unit) (chars text.now) position }
@@ -38,7 +41,8 @@ pub fn offset_in(text: &str, table: &LineTable, unit: Unit, position: Position) 
     place_in(text, table, unit, position).offset
 }
 
-/// Where a range starts and ends, in bytes, and what was counted of the line in which it starts.
+/// The byte offsets at which a range starts and ends, and the counted part of the line in which it
+/// starts.
 #[derive(Clone, Copy, Drop)]
 pub struct Bounds {
     pub start: usize,
@@ -46,8 +50,9 @@ pub struct Bounds {
     pub counted: CountedPiece,
 }
 
-/// Where a range starts and ends, in bytes. The start is looked for from what was counted last; where the range ends in
-/// the line in which it starts, the end is looked for from the start on.
+/// Returns the byte offsets of a range's start and end. The search for the start begins at the part
+/// of the line that was counted last. If the range ends in the line in which it starts, the search
+/// for the end begins at the start.
 pub fn bounds_in(
     text: &str,
     table: &LineTable,
@@ -76,7 +81,8 @@ pub fn bounds_in(
     }
 }
 
-/// What is counted of a position's line: nearly all before it, from what was counted last.
+/// Counts nearly all characters before a position in its line, starting from the part that was
+/// counted last.
 fn counted_before(
     text: &str,
     table: &LineTable,
@@ -98,7 +104,8 @@ fn counted_before(
     }
 }
 
-/// The place of a position, from what was counted of its line on.
+/// Returns the place of a position. The search begins after the counted part of the line if that is
+/// possible, otherwise at the start of the line.
 fn place_after_counted(
     text: &str,
     table: &LineTable,
@@ -126,7 +133,7 @@ fn place_after_counted(
     onward_to_position(text, unit, near, position)
 }
 
-/// The place of a position: the line is looked up, and its characters are counted.
+/// Returns the place of a position: looks up the line and counts its characters.
 fn place_in(text: &str, table: &LineTable, unit: Unit, position: Position) -> PassState
     requires { HasLines text.now table.now }
     ensures place { IsPlaceBefore (width_of unit) text.now position result }
@@ -136,7 +143,7 @@ fn place_in(text: &str, table: &LineTable, unit: Unit, position: Position) -> Pa
     onward_to_position(text, unit, start, position)
 }
 
-/// The position of an offset in bytes: the line is found by halving.
+/// Returns the position of a byte offset. The line is found by binary search.
 pub fn position_in(text: &str, table: &LineTable, unit: Unit, offset: usize) -> Position
     requires { HasLines text.now table.now }
     ensures { result ≡ position_of (width_of unit) (chars text.now) offset }
@@ -145,7 +152,8 @@ pub fn position_in(text: &str, table: &LineTable, unit: Unit, offset: usize) -> 
     position_at(onward_to_offset(text, unit, place, offset))
 }
 
-/// The positions of offsets. Each is counted from the one before it or from the start of its line.
+/// Returns the positions of offsets. Each is counted from the previous place or from the start of
+/// its line.
 pub fn positions_in(
     alloc: Global,
     text: &str,
@@ -167,8 +175,8 @@ pub fn positions_in(
     Ok(positions)
 }
 
-/// The offsets of positions. Each is looked for from the one before it, where both are in one line, and else from the
-/// start of its line.
+/// Returns the offsets of positions. The search for each begins at the previous position if both
+/// are in the same line, otherwise at the start of its line.
 pub fn offsets_in(
     alloc: Global,
     text: &str,
@@ -191,7 +199,8 @@ pub fn offsets_in(
     Ok(offsets)
 }
 
-/// The place of a position, by that of the last one where both are in one line.
+/// Returns the place of a position. If the previous position is in the same line, the search begins
+/// at its place.
 fn place_after(
     text: &str,
     table: &LineTable,
@@ -212,7 +221,8 @@ fn place_after(
     }
 }
 
-/// A place from which an offset is near: the last one of a pass, or the start of the offset's line.
+/// Returns the place from which an offset is counted: the last place of a pass if it is near or in
+/// the same line, otherwise the start of the offset's line.
 fn nearest_before(text: &str, table: &LineTable, place: PassState, offset: usize) -> PassState
     requires { HasLines text.now table.now }
     ensures place { (unit : Unit) → IsPlace (width_of unit) text.now place
@@ -229,7 +239,7 @@ fn nearest_before(text: &str, table: &LineTable, place: PassState, offset: usize
     start
 }
 
-/// The start of an offset's line, which is found by halving.
+/// Returns the start of an offset's line, by binary search.
 fn line_before(text: &str, table: &LineTable, offset: usize) -> PassState
     requires { HasLines text.now table.now }
     ensures place { (unit : Unit) → IsPlace (width_of unit) text.now result }
@@ -239,7 +249,7 @@ fn line_before(text: &str, table: &LineTable, offset: usize) -> PassState
     line_place(table, started as u64 - 1)
 }
 
-/// Line `k` with its ending.
+/// Returns line `k` with its ending, or None if the text has no such line.
 pub fn line_in<'a>(text: &'a str, table: &LineTable, k: usize) -> Option<&'a str>
     requires { HasLines text.now table.now }
     ensures { option_map (λ line. chars line.now) result
@@ -252,7 +262,7 @@ pub fn line_in<'a>(text: &'a str, table: &LineTable, k: usize) -> Option<&'a str
     Some(&text[table.at(k)..end])
 }
 
-/// Where line `k` ends: where the next one starts, or at the text's end.
+/// Returns the offset where line `k` ends: the start of the next line, or the end of the text.
 fn end_of(table: &LineTable, len: usize, k: usize) -> usize
     requires { k < length table.now.starts }
     ensures next { k + 1 < length table.now.starts → result ≡ slice_index table.now.starts (k + 1) }
@@ -262,7 +272,7 @@ fn end_of(table: &LineTable, len: usize, k: usize) -> usize
     if k + 1 < count { table.at(k + 1) } else { len }
 }
 
-/// The place where a line starts, and for a line past the last that of the last.
+/// Returns the place at which a line starts. A line after the last one means the last line.
 fn line_place(table: &LineTable, line: u64) -> PassState
     requires { 0 < length table.now.starts }
     ensures offset { result.offset ≡ slice_index table.now.starts result.line }

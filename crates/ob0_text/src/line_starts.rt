@@ -1,4 +1,4 @@
-//! Where the lines of a text start, in bytes: their running lengths.
+//! The byte offsets at which the lines of a text start.
 
 ghost use Rattle.std.specs.Prelude.{◌≡◌, ◌+◌, ◌^◌, ◌<◌, ◌≤◌, ◌∷◌, ◌++◌, IfOk, OnOk, drop, length, option_to_list, slice_index};
 ghost use Rattle.std.specs.Str.{chars};
@@ -7,7 +7,7 @@ ghost use Rattle.ob0_text.specs.LineStarts.{line_starts, starts_after};
 
 use std::alloc::{AllocError, Global};
 
-/// The offsets where a text's lines start.
+/// Returns the byte offsets at which the lines of a text start.
 pub fn starts_of(alloc: Global, text: &str) -> Result<Vec<usize>, AllocError>
     ensures { IfOk result (λ starts. starts.items ≡ line_starts (chars text.now)) }
 {
@@ -16,8 +16,8 @@ pub fn starts_of(alloc: Global, text: &str) -> Result<Vec<usize>, AllocError>
     Ok(starts)
 }
 
-/// Where lines start in `new` and right after it, where it takes the place of the bytes `from..to` of
-/// the text. The byte at each border decides with those of the change.
+/// Returns the offsets at which a line starts, from the start of `new` to its end, if `new`
+/// replaces the bytes `from..to` of the text. The bytes on either side of the change also decide.
 pub fn starts_in_change(
     alloc: Global,
     text: &str,
@@ -42,7 +42,8 @@ pub fn starts_in_change(
     Ok(starts)
 }
 
-/// The byte before an offset. A text's first line starts as one after an LF does.
+/// Returns the byte before an offset. At offset 0 it is an LF, because the first line starts like a
+/// line after an LF.
 fn byte_before(bytes: &[u8], offset: usize) -> u8
     requires { offset ≤ length bytes.now }
     ensures { result ≡ slice_index (LF ∷ bytes.now) offset }
@@ -54,8 +55,8 @@ fn byte_before(bytes: &[u8], offset: usize) -> u8
     }
 }
 
-/// Adds the offsets where a line starts before, in or right after `bytes`, which begin at `from`, and follow
-/// the byte `before` and before `following`.
+/// Adds the offsets before, in and right after `bytes` at which a line starts. `bytes` begins at
+/// the offset `from`; `before` is the byte in front of it, `following` are the bytes after it.
 fn add_starts(
     starts: &mut Vec<usize>,
     from: usize,
@@ -83,13 +84,14 @@ fn add_starts(
     Ok(())
 }
 
-/// Whether a line starts after the byte `last`, where `next` comes next. Between CR and LF none does.
+/// Returns whether a line starts between the byte `last` and the byte `next`. No line starts
+/// between CR and LF.
 #[tactic(auto, unfolding(crate::specs::Texts::ends_line, crate::specs::Texts::starts_with_lf))]
 #[inline(always)]
 fn parts_lines(last: u8, next: Option<u8>) -> bool
     ensures { result ≡ ends_line last (option_to_list next) }
 {
-    // Most bytes of a text are above CR, so this one test passes them.
+    // Most bytes of a text are greater than CR, so for them this comparison is enough.
     if b'\r' < last {
         return false;
     }

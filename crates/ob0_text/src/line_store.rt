@@ -1,8 +1,9 @@
-//! The store of lines: one `String`, and the table of where its lines start.
+//! The store `Lines`: one `String`, and a table of the offsets of its lines.
 //!
-//! Its model is the text and the unit; its invariant says that its table is the text's (`HasLines`). All clauses of
-//! `TextStore` are met as they are, by functions over a text and its table (`line_lookups.rt`, `line_table.rt`). The
-//! session, `serve` and the commands run over this store; `Whole` is the plain one, with which tests compare it.
+//! Its model is the text and the unit. Its invariant says that the table is the text's
+//! (`HasLines`). Functions over a text and its table implement all of `TextStore`
+//! (`line_lookups.rt`, `line_table.rt`). The session, `serve` and the commands use this store.
+//! Tests compare it with the plain store `Whole`.
 
 ghost use Rattle.std.specs.Prelude.{◌≡◌, slice_get};
 ghost use Rattle.std.specs.Option.{option_map};
@@ -20,8 +21,8 @@ use crate::stores::TextStore;
 use std::alloc::{AllocError, Global};
 use std::marker::Model;
 
-/// A text with the table of its lines. A look-up costs what its line does; a change costs what lies between it and the
-/// one before, where both are in one line.
+/// A text with the table of its lines. A look-up costs time for only one line. A change in the line
+/// of the previous change costs only the text between the two.
 #[derive(Drop)]
 pub struct Lines {
     text: String,
@@ -47,7 +48,8 @@ impl Model for Lines {
 }
 
 impl Lines {
-    /// Line `k`, counted from 0, with its ending. The last line alone has none.
+    /// Returns line `k`, counted from 0, with its ending, or None if there is no such line. Only
+    /// the last line has no ending.
     pub fn line(&self, k: usize) -> Option<&str>
         ensures { option_map (λ line. chars line.now) result
             ≡ option_map with_ending (slice_get (lines self.now.text) k) }

@@ -1,14 +1,16 @@
 //! The table of a text's lines, in two parts.
 //!
-//! The starts before the last change are offsets, those after it distances from the text's end, the last line's first.
-//! What stays after a change then keeps its distance (`with_the_end` in `LineTables`), and a change costs the starts
-//! that it adds or drops and those between it and the change before (`move_left`, `move_right`, whose clauses say that
-//! no start changes). Changes far apart in turn move all that lies between them each time.
+//! Line starts before the last change are kept as offsets. Those after it are kept as distances
+//! from the text's end, last line first. So the starts after a change keep their distances
+//! (`with_the_end` in `LineTables`). A change costs time for the starts that it adds or drops, and
+//! for those between it and the change before. `move_left` and `move_right` move the latter; their
+//! clauses say that no start changes. Changes that alternate between two distant places move all
+//! starts between them each time.
 //!
-//! `put` allocates all memory first: the starts of the new text, capacity in both parts, then the text. After that no
-//! allocation can fail, which the contracts of `reserve` and `extend_from_slice` say. Where an allocation fails while
-//! starts are moved, the table is cut elsewhere and is still the text's. `replace` then gives memory back
-//! (`spare_room.rt`).
+//! `put` allocates all memory first: for the new starts, for both parts of the table, then for the
+//! text. After that no allocation can fail, as the contracts of `reserve` and `extend_from_slice`
+//! say. If an allocation fails while starts are moved, the table is split elsewhere but is still
+//! the text's. At the end `replace` releases spare memory (`spare_room.rt`).
 
 ghost use Rattle.std.specs.Prelude.{◌≡◌, ◌+◌, ◌<◌, ◌≤◌, ◌++◌, IfOk, OnOk, OnErr, drop, length, min, slice_index, string_bytes, take};
 ghost use Rattle.std.specs.Str.{IsCharBoundary};
@@ -19,9 +21,9 @@ use crate::spare_room::{trim_list, trim_text};
 use std::alloc::{AllocError, Global};
 use std::marker::Model;
 
-/// The offsets where a text's lines start, in bytes and in order. Those before the last change are kept
-/// as they are; those after it are kept as distances from the text's end, the last line's first. So a
-/// change moves no start but those between it and the change before.
+/// The byte offsets at which a text's lines start, in order. Those before the last change are kept
+/// as offsets, those after it as distances from the text's end, last line first. So a change moves
+/// only the starts between it and the change before.
 #[derive(Drop)]
 pub struct LineTable {
     front: Vec<usize>,
@@ -41,7 +43,7 @@ impl Model for LineTable {
 }
 
 impl LineTable {
-    /// The table of a text.
+    /// Returns the table of a text.
     pub fn of(alloc: Global, text: &str) -> Result<LineTable, AllocError>
         ensures { IfOk result (HasLines text.now) }
     {
@@ -53,14 +55,14 @@ impl LineTable {
         })
     }
 
-    /// How many lines there are.
+    /// Returns the number of lines.
     pub fn count(&self) -> usize
         ensures { result ≡ length self.now.starts }
     {
         self.front.len() + self.back.len()
     }
 
-    /// Where a line starts.
+    /// Returns the offset at which a line starts.
     pub fn at(&self, line: usize) -> usize
         requires { line < length self.now.starts }
         ensures { result ≡ slice_index self.now.starts line }
@@ -73,7 +75,7 @@ impl LineTable {
             .saturating_sub(self.back[self.back.len() - 1 - later])
     }
 
-    /// How many lines start before an offset, found by halving.
+    /// Returns how many lines start before an offset, by binary search.
     pub fn starts_before(&self, offset: usize) -> usize
         ensures bound { result ≤ length self.now.starts }
         ensures count { IsCountBefore self.now.starts offset result }
@@ -91,8 +93,8 @@ impl LineTable {
         low
     }
 
-    /// Puts `new` in place of the bytes `from..to` of the text of which this is the table, and gives memory back that a
-    /// shorter text doesn't need. If an allocation fails, the text is unchanged.
+    /// Replaces the bytes `from..to` of the text that has this table by `new`, and releases memory
+    /// that a shorter text doesn't need. If an allocation fails, the text is unchanged.
     pub fn replace(
         &mut self,
         text: &mut String,
@@ -115,7 +117,7 @@ impl LineTable {
         Ok(())
     }
 
-    /// Gives memory back that the lines don't need.
+    /// Releases memory that the lines don't need.
     fn trim(&mut self)
         ensures { self.new ≡ self.old }
     {
@@ -123,7 +125,7 @@ impl LineTable {
         trim_list(&mut self.back);
     }
 
-    /// Puts `new` in place of the bytes `from..to`. If an allocation fails, the text is unchanged.
+    /// Replaces the bytes `from..to` by `new`. If an allocation fails, the text is unchanged.
     fn put(
         &mut self,
         text: &mut String,
@@ -155,7 +157,7 @@ impl LineTable {
     }
 }
 
-/// Moves starts from the front to the back, until `count` are left.
+/// Moves starts from the front to the back until `count` are left in the front.
 fn move_left(
     front: &mut Vec<usize>,
     back: &mut Vec<usize>,
@@ -178,7 +180,7 @@ fn move_left(
     Ok(())
 }
 
-/// Moves starts from the back to the front, until there are `count`.
+/// Moves starts from the back to the front until the front has `count`.
 fn move_right(
     front: &mut Vec<usize>,
     back: &mut Vec<usize>,

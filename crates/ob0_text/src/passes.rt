@@ -1,9 +1,11 @@
-//! Passes over a text that find positions of offsets and offsets of positions.
+//! Passes over a text that convert offsets to positions, and positions to offsets.
 //!
-//! A pass towards an offset takes ASCII by its bytes after the last stretch and over lines (`past_ascii`; CR and other
-//! characters are decoded), since places of edits are close to one another. A pass towards a position decodes: in the
-//! store of lines it has fewer than 64 characters of the position's line to go. Both keep what they kept (`IsPlace`,
-//! `IsPlaceBefore`); `StretchSteps` takes either past the characters of a stretch, by the step past one character.
+//! Both passes first advance by whole stretches of a line. Then the pass towards an offset advances
+//! over ASCII bytes, also across lines (`past_ascii`), because the places of edits are close
+//! together. It decodes only CR and characters outside ASCII. The pass towards a position decodes
+//! each character: in the store of lines, fewer than 64 characters of the line are left. Each pass
+//! keeps one fact (`IsPlace`, `IsPlaceBefore`). `StretchSteps` proves it for a whole stretch, by
+//! the step over one character.
 
 ghost use Rattle.std.specs.Prelude.{◌≡◌, ◌↔◌, ◌==◌, ◌||◌, ◌+◌, ◌-◌, ◌<◌, ◌≤◌, IfOk, IfSome, IsTrue, None, map};
 ghost use Rattle.std.specs.Str.{IsCharBoundary, chars};
@@ -16,7 +18,8 @@ use crate::position_types::{Position, Unit};
 use crate::stretches::{Stretch, next_stretch};
 use std::alloc::{AllocError, Global};
 
-/// A place that a pass has reached: its offset, and the line and the units of that line that it counted.
+/// A place that a pass has reached: its offset, its line, and the units that were counted in that
+/// line.
 #[derive(Clone, Copy)]
 pub struct PassState {
     pub offset: usize,
@@ -24,14 +27,14 @@ pub struct PassState {
     pub character: u64,
 }
 
-/// Where each pass begins.
+/// The start of a text.
 pub const START: PassState = PassState {
     offset: 0,
     line: 0,
     character: 0,
 };
 
-/// The positions of offsets, found in one pass where the offsets ascend.
+/// Returns the positions of offsets, in one pass if the offsets ascend.
 pub fn positions_of(
     alloc: Global,
     text: &str,
@@ -53,7 +56,7 @@ pub fn positions_of(
     Ok(positions)
 }
 
-/// The offsets of positions, found in one pass where the positions ascend.
+/// Returns the offsets of positions, in one pass if the positions ascend.
 pub fn offsets_of(
     alloc: Global,
     text: &str,
@@ -77,21 +80,21 @@ pub fn offsets_of(
     Ok(offsets)
 }
 
-/// The position of a byte offset, in units of `unit`.
+/// Returns the position of a byte offset, in units of `unit`.
 pub fn position_of(text: &str, unit: Unit, offset: usize) -> Position
     ensures { result ≡ position_of (width_of unit) (chars text.now) offset }
 {
     position_at(onward_to_offset(text, unit, START, offset))
 }
 
-/// The byte offset of a position in units of `unit`.
+/// Returns the byte offset of a position in units of `unit`.
 pub fn offset_of(text: &str, unit: Unit, position: Position) -> usize
     ensures { result ≡ offset_of (width_of unit) (chars text.now) position }
 {
     onward_to_position(text, unit, START, position).offset
 }
 
-/// The position of the place that a pass has come to.
+/// Returns the position of the place that a pass has reached.
 pub fn position_at(place: PassState) -> Position
     ensures { result ≡ at place.line place.character }
 {
@@ -101,7 +104,7 @@ pub fn position_at(place: PassState) -> Position
     }
 }
 
-/// Whether a position is another or comes after it.
+/// Returns whether `position` equals `from` or comes after it.
 pub fn is_from(from: Position, position: Position) -> bool
     ensures { IsTrue result ↔ IsFrom from position }
 {
@@ -115,7 +118,8 @@ fn is_line_break(c: char) -> bool
     c == '\n' || c == '\r'
 }
 
-/// Whether a character that `rest` follows ends a line. A CR before an LF doesn't: the LF does.
+/// Returns whether a character that precedes `rest` ends a line. A CR before an LF doesn't, because
+/// the LF does.
 fn ends_line(c: char, rest: &str) -> bool
     ensures { result ≡ ends_line c (chars rest.now) }
 {
@@ -131,7 +135,7 @@ fn width(c: char, unit: Unit) -> u64
     }
 }
 
-/// The last place at or before an offset that isn't inside a character.
+/// Returns the last place that is at or before an offset and not inside a character.
 pub fn onward_to_offset(text: &str, unit: Unit, from: PassState, offset: usize) -> PassState
     requires place { IsPlace (width_of unit) text.now from }
     requires following { from.offset ≤ offset }
@@ -148,7 +152,7 @@ pub fn onward_to_offset(text: &str, unit: Unit, from: PassState, offset: usize) 
     place
 }
 
-/// A place nearer to an offset, past stretches of a line.
+/// Moves a place nearer to an offset, over whole stretches of a line.
 fn past_stretches_to(text: &str, unit: Unit, from: PassState, offset: usize) -> PassState
     requires place { IsPlace (width_of unit) text.now from }
     requires following { from.offset ≤ offset }
@@ -171,7 +175,8 @@ fn past_stretches_to(text: &str, unit: Unit, from: PassState, offset: usize) -> 
     place
 }
 
-/// A place nearer to an offset, past characters of ASCII other than CR, which are recognized by their bytes.
+/// Moves a place nearer to an offset, over ASCII characters except CR. It recognizes them by their
+/// bytes.
 fn past_ascii(text: &str, unit: Unit, from: PassState, offset: usize) -> PassState
     requires place { IsPlace (width_of unit) text.now from }
     requires following { from.offset ≤ offset }
@@ -207,7 +212,7 @@ fn past_ascii(text: &str, unit: Unit, from: PassState, offset: usize) -> PassSta
     }
 }
 
-/// The place after the next character, where that ends at or before an offset.
+/// Returns the place after the next character, if that place is at or before an offset.
 fn past_char(text: &str, unit: Unit, place: PassState, offset: usize) -> Option<PassState>
     requires place { IsPlace (width_of unit) text.now place }
     requires following { place.offset ≤ offset }
@@ -242,7 +247,7 @@ fn past_char(text: &str, unit: Unit, place: PassState, offset: usize) -> Option<
     })
 }
 
-/// The place of a position.
+/// Returns the place of a position, searching from a place before it.
 pub fn onward_to_position(text: &str, unit: Unit, from: PassState, position: Position) -> PassState
     requires place { IsPlaceBefore (width_of unit) text.now position from }
     ensures place { IsPlaceBefore (width_of unit) text.now position result }
@@ -276,7 +281,7 @@ pub fn onward_to_position(text: &str, unit: Unit, from: PassState, position: Pos
     }
 }
 
-/// A place nearer to a position, in the position's line, past stretches of it.
+/// Moves a place nearer to a position of the same line, over whole stretches of that line.
 fn past_stretches(text: &str, unit: Unit, from: PassState, position: Position) -> PassState
     requires place { IsPlaceBefore (width_of unit) text.now position from }
     ensures place { IsPlaceBefore (width_of unit) text.now position result }
@@ -292,7 +297,7 @@ fn past_stretches(text: &str, unit: Unit, from: PassState, position: Position) -
     place
 }
 
-/// The stretch after a place, where a position of its line lies after it.
+/// Returns the stretch after a place, if it ends at or before a position of the same line.
 fn stretch_before(text: &str, unit: Unit, place: PassState, position: Position) -> Option<Stretch>
     requires { IsCharBoundary text.now place.offset }
     ensures is { IfSome result (λ s. IsStretch (width_of unit) text.now place.offset s) }

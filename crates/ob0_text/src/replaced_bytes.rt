@@ -1,15 +1,17 @@
-//! Where a text was changed, in bytes.
+//! The bytes of a text that a change has replaced.
 //!
-//! Before and after the bytes around all changes of a notification the text is as it was, byte by byte (`Covers`,
-//! `IsChangedAt`), which is what `IsReplaced` of `ob0_scan` requires. `replace_at` of a store returns those of one change,
-//! and two are joined by `around`: what lies after both is after the later end, in the text between the two. A change of
-//! the whole text replaces all bytes. Wider bytes than necessary meet the contract: that they are few is for cost alone.
-//! Where the text wasn't known nothing is returned, since there is no text that stayed.
+//! The text before and after the bytes around all changes of a notification is unchanged, byte by
+//! byte (`Covers`, `IsChangedAt`). `IsReplaced` of `ob0_scan` requires this. `replace_at` of a
+//! store returns the bytes of one change, and `around` joins two of these. In the text between the
+//! two changes, everything after the later of their ends is unchanged by both. A change of the
+//! whole text replaces all bytes. The contract also allows more bytes than necessary; having few
+//! only saves time. If the text wasn't known, the result is None, since no part of it is known to
+//! be unchanged.
 
 ghost use Rattle.std.specs.Prelude.{◌≡◌, ℕ, List, Option, is_some};
 ghost use Rattle.ob0_text.specs.ChangedBytes.{Covers, IsChangedAt};
 
-/// The `removed` bytes of a text from byte `from` on, which gave way to `added` others.
+/// A change of a text: at byte `from`, `removed` bytes were replaced by `added` others.
 #[derive(Clone, Copy, Debug, PartialEq, Eq)]
 pub struct ReplacedBytes {
     pub from: usize,
@@ -18,7 +20,7 @@ pub struct ReplacedBytes {
 }
 
 impl ReplacedBytes {
-    /// The bytes around these and those of a change of what these left.
+    /// Returns the bytes around this change and the next one, which was made to this one's result.
     pub(crate) fn around(self, next: ReplacedBytes) -> ReplacedBytes
         ensures { (first middle last : List ℕ)
             → IsChangedAt first middle self
@@ -45,7 +47,8 @@ impl ReplacedBytes {
     }
 }
 
-/// The bytes around the changes so far and one more, where the text before them was known.
+/// Returns the bytes around the changes so far and one more, or None if the text before them was
+/// unknown.
 pub(crate) fn extend_hull(
     known: bool,
     hull: Option<ReplacedBytes>,

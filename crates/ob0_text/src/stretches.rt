@@ -1,9 +1,11 @@
-//! Stretches of a line: characters that are one after another, counted together.
+//! Stretches of a line: consecutive characters that are counted together.
 //!
-//! A stretch has up to 64 bytes of whole characters, of which none ends a line. Nothing of it is decoded: line ends are
-//! counted, and in UTF-16 the bytes that begin a character, those of four bytes twice (`utf16_units_at`; `StretchBytes`
-//! has it that this is the width of the characters). Both counts are loops without an early exit over a number of 8
-//! bits, which the compiler makes for many bytes at a time; a flag instead of the number of line ends isn't made so.
+//! A stretch has at most 64 bytes of whole characters, and no character in it ends a line. They
+//! aren't decoded. One loop counts the bytes that end a line. In UTF-16 another one counts the
+//! first byte of each character, and counts it twice if the character has four bytes
+//! (`utf16_units_at`). `StretchBytes` proves that the sum is the width of the characters. Both are
+//! loops over an 8-bit number without an early exit, which the compiler vectorizes. It doesn't
+//! vectorize a loop that sets a flag.
 
 ghost use Rattle.std.specs.Prelude.{◌≡◌, ◌==◌, ◌||◌, ◌+◌, ◌<◌, ◌≤◌, false, IfSome, length, sum_by};
 ghost use Rattle.std.specs.List.{All};
@@ -14,17 +16,18 @@ ghost use Rattle.ob0_text.specs.Stretches.{EndsNoLine, utf16_units_at, AreOfALin
 
 use crate::position_types::Unit;
 
-/// Where a stretch ends, in bytes, and how many units its characters have.
+/// The offset in bytes at which a stretch ends, and the number of units of its characters.
 #[derive(Clone, Copy)]
 pub struct Stretch {
     pub end: usize,
     pub units: u64,
 }
 
-/// How many bytes are looked at together.
+/// The number of bytes that are counted together.
 pub(crate) const BYTES: usize = 64;
 
-/// The stretch after an offset that takes the next bytes, where these are at most `room`, and none of them ends a line.
+/// Returns the stretch of up to 64 bytes after an offset. Returns None if fewer than 64 bytes
+/// follow, if `room` is less than 64, or if one of the bytes ends a line.
 pub fn next_stretch(text: &str, unit: Unit, from: usize, room: u64) -> Option<Stretch>
     requires { IsCharBoundary text.now from }
     ensures is { IfSome result (λ s. IsStretch (width_of unit) text.now from s) }
@@ -41,7 +44,7 @@ pub fn next_stretch(text: &str, unit: Unit, from: usize, room: u64) -> Option<St
     Some(Stretch { end, units })
 }
 
-/// How many units the characters of a piece have, where none of them ends a line.
+/// Returns how many units the characters of a piece have, or None if one of them ends a line.
 pub(crate) fn units_of(piece: &str, unit: Unit) -> Option<u64>
     requires { length piece.now ≤ 64 }
     ensures { IfSome result (λ units. AreOfALine (width_of unit) (chars piece.now) units) }
@@ -55,7 +58,8 @@ pub(crate) fn units_of(piece: &str, unit: Unit) -> Option<u64>
     }
 }
 
-/// Whether one of these bytes ends a line. (They are counted: the compiler counts many at once.)
+/// Returns whether one of these bytes ends a line. It counts them, because the compiler vectorizes
+/// that.
 fn has_line_break(bytes: &[u8]) -> bool
     requires { length bytes.now ≤ 64 }
     ensures no { result ≡ false → All EndsNoLine bytes.now }
@@ -75,7 +79,7 @@ fn is_line_break(byte: u8) -> bool
     byte == b'\n' || byte == b'\r'
 }
 
-/// How many units of UTF-16 the characters of a piece have, counted at its bytes.
+/// Returns how many UTF-16 units the characters of a piece have, counted from its bytes.
 fn utf16_units(bytes: &[u8]) -> u64
     requires { length bytes.now ≤ 64 }
     ensures { result ≡ sum_by utf16_units_at bytes.now }
@@ -87,7 +91,8 @@ fn utf16_units(bytes: &[u8]) -> u64
     units as u64
 }
 
-/// One at the first byte of a character, and another where the character has four bytes.
+/// Returns 1 for the first byte of a character, 2 if that character has four bytes, and 0 for any
+/// other byte.
 fn utf16_units_at(byte: u8) -> u8
     ensures { result ≡ utf16_units_at byte }
 {

@@ -9,7 +9,7 @@ use crate::replaced_bytes::ReplacedBytes;
 use crate::stores::TextStore;
 use std::alloc::{AllocError, Global};
 
-/// A text without a table of its lines: each look-up begins at its start. The plain store.
+/// A text without a table of its lines. Each look-up begins at the text's start.
 #[derive(Drop)]
 pub struct Whole {
     text: String,

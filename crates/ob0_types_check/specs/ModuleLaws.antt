@@ -3,6 +3,7 @@
 use Rattle.std.specs.Prelude.{◌≡◌, ℕ, ◌<◌, ◌≤◌, true, false, List, [], None, length, slice_index_or}
 use Rattle.ob0_language_names.specs.Names.{Name, as_labels, as_names}
 use Rattle.ob0_language_names.specs.Parts.{module_block}
+use Rattle.ob0_language_names.specs.Scopes.{predeclared_count}
 use Rattle.ob0_scope_table.specs.Resolution.{IsResolution, Resolution}
 use Rattle.ob0_tree.specs.Parsed.{named_tree_of, tree_of}
 use Rattle.ob0_tree.specs.Tree.{Tree, module_text}
@@ -31,9 +32,9 @@ pub record KnowsDeclarations (p : SoFar) (m : Tree Name module_text) : Type 0 wh
   pub table : TableAgrees p.made shapes
   pub declared : (k : ℕ)
       → DeclarationAgrees (shape_in shapes) (slice_index_or p.declared k None) (declared_object m k)
-  pub standards : (k : ℕ) → 7 ≤ k → is_standard (declared_object m k) ≡ false
-  pub predeclared : (k : ℕ) → k < 7 → declared_object m k ≡ object_bound (outermost as_labels) k
-  pub room : 7 ≤ length p.declared
+  pub standards : (k : ℕ) → predeclared_count ≤ k → is_standard (declared_object m k) ≡ false
+  pub predeclared : (k : ℕ) → k < predeclared_count → declared_object m k ≡ object_bound (outermost as_labels) k
+  pub room : predeclared_count ≤ length p.declared
 
 -- states that a table has the object of each declaration of a module
 abbrev pub HasDeclarations : Tree Name module_text → Tables → Type 0

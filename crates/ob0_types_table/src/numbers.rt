@@ -2,6 +2,7 @@
 
 ghost use Rattle.std.specs.Prelude.{◌≡◌, ◌≤◌, pos};
 ghost use Rattle.ob0_tree.specs.Places.{value_at, value_of};
+ghost use Rattle.ob0_scan.specs.Classes.{max_integer};
 
 use ob0_scan::{TokenKind, Tokens};
 
@@ -20,7 +21,7 @@ pub fn number_at(tokens: &Tokens, token: usize) -> i32
 }
 
 fn number_of(kind: TokenKind) -> i32
-    requires { value_of kind ≤ 2147483647 }
+    requires { value_of kind ≤ max_integer }
     ensures { result ≡ pos (value_of kind) }
 {
     match kind {

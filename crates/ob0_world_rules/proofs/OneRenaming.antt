@@ -29,9 +29,9 @@ use Rattle.ob0_language_fields.specs.Renaming.{is_duplicate_field}
 use Rattle.ob0_types_fields.specs.Identifiers.{declared_in_block, field_identifiers, field_on, first, tokens_among}
 use Rattle.ob0_edits.specs.Analysed.{IsModuleIn}
 use Rattle.ob0_edits.specs.Texts.{utf8}
-use Rattle.ob0_rename.specs.Renaming.{Target, Renaming, declaration, field_of, field_tokens_to_rename, meant, meant_by, nothing, occurrence_range, other_field_range, other_range, predeclared, text_with, tokens_to_rename}
+use Rattle.ob0_rename.specs.Renaming.{Renaming, Target, declaration, field_of, field_tokens_to_rename, meant, meant_by, nothing, occurrence_range, other_field_range, other_range, predeclared, renaming_of, text_with, tokens_to_rename}
 use Rattle.ob0_rename.specs.Answers.{AreEdits, IsRefused, IsRefusedTo, IsRefusedToField, IsRefusedToNamed, Renames, RenamesField, WritesName}
-use Rattle.ob0_edits.specs.Renamings.{IsRefusedIn, RenamesIn, renaming_of}
+use Rattle.ob0_edits.specs.Renamings.{IsRefusedIn, RenamesIn}
 use Rattle.ob0_world_rules.specs.Edited.{replacements}
 use Rattle.ob0_world_rules.proofs.OneModule.{Same, same_module, one_named_tree, one_name, identifiers_of, same_parts}
 use Rattle.ob0_world_rules.proofs.OneFields.{one_list_of_fields}

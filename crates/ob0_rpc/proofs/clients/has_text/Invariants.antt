@@ -3,6 +3,6 @@ use Rattle.serde_json.specs.View.{items_view}
 use Rattle.ob0_rpc.specs.Requesting.{has_text}
 use Rattle.ob0_rpc.proofs.clients.has_text.Given as goal
 
--- whether the text is there is decided by the items that are left
+-- the remaining items decide whether the list contains the text
 abbrev pub invariant-loop-item : goal.invariant-loop-item
 invariant-loop-item l = has_text l.text (items_view l.items) ≡ has_text l.text (items_view (drop l.item-index l.items))

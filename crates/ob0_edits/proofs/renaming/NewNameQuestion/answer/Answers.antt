@@ -1,5 +1,5 @@
 use Rattle.std.proofs.lemmas.Result.{IfOk-weaker}
-use Rattle.ob0_edits.specs.Renamings.{renaming_of}
+use Rattle.ob0_rename.specs.Renaming.{renaming_of}
 use Rattle.ob0_edits.proofs.Renamings.{settled}
 use Rattle.ob0_edits.proofs.renaming.NewNameQuestion.answer.Goals as goal
 

@@ -26,18 +26,17 @@ returns-in-Ok g c =
       subst (λ (d : Data). Writes (result_message (id_data c.args.self.now.id.now) d) bytes.items) is (sent (edits_can_be_sent c.as_slice.result.now)),
     )) c.result_of.ensures
 
-pub returns-in_ok-text-in-Err : goal.returns-in_ok-text-in-Err
-returns-in_ok-text-in-Err g c =
+pub returns-in-Err : goal.returns-in-Err
+returns-in-Err g c =
     let unit = g.T.TextStore.unit_of c.args.text.now in
     let text : List ℕ = g.T.TextStore.content c.args.text.now in
     let outcome = subst (λ (o : Option (Result (Vec Edit Global) EditRefusal)). FindsLayout unit c.args.self.now.indent text o) c.in-Some.is c.in_ok-outcome.ensures in
     let long = subst (λ (o : Result (Vec Edit Global) EditRefusal). Formats unit c.args.self.now.indent text o) c.in-Err.is outcome in
-    let is = c.as_str.ensures.value ∙ (c.in_ok-text-in-Err.ensures ∙ ap refusal_text long.0) in
-    IfOk-weaker c.refuse.result _ _ (λ bytes sent. (
+    IfOk-weaker c.refuse_because.result _ _ (λ bytes sent. (
       edit_refused (id_data c.args.self.now.id.now) (refusal_text TooLong),
       inr (inl (long.1, refl)),
-      subst (λ (said : List ℕ). Writes (edit_refused (id_data c.args.self.now.id.now) said) bytes.items) is sent,
-    )) c.refuse.ensures
+      subst (λ (said : List ℕ). Writes (edit_refused (id_data c.args.self.now.id.now) said) bytes.items) (ap refusal_text long.0) sent,
+    )) c.refuse_because.ensures
 
 pub returns-in-None : goal.returns-in-None
 returns-in-None g c =
