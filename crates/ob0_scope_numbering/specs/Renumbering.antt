@@ -11,7 +11,7 @@ use Rattle.ob0_scope_numbering.specs.Visiting.{Visit, after_heading, numbered_at
 use Rattle.ob0_scope_numbering.specs.Written.{Writing}
 use Rattle.ob0_scope_table.specs.OneBody.{closing_name}
 
--- the longest front of a list with tokens before this one
+-- the longest prefix of a list whose tokens are all before this one
 abbrev pub first_before : ℕ → List ℕ → List ℕ
 first_before token [] = []
 first_before token (x ∷ xs) = if nat_lt x token then x ∷ first_before token xs else []

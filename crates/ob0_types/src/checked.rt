@@ -35,9 +35,9 @@ use std::marker::Model;
 /// would take as many steps.
 const MOST_FAULTY: usize = 32;
 
-/// The result of checking a module. `known` has its declarations, and `fields` has its fields if it
-/// is well-typed. `faults` has the faults of its scopes and types. `faulty` has the bodies with a
-/// fault of types, by their closing names. It borrows nothing.
+/// The result of checking a module. If the module is well-typed, `known` has its declarations and
+/// `fields` its fields. `faults` has the faults of its scopes and types. `faulty` has the bodies
+/// with a fault of types, by their closing names. It borrows nothing.
 #[derive(Drop)]
 pub struct ModuleTypes {
     pub known: Option<DeclarationTable>,
