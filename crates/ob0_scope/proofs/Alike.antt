@@ -1,4 +1,4 @@
--- Trees whose leaves are named alike are the same.
+-- Trees whose leaves have the same names are the same.
 use Rattle.std.proofs.Common.{◌≡◌, ℕ, List, [], ◌∷◌, ◌++◌, refl}
 use Rattle.ob0_tree.specs.declared.tree.Role.{Role}
 use Rattle.ob0_tree.specs.declared.tree.Role.TheVariants as role
@@ -17,7 +17,7 @@ module _ {M : Type 0} (f f' : ℕ → M) (g : ℕ → ℕ) where
   alike_first [] ys h = (tt, h)
   alike_first (x ∷ xs) ys h = let rest = alike_first xs ys h.1 in ((h.0, rest.0), rest.1)
 
-  -- where these leaves are named alike, P
+  -- states that P holds if these leaves have the same names
   pub record Reads (xs : List (Role × ℕ)) (P : Type 0) : Type 0 where
     pub reads : AllAlike xs → P
 

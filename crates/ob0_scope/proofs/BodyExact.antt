@@ -1,4 +1,5 @@
--- A range of tokens that lies in a body: so does the one from the first identifier of that body to the closing name of its block.
+-- If a range of tokens is inside a body, so is the range from the body's first identifier up to the
+-- closing name of its block.
 use Rattle.std.proofs.Common.{◌≡◌, ◌<◌, ◌≤◌, ℕ, zero, ◌+◌, Bool, true, false, ◌&&◌, nat_le, nat_lt, if◌then◌else◌, Some, List, [], ◌∷◌, ◌++◌, refl, sym, ap, ◌∙◌, subst, arith, append_assoc, append-nil, lt-ltb, le-ltb}
 use Rattle.std.proofs.lemmas.Bool.Decides.{nat_tests}
 use Rattle.ob0_tree.specs.declared.tree.Role.{Role}
@@ -21,7 +22,7 @@ both_true : (a b : Bool) → (a && b) ≡ true → (a ≡ true) × (b ≡ true)
 both_true true b e = (refl, e)
 both_true false b e = absurd (cc)
 
--- the first of some identifiers is among them
+-- the first of some identifiers is one of them
 first_from : (n first : ℕ) (ids : List (Role × ℕ)) (others : List ℕ) → first_of ids ≡ Some first → AllFrom n (names_only ids ++ others) → n ≤ first
 first_from n first [] others e h = absurd (cc)
 first_from n first (x ∷ ids) others e h = subst (λ m. n ≤ m) (some_first e) h.0
@@ -48,12 +49,13 @@ body_first n first k way ps statements e h =
     ∙ (ap names_only s.whole_is ∙ (leaves_append s.before (ids ++ last) ∙ ap (λ z. names_only s.before ++ z) (leaves_append ids last)))) in
     first_from n first ids (names_only last) e (from_second n (names_only s.before) (names_only ids ++ names_only last) (subst (AllFrom n) whole (with_last n (leaves ps ++ leaves statements) h)))
 
--- where all identifiers of procedures and statements are from a number on, so is the first one of the body
+-- if all identifiers of procedures and statements are at or above a number, so is the body's first
+-- one
 first_among : (way : Way) (n first own : ℕ) (ps : Tree ℕ (items procedure)) (statements : Tree ℕ (maybe body)) → first_of (identifiers role.Declaring (among way own ps statements).statements) ≡ Some first → AllFrom n (leaves ps ++ leaves statements) → n ≤ first
 first_among [] n first own ps statements e h = first_from n first (identifiers role.Declaring statements) [] e (subst (AllFrom n) (sym (append-nil (leaves statements))) (from_second n (leaves ps) (leaves statements) h))
 first_among (k ∷ way) n first own ps statements e h = body_first n first k way ps statements e h
 
--- the closing name of a body's block isn't after that of the procedure in which it is
+-- the closing name of a body's block isn't after the closing name of the procedure that contains it
 closing_last : (way : Way) (q : Tree ℕ (item procedure)) (from to : ℕ) → Ascending from (leaves q) to → closing_inside way q ≤ closing_name q
 closing_last way q from to h =
     let s = split_inside way [] q in
@@ -76,7 +78,7 @@ closing_last way q from to h =
         let split : leaves (declares_procedure x fs b closing) ≡ inside ++ (closing ∷ []) = simp (leaves_append, append_assoc) in
         subst (AllBelow (closing + 1)) (sym split) (ends_below inside closing from to (subst (λ l. Ascending from l to) split h))
 
--- what comes after a procedure
+-- the identifiers after a procedure
 after_procedure : (q : Tree ℕ (item procedure)) (rest : List ℕ) (from to : ℕ) → Ascending from (leaves q ++ rest) to → Ascending (closing_name q + 1) rest to
 after_procedure (declares_procedure x fs b closing) rest from to h =
     let inside : List ℕ = x ∷ (leaves fs ++ leaves b) in

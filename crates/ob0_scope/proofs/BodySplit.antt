@@ -1,12 +1,14 @@
--- The identifiers of a module: those before the statements to which a way leads, those in them, and those from the closing name
--- of their block on. The module without these statements has the first and the last.
+-- The identifiers of a module in three parts: before the statements to which a way leads, in them,
+-- and from the closing name of their block onwards. The module without these statements has the
+-- first and the last part.
 use Rattle.std.proofs.Common.{◌≡◌, ℕ, zero, suc, List, [], ◌∷◌, ◌++◌, refl, sym, ap, ◌∙◌, append_assoc, append-nil}
 use Rattle.ob0_tree.specs.declared.tree.Role.{Role}
 use Rattle.ob0_tree.specs.declared.tree.Role.TheVariants as role
 use Rattle.ob0_tree.specs.Tree.{Tree, block, declares, declares_procedure, end, has_body, identifiers, is_module, item, items, module_text, more, procedure}
 use Rattle.ob0_scope_table.specs.BodyReplaced.{Way, block_without, body_among, body_at, body_in, body_inside, closing_among, closing_at, closing_in, closing_inside, procedure_without, procedures_without, without}
 
--- identifiers with those of a body, and without them; a closing name is the first after it
+-- identifiers with and without the identifiers of a body; a closing name is the first one after the
+-- body
 pub record Split {N : Type 0} (whole rest own : List (Role × N)) (closing : N) : Type 0 where
   pub before : List (Role × N)
   pub closes : Role
@@ -14,7 +16,7 @@ pub record Split {N : Type 0} (whole rest own : List (Role × N)) (closing : N) 
   pub whole_is : whole ≡ before ++ (own ++ ((closes, closing) ∷ after))
   pub rest_is : rest ≡ before ++ ((closes, closing) ∷ after)
 
--- others before all of them
+-- puts other identifiers before all of them
 prepend : {N : Type 0} {whole rest own : List (Role × N)} {closing : N} (xs : List (Role × N)) → Split whole rest own closing → Split (xs ++ whole) (xs ++ rest) own closing
 prepend {own = own} {closing = closing} xs s =
     record {

@@ -1,4 +1,4 @@
--- What is carried over from lists of a module's tokens, and from its table, where the tokens of one body give way to others.
+-- The lists of a module's tokens, and its table, after the tokens of one body are replaced.
 use Rattle.std.proofs.Common.{◌≡◌, ◌<◌, ◌≤◌, ℕ, zero, suc, ◌+◌, ◌-◌, ◌^◌, Bool, true, false, nat_lt, if◌then◌else◌, Option, Some, None, List, [], ◌∷◌, ◌++◌, map, length, take, drop, replicate, get_or, refl, sym, ap, ◌∙◌, subst, arith, append-nil, length-append, lt-ltb, le-ltb}
 use Rattle.std.proofs.Math.ListN.{get_or-append}
 use Rattle.std.proofs.Math.Nat.{min-eq_left}
@@ -17,9 +17,9 @@ use Rattle.ob0_scope.specs.Carried.{after_body, before_body, carried, carried_ta
 use Rattle.ob0_scope.specs.declared.carrying.BodyRange.{BodyRange}
 use Rattle.ob0_scope.proofs.MappedIdentifiers.{beside_role}
 
--- ---- numbers before one, and from one on
+-- ---- numbers below a limit, and numbers at or above it
 
--- none is before a number
+-- states that no number is below a limit
 abbrev pub AllFrom : ℕ → List ℕ → Type 0
 AllFrom n [] = Unit {0}
 AllFrom n (i ∷ is) = (n ≤ i) × AllFrom n is
@@ -52,7 +52,7 @@ from_first n (x ∷ xs) ys h = (h.0, from_first n xs ys h.1)
 
 -- ---- identifiers in three parts
 
--- the identifiers before a body, in it and from its block's closing name on
+-- the identifiers before a body, in it, and from its block's closing name onwards
 pub record Parted (before own after : List (Role × ℕ)) (first closing high : ℕ) : Type 0 where
   pub before_below : AllBelow first (names_only before)
   pub own_from : AllFrom first (names_only own)
@@ -92,7 +92,7 @@ parted before (x ∷ own) after closes first closing high e h =
       few = omega (arith, bounded.0);
     }
 
--- two lists of which each has first what is before a number, and then what isn't
+-- two lists that are split at the same limit have the same parts
 pub same_parts : (n : ℕ) (us cs vs ds : List (Role × ℕ)) → AllBelow n (names_only us) → AllBelow n (names_only vs) → AllFrom n (names_only cs) → AllFrom n (names_only ds) → us ++ cs ≡ vs ++ ds → (us ≡ vs) × (cs ≡ ds)
 same_parts n [] cs [] ds a b c d e = (refl, e)
 same_parts n [] cs (y ∷ vs) ds a b c d e = let from = subst (λ l. AllFrom n (names_only l)) e c in absurd (omega (arith, from.0, b.0))
@@ -102,9 +102,9 @@ same_parts n (x ∷ us) cs (y ∷ vs) ds a b c d e =
     let here : x ≡ y = ap (λ l. get_or l 0 x) e in
     ((λ i. here i ∷ rest.0 i), rest.1)
 
--- ---- what is picked of identifiers
+-- ---- a selection of identifiers
 
--- a choice of identifiers by their roles
+-- a selection of identifiers by their roles
 pub record Picks (pick : List (Role × ℕ) → List ℕ) : Type 0 where
   pub joined : (xs ys : List (Role × ℕ)) → pick (xs ++ ys) ≡ pick xs ++ pick ys
   pub renamed : (f : ℕ → ℕ) (xs : List (Role × ℕ)) → pick (map (beside_role f) xs) ≡ map f (pick xs)
@@ -165,7 +165,7 @@ picks_declaring = record { joined = declaring_only-append; renamed = declaring_r
 pub picks_looked_up : Picks looked_up_only
 picks_looked_up = record { joined = looked_up_only-append; renamed = looked_up_renamed; below = looked_up_below; from = looked_up_from }
 
--- ---- the first of a table's entries
+-- ---- the first entries of a table
 
 take_short : {X : Type 0} (n : ℕ) (xs : List X) → length (take n xs) ≤ n
 take_short zero xs = omega arith
@@ -178,7 +178,7 @@ take_all zero (x ∷ xs) le = absurd (omega (arith, le))
 take_all (suc n) [] le = refl
 take_all (suc n) (x ∷ xs) le = ap (λ z. x ∷ z) (take_all n xs (omega (arith, le)))
 
--- with none after them
+-- followed by empty entries
 reads_first : (n k : ℕ) (table : List (Option ℕ)) (i : ℕ) → i < n → ordinal_in (take n table ++ replicate k None) i ≡ ordinal_in table i
 reads_first zero k table i h = absurd (omega (arith, h))
 reads_first (suc n) k [] i h = none_at k i
@@ -188,7 +188,7 @@ reads_first (suc n) k (o ∷ table) (suc i) h = reads_first n k table i (omega (
 -- ---- lists that are carried over
 
 module _ (range : BodyRange) where
-  -- where a token after the body is now
+  -- the new index of a token after the body
   abbrev pub far : ℕ → ℕ
   far i = i - range.old_closing + range.closing
 
@@ -226,7 +226,8 @@ module _ (range : BodyRange) where
       let here : shifted range x ≡ far x = min-eq_left (let small : x - range.old_closing + range.closing ≤ 2 ^ 64 - 1 = omega (arith, few, k.0) in small) in
       ap (λ b. if b then after_body range xs else shifted range x ∷ after_body range xs) (le-ltb x range.old_closing h.0) ∙ (λ i. here i ∷ after_all high xs few h.1 k.1 i)
 
-  -- what is picked of the identifiers before, with those of the new body, is what is picked of all now
+  -- carrying over a selection of the old identifiers, with a selection of the new body's, gives the
+  -- selection of all new identifiers
   pub carried_picked : (pick : List (Role × ℕ) → List ℕ) (before own after others : List (Role × ℕ)) (high : ℕ) → Picks pick → Parted before own after range.first range.old_closing high → high + range.closing ≤ 2 ^ 64 - 1
       → carried range (pick (before ++ (own ++ after))) (pick others) ≡ pick (before ++ (others ++ map (beside_role far) after))
   carried_picked pick before own after others high p parts few =

@@ -1,4 +1,5 @@
--- What a tree says of names that are declared once more: what loops collect, and what the parts of a module come to.
+-- The duplicate declarations of a tree: the lists that loops collect, and the faults of the parts
+-- of a module.
 use Rattle.std.proofs.Common.{◌≡◌, ℕ, zero, suc, map, take, arith, ◌+◌, ◌<◌, ◌≤◌, Bool, true, false, not, cond, ◌||◌, List, [], ◌∷◌, ◌++◌, length, get_or, drop, refl, sym, ap, ◌∙◌, append-nil, append_assoc, Bor}
 use Rattle.std.proofs.lemmas.List.{drop_all, drop_more}
 use Rattle.std.proofs.lemmas.Map.Text.{is_eq-slice_cmp}
@@ -17,7 +18,8 @@ use Rattle.ob0_language_names.specs.Names.{Name, same_name}
 use Rattle.ob0_language_names.specs.Parts.{constant_names, formal_names, formal_sections, named_types, section_constants, section_types, section_variables, variable_names}
 use Rattle.ob0_language_names.proofs.NameEquality.{same_name-comm}
 
--- what is collected, with what is left, is what was there at first with all
+-- states that collecting the remaining items now gives the same list as collecting all items at the
+-- start
 pub record Gathering {A B : Type 0} (f : List A → List B) (xs : List A) (start : List B) (done : ℕ) (out : List B) : Type 0 where
   pub so_far : out ++ f (drop done xs) ≡ start ++ f xs
 
@@ -36,11 +38,11 @@ gathers_on f {xs = xs} {done = done} {out = out} x own split w less here e =
           ∙ (sym (ap (λ ys. out ++ f ys) left) ∙ w.so_far)));
     }
 
--- whether a set of texts has one
+-- true if a set of texts contains one
 abbrev pub has : BTreeSet (Bor Name) → Name → Bool
 has seen x = contains_by (λ key. slice_cmp nat_cmp x key.now) seen
 
--- the names so far are those that are seen
+-- states that the set has the names so far
 pub record Seeing (source : Scanned) (all : List ℕ) (start : List Fault) (done : ℕ) (seen : Name → Bool) (now : List Fault) : Type 0 where
   pub before : List Name
   pub found : (x : Name) → seen x ≡ is_among x before
@@ -83,7 +85,7 @@ swapped true false c = refl
 swapped false true c = refl
 swapped false false c = refl
 
--- one more of the names before a place
+-- one more of the names before a position
 pub one_further : (text : ℕ → Name) (all : List ℕ) (done : ℕ) (d : ℕ) → done < length all → (q : Name) → is_among q (map text (take (suc done) all)) ≡ (same_name q (text (get_or all done d)) || is_among q (map text (take done all)))
 one_further text [] done d less q = absurd (omega (arith, less))
 one_further text (x ∷ xs) zero d less q = refl

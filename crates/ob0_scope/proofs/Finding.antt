@@ -3,7 +3,8 @@ use Rattle.std.proofs.Common.{◌≡◌, ℕ, ◌≤◌, Option, Some, None, Lis
 use Rattle.std.proofs.lemmas.List.{drop_all}
 use Rattle.std.specs.Option.{option_or}
 
--- what was found, or else what is in what is left, is what was found at first, or else what is in all
+-- states that the result so far, or else the result in the remaining parts, is the result of the
+-- complete search
 pub record Finding {A : Type 0} (find : List A → Option ℕ) (xs : List A) (start : Option ℕ) (done : ℕ) (now : Option ℕ) : Type 0 where
   pub so_far : option_or now (find (drop done xs)) ≡ option_or start (find xs)
 

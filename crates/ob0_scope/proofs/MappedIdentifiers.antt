@@ -5,7 +5,7 @@ use Rattle.ob0_tree.specs.declared.tree.Role.{Role}
 use Rattle.ob0_tree.specs.declared.tree.Role.TheVariants as role
 use Rattle.ob0_tree.specs.Tree.{Sort, Tree, identifiers, mapped, adds, array_type, assigns, begins, branches, calls, compares, declares, declares_constant, declares_constants, declares_procedure, declares_type, declares_types, declares_variable, declares_variables, designator, else_branch, elsif_branch, empty, end, field, has_body, index, integer, is_module, listed, more, multiplies, named_type, negation, no_arguments, no_fields, no_formals, none, one, parenthesised, product, record_type, relates, repeat_loop, runs, some_arguments, some_fields, some_formals, sum, then_argument, then_fields, then_name, then_section, then_statement, value_section, variable_section, while_loop}
 
--- two lists whose elements go one way, one after the other
+-- two mapped lists, one after the other
 pub both : {A B : Type 0} (p : A → B) {us vs : List B} (xs ys : List A) → us ≡ map p xs → vs ≡ map p ys → us ++ vs ≡ map p (xs ++ ys)
 both p xs ys e h = (λ i. e i ++ h i) ∙ sym (map-append p xs ys)
 

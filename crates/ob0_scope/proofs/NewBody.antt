@@ -1,6 +1,7 @@
--- Where the statements of one body were replaced, what is carried over, with the new body numbered again, is what the module's names are bound to.
--- Outside the body the labels of both modules are the same: a body declares nothing. A token outside is one of the module
--- without the body, so its ordinal is the one that it had.
+-- If the statements of one body were replaced, the carried-over data, with the new body numbered
+-- again, are the bindings of the module. Outside the body both modules have the same labels,
+-- because a body declares nothing. A token outside belongs to the module without the body, so its
+-- ordinal is unchanged.
 use Rattle.std.proofs.Common.{◌≡◌, ◌==◌, ◌||◌, ◌<◌, ◌≤◌, ℕ, ◌+◌, ◌-◌, ◌^◌, Bool, true, false, nat_lt, nat_le, Option, Some, None, List, [], ◌∷◌, ◌++◌, map, length, drop, replicate, get_or, refl, sym, ap, ◌∙◌, subst, arith, append-nil, append_assoc, eq-eqb, eqb-true}
 use Rattle.std.proofs.Math.Dec.{ltb}
 use Rattle.std.proofs.Math.Nat.{min-eq_left}
@@ -68,7 +69,7 @@ names_walked ((role.ClosingName, i) ∷ xs) = later_names xs i []
 names_walked ((role.FieldName, i) ∷ xs) = later_names xs i []
 names_walked ((role.ModuleName, i) ∷ xs) = later_names xs i []
 
--- ---- where tokens are now
+-- ---- the new indexes of tokens
 
 stays : (s : SameTokens) (xs : List (Role × ℕ)) → AllBelow s.prefix (names_only xs) → map (beside_role (moved s)) xs ≡ xs
 stays s [] h = refl
@@ -91,7 +92,7 @@ names_renamed f (x ∷ xs) = λ i. f x.1 ∷ names_renamed f xs i
 
 -- ---- the identifiers of both modules
 
--- those before the body, in the old one and in the new one, and those after it
+-- the identifiers before the body, in the old one and in the new one, and after it
 record Known (old new : Parsed) (way : Way) (range : BodyRange) : Type 0 where
   before : List (Role × ℕ)
   own : List (Role × ℕ)
@@ -166,7 +167,7 @@ module _ (old new : Parsed) (way : Way) (s : SameTokens) (r : IsBodyReplaced old
       (parted so.before (identifiers role.Declaring (body_at way (tree_of old))) so.after so.closes r.first old_closing (length old.source.tokens) r.old_first
       (subst (λ l. Ascending 0 (names_only l) (length old.source.tokens)) so.whole_is (leaves_ascend old r.old_parsed))).few
 
-  -- where the closing name was, by where it is
+  -- the old index of the closing name, from the new one
   place_is : old_place s new_closing ≡ old_closing
   place_is =
       let back = r.back in
@@ -182,9 +183,9 @@ known_in old new way s range r first closing place =
     let is : exact old new way s r ≡ range = λ i. record { first = sym first i; old_closing = sym there i; closing = sym closing i } in
     subst (Known old new way) is (known old new way s r)
 
--- ---- what tokens outside are bound to
+-- ---- the bindings of tokens outside the body
 
--- holds of each of some numbers
+-- states a property of each of some numbers
 abbrev Each : (ℕ → Type 0) → List ℕ → Type 0
 Each P [] = Unit {0}
 Each P (i ∷ is) = P i × Each P is
@@ -201,7 +202,7 @@ ordinals_of : (source : Scanned) (ordinals : List (Option ℕ)) (xs : List ℕ) 
 ordinals_of source ordinals [] = refl
 ordinals_of source ordinals (x ∷ xs) = ap (λ l. ordinal_in ordinals x ∷ l) (ordinals_of source ordinals xs)
 
--- outside, what the names are bound to is what they were bound to
+-- outside the body, the bindings of names are unchanged
 same_outside : (old new : Parsed) (way : Way) (s : SameTokens) (before now : List (Option ℕ)) → IsBodyReplaced old new way s → IsBinding old before → IsBinding new now
     → map (ordinal_in now) (leaves (without way (tree_of new))) ≡ map (ordinal_in before) (leaves (without way (tree_of old)))
 same_outside old new way s before now r was is =
@@ -218,7 +219,7 @@ same_outside old new way s before now r was is =
 
 -- ---- the marks
 
--- what a table has at some tokens, of those that pass a test
+-- states that two tables agree at the tokens that pass a test
 abbrev AgreeAt : (ℕ → Bool) → (ℕ → Option ℕ) → (ℕ → Option ℕ) → List ℕ → Type 0
 AgreeAt out f g [] = Unit {0}
 AgreeAt out f g (i ∷ is) = (out i ≡ true → f i ≡ g i) × AgreeAt out f g is
@@ -257,7 +258,7 @@ module _ (range : BodyRange) (table : List (Option ℕ)) (now : ℕ → Option �
       let back : range.old_closing + (far range x - range.closing) ≡ x = omega (arith, h.0) in
       ((λ e. table_after range table (omega (arith, less)) (far range x) (omega arith) ∙ (ap (ordinal_in table) back ∙ sym k.0)), agree_after xs h.1 k.1)
 
--- ---- tokens that are no identifiers
+-- ---- tokens that aren't identifiers
 
 both_false : (a b : Bool) → (a || b) ≡ false → (a ≡ false) × (b ≡ false)
 both_false true b e = absurd (cc)
@@ -346,7 +347,7 @@ module _ (old new : Parsed) (way : Way) (range : BodyRange) (known : Known old n
       one false true f g = table_within range table first_less token (ltb-false token range.first f) (ltb-true token range.closing g)
       one false false f g = last_case (ltb-false token range.closing g)
 
--- ---- all together
+-- ---- the complete result
 
 pub new_body_bound : (m : Parsed) (b : Bindings) (range : BodyRange) (own : List ℕ) (ordinals : List (Option ℕ)) (declarations uses : List ℕ) (once faults : List Fault) → IsNewBody m b range own
     → length m.source.tokens ≤ length (carried_table range b.ordinals.items) → declarations ≡ carried range b.declarations.items []

@@ -1,6 +1,6 @@
--- A name that no token of a text has is free: nothing else is called so, and each occurrence stays bound to its declaration.
--- Relabelled with such a name, each part is numbered as it was: the new name replaces names of that one declaration
--- alone, and no other name is like it.
+-- A name that no token of a text has is free: no other declaration has it, and each occurrence
+-- remains bound to its declaration. Relabelling each part with such a name keeps the numbers: the
+-- new name replaces only the names of that declaration, and no other name is equal to it.
 use Rattle.std.proofs.Common.{◌≡◌, ◌≤◌, ◌==◌, ◌∙◌, ◌++◌, ◌∷◌, ◌&&◌, ◌||◌, not, [], List, Option, Some, None, Bool, true, false, ℕ, suc, refl, sym, ap, subst, eqb-true, ne_eqb, arith, if◌then◌else◌}
 use Rattle.std.specs.List.{list_any}
 use Rattle.std.proofs.lemmas.Cmp.{nat_list_eq_equiv}
@@ -36,7 +36,8 @@ and-false : (b c : Bool) → c ≡ false → (b && c) ≡ false
 and-false true c e = e
 and-false false c e = refl
 
--- a tree over tokens under two namings, one after the other, where at each token both come to a third
+-- a tree over tokens with its names replaced twice, if at each token this equals a third
+-- replacement
 module _ (f : ℕ → Name) (g : ℕ → ℕ) (look' keep' : Name → Name) (look keep look₂ keep₂ : Name → Label)
     (looks : (i : ℕ) → look (look' (f i)) ≡ look₂ (f i)) (keeps : (i : ℕ) → keep (keep' (f i)) ≡ keep₂ (f i)) where
   twice : {s : Sort} (t : Tree ℕ s) → with_names look keep (with_names look' keep' (mapped f g t)) ≡ with_names look₂ keep₂ (mapped f g t)
@@ -94,8 +95,8 @@ module _ (f : ℕ → Name) (g : ℕ → ℕ) (look' keep' : Name → Name) (loo
   twice (has_body ds b) = λ i. has_body (twice ds i) (twice b i)
   twice (is_module name b closing) = λ i. is_module (keeps name i) (twice b i) (keeps closing i)
 
--- f has the name of each token, and none of them is the new name of the declaration d; `here` is a scope of the text, `there` one of
--- the text in which d has the new name
+-- f gives the name of each token, which is never the new name of the declaration d; `here` is a
+-- scope of the text, and `there` a scope of the text in which d has the new name
 module _ (d : ℕ) (new : Name) (f : ℕ → Name) (g : ℕ → ℕ) (fresh : (i : ℕ) → same_name (f i) new ≡ false) where
   abbrev ren : Labels Name Name
   ren = new_name d new
@@ -103,7 +104,7 @@ module _ (d : ℕ) (new : Name) (f : ℕ → Name) (g : ℕ → ℕ) (fresh : (i
   abbrev label : Labels Name Label
   label = as_label as_names
 
-  -- what a name is bound to stays what the name that replaces it is bound to
+  -- states that the replacement of a name has the same binding as the name
   abbrev Agrees : Scope Name → Scope Name → Type 0
   Agrees there here = (y : Name) → same_name y new ≡ false → ordinal_of as_names there (ren (ordinal_of as_names here y) y) ≡ ordinal_of as_names here y
 
@@ -115,7 +116,7 @@ module _ (d : ℕ) (new : Name) (f : ℕ → Name) (g : ℕ → ℕ) (fresh : (i
   all_new-append [] ys a b = b
   all_new-append (x ∷ xs) ys a b = (a.0, all_new-append xs ys a.1 b)
 
-  -- the bindings of a scope, one more by one
+  -- one more binding in each scope
 
   step : (there : Scope Name) (x y : Name) (o : Option ℕ) (j k : ℕ) (s e c : Bool) → same_name y x ≡ s → (k == d) ≡ e → same_ordinal o d ≡ c
       → same_name x new ≡ false → same_name y new ≡ false → j ≡ k → ordinal_of as_names there (if c then new else y) ≡ o
@@ -143,12 +144,12 @@ module _ (d : ℕ) (new : Name) (f : ℕ → Name) (g : ℕ → ℕ) (fresh : (i
   agrees_names (x ∷ xs) all there here j k jk agrees =
       agrees_names xs all.1 ((ren (Some k) x, j) ∷ there) ((x, k) ∷ here) (suc j) (suc k) (ap suc jk) (agrees_one there here x j k all.0 jk agrees)
 
-  -- names that are those of a list, relabelled
+  -- the relabelled names of a list
   agrees_listed : (j k : ℕ) → j ≡ k → (xs ys : List Name) → ys ≡ label_names ren k xs → AllNew xs → (there here : Scope Name) → Agrees there here → Agrees (declare_names j ys there) (declare_names k xs here)
   agrees_listed j k jk xs ys e all there here agrees =
       subst (λ zs. Agrees (declare_names j zs there) (declare_names k xs here)) (sym e) (agrees_names xs all there here j k jk agrees)
 
-  -- the names of the text are all other names
+  -- no name of the text is the new name
 
   new_further : (ns : Tree ℕ (items further_name)) → AllNew (further_names (mapped f g ns))
   new_further end = tt
@@ -196,7 +197,7 @@ module _ (d : ℕ) (new : Name) (f : ℕ → Name) (g : ℕ → ℕ) (fresh : (i
   new_formals (one no_formals) = tt
   new_formals (one (some_formals s fs)) = new_sections (more (then_section s) fs)
 
-  -- the scopes of a block agree where the scopes before it do
+  -- the scopes of a block agree if the scopes before it do
 
   agrees_types : (there here : Scope Name) (j k : ℕ) → j ≡ k → Agrees there here → (b : Tree ℕ block)
       → Agrees (types_scope j (relabel_block as_names ren here k (mapped f g b)) there) (types_scope k (mapped f g b) here)
@@ -241,7 +242,7 @@ module _ (d : ℕ) (new : Name) (f : ℕ → Name) (g : ℕ → ℕ) (fresh : (i
       agrees_procedure_names (procedures_scope k b here) (procedures_scope j b' there) (procedures_scope k b here) (first_procedure j b') (first_procedure k b) (first_procedure-relabel as_names ren here j k b jk)
       (agrees_procedures there here j k jk agrees (has_body (declares cs ts vs ps) statements)) ps
 
-  -- each part, relabelled, is numbered as it was
+  -- each relabelled part has the same numbers
 
   label-kept : (o : Option ℕ) (x : Name) → label o (ren o x) ≡ label o x
   label-kept None x = refl
@@ -360,7 +361,7 @@ module _ (d : ℕ) (new : Name) (f : ℕ → Name) (g : ℕ → ℕ) (fresh : (i
         (agrees_listed (suc j) (suc k) (ap suc jk) _ _ labelled (new_formals fs) ((ren (Some k) (f x), j) ∷ there) ((f x, k) ∷ here) (agrees_one there here (f x) j k (fresh x) jk agrees)) b i)
         (declared (jk i))
 
-  -- the predeclared names keep their bindings, where the declaration is another
+  -- the predeclared names keep their bindings if the declaration isn't one of them
 
   abbrev Others : Scope Name → Type 0
   Others [] = Unit {0}
@@ -388,7 +389,7 @@ module _ (d : ℕ) (new : Name) (f : ℕ → Name) (g : ℕ → ℕ) (fresh : (i
       let scope : Scope Name = predeclared_scope as_names in
       ap occurrences (λ i. is_module (as_written (f x)) (block_same scope scope 7 7 refl (agrees_predeclared h) b i) (as_written (f closing)))
 
-  -- no other declaration has the name
+  -- states that no other declaration has the name
 
   abbrev NewScope : Scope Name → Type 0
   NewScope [] = Unit {0}

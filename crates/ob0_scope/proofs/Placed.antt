@@ -1,4 +1,4 @@
--- The identifiers of a module and what they are bound to, by the table of ordinals and by token.
+-- The identifiers of a module and their bindings, from the table of ordinals and by token.
 use Rattle.std.proofs.Common.{◌≡◌, ℕ, ◌+◌, Bool, true, false, not, cond, ◌&&◌, ◌||◌, Option, Some, None, List, [], ◌∷◌, ◌++◌, map, length, refl, sym, ap, ◌∙◌, subst, option_map, option_and_then, slice_get, append_assoc, arith, length-append}
 use Rattle.std.specs.List.{filter, find, position_from, zip}
 use Rattle.ob0_scan.specs.Scanned.{Scanned}
@@ -37,7 +37,7 @@ leaves-mapped f g t =
     leaves_spelled role.Declaring (mapped f g t)
     ∙ (ap lexeme_names (spell_mapped f g t) ∙ (names_mapped f g (spell t) ∙ ap (map f) (sym (leaves_spelled role.Declaring t))))
 
--- each identifier with the label of its token
+-- an identifier with the label of its token
 abbrev bound_by : (ℕ → Label) → Role × ℕ → BoundIdentifier
 bound_by label x = (x, label x.1)
 
@@ -61,15 +61,15 @@ bound_to source ordinals d i = one (ordinal_in ordinals i)
     one None = refl
     one (Some k) = refl
 
--- an identifier has this ordinal, and isn't the declaring one unless that is wanted
+-- true for an identifier with this ordinal; the declaring one counts only if it is requested
 abbrev pub is_listed : List (Option ℕ) → Bool → ℕ → Role × ℕ → Bool
 is_listed ordinals include d x = same_ordinal (ordinal_in ordinals x.1) d && (include || not (is_declaring x.0))
 
--- the identifiers of a declaration by the table, with or without the declaring one
+-- the identifiers of a declaration in the table, with or without the declaring one
 abbrev pub tokens_listed : List (Option ℕ) → Bool → ℕ → List (Role × ℕ) → List ℕ
 tokens_listed ordinals include d xs = map (λ x. x.1) (filter (is_listed ordinals include d) xs)
 
--- what is kept of one list and what is kept of another
+-- filtering the identifiers and filtering the labelled identifiers give the same tokens
 listed : (source : Scanned) (ordinals : List (Option ℕ)) (include : Bool) (d : ℕ) (xs : List (Role × ℕ))
     → tokens_listed ordinals include d xs ≡ map (λ (s : BoundIdentifier). s.0.1) (filter (refers include d) (map (bound_by (label_at source ordinals)) xs))
 listed source ordinals include d [] = refl
@@ -92,7 +92,7 @@ bound_listed r d include is =
 
 -- places
 
--- the span of each of these tokens, from an index on
+-- states that each of these tokens has this span, starting at an index
 abbrev SpansAre : (ℕ → Span) → ℕ → List Token → Type 0
 SpansAre span i [] = Unit {0}
 SpansAre span i (t ∷ ts) = (span i ≡ t.span) × SpansAre span (i + 1) ts
@@ -128,7 +128,7 @@ found_from offset span i (t ∷ ts) h =
     one true later = refl
     one false later = refl
 
--- the name of a token by its ordinal
+-- the name at a token, from its ordinal
 abbrev pub named_so : List (Option ℕ) → ℕ → Option named.Named
 named_so ordinals i = option_map {U = named.Named} (λ ordinal. record { token = i; ordinal = ordinal }) (ordinal_in ordinals i)
 
@@ -150,7 +150,7 @@ found_named source ordinals offset (x ∷ xs) = one (is_on offset (span_at sourc
     one true found later e = label_back source ordinals x
     one false found later e = e
 
--- the name that a place is on, by the first identifier's token there
+-- the name at a place, from the token of the first identifier there
 pub name_found : (r : Resolution) (offset : ℕ) → IsResolution r → option_and_then (named_so r.ordinals) (position_from (is_name_on offset) 0 r.module_read.source.tokens) ≡ name_on r.module_read offset
 name_found r offset is =
     let m = r.module_read in

@@ -1,4 +1,4 @@
--- Where the tokens of one body are written otherwise, the names outside are bound as before.
+-- If the tokens of one body change, the names outside have the same bindings as before.
 use Rattle.std.proofs.Common.{◌≡◌, ◌==◌, ◌||◌, ℕ, Bool, true, false, Option, None, List, [], ◌∷◌, refl, sym, ap, ◌∙◌, eqb-true}
 use Rattle.std.specs.List.{list_any}
 use Rattle.ob0_scan.specs.Scanned.{Scanned}

@@ -1,4 +1,5 @@
--- A module gone through with a new name for a declaration gives the numbered tree of the renamed module.
+-- Visiting a module with a new name for a declaration gives the numbered tree of the renamed
+-- module.
 use Rattle.std.proofs.Common.{◌≡◌, ℕ, suc, ◌+◌, Bool, true, false, not, cond, if◌then◌else◌, Option, Some, None, List, [], ◌∷◌, map, length, replicate, refl, sym, ap, ◌∙◌, option_map, arith}
 use Rattle.std.specs.List.{position_from}
 use Rattle.ob0_tree.specs.Parsed.{named_tree_of, tree_of}
@@ -22,7 +23,7 @@ use Rattle.ob0_scope_numbering.proofs.Tables.{marks_in_table}
 abbrev new_or : ℕ → Name → Option ℕ × Name → Name
 new_or d new p = if same_ordinal p.0 d then new else p.1
 
--- the renamed module is the tree with its names as they are written
+-- the renamed module is the tree with its names as they are spelled
 pub renamed_spelled : (r : Resolution) (d : ℕ) (new : Name) → IsResolution r → renamed (named_tree_of r.module_read) d new ≡ spelled_by (renamed_in r d new) (tree_of r.module_read)
 renamed_spelled r d new is =
     let m = r.module_read in
@@ -37,7 +38,7 @@ renumbered r d new v ordinals is gone tabled =
     let passed = module_passed (ordinal_in ordinals) (as_label as_names) w (tree_of m) (started w) (at_start w) in
     ap numbered (renamed_spelled r d new is) ∙ (passed.agree (marks_in_table m w v ordinals is.parsed gone tabled)).1
 
--- what is bound in the renamed module
+-- the bindings of the renamed module
 renamed_bindings : (r : Resolution) (d : ℕ) (new : Name) (ordinals : List (Option ℕ)) → IsResolution r → IsRenumbering r d new ordinals
     → bindings (renamed (named_tree_of r.module_read) d new) ≡ map (λ i. as_label as_names (ordinal_in ordinals i) (name_at (renamed_in r d new) i)) r.uses
 renamed_bindings r d new ordinals is numbering =
@@ -65,7 +66,7 @@ alike d new x None (Some k) = refl
 alike d new x (Some j) None = refl
 alike d new x (Some j) (Some k) = refl
 
--- counting on from an index
+-- an index plus the result of a search from there
 abbrev onward : ℕ → Option ℕ → Option ℕ
 onward k found = option_map (λ n. k + n) found
 

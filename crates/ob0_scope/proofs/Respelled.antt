@@ -1,7 +1,7 @@
--- Bindings stay where the tokens of a text are named as they were.
--- The numbers of a tree are in no scope, so what is known of each part holds for any numbers, and the table of the old
--- text, which has all marks of its module, numbers the new one. Faults have spans, which move: where all tokens are
--- written alike, they are at the same tokens.
+-- Bindings are unchanged if the tokens of a text are named as before. The numbers of a tree are in
+-- no scope, so the facts about each part hold for any numbers. The table of the old text has all
+-- marks of its module, so it numbers the new one. Faults have spans, which may move; if all tokens
+-- have the same spellings, the faults are at the same tokens.
 use Rattle.std.proofs.Common.{◌≡◌, ◌<◌, ℕ, zero, suc, Bool, true, false, not, ◌||◌, Option, Some, None, List, [], ◌∷◌, ◌++◌, length, map, drop, get_or, slice_get, is_some, if◌then◌else◌, refl, sym, ap, ◌∙◌, subst, arith}
 use Rattle.std.specs.List.{HoldsAt, filter, list_any}
 use Rattle.ob0_scan.specs.declared.fault.Fault.{Fault}
@@ -38,7 +38,7 @@ use Rattle.ob0_scope_numbering.proofs.Passing.{at_start, module_passed_with}
 use Rattle.ob0_scope.proofs.TokensWith.{marks_resolved}
 use Rattle.ob0_scope.proofs.TwiceOnce.{once_with, twice_alone, twice_where}
 
--- ---- identifiers are written alike
+-- ---- identifiers have the same spellings
 
 is_identifier : (k : TokenKind) → valueless k ≡ kind.Identifier → k ≡ kind.Identifier
 is_identifier kind.Identifier e = refl
@@ -61,12 +61,12 @@ all_texts : (old new : Scanned) → AreNamedAlike old new → (g : ℕ → ℕ) 
 all_texts old new w g [] h = tt
 all_texts old new w g (x ∷ xs) h = (texts old.text new.text old.tokens new.tokens x.1 w.same_kinds w.same_names h.0.0 h.0.1, all_texts old new w g xs h.1)
 
--- so is what is made of each and of its text
+-- values made from each identifier and its spelling are also the same
 all_through : {M : Type 0} (f : ℕ → Name → M) (n m : ℕ → Name) (g : ℕ → ℕ) (xs : List (Role × ℕ)) → AllAlike n m g xs → AllAlike (λ i. f i (m i)) (λ i. f i (n i)) g xs
 all_through f n m g [] h = tt
 all_through f n m g (x ∷ xs) h = (sym (ap (f x.1) h.0), all_through f n m g xs h.1)
 
--- ---- where nothing was reported nothing is
+-- ---- if nothing was reported, nothing is reported
 
 none_unbound : (o : Option ℕ) (f g : Fault) (xs ys : List Fault) → (if is_some o then xs else f ∷ xs) ≡ [] → (xs ≡ [] → ys ≡ []) → (if is_some o then ys else g ∷ ys) ≡ []
 none_unbound None f g xs ys e h = absurd (cc)
@@ -84,7 +84,7 @@ none_reported : (fs : List Fault) → list_any is_of_declarations fs ≡ false �
 none_reported [] e h = refl
 none_reported (f ∷ fs) e h = absurd (neither (is_of_declarations f) (list_any is_of_declarations fs) (list_any (λ f. not (is_of_declarations f)) fs) e h)
 
--- ---- the bindings stay
+-- ---- the bindings are unchanged
 
 module _ (old new : Scanned) (tree : ModuleTree) (b : Bindings) (w : AreNamedAlike old new) (r : IsResolution (resolution_by (parsed_by old tree) b)) where
   abbrev read : Tree ℕ module_text
@@ -135,7 +135,7 @@ bindings_stay old new tree b w parsed r none = record {
   reported = nothing_at_fault old new tree b w r none;
 }
 
--- ---- where all tokens are written alike
+-- ---- all tokens have the same spellings
 
 pub named_alike : (old new : Scanned) → AreWrittenAlike old new → AreNamedAlike old new
 named_alike old new w = record {

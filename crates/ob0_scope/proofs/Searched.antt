@@ -1,4 +1,4 @@
--- The search over indexes of tokens finds what the blocks' scopes say.
+-- The search over indexes of tokens gives the same result as the blocks' scopes.
 use Rattle.std.proofs.Common.{◌≡◌, ℕ, suc, Bool, true, false, not, ◌&&◌, ◌||◌, ◌==◌, if◌then◌else◌, Option, Some, None, List, [], ◌∷◌, ◌++◌, map, refl, sym, ap, ◌∙◌}
 use Rattle.std.proofs.lemmas.List.{map-append}
 use Rattle.std.specs.List.{list_any}
@@ -216,7 +216,7 @@ module _ (d : ℕ) (new : Name) where
   module_scopes : (m : Tree Name module_text) → new_in_block [] (module_block (relabelled as_names with_ordinal m)) ≡ namesake m d new
   module_scopes (is_module x b closing) = block_scopes (predeclared_scope as_names) 7 [] [] b refl
 
--- what is found in a module's block
+-- the result of the search in a module's block
 pub namesake_found : (r : Resolution) (d : ℕ) (new : Name) → IsResolution r → found_in_block (record { source = r.module_read.source; ordinals = r.ordinals; declaration = d; new = new }) [] (module_block (tree_of r.module_read)) ≡ namesake (named_tree_of r.module_read) d new
 namesake_found r d new is =
     block_bound d new r [] (module_block (tree_of r.module_read))

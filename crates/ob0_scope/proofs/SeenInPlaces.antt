@@ -1,6 +1,7 @@
--- What one name would be bound to in place of each occurrence: what it is bound to where all occurrences are written so.
--- `number` goes over a writing that has the name at each occurrence. Labels that forget the names (`forget`) make the
--- trees comparable by their occurrences alone, so no walk over expressions and statements is needed.
+-- The bindings that one name would have in place of each occurrence are its bindings if all
+-- occurrences are replaced by it. `number` visits the text with the name at each occurrence. Labels
+-- without names (`forget`) make the trees comparable by their occurrences only, so no walk over
+-- expressions and statements is needed.
 use Rattle.std.proofs.Common.{◌≡◌, ◌≢◌, ℕ, suc, ◌+◌, ◌<◌, ◌≤◌, Option, Some, None, List, [], ◌∷◌, ◌++◌, map, length, replicate, set, refl, sym, ap, ◌∙◌, subst, arith, le_refl, get_or-set_other, get_or-set_same, true, false, if◌then◌else◌, nat_lt, option_and_then, option_map, slice_get}
 use Rattle.std.proofs.Math.ListN.{length-set}
 use Rattle.std.proofs.lemmas.Bool.{ltb-true, ltb-false}
@@ -31,7 +32,8 @@ use Rattle.ob0_language_names.proofs.OccurrencesMapped.{occurrences-mapped}
 use Rattle.ob0_scope_numbering.proofs.Passing.{at_start, module_passed, tokens_of}
 use Rattle.ob0_scope_numbering.proofs.Tables.{kept_below, marks_in_table}
 
--- an identifier is written f, where the text has h: y where it is looked up, and else as in the text
+-- states that f gives the spelling y to a looked-up identifier, and the text's spelling h to any
+-- other
 abbrev Sought : Name → (ℕ → Name) → (ℕ → Name) → Role → ℕ → Type 0
 Sought y f h role.LookedUp i = f i ≡ y
 Sought y f h role.Declaring i = f i ≡ h i
@@ -88,7 +90,7 @@ module _ (y : Name) (f h : ℕ → Name) (g : ℕ → ℕ) where
       → occurrences (relabel_uses as_names forget scope (mapped f g t)) ≡ occurrences (relabel_uses (looking_for y) forget scope (mapped h g t))
   part_alike scope t a = uses_alike role.Declaring (λ n xs. refl) scope t a
 
-  -- the names that are declared are those of the text
+  -- the declared names are the names of the text
   further_same : (ns : Tree ℕ (items further_name)) → AllSought y f h (identifiers role.Declaring ns) → further_names (mapped f g ns) ≡ further_names (mapped h g ns)
   further_same end a = refl
   further_same (more (then_name x) rest) a = λ i. a.0 i ∷ further_same rest a.1 i
@@ -303,7 +305,8 @@ forgotten naming m =
     back None x = refl
     back (Some k) x = refl
 
--- the table of the occurrences has the first ordinal at each of them, and at no other identifier
+-- states that the table of the occurrences has the first ordinal at each occurrence, and none at
+-- other identifiers
 abbrev pub IsMarked : List (Option ℕ) → Role → ℕ → Type 0
 IsMarked table role.LookedUp i = ordinal_in table i ≡ Some 0
 IsMarked table role.Declaring i = ordinal_in table i ≡ None
@@ -383,7 +386,7 @@ uses_reported r is =
     let reported = all_reported 0 count ids (replicate count none) (leaves_ascend m is.parsed) long (λ i le. nothing_there count i) in
     subst (λ (t : List (Option ℕ)). AllMarked t ids) (ap (λ us. with_marks (replicate count none) (map first_at us)) found) reported
 
--- so the identifiers are written as they are sought
+-- so the identifiers have the sought spellings
 all_sought : (source : Scanned) (table : List (Option ℕ)) (y : Name) (xs : List (Role × ℕ)) → AllMarked table xs
     → AllSought y (name_at (record { source = source; ordinals = table; declaration = Some 0; new = y })) (text_at source) xs
 all_sought source table y [] a = tt
@@ -393,7 +396,8 @@ all_sought source table y ((role.ClosingName, i) ∷ xs) a = (ap (λ o. if same_
 all_sought source table y ((role.FieldName, i) ∷ xs) a = (ap (λ o. if same_ordinal o 0 then y else text_at source i) a.0, all_sought source table y xs a.1)
 all_sought source table y ((role.ModuleName, i) ∷ xs) a = (ap (λ o. if same_ordinal o 0 then y else text_at source i) a.0, all_sought source table y xs a.1)
 
--- a module gone through with one name at all occurrences gives what the name would be bound to in place of each
+-- visiting a module with one name at all occurrences gives the bindings of that name in place of
+-- each
 pub seen_in_places : (r : Resolution) (y : Name) (v : Visit) (sought ordinals : List (Option ℕ)) → IsResolution r → sought ≡ with_marks (replicate (length r.module_read.source.tokens) None) (map first_at r.uses)
     → v ≡ visit_module (tree_of r.module_read) (started (record { source = r.module_read.source; ordinals = sought; declaration = Some 0; new = y }))
     → ordinals ≡ with_marks (replicate (length r.module_read.source.tokens) None) v.marks → map (ordinal_in ordinals) r.uses ≡ ordinals_seen (named_tree_of r.module_read) y
@@ -410,7 +414,7 @@ seen_in_places r y v sought ordinals is table gone tabled =
     ∙ (module_alike y (name_at w) (text_at m.source) (value_at m.source) (tree_of m) (all_sought m.source sought y ids reported_so)
     ∙ forgotten (looking_for y) (named_tree_of m))))
 
--- each entry of the list is what the name would be bound to there
+-- each entry of the list is the binding of the name in that place
 pub sees_entry : (m : Tree Name module_text) (y : Name) (k : ℕ) → option_and_then (λ o. o) (slice_get (ordinals_seen m y) k) ≡ sees m k y
 sees_entry m y k =
     let ls = occurrences (relabelled (looking_for y) (as_label (looking_for y)) m) in

@@ -1,5 +1,5 @@
--- Where the statements of one body were replaced or written otherwise, names are declared once as far as they were: a body
--- declares nothing.
+-- If the statements of one body were replaced or changed, names are declared once exactly if they
+-- were before, because a body declares nothing.
 use Rattle.std.proofs.Common.{◌≡◌, ℕ, zero, suc, Bool, true, false, not, ◌&&◌, ◌||◌, List, [], ◌∷◌, ◌++◌, length, refl, sym, ap, ◌∙◌}
 use Rattle.std.specs.List.{list_any}
 use Rattle.ob0_scan.specs.declared.fault.Fault.{Fault}
@@ -52,7 +52,7 @@ mutual
 once_without : (way : Way) (t : Tree Name module_text) → declared_once (without way t) ≡ declared_once t
 once_without way (is_module x b closing) = ap (λ c. same_name x closing && c) (block_without_once way [] b)
 
--- a tree with two readings of its names and numbers, that are the same without a body
+-- two trees with two readings of their names and numbers, which are the same without a body
 once_outside : (way : Way) (a b : Scanned) (s t : Tree ℕ module_text) → named a (without way s) ≡ named b (without way t) → declared_once (named a s) ≡ declared_once (named b t)
 once_outside way a b s t same =
     sym (once_without way (named a s))
@@ -71,7 +71,7 @@ still_once_written old m low high parsed change =
     (λ i e. text_by_word old m.source i i (change.same_words i e)) (λ i e. value_by_word old m.source i i (change.same_words i e)) (without way (tree_of m))
     (module_outside low high (λ i. is_out low high i ≡ true) (λ k e. e) 0 (length m.source.tokens) (tree_of m) (places_ascend m parsed) change.in_body))
 
--- ---- what is reported
+-- ---- the reported faults
 
 nothing_left : (fs : List Fault) → list_any is_of_declarations fs ≡ false → list_any (λ f. not (is_of_declarations f)) fs ≡ false → fs ≡ []
 nothing_left [] e h = refl
@@ -81,6 +81,7 @@ nothing_left (f ∷ fs) e h = absurd (one (is_of_declarations f) e h)
     one true e h = absurd (cc)
     one false e h = absurd (cc)
 
--- nothing is reported of the declarations of a module where none of some faults is of declarations, of which some are exactly where something is
+-- a module has no fault of declarations if a list has none, and the list has some exactly if the
+-- module does
 pub nothing_twice : (m : Parsed) (known : List Fault) → list_any is_of_declarations known ≡ not (declared_once (named_tree_of m)) → list_any is_of_declarations known ≡ false → twice_in m ≡ []
 nothing_twice m known e h = nothing_left (twice_in m) (twice_where m ∙ (sym e ∙ h)) (twice_alone m)

@@ -1,4 +1,5 @@
--- The first identifier that a place is on, found by halving: it is at the first token that doesn't end before the place, or at the next.
+-- The first identifier at a place, found by binary search: it is the first token that doesn't end
+-- before the place, or the next one.
 use Rattle.std.proofs.Common.{◌≡◌, ℕ, zero, suc, ◌+◌, ◌<◌, ◌≤◌, Bool, true, false, cond, List, [], ◌∷◌, ◌++◌, length, get_or, Some, None, refl, ap, ◌∙◌, sym, subst, arith, add-zero}
 use Rattle.std.specs.Prelude.{nat_le, nat_lt}
 use Rattle.std.specs.List.{position_from}
@@ -45,7 +46,7 @@ ends_rise from (t ∷ ts) h (suc i) zero d le less = absurd (omega (arith, le))
 ends_rise from (t ∷ ts) h zero (suc j) d le less = beyond t.span.end ts j d h.1.1 (omega (arith, less))
 ends_rise from (t ∷ ts) h (suc i) (suc j) d le less = ends_rise t.span.end ts h.1.1 i j d (omega (arith, le)) (omega (arith, less))
 
--- ---- halving
+-- ---- binary search
 
 module _ (offset : ℕ) where
   abbrev on : Token → Bool

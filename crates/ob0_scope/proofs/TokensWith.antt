@@ -1,7 +1,8 @@
--- The tokens at which a declaration is named are those at which the table has its ordinal, and none is before the one that declares it.
--- A table has nothing at tokens that are no names (`names_alone`), and along the identifiers each declaring one has the
--- next ordinal and every other one that of a declaration before it, or none (`AreInOrder`). So of the identifiers with
--- one ordinal the first is the one that declares.
+-- The tokens that are bound to a declaration are those at which the table has its ordinal. The
+-- declaring token is the first of them. A table has nothing at tokens that aren't names
+-- (`names_alone`). Each declaring identifier has the next ordinal, and every other one has the
+-- ordinal of an earlier declaration or none (`AreInOrder`). So the first of the identifiers with an
+-- ordinal is the declaring one.
 use Rattle.std.proofs.Common.{◌≡◌, ◌≢◌, ◌==◌, ◌<◌, ◌≤◌, ℕ, zero, suc, ◌+◌, ◌-◌, Bool, true, false, not, cond, ◌&&◌, ◌||◌, if◌then◌else◌, Option, Some, None, List, [], ◌∷◌, map, length, drop, get_or, refl, sym, ap, ◌∙◌, subst, arith, append-nil, replicate, slice_get, eq-eqb, eqb-true, le_refl}
 use Rattle.std.proofs.Math.Dec.{ltb}
 use Rattle.std.proofs.lemmas.Bool.{eqb-false, ltb-false, ltb-true}
@@ -57,9 +58,9 @@ in_order r is =
     let all = (module_passed (ordinal_in r.ordinals) (as_label as_names) w (tree_of m) (started w) (at_start w)).in_order (marks_resolved r is) [] tt in
     subst (AreInOrder (ordinal_in r.ordinals) 7) (append-nil ids) all
 
--- ---- what a table has at identifiers that ascend, and nowhere else
+-- ---- the entries of a table at identifiers that ascend; it has no other entries
 
--- numbers that ascend from one on
+-- states that numbers ascend, starting at or above a number
 abbrev Rising : ℕ → List ℕ → Type 0
 Rising low [] = Unit {0}
 Rising low (x ∷ xs) = (low ≤ x) × Rising (x + 1) xs
@@ -94,7 +95,7 @@ in_table os i d e = one (ltb i (length os)) refl
     one false less = absurd (some_none (sym e ∙ get_or_past os i None (ltb-false i (length os) less)))
 
 module _ (ordinals : List (Option ℕ)) (d : ℕ) where
-  -- from a token on the table has nothing at others
+  -- states that the table has no entries at other tokens, starting at a token
   abbrev Alone : ℕ → List ℕ → Type 0
   Alone low xs = (j : ℕ) → low ≤ j → list_any (λ i. i == j) xs ≡ false → ordinal_in ordinals j ≡ None
 
@@ -108,7 +109,7 @@ module _ (ordinals : List (Option ℕ)) (d : ℕ) where
           one false e = refl
           one true e = absurd (omega (arith, after, eqb-true x j e))
 
-  -- these are the table's entries from a token on
+  -- states that these are the table's entries, starting at a token
   abbrev Are : ℕ → List (Option ℕ) → Type 0
   Are i os = (k : ℕ) → ordinal_in os k ≡ ordinal_in ordinals (i + k)
 
@@ -187,7 +188,7 @@ module _ (ordinals : List (Option ℕ)) (d : ℕ) where
       one true = λ i. x.1 ∷ later i
       one false = later
 
-  -- where the declaration isn't among them
+  -- the declaration isn't among them
   none_declares : (k : ℕ) (xs : List (Role × ℕ)) → AreInOrder (ordinal_in ordinals) k xs → ((i : ℕ) → k + i ≡ d → slice_get (declaring_only xs) i ≡ None) → tokens_listed ordinals false d xs ≡ tokens_listed ordinals true d xs
   none_declares k [] h none = refl
   none_declares k ((role.LookedUp, x) ∷ xs) h none = same_but (role.LookedUp, x) xs refl (none_declares k xs h.1 none)
@@ -218,7 +219,7 @@ module _ (ordinals : List (Option ℕ)) (d : ℕ) where
   are_dropped : (i : ℕ) → Are i (drop i ordinals)
   are_dropped i = λ k. get_or-drop i ordinals k None
 
-  -- from the one that declares on
+  -- starting at the declaring one
   from_declaring : (include : Bool) (k i low : ℕ) (xs : List (Role × ℕ)) (t : ℕ) → AreInOrder (ordinal_in ordinals) k xs → k + i ≡ d → slice_get (declaring_only xs) i ≡ Some t → Rising low (names_only xs) → Alone low (names_only xs)
       → tokens_from (omitted_token include (Some t)) d t ordinals ≡ tokens_listed ordinals include d xs
   from_declaring include k i low [] t h at is rise alone = absurd (some_none (sym is))

@@ -1,4 +1,5 @@
--- Faults of declarations are reported exactly where a name is declared twice or a closing name differs.
+-- Faults of declarations are reported exactly if a name is declared twice or a closing name is
+-- wrong.
 use Rattle.std.proofs.Common.{◌≡◌, ℕ, Bool, true, false, not, ◌&&◌, ◌||◌, List, [], ◌∷◌, ◌++◌, map, refl, sym, ap, ◌∙◌}
 use Rattle.std.proofs.lemmas.List.{map-append}
 use Rattle.std.proofs.lemmas.List.Folds.{list_any-append}
@@ -19,7 +20,7 @@ and_true : (b : Bool) → (b && true) ≡ b
 and_true true = refl
 and_true false = refl
 
--- names that are distinct, and distinct from some that were there before
+-- true if the names are distinct, and distinct from some earlier ones
 abbrev distinct_from : List Name → List Name → Bool
 distinct_from before [] = true
 distinct_from before (x ∷ xs) = not (is_among x before) && distinct_from (x ∷ before) xs
@@ -39,7 +40,7 @@ among_more false true false d = refl
 among_more false false true d = refl
 among_more false false false d = refl
 
--- one more name before
+-- one more earlier name
 more_before : (x : Name) (xs before : List Name) → none_among xs (x ∷ before) ≡ (not (is_among x xs) && none_among xs before)
 more_before x [] before = refl
 more_before x (y ∷ ys) before =
@@ -70,7 +71,7 @@ five_texts : (text : ℕ → Name) (a b c d e : List ℕ) → map text (a ++ (b 
 five_texts text a b c d e =
     map-append text a (b ++ (c ++ (d ++ e))) ∙ ap (λ z. map text a ++ z) (map-append text b (c ++ (d ++ e)) ∙ ap (λ z. map text b ++ z) (map-append text c (d ++ e) ∙ ap (λ z. map text c ++ z) (map-append text d e)))
 
--- ---- nothing is reported exactly where all is declared once
+-- ---- nothing is reported exactly if everything is declared once
 
 abbrev fine : List Fault → Bool
 fine fs = not (list_any is_of_declarations fs)
@@ -104,7 +105,7 @@ module _ (value : ℕ → ℕ) where
   abbrev named : {s : Sort} → Scanned → Tree ℕ s → Tree Name s
   named src t = mapped (text_at src) value t
 
-  -- names and parts of a tree, by their texts
+  -- names and parts of a tree, by their spellings
   names_texts : (src : Scanned) (ns : Tree ℕ names) → map (text_at src) (names_listed ns) ≡ names_listed (named src ns)
   names_texts src (listed x rest) = ap (λ l. text_at src x ∷ l) (further_texts rest)
     where
@@ -255,7 +256,7 @@ not_not false b e = ap not e
 pub twice_where : (m : Parsed) → list_any is_of_declarations (twice_in m) ≡ not (declared_once (named_tree_of m))
 twice_where m = not_not (list_any is_of_declarations (twice_in m)) (declared_once (named_tree_of m)) (module-fine (value_at m.source) m.source (tree_of m))
 
--- nothing is reported of a tree as far as its names, read from a text, are declared once, whatever its numbers
+-- the test for duplicate declarations in a tree doesn't depend on its numbers
 pub once_with : (source : Scanned) (f g : ℕ → ℕ) (t : Tree ℕ module_text) → declared_once (mapped (text_at source) f t) ≡ declared_once (mapped (text_at source) g t)
 once_with source f g t = sym (module-fine f source t) ∙ module-fine g source t
 

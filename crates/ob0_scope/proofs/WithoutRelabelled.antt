@@ -1,4 +1,4 @@
--- A module without a body, with labels: the labels are those of the module, since a body declares nothing.
+-- A module without a body has the same labels as the module, because a body declares nothing.
 use Rattle.std.proofs.Common.{◌≡◌, ℕ, zero, suc, [], ◌∷◌, Some, None, refl, sym, ap}
 use Rattle.ob0_tree.specs.Tree.{Tree, block, declares, declares_procedure, end, has_body, is_module, item, items, module_text, more, procedure}
 use Rattle.ob0_language_names.specs.Names.{Naming}
@@ -6,7 +6,7 @@ use Rattle.ob0_language_names.specs.Parts.{constant_names, formal_names, formal_
 use Rattle.ob0_language_names.specs.Scopes.{Labels, Scope, after_block, after_names, after_procedure, after_procedures, declare_names, declare_procedure_names, predeclared_scope, relabel_block, relabel_constant_section, relabel_formals, relabel_procedure, relabel_procedures, relabel_type_section, relabel_uses, relabel_variable_section, relabelled}
 use Rattle.ob0_scope_table.specs.BodyReplaced.{Way, block_without, procedure_without, procedures_without, without}
 
--- ---- as many declarations
+-- ---- the same number of declarations
 
 mutual
   after_block_without : {N : Type 0} (way : Way) (n : ℕ) (b : Tree N block) → after_block n (block_without way b) ≡ after_block n b
@@ -26,7 +26,7 @@ mutual
 name_without : {N : Type 0} (way : Way) (p : Tree N (item procedure)) → procedure_name (procedure_without way p) ≡ procedure_name p
 name_without way (declares_procedure x fs b closing) = refl
 
--- what a block's procedures add to a scope
+-- the names that a block's procedures add to a scope
 names_without : {N : Type 0} (k : ℕ) (way : Way) (n : ℕ) (ps : Tree N (items procedure)) (scope : Scope N) → declare_procedure_names n (procedures_without k way ps) scope ≡ declare_procedure_names n ps scope
 names_without zero way n end scope = refl
 names_without (suc k) way n end scope = refl

@@ -1,4 +1,4 @@
--- The names at the places of a module's text, by what its identifiers are bound to.
+-- The names at the places of a module's text, according to the bindings of its identifiers.
 -- Rule: docs/PROTOCOL.md, Requests on documents 3 to 6.
 use Rattle.std.specs.Prelude.{ℕ, Bool, true, false, not, ◌&&◌, ◌||◌, ◌==◌, ◌≡◌, if◌then◌else◌, List, [], ◌∷◌, Option, map, option_map, option_and_then}
 use Rattle.std.specs.List.{filter, find, zip}
@@ -15,7 +15,7 @@ use Rattle.ob0_scope_table.specs.Spans.{is_on}
 use Rattle.ob0_language_names.specs.Scopes.{numbered, renamed}
 use Rattle.ob0_scope.specs.declared.naming.Named as named
 
--- an identifier: what it is where it is, its token, and what it is bound to
+-- an identifier: its role, its token, and its label
 abbrev pub BoundIdentifier : Type 0
 BoundIdentifier = (Role × ℕ) × Label
 
@@ -24,19 +24,19 @@ abbrev pub bound_identifiers : Parsed → List BoundIdentifier
 bound_identifiers m =
     zip (identifiers role.Declaring (tree_of m)) (leaves (numbered (named_tree_of m)))
 
--- the identifier that a place is on
+-- the first identifier at a place
 abbrev pub identifier_on : Parsed → ℕ → Option BoundIdentifier
 identifier_on m offset = find (λ s. is_on offset (span_at m.source s.0.1)) (bound_identifiers m)
 
--- its token and the ordinal of its declaration, where it is bound to one
+-- the token of an identifier and the ordinal of its declaration, if it is bound
 abbrev pub named_by : BoundIdentifier → Option named.Named
 named_by s = option_map (λ ordinal. record { token = s.0.1; ordinal = ordinal }) (label_ordinal s.1)
 
--- the name that a place is on: no field, no module's name
+-- the name at a place, which isn't a field or the module's name
 abbrev pub name_on : Parsed → ℕ → Option named.Named
 name_on m offset = option_and_then named_by (identifier_on m offset)
 
--- an identifier declares
+-- true for a declaring identifier
 abbrev pub is_declaring : Role → Bool
 is_declaring role.Declaring = true
 is_declaring role.LookedUp = false
@@ -44,7 +44,7 @@ is_declaring role.ClosingName = false
 is_declaring role.FieldName = false
 is_declaring role.ModuleName = false
 
--- an identifier is bound to d, and isn't the one that declares it unless that is requested
+-- true for an identifier that is bound to d; the declaring one counts only if it is requested
 abbrev pub refers : Bool → ℕ → BoundIdentifier → Bool
 refers include d s = same_label s.1 (declared d) && (include || not (is_declaring s.0.0))
 
@@ -52,12 +52,12 @@ refers include d s = same_label s.1 (declared d) && (include || not (is_declarin
 abbrev pub tokens_bound : Parsed → ℕ → Bool → List ℕ
 tokens_bound m d include = map (λ s. s.0.1) (filter (refers include d) (bound_identifiers m))
 
--- a token is in a list
+-- true for a token in a list
 abbrev pub is_among : ℕ → List ℕ → Bool
 is_among i [] = false
 is_among i (x ∷ xs) = i == x || is_among i xs
 
--- The module in which d has a new name is the one that has this name at these tokens, and nothing else changed.
+-- States that renaming d puts the new name at these tokens and changes nothing else.
 abbrev pub IsRenamedAt : Parsed → ℕ → List ℕ → Type 0
 IsRenamedAt m d tokens =
     (new : Name)

@@ -1,4 +1,5 @@
--- A declaration under another name: what each occurrence is then bound to, and which declaration conflicts with it.
+-- A renamed declaration: the resulting bindings of occurrences, and conflicts with other
+-- declarations.
 -- Rule: docs/PROTOCOL.md, Refusals of edits (Duplicate, Captures).
 use Rattle.std.specs.Prelude.{◌≡◌, ℕ, Bool, true, false, not, ◌&&◌, if◌then◌else◌, ◌==◌, List, [], ◌∷◌, Option, Some, None}
 use Rattle.std.specs.Option.{option_or}
@@ -21,14 +22,14 @@ other_named [] d new = None
 other_named (b ∷ own) d new =
     if same_name b.0 new && not (b.1 == d) then Some b.1 else other_named own d new
 
--- another declaration of a block that has the name
+-- another declaration with the name in the block that declares d
 abbrev pub namesake_in : List (Scope Name) → ℕ → Name → Option ℕ
 namesake_in [] d new = None
 namesake_in (own ∷ others) d new =
     option_or (if declares_ordinal own d then other_named own d new else None)
     (namesake_in others d new)
 
--- the declaration of d's block, other than d, that has the name; of several the last
+-- the declaration of d's block, other than d, that has the name; if there are several, the last one
 abbrev pub namesake : Tree Name module_text → ℕ → Name → Option ℕ
 namesake m d new = namesake_in (blocks_in predeclared_count [] (module_block m)) d new
 
@@ -37,13 +38,13 @@ abbrev pub place_of : reported.FirstCapture → Capture
 place_of (reports.Duplicate other) = at_declaration
 place_of (reports.Occurrence k) = at_occurrence k
 
--- the other declaration, where a capture is a second declaration in its block
+-- the other declaration, if a capture is a duplicate declaration in the block
 abbrev pub other_of : Option reported.FirstCapture → Option ℕ
 other_of None = None
 other_of (Some (reports.Duplicate other)) = Some other
 other_of (Some (reports.Occurrence k)) = None
 
--- two names are bound to the same declaration, or neither is bound
+-- true if two names are bound to the same declaration, or neither is bound
 abbrev pub is_bound_alike : Option ℕ → Option ℕ → Bool
 is_bound_alike None None = true
 is_bound_alike None (Some k) = false
@@ -55,11 +56,12 @@ abbrev pub renamed_in : Resolution → ℕ → Name → Writing
 renamed_in r d new =
     record { source = r.module_read.source; ordinals = r.ordinals; declaration = Some d; new = new }
 
--- no token of a text is written like this name
+-- states that no token of a text has this name as its spelling
 abbrev pub IsNowhere : Scanned → Name → Type 0
 IsNowhere source x = (i : ℕ) → same_name (text_at source i) x ≡ false
 
--- The table of ordinals gives the numbered tree of the module in which d has the new name.
+-- States that the table of ordinals gives the numbered tree of the module in which d has the new
+-- name.
 abbrev pub IsRenumbering : Resolution → ℕ → Name → List (Option ℕ) → Type 0
 IsRenumbering r d new ordinals =
     numbered (renamed (named_tree_of r.module_read) d new)

@@ -1,4 +1,5 @@
--- A text whose tokens are of the kinds that they were, and whose identifiers are written as they were, has its names bound as before.
+-- The bindings of a text whose tokens have the same kinds as before and whose identifiers have the
+-- same spellings: they are unchanged.
 -- Rule: docs/LANGUAGE.md, Scopes 2 to 4.
 use Rattle.std.specs.Prelude.{◌≡◌, []}
 use Rattle.ob0_scan.specs.Reused.{kinds, names_in}
@@ -10,12 +11,14 @@ use Rattle.ob0_scope_table.specs.FaultTokens.{AreWrittenAlike, moved_faults}
 use Rattle.ob0_scope_table.specs.Resolution.{IsResolution}
 use Rattle.ob0_scope_table.specs.declared.resolved.Bindings.{Bindings}
 
--- the tokens of two texts are of the same kinds, one after the other, and the identifiers are written alike
+-- states that the tokens of two texts have the same kinds, one after the other, and that the
+-- identifiers have the same spellings
 pub record AreNamedAlike (old new : Scanned) : Type 0 where
   pub same_kinds : kinds new.tokens ≡ kinds old.tokens
   pub same_names : names_in new.text new.tokens ≡ names_in old.text old.tokens
 
--- the bindings of a module without faults are those of the same tree over tokens that are named alike
+-- states that the bindings of a valid module are the same for its tree over tokens that are named
+-- alike
 abbrev pub BindingsStay : Type 0
 BindingsStay =
     (old new : Scanned) (tree : ModuleTree) (b : Bindings)
@@ -32,8 +35,8 @@ pub record AreMoved (old new : Scanned) (b c : Bindings) : Type 0 where
   pub occurrences : c.occurrences.items ≡ b.occurrences.items
   pub faults : c.faults.items ≡ moved_faults old new b.faults.items
 
--- the bindings of a module are those of the same tree over tokens that are written alike,
--- with its faults at the same tokens
+-- states that the bindings of a module are the same for its tree over tokens with the same
+-- spellings, with the faults at the same tokens
 abbrev pub BindingsKeepTokens : Type 0
 BindingsKeepTokens =
     (old new : Scanned) (tree : ModuleTree) (b c : Bindings)

@@ -12,7 +12,8 @@ use Rattle.ob0_language_names.specs.Parts.{formal_names, formal_sections}
 use Rattle.ob0_scope_table.specs.Resolution.{ordinal_in}
 use Rattle.ob0_language_names.specs.Scopes.{same_ordinal}
 
--- A text with the ordinals of its identifiers by token, the declaration of which the block is sought, and the name.
+-- A text with the ordinals of its identifiers by token, the declaration whose block is searched,
+-- and the name.
 pub record BlockSearch : Type 0 where
   pub source : Scanned
   pub ordinals : List (Option ℕ)
@@ -23,32 +24,33 @@ pub record BlockSearch : Type 0 where
 abbrev pub ordinal_sought : BlockSearch → ℕ → Option ℕ
 ordinal_sought s i = ordinal_in s.ordinals i
 
--- the token declares the declaration
+-- true for a token with the ordinal of the declaration
 abbrev pub is_sought : BlockSearch → ℕ → Bool
 is_sought s i = same_ordinal (ordinal_sought s i) s.declaration
 
--- the token has the new name, and isn't of the declaration
+-- true for a token that has the new name and isn't of the declaration
 abbrev pub is_other : BlockSearch → ℕ → Bool
 is_other s i = same_name (text_at s.source i) s.new && not (is_sought s i)
 
--- the last of these that has the name and is another declaration
+-- the ordinal of the last other declaration with the name among these tokens, or else the one found
+-- before
 abbrev pub last_other : BlockSearch → Option ℕ → List ℕ → Option ℕ
 last_other s found [] = found
 last_other s found (i ∷ is) = last_other s (if is_other s i then ordinal_sought s i else found) is
 
--- the same, where the declaration is one of these
+-- the same, if the declaration is among these tokens
 abbrev pub other_among : BlockSearch → List ℕ → Option ℕ
 other_among s is = if list_any (is_sought s) is then last_other s None is else None
 
--- the names that are declared with those of a block, and then the blocks in it
+-- the search among the names of a block, and then in the blocks inside it
 abbrev mutual
-  -- among `own` (parameters) and the names of a block; else in the blocks in it
+  -- among `own` (parameters) and the names of a block; otherwise in the blocks inside it
   pub found_in_block : BlockSearch → List ℕ → Tree ℕ block → Option ℕ
   found_in_block s own (has_body (declares cs ts vs ps) statements) =
       option_or (other_among s (own ++ block_names (has_body (declares cs ts vs ps) statements)))
       (found_in_procedures s ps)
 
-  -- in the blocks of procedures, the first in which there is one
+  -- in the blocks of procedures; the first result counts
   pub found_in_procedures : BlockSearch → Tree ℕ (items procedure) → Option ℕ
   found_in_procedures s end = None
   found_in_procedures s (more p rest) =

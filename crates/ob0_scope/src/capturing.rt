@@ -1,8 +1,9 @@
-//! What conflicts with another name for a declaration.
+//! Finds conflicts of a new name for a declaration.
 //!
-//! A name that no token of the text has is free, and then nothing is walked. Otherwise first another declaration of
-//! that name in the same block is searched for, over the tokens of the blocks, then the first occurrence whose ordinal
-//! differs from the table's once the name is new. Each name is looked at once; the second walk takes O(n log n).
+//! A name that no token of the text has is free, so no walk is needed. Otherwise another
+//! declaration with that name in the same block is searched for, among the tokens of the blocks.
+//! Then the first occurrence is searched for whose ordinal changes if the new name is used. Each
+//! name is examined once; the second walk takes O(n log n).
 
 ghost use Rattle.std.specs.Prelude.{◌≡◌, ◌↔◌, IfOk, None, not, option_map, true};
 ghost use Rattle.std.specs.List.{position_from};
@@ -23,17 +24,19 @@ use ob0_tree::{Block, Procedure, text_at};
 use std::alloc::{AllocError, Global};
 use std::marker::Model;
 
-/// The first place, in text order, at which another name for a declaration isn't free.
+/// The first conflict of a new name for a declaration, in text order.
 #[derive(Clone, Copy, Debug, PartialEq, Eq)]
 pub enum FirstCapture {
-    /// Another declaration of its block has the name: the ordinal of that one.
+    /// Another declaration of the same block has the name; this is its ordinal.
     Duplicate(usize),
-    /// An occurrence would be bound to another declaration: its number, counted from 0 in text order.
+    /// An occurrence would be bound to another declaration; this is its number, counted from 0 in
+    /// text order.
     Occurrence(usize),
 }
 
-/// Where another name for a declaration isn't free, if it isn't: where another declaration of its block has the name,
-/// or an occurrence would be bound to another declaration than it is. None where the name is free.
+/// Returns the first conflict of a new name for a declaration. Either another declaration of the
+/// same block has the name, or an occurrence would be bound to another declaration. Returns None if
+/// the name is free.
 pub fn captures(
     alloc: Global,
     names: &Resolved,
@@ -56,7 +59,7 @@ pub fn captures(
     }
 }
 
-/// Whether a name is new: no token of a text is written like it.
+/// If true, the name is new: it is the spelling of no token.
 fn is_nowhere(tokens: &Tokens, name: &str) -> bool
     ensures { result ≡ true → IsNowhere tokens.now name.now }
 {
@@ -71,7 +74,7 @@ fn is_nowhere(tokens: &Tokens, name: &str) -> bool
     true
 }
 
-/// The first occurrence that would be bound to another declaration.
+/// Returns the first occurrence that would be bound to another declaration.
 fn first_capture(
     alloc: Global,
     names: &Resolved,
@@ -90,7 +93,7 @@ fn first_capture(
     }
 }
 
-/// The number of the first occurrence to which a table gives another ordinal.
+/// Returns the number of the first occurrence to which a table gives another ordinal.
 fn first_changed(names: &Resolved, ordinals: &[OrdinalEntry]) -> Option<usize>
     ensures { result
         ≡ position_from (λ token. not
@@ -115,7 +118,8 @@ fn is_bound_alike(a: Option<usize>, b: Option<usize>) -> bool
     }
 }
 
-/// The declaration of a declaration's block that has this name and is another; of several the last.
+/// Returns another declaration with this name in the block of a declaration; if there are several,
+/// the last one.
 fn namesake(
     alloc: Global,
     names: &Resolved,
@@ -134,7 +138,7 @@ fn namesake(
     sought.block(alloc, Vec::new(alloc), names.module().block())
 }
 
-/// A declaration of which the block is sought, and a name.
+/// A name, and the declaration whose block is searched.
 #[derive(Drop)]
 struct Sought<'t> {
     tokens: &'t Tokens,
@@ -166,15 +170,15 @@ impl<'t> Sought<'t> {
         }
     }
 
-    /// Whether another declaration has the name.
+    /// True if a token has the name and isn't the declaration itself.
     fn is_other(&self, token: usize) -> bool
         ensures { result ≡ is_other self.now token }
     {
         text_at(self.tokens, token) == self.new && !self.is_sought(token)
     }
 
-    /// The last of the tokens of a block's declarations that has the name and is another, where the declaration is one
-    /// of them.
+    /// If the declaration is among these tokens of a block, returns the last other declaration that
+    /// has the name.
     fn among(&self, tokens: &[usize]) -> Option<usize>
         ensures { result ≡ other_among self.now tokens.now }
     {
@@ -189,7 +193,7 @@ impl<'t> Sought<'t> {
         if is_here { found } else { None }
     }
 
-    /// Searches a block, with the tokens of the parameters that are declared in it.
+    /// Searches a block. `own` has the tokens of the parameters that are declared in it.
     #[cycle(blocks)]
     fn block(&self, alloc: Global, own: Vec<usize>, b: &Block) -> Result<Option<usize>, AllocError>
         ensures { IfOk result

@@ -1,4 +1,5 @@
-//! What is known of a module's names, carried over to one in which the statements of one body were replaced.
+//! Carries the bindings of a module over to a version in which the statements of one body were
+//! replaced.
 
 ghost use Rattle.std.specs.Prelude.{◌≡◌, ◌++◌, ◌∷◌, [], IfOk, OnOk};
 ghost use Rattle.ob0_tree.specs.View.{block_of, body_of, procedure_of};
@@ -12,8 +13,9 @@ use ob0_tree::{Block, Procedure, Role, Statement};
 use std::alloc::{AllocError, Global};
 use std::marker::Model;
 
-/// Where the statements of a body are: from the token of their first identifier on, and before that of the closing name
-/// of their block, which was elsewhere before the statements were replaced.
+/// The range of a body's statements: from the token of their first identifier up to the closing
+/// name of their block. `old_closing` is the token of the closing name before the statements were
+/// replaced.
 #[derive(Clone, Copy)]
 pub(crate) struct BodyRange {
     pub(crate) first: usize,
@@ -28,7 +30,7 @@ pub(crate) struct ReplacedBody<'t> {
     pub(crate) closing: usize,
 }
 
-/// The first identifier of a body, once there is one, and its occurrences so far.
+/// The first identifier of a body, if one has been seen, and its occurrences so far.
 #[derive(Drop)]
 pub(crate) struct BodyNames {
     pub(crate) first: Option<usize>,
@@ -71,7 +73,8 @@ impl BodyNames {
     }
 }
 
-/// The body in which the tokens from `low` on lie, in a block with this closing name or in one in it.
+/// Returns the body that contains the tokens from `low` upwards, in a block with this closing name
+/// or in one inside it.
 #[cycle(blocks)]
 pub(crate) fn body_in<'t>(inner: &'t Block, own: usize, low: usize) -> ReplacedBody<'t>
     ensures statements { body_of result.statements.now
@@ -100,7 +103,7 @@ fn body_inside<'t>(p: &'t Procedure, low: usize) -> ReplacedBody<'t>
     body_in(&p.block, p.closing, low)
 }
 
-/// Where the closing name of a body's block was, at most the largest index.
+/// Returns the old index of the closing name of a body's block, at most the largest index.
 pub(crate) fn old_place(same: SameTokens, closing: usize) -> usize
     ensures { result ≡ old_place same closing }
 {
@@ -110,7 +113,7 @@ pub(crate) fn old_place(same: SameTokens, closing: usize) -> usize
 }
 
 impl BodyRange {
-    /// Where a token after the body is now, at most the largest index.
+    /// Returns the new index of a token after the body, at most the largest index.
     fn shifted(self, token: usize) -> usize
         ensures { result ≡ shifted self token }
     {
@@ -119,7 +122,7 @@ impl BodyRange {
             .saturating_add(self.closing)
     }
 
-    /// Adds those of some tokens that are before the body.
+    /// Appends the tokens that are before the body.
     fn add_before(self, out: &mut Vec<usize>, tokens: &[usize]) -> Result<(), AllocError>
         ensures { OnOk result (out.new.items ≡ out.old.items ++ before_body self tokens.now) }
     {
@@ -131,7 +134,7 @@ impl BodyRange {
         Ok(())
     }
 
-    /// Adds those of some tokens that are after the body, where they are now.
+    /// Appends the tokens that are after the body, with their new indexes.
     fn add_after(self, out: &mut Vec<usize>, tokens: &[usize]) -> Result<(), AllocError>
         ensures { OnOk result (out.new.items ≡ out.old.items ++ after_body self tokens.now) }
     {
@@ -143,7 +146,8 @@ impl BodyRange {
         Ok(())
     }
 
-    /// Tokens of the module before, with those of the new body.
+    /// Returns the tokens of the old module with the new body's own tokens in place of the old
+    /// ones.
     pub(crate) fn carry(
         self,
         alloc: Global,
@@ -159,7 +163,7 @@ impl BodyRange {
         Ok(all)
     }
 
-    /// The ordinals of the module before, with none in the new body.
+    /// Returns the ordinals of the old module, with no ordinals in the new body.
     pub(crate) fn carry_table(
         self,
         alloc: Global,

@@ -1,7 +1,8 @@
-//! Names that are declared twice, and closing names that differ.
+//! Checks for duplicate declarations and wrong closing names.
 //!
-//! In clauses `Checks` is the list of the faults found so far; each check appends its own. The names of a block or
-//! record are compared with one another where they are at most 16, and are put into a set where they are more.
+//! In clauses `Checks` is the list of the faults found so far; each check appends its own. Up to 16
+//! names of a block or record are compared with one another; if there are more, they are put into a
+//! set.
 
 ghost use Rattle.std.specs.Prelude.{◌≡◌, ◌++◌, [], IfOk, OnOk, map, not};
 ghost use Rattle.std.specs.List.{list_any};
@@ -24,7 +25,7 @@ use std::alloc::{AllocError, Global};
 use std::collections::BTreeSet;
 use std::marker::Model;
 
-/// How many names are compared with one another, without a set of them.
+/// The greatest number of names that are compared with one another, without a set.
 const FEW: usize = 16;
 
 /// The faults of declarations so far.
@@ -43,7 +44,7 @@ impl Model for Checks {
     ghost view = { λ c. c.faults.items };
 }
 
-/// The second declarations of a module, and its closing names that differ.
+/// Returns the duplicate declarations and wrong closing names of a module.
 pub(crate) fn check<'t>(alloc: Global, read: &'t Module<'t>) -> Result<Vec<Fault>, AllocError>
     ensures { IfOk result (λ faults. faults.items ≡ twice_in read.now) }
 {
@@ -56,8 +57,8 @@ pub(crate) fn check<'t>(alloc: Global, read: &'t Module<'t>) -> Result<Vec<Fault
     Ok(checks.into_faults())
 }
 
-/// The second declarations of a module, and its closing names that differ. Faults of these kinds are known already
-/// exactly where the module has some.
+/// Returns the duplicate declarations and wrong closing names of a module. `known` has faults of
+/// these kinds exactly if the module does.
 pub(crate) fn check_again<'t>(
     alloc: Global,
     read: &'t Module<'t>,
@@ -73,7 +74,7 @@ pub(crate) fn check_again<'t>(
     Ok(Vec::new(alloc))
 }
 
-/// Whether one of some faults is of a declaration or a closing name.
+/// True if one of the faults is about a declaration or a closing name.
 fn has_of_declarations(faults: &[Fault]) -> bool
     ensures { result ≡ list_any is_of_declarations faults.now }
 {
@@ -91,14 +92,14 @@ fn is_of_declarations(fault: &Fault) -> bool
     fault.code == Code::Duplicate || fault.code == Code::EndName
 }
 
-/// Whether two identifiers are written alike.
+/// True if two identifiers have the same spelling.
 fn is_same(tokens: &Tokens, a: usize, b: usize) -> bool
     ensures { result ≡ same_name (text_at tokens.now a) (text_at tokens.now b) }
 {
     text_at(tokens, a) == text_at(tokens, b)
 }
 
-/// A second declaration.
+/// Returns the fault of a duplicate declaration.
 fn duplicate_at(tokens: &Tokens, name: usize) -> Fault
     ensures { result ≡ duplicate_at tokens.now name }
 {
@@ -108,7 +109,7 @@ fn duplicate_at(tokens: &Tokens, name: usize) -> Fault
     }
 }
 
-/// Whether one of some identifiers is written so.
+/// True if one of some identifiers has this spelling.
 fn is_written(tokens: &Tokens, names: &[usize], text: &str) -> bool
     ensures { result ≡ is_among text.now (map (text_at tokens.now) names.now) }
 {
@@ -201,7 +202,7 @@ fn add_procedures(out: &mut Vec<usize>, procedures: &[Procedure]) -> Result<(), 
     Ok(())
 }
 
-/// The names that a block declares.
+/// Appends the names that a block declares.
 pub(crate) fn add_block(out: &mut Vec<usize>, b: &Block) -> Result<(), AllocError>
     ensures { OnOk result (out.new.items ≡ out.old.items ++ block_names (block_of b.now)) }
 {
@@ -219,7 +220,7 @@ impl Checks {
         faults
     }
 
-    /// Reports a fault where something doesn't hold.
+    /// Reports a fault if a condition doesn't hold.
     fn expect(&mut self, holds: bool, fault: Fault) -> Result<(), AllocError>
         ensures { OnOk result (self.new ≡ self.old ++ unless holds fault) }
     {
@@ -229,7 +230,7 @@ impl Checks {
         Ok(())
     }
 
-    /// A closing name is its module's or procedure's name.
+    /// Checks that a closing name is the name of its module or procedure.
     fn closing(&mut self, tokens: &Tokens, name: usize, closing: usize) -> Result<(), AllocError>
         ensures { OnOk result (self.new ≡ self.old ++ closing_other tokens.now name closing) }
     {
@@ -240,7 +241,7 @@ impl Checks {
         self.expect(is_same(tokens, name, closing), fault)
     }
 
-    /// No name is twice.
+    /// Checks that the names are distinct.
     fn distinct(&mut self, tokens: &Tokens, names: &[usize]) -> Result<(), AllocError>
         ensures { OnOk result (self.new ≡ self.old ++ again tokens.now [] names.now) }
     {
@@ -251,7 +252,7 @@ impl Checks {
         }
     }
 
-    /// No name is twice, of few names: each is compared with all before it.
+    /// Checks that a few names are distinct: each is compared with all before it.
     fn distinct_few(&mut self, tokens: &Tokens, names: &[usize]) -> Result<(), AllocError>
         ensures { OnOk result (self.new ≡ self.old ++ again tokens.now [] names.now) }
     {
@@ -262,7 +263,7 @@ impl Checks {
         Ok(())
     }
 
-    /// No name is twice, of many names: each is looked for in the set of those before it.
+    /// Checks that many names are distinct: each is looked up in the set of the names before it.
     fn distinct_many(&mut self, tokens: &Tokens, names: &[usize]) -> Result<(), AllocError>
         ensures { OnOk result (self.new ≡ self.old ++ again tokens.now [] names.now) }
     {
@@ -367,7 +368,7 @@ impl Checks {
         self.block(tokens, own, &p.block)
     }
 
-    /// A block, with the names of the parameters that are declared in it.
+    /// Checks a block. `own` has the names of the parameters that are declared in it.
     #[cycle(blocks)]
     fn block(&mut self, tokens: &Tokens, own: Vec<usize>, b: &Block) -> Result<(), AllocError>
         ensures { OnOk result

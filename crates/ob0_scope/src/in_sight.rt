@@ -1,4 +1,4 @@
-//! What another name would be bound to at the occurrences of a module.
+//! Finds the declarations to which a different name would be bound at the occurrences of a module.
 
 ghost use Rattle.std.specs.Prelude.{◌≡◌, IfOk, map, length, replicate, None};
 ghost use Rattle.ob0_tree.specs.Parsed.{named_tree_of};
@@ -12,8 +12,8 @@ use ob0_scope_numbering::{Writing, number};
 use ob0_scope_table::{OrdinalEntry, Resolved};
 use std::alloc::{AllocError, Global};
 
-/// For each occurrence of a module, in text order, the ordinal of the declaration to which `name` would be bound in its
-/// place. None where nothing would bind it.
+/// Returns, for each occurrence of a module in text order, the ordinal of the declaration to which
+/// `name` would be bound there. An entry is None if `name` would be unbound.
 pub fn ordinals_seen(
     alloc: Global,
     names: &Resolved,
@@ -26,7 +26,7 @@ pub fn ordinals_seen(
     ordinals_of(alloc, &ordinals, names.occurrences())
 }
 
-/// The ordinal of each identifier, by its token, where `name` is in place of each occurrence.
+/// Returns the ordinal of each identifier, by its token, if `name` replaces each occurrence.
 fn ordinals_in_place(
     alloc: Global,
     names: &Resolved,
@@ -47,7 +47,7 @@ fn ordinals_in_place(
     Ok(ordinals)
 }
 
-/// A table that has 0 at each occurrence, and nothing at the other tokens.
+/// Returns a table that has 0 at each occurrence and nothing at any other token.
 fn occurrence_marks(alloc: Global, names: &Resolved) -> Result<Vec<OrdinalEntry>, AllocError>
     ensures { IfOk result (λ t. t.items
         ≡ with_marks (replicate (length names.now.module_read.source.tokens) None)

@@ -1,8 +1,8 @@
-//! The names of a module: the one at a place of its text, and where a declaration is named.
+//! Finds the name at a place of a module's text, and the tokens that refer to a declaration.
 //!
-//! The definitions pair the identifiers of the tree, each with its role and token, with the leaves of the numbered
-//! tree; no table of ordinals is in them. In code, where a declaration is named is read off the table, from the
-//! declaring token on, and the tree isn't walked.
+//! The definitions pair the identifiers of the tree, each with its role and token, with the leaves
+//! of the numbered tree. They don't use a table of ordinals. The code reads the tokens of a
+//! declaration from the table, starting at the declaring token, and doesn't walk the tree.
 
 ghost use Rattle.std.specs.Prelude.{◌≡◌, ◌≤◌, IfOk, false, length, nat_lt, true};
 ghost use Rattle.std.specs.List.{position_from};
@@ -23,13 +23,14 @@ pub struct Named {
     pub ordinal: usize,
 }
 
-/// The name that a place of the text is on, where it lies in the name or at its end, predeclared names too. A closing
-/// name of a procedure is the procedure's. None at a field, at the module's name and at a name that nothing binds.
+/// Returns the name at a place, which is in the name or at its end. The name may be predeclared. A
+/// closing name of a procedure counts as the procedure's name. Returns None at a field, at the
+/// module's name and at an unbound name.
 pub fn name_at(names: &Resolved, offset: usize) -> Option<Named>
     ensures { result ≡ name_on names.now.module_read offset }
 {
     let tokens = names.module().tokens();
-    // For the proof: what the contract of this call says.
+    // The proof needs the contract of this call.
     let _scanned = tokens.text();
     match first_on(tokens.tokens(), offset) {
         Some(token) => match names.ordinal_at(token) {
@@ -40,7 +41,8 @@ pub fn name_at(names: &Resolved, offset: usize) -> Option<Named>
     }
 }
 
-/// The tokens at which a declaration is named, in text order.
+/// Returns the tokens that are bound to a declaration, in text order, including its closing name.
+/// The declaring token is one of them only if `include` is true.
 pub fn tokens_bound(
     alloc: Global,
     names: &Resolved,
@@ -50,7 +52,7 @@ pub fn tokens_bound(
     ensures { IfOk result
         (λ found. found.items ≡ tokens_bound names.now.module_read declaration include) }
 {
-    // For the proof: what the contract of this call says.
+    // The proof needs the contract of this call.
     let _ = names.module();
     let declaring = names.declaring_token(declaration);
     tokens_from(
@@ -62,14 +64,14 @@ pub fn tokens_bound(
     )
 }
 
-/// The token that is left out: the one that declares, unless it is requested.
+/// Returns the token to leave out: the declaring one, unless it is requested.
 fn omitted_token(include: bool, declaring: Option<usize>) -> Option<usize>
     ensures { result ≡ omitted_token include declaring }
 {
     if include { None } else { declaring }
 }
 
-/// Where the tokens that name a declaration begin: nothing names it before it is declared.
+/// Returns the first token that can refer to a declaration: none before the declaring one does.
 fn first_token(declaring: Option<usize>) -> usize
     ensures { result ≡ first_token declaring }
 {
@@ -79,7 +81,8 @@ fn first_token(declaring: Option<usize>) -> usize
     }
 }
 
-/// The tokens from one on that a table binds to a declaration, but for one that is left out.
+/// Returns the tokens, starting at `first`, that a table binds to a declaration, except one that is
+/// left out.
 fn tokens_from(
     alloc: Global,
     ordinals: &[OrdinalEntry],
@@ -99,8 +102,8 @@ fn tokens_from(
     Ok(found)
 }
 
-/// The tokens at which another name for a declaration is written: the one that declares it, its closing name, and all
-/// that are bound to it.
+/// Returns the tokens at which a new name for a declaration is written: the declaring one, its
+/// closing name, and the occurrences bound to it.
 pub fn renamed_tokens(
     alloc: Global,
     names: &Resolved,
@@ -115,13 +118,13 @@ pub fn renamed_tokens(
     ensures renamed { IfOk result
         (λ found. IsRenamedAt names.now.module_read declaration found.items) }
 {
-    // For the proof: what the contract of this call says.
+    // The proof needs the contract of this call.
     let _ = names.module();
     tokens_bound(alloc, names, declaration, true)
 }
 
-/// The index of the first identifier that a place is on. It is found by halving: it is the first token that doesn't end
-/// before the place, or the next one.
+/// Returns the index of the first identifier at a place. It is found by binary search: it is the
+/// first token that doesn't end before the place, or the next one.
 fn first_on(tokens: &[Token], offset: usize) -> Option<usize>
     ensures { TokensAreApart 0 tokens.now
         → result ≡ position_from (is_name_on offset) 0 tokens.now }
@@ -143,7 +146,7 @@ fn first_on(tokens: &[Token], offset: usize) -> Option<usize>
     None
 }
 
-/// How many tokens end before a place.
+/// Returns the number of tokens that end before a place.
 fn ended_before(tokens: &[Token], offset: usize) -> usize
     ensures bound { result ≤ length tokens.now }
     ensures point { IsNonDecreasingBy (λ (t : token.Token). t.span.end) tokens.now

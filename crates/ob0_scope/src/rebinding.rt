@@ -1,4 +1,5 @@
-//! Binds the names of a module again where the tokens of one body are written otherwise, or its statements replaced.
+//! Binds the names of a module again after the tokens of one body changed or its statements were
+//! replaced.
 
 ghost use Rattle.std.specs.Prelude.{IfOk};
 ghost use Rattle.ob0_scope_table.specs.Resolution.{IsResolution};
@@ -18,8 +19,8 @@ use ob0_tree::Module;
 use ob0_tree::walk::body;
 use std::alloc::{AllocError, Global};
 
-/// What the names of a module are bound to, by what they were bound to where the tokens from `low` on and before `high`
-/// were written otherwise, which lie in one body. Only that body is numbered again.
+/// Returns the bindings of a module, from its bindings before the tokens from `low` up to, but not
+/// including, `high` changed. They are in one body. Only that body is numbered again.
 pub fn rebind_body(
     alloc: Global,
     read: &Module<'_>,
@@ -51,8 +52,8 @@ pub fn rebind_body(
     })
 }
 
-/// What the names of a module are bound to, by what they were bound to where the statements of one body were replaced.
-/// Only that body is numbered again; all else is carried over.
+/// Returns the bindings of a module, from its bindings before the statements of one body were
+/// replaced. Only that body is numbered again; everything else is carried over.
 pub fn rebind_new_body(
     alloc: Global,
     read: &Module<'_>,
@@ -79,7 +80,8 @@ pub fn rebind_new_body(
     carry_bindings(alloc, read, &old, range, &names.uses)
 }
 
-/// The bindings of a module, by those before the statements in a range of tokens were replaced.
+/// Returns the bindings of a module, from its bindings before the statements in a range of tokens
+/// were replaced.
 fn carry_bindings(
     alloc: Global,
     read: &Module<'_>,

@@ -1,4 +1,4 @@
-//! What the names of a module are bound to once a declaration has another name.
+//! Finds the bindings of a module's names after a declaration is renamed.
 
 ghost use Rattle.std.specs.Prelude.{◌≡◌, IfOk, map};
 ghost use Rattle.ob0_tree.specs.Parsed.{named_tree_of};
@@ -11,9 +11,9 @@ use ob0_scope_numbering::{Writing, number};
 use ob0_scope_table::{OrdinalEntry, Resolved, ordinal_at};
 use std::alloc::{AllocError, Global};
 
-/// For each occurrence of the module, in text order, the ordinal of the declaration to which it would be bound if the
-/// declaration with the ordinal `declaration`, its closing name and all names bound to it were written `new`. None
-/// where nothing would bind it.
+/// Returns, for each occurrence of the module in text order, the ordinal of its declaration after a
+/// declaration is renamed to `new`. Its closing name and all names bound to it are renamed with it.
+/// An entry is None if the occurrence would be unbound.
 pub fn resolve_renamed(
     alloc: Global,
     names: &Resolved,
@@ -28,7 +28,7 @@ pub fn resolve_renamed(
     ordinals_of(alloc, &ordinals, names.occurrences())
 }
 
-/// The ordinal of each identifier, by its token, where a declaration has another name.
+/// Returns the ordinal of each identifier, by its token, after a declaration is renamed.
 pub(crate) fn renumber(
     alloc: Global,
     names: &Resolved,
@@ -50,7 +50,7 @@ pub(crate) fn renumber(
     Ok(ordinals)
 }
 
-/// The ordinals that a table has at these tokens.
+/// Returns the ordinals in a table at these tokens.
 pub(crate) fn ordinals_of(
     alloc: Global,
     ordinals: &[OrdinalEntry],

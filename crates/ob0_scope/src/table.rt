@@ -1,4 +1,4 @@
-//! What is wrong with the occurrences.
+//! Reports the undeclared names.
 
 ghost use Rattle.std.specs.Prelude.{◌≡◌, ◌++◌, OnOk};
 ghost use Rattle.ob0_scope_table.specs.Resolution.{undeclared_at};
@@ -7,7 +7,7 @@ use ob0_scan::{Code, Fault, Tokens};
 use ob0_scope_table::{OrdinalEntry, ordinal_at, token_span};
 use std::alloc::AllocError;
 
-/// Reports each occurrence that a table binds to nothing.
+/// Reports each occurrence that is unbound in a table.
 pub(crate) fn report_undeclared(
     faults: &mut Vec<Fault>,
     tokens: &Tokens,

@@ -1,4 +1,5 @@
--- The loops of the walk to one body: declarations that are counted, and procedures that are passed over.
+-- The loops of the walk to one body: declarations that are counted, and procedures that are
+-- skipped.
 use Rattle.std.proofs.Common.{◌≡◌, ◌<◌, ◌≤◌, ℕ, ◌+◌, if◌then◌else◌, List, [], ◌∷◌, ◌++◌, length, drop, get_or, sym, ap, ◌∙◌, append_assoc, append-nil}
 use Rattle.std.proofs.lemmas.List.{drop_all, drop_more}
 use Rattle.ob0_tree.specs.Tree.{Tree, body, declares_procedure, item, maybe, more, procedure}
@@ -9,7 +10,7 @@ use Rattle.ob0_scope_table.proofs.OneBody.{less_false, less_true}
 use Rattle.ob0_scope_numbering.specs.Renumbering.{caught_up, counted, first_before, passed_over, renumber_procedure, renumber_procedures}
 use Rattle.ob0_scope_numbering.specs.Tabling.{Visit, put}
 
--- the declarations from an index on are still to be counted
+-- states that the declarations from an index onwards are still to be counted
 pub record Catching (all : List ℕ) (token : ℕ) (start : Visit) (index : ℕ) (now : Visit) : Type 0 where
   pub so_far : (record now { declarations = now.declarations ++ first_before token (drop index all) }) ≡ caught_up all token start
 
@@ -37,7 +38,7 @@ caught_all all token start k now w past =
 abbrev parts_of : Procedure → Tree ℕ (item procedure)
 parts_of q = declares_procedure (out-Procedure q).name (formals_of (out-Procedure q).formals) (block_of (out-Procedure q).block) (out-Procedure q).closing
 
--- procedures are still to be passed over, up to the one that the body is in
+-- procedures that are still to be skipped, up to the one with the body
 module _ (all : List ℕ) (low : ℕ) (statements : Tree ℕ (maybe body)) where
   abbrev pub going : List Procedure → Visit → Visit
   going xs v = renumber_procedures put all low (items_of procedure_of xs) statements v

@@ -1,5 +1,5 @@
--- Where a table agrees with what the names of a part are bound to, the part numbered is the part with the table's ordinals, whatever
--- its numbers.
+-- If a table agrees with the bindings of a part's names, numbering the part gives the part with the
+-- table's ordinals, whatever its numbers.
 use Rattle.std.proofs.Common.{◌≡◌, ℕ, Option, None, List, [], ◌∷◌, ◌++◌, refl, sym}
 use Rattle.ob0_tree.specs.declared.tree.Role.{Role}
 use Rattle.ob0_tree.specs.declared.tree.Role.TheVariants as role
@@ -9,7 +9,7 @@ use Rattle.ob0_language_names.specs.Names.{Name, as_names}
 use Rattle.ob0_language_names.specs.Scopes.{Labels, Scope, ordinal_of, relabel_uses}
 use Rattle.ob0_language_names.proofs.Peeling.{Two}
 
--- what a table has at an identifier of a part that declares nothing
+-- states that the table's entry for an identifier is right, in a part that declares nothing
 abbrev pub Fits : (ℕ → Option ℕ) → Writing → Scope Name → Role → ℕ → Type 0
 Fits table src scope role.LookedUp i = table i ≡ ordinal_of as_names scope (name_at src i)
 Fits table src scope role.Declaring i = table i ≡ None
@@ -26,7 +26,7 @@ fit_first table src scope [] ys h = (tt, h)
 fit_first table src scope (x ∷ xs) ys h = let rest = fit_first table src scope xs ys h.1 in ((h.0, rest.0), rest.1)
 
 module _ {M : Type 0} (table : ℕ → Option ℕ) (label : Labels Name M) (src : Writing) (scope : Scope Name) (value : ℕ → ℕ) where
-  -- where the table fits these identifiers, P
+  -- states that P holds if the table fits these identifiers
   pub record Reads (xs : List (Role × ℕ)) (P : Type 0) : Type 0 where
     pub reads : AllFit table src scope xs → P
 

@@ -1,5 +1,6 @@
--- Two walks through a part, by two ways of writing the names: where these agree at all declarations, the same names are visible at
--- each place and the same ordinals are next, and marks are the same wherever the names are.
+-- Two walks through a part, with two spellings of the names. If the spellings agree at all
+-- declarations, the same names are visible at each place and the next ordinals are the same. The
+-- marks are the same wherever the names are.
 use Rattle.std.proofs.Common.{◌≡◌, ℕ, zero, suc, ◌+◌, ◌-◌, Bool, true, Option, Some, None, List, [], ◌∷◌, ◌++◌, map, length, drop, refl, sym, ap, ◌∙◌, subst, append_assoc, append-nil}
 use Rattle.ob0_tree.specs.declared.tree.Role.{Role}
 use Rattle.ob0_tree.specs.declared.tree.Role.TheVariants as role
@@ -12,7 +13,7 @@ use Rattle.ob0_scope_numbering.specs.Marking.{Visit, after_heading, found, found
 use Rattle.ob0_scope_numbering.specs.Marks.{OrdinalMark}
 use Rattle.ob0_scope_numbering.specs.Written.{Writing, name_at}
 
--- all of some tokens pass a test
+-- states that all of some tokens pass a test
 abbrev pub AllOut : (ℕ → Bool) → List ℕ → Type 0
 AllOut out [] = Unit {0}
 AllOut out (i ∷ is) = (out i ≡ true) × AllOut out is
@@ -35,7 +36,8 @@ out_later out zero xs h = h
 out_later out (suc n) [] h = h
 out_later out (suc n) (x ∷ xs) h = out_later out n xs h.1
 
--- the marks of two walks, one after the other: at the same tokens, and with the same ordinals where the tokens pass a test
+-- states that the marks of two walks are at the same tokens, and have the same ordinals if the
+-- tokens pass a test
 abbrev pub Alike : (ℕ → Bool) → List OrdinalMark → List OrdinalMark → Type 0
 Alike out [] [] = Unit {0}
 Alike out [] (n ∷ ns) = ⊥
@@ -49,7 +51,8 @@ alike_both out (m ∷ a) [] c d h g = absurd h
 alike_both out (m ∷ a) (n ∷ b) c d h g = (h.0, (h.1.0, alike_both out a b c d h.1.1 g))
 
 module _ (out : ℕ → Bool) (a b : Writing) (same_name : (i : ℕ) → out i ≡ true → name_at a i ≡ name_at b i) where
-  -- two walks at one place: the same names are visible, and the declarations so far are the same
+  -- states that two walks are at the same place: the same names are visible, and the declarations
+  -- so far are the same
   pub record Beside (x y : Visit) : Type 0 where
     pub first : x.writing ≡ a
     pub second : y.writing ≡ b
@@ -65,7 +68,7 @@ module _ (out : ℕ → Bool) (a b : Writing) (same_name : (i : ℕ) → out i �
     pub second_is : y'.marks ≡ y.marks ++ seconds
     pub alike : Alike out firsts seconds
 
-  -- two walks through one part
+  -- two walks through the same part
   pub record Goes (x y x' y' : Visit) : Type 0 where
     pub at : Beside x' y'
     pub adds : Adds x y x' y'
@@ -99,7 +102,7 @@ module _ (out : ℕ → Bool) (a b : Writing) (same_name : (i : ℕ) → out i �
 
   -- ---- parts that declare nothing
 
-  -- the same names are visible
+  -- states that the same names are visible
   pub record Sees (x y : Visit) : Type 0 where
     pub first : x.writing ≡ a
     pub second : y.writing ≡ b
@@ -117,7 +120,7 @@ module _ (out : ℕ → Bool) (a b : Writing) (same_name : (i : ℕ) → out i �
   found_adds role.FieldName i x y at = adds_one x y (found role.FieldName i x) (found role.FieldName i y) i None None refl refl (λ e. refl)
   found_adds role.ModuleName i x y at = adds_one x y (found role.ModuleName i x) (found role.ModuleName i y) i None None refl refl (λ e. refl)
 
-  -- what is visible and what is declared stays
+  -- states that the visible names and the declarations are unchanged
   pub record Keeps (x x' : Visit) : Type 0 where
     pub writing : x'.writing ≡ x.writing
     pub scope : x'.scope ≡ x.scope
@@ -188,7 +191,7 @@ module _ (out : ℕ → Bool) (a b : Writing) (same_name : (i : ℕ) → out i �
   names_same [] o = refl
   names_same (i ∷ is) o = λ j. same_name i o.0 j ∷ names_same is o.1 j
 
-  -- the declarations from one on are visible
+  -- makes the declarations visible, starting at one of them
   shown_goes : (n m : ℕ) (x y : Visit) → n ≡ m → Beside x y → Beside (visible_from n x) (visible_from m y)
   shown_goes n m x y e at =
       let later = out_later out n x.declarations at.outside in

@@ -1,4 +1,5 @@
--- The walk to one body marks there what the walk through all marks, and a table that had the marks of the text before has all then.
+-- The walk to one body makes the same marks there as the complete walk. So a table that had the
+-- marks of the text before has all marks afterwards.
 use Rattle.std.proofs.Common.{◌≡◌, ◌<◌, ◌≤◌, ℕ, ◌+◌, Bool, true, false, ◌&&◌, nat_le, nat_lt, if◌then◌else◌, Option, Some, None, List, [], ◌∷◌, ◌++◌, length, drop, refl, sym, ap, ◌∙◌, subst, arith, append_assoc, append-nil}
 use Rattle.std.proofs.lemmas.Bool.Decides.{nat_tests}
 use Rattle.std.proofs.lemmas.List.{append_cancel_left, map-append}
@@ -33,7 +34,7 @@ alike_is [] (n ∷ ns) h = absurd h
 alike_is (m ∷ ms) [] h = absurd h
 alike_is (m ∷ ms) (n ∷ ns) h = λ i. record { token = h.0 i; ordinal = h.1.0 refl i } ∷ alike_is ms ns h.1.1 i
 
--- what was added to the same marks is the same
+-- two lists appended to the same marks are the same
 same_added : (before after xs ys : List OrdinalMark) → after ≡ before ++ xs → after ≡ before ++ ys → xs ≡ ys
 same_added before after xs ys e f = append_cancel_left before xs ys (sym e ∙ f)
 
@@ -54,7 +55,7 @@ is_less x y less = one (nat_lt x y) refl
     one true e = refl
     one false e = absurd (grind (arith, nat_tests))
 
--- the first before one of some that ascend
+-- the tokens before one of some that ascend
 stops_at : (x : ℕ) (xs extra : List ℕ) → AllBelow x xs → first_before x (xs ++ (x ∷ extra)) ≡ xs
 stops_at x [] extra h = ap (λ b. if b then x ∷ first_before x extra else []) (not_itself x)
 stops_at x (y ∷ ys) extra h =
@@ -78,7 +79,7 @@ both_true false b e = absurd (cc)
 
 -- ---- a procedure's tokens end with its closing name
 
--- the identifiers of a procedure but the last
+-- the identifiers of a procedure except the last
 abbrev inside : Tree ℕ (item procedure) → List ℕ
 inside (declares_procedure x fs b closing) = x ∷ names_only (identifiers role.Declaring fs ++ identifiers role.Declaring b)
 
@@ -94,7 +95,7 @@ procedure_below low p from to less h =
     both [] h = (less, tt)
     both (x ∷ xs) h = (h.0, both xs h.1)
 
--- what comes after a procedure
+-- the tokens after a procedure
 ascend_after : (p : Tree ℕ (item procedure)) (rest : List ℕ) (from to : ℕ) → Ascending from (leaves p ++ rest) to → Ascending (closing_name p + 1) rest to
 ascend_after p rest from to h =
     let split : leaves p ++ rest ≡ inside p ++ (closing_name p ∷ rest) = ap (λ l. l ++ rest) (procedure_ends p) ∙ append_assoc (inside p) (closing_name p ∷ []) rest in
@@ -116,11 +117,11 @@ module _ (old new : Writing) (all : List ℕ) (bound low high : ℕ) (same : (i 
   pub nothing_new : (i : ℕ) → true ≡ true → name_at new i ≡ name_at new i
   nothing_new i e = refl
 
-  -- the walk to the body, and the one through the new text
+  -- the walk to the body, and the complete walk through the new text
   abbrev pub On : Visit → Visit → Type 0
   On = Beside (λ i. true) new new nothing_new
 
-  -- the walk to the body has not yet counted some declarations
+  -- states that the walk to the body hasn't counted some declarations yet
   pub record Behind (v w : Visit) : Type 0 where
     pub first : v.writing ≡ new
     pub second : w.writing ≡ new
@@ -131,7 +132,8 @@ module _ (old new : Writing) (all : List ℕ) (bound low high : ℕ) (same : (i 
   abbrev Itself : Visit → Type 0
   Itself w = At w new w.scope (7 + length w.declarations)
 
-  -- what the walk to the body adds is what the walk through all adds, but for tokens out of the range
+  -- states that the walk to the body adds the same marks as the complete walk, except at tokens
+  -- outside the range
   pub record Reaches (o w v o' w' v' : Visit) : Type 0 where
     pub near : NearGoes o w o' w'
     pub added : List OrdinalMark
@@ -155,12 +157,12 @@ module _ (old new : Writing) (all : List ℕ) (bound low high : ℕ) (same : (i 
         outside = all_in (v.declarations ++ first_before x (drop (length v.declarations) all));
       }
 
-  -- the same part, from the same place: all marks are the same
+  -- the same part from the same place: all marks are the same
   covers_part : (o w o' w' v v' : Visit) (near : Adds out old new same o w o' w') (on : Adds (λ i. true) new new nothing_new v w v' w') → Covers out near.seconds on.firsts
   covers_part o w o' w' v v' near on =
       subst (Covers out near.seconds) (same_added w.marks w'.marks near.seconds on.seconds near.second_is on.second_is ∙ sym (alike_is on.firsts on.seconds on.alike)) (covers_same out near.seconds)
 
-  -- the ordinals and labels that `Passing` speaks of don't matter here
+  -- the ordinals and labels that `Passing` uses don't matter here
   nowhere : ℕ → Option ℕ
   nowhere i = None
 
@@ -192,7 +194,7 @@ module _ (old new : Writing) (all : List ℕ) (bound low high : ℕ) (same : (i 
   statements_declare_nothing : (t : Tree ℕ (maybe body)) → declaring_only (identifiers role.Declaring t) ≡ []
   statements_declare_nothing t = (declares_nothing tt t).plain
 
-  -- what is to be shown of procedures and statements, and of one procedure
+  -- the statement about procedures and statements, and about one procedure
   abbrev Rest : Tree ℕ (items procedure) → Tree ℕ (maybe body) → Type 0
   Rest ps statements =
       (o w v : Visit) (from to : ℕ) (extra : List ℕ) → is_in_procedures low high ps statements ≡ true → Ascending from (leaves ps ++ leaves statements) to
@@ -205,7 +207,7 @@ module _ (old new : Writing) (all : List ℕ) (bound low high : ℕ) (same : (i 
       → all ≡ w.declarations ++ (declaring_only (identifiers role.Declaring q) ++ extra) → Itself w → Near o w → On v w
       → Reaches o w v (visit_procedure q o) (visit_procedure q w) (renumber_procedure put all low q v)
 
-  -- one procedure extra: it is passed over, or the body is in it
+  -- one more procedure: either it is skipped, or the body is in it
   one_procedure : (q : Tree ℕ (item procedure)) (ps : Tree ℕ (items procedure)) (statements : Tree ℕ (maybe body)) (o w v : Visit) (from to : ℕ) (rest : List ℕ) → Rest ps statements → Here q
       → all ≡ w.declarations ++ (declaring_only (identifiers role.Declaring q) ++ (declaring_only (identifiers role.Declaring ps) ++ rest)) → Itself w → Near o w → On (caught_up all (procedure_name q) v) w
       → Ascending from (leaves q ++ (leaves ps ++ leaves statements)) to → (b : Bool) → nat_lt (closing_name q) low ≡ b

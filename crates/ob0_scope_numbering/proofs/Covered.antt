@@ -1,4 +1,5 @@
--- A walk that goes to one body alone: it sees there what the walk through all sees, and whatever it passes over has no token of the range.
+-- A walk to only one body. It sees the same names there as the complete walk, and the parts that it
+-- skips have no token of the range.
 use Rattle.std.proofs.Common.{◌≡◌, ◌<◌, ◌≤◌, ℕ, ◌+◌, Bool, true, false, ◌&&◌, ◌||◌, nat_le, nat_lt, if◌then◌else◌, List, [], ◌∷◌, ◌++◌, refl, subst, arith, append_assoc}
 use Rattle.std.proofs.lemmas.List.{map-append}
 use Rattle.std.proofs.lemmas.Bool.Decides.{nat_tests}
@@ -23,7 +24,7 @@ pub ascend_second : (low : ℕ) (xs ys : List ℕ) (high : ℕ) → Ascending lo
 ascend_second low [] ys high h = h
 ascend_second low (x ∷ xs) ys high h = ascending_lower low (x + 1) ys high (omega (arith, h.0)) (ascend_second (x + 1) xs ys high h.1)
 
--- the declaring ones of some identifiers ascend as these do
+-- the declaring identifiers ascend if all identifiers do
 pub declaring_ascend : (xs : List (Role × ℕ)) (low high : ℕ) → Ascending low (names_only xs) high → Ascending low (declaring_only xs) high
 declaring_ascend [] low high h = h
 declaring_ascend ((role.Declaring, n) ∷ xs) low high h = (h.0, declaring_ascend xs (n + 1) high h.1)
@@ -32,7 +33,7 @@ declaring_ascend ((role.ClosingName, n) ∷ xs) low high h = ascending_lower low
 declaring_ascend ((role.FieldName, n) ∷ xs) low high h = ascending_lower low (n + 1) (declaring_only xs) high (omega (arith, h.0)) (declaring_ascend xs (n + 1) high h.1)
 declaring_ascend ((role.ModuleName, n) ∷ xs) low high h = ascending_lower low (n + 1) (declaring_only xs) high (omega (arith, h.0)) (declaring_ascend xs (n + 1) high h.1)
 
--- all are before a number
+-- states that all numbers are below a number
 abbrev pub AllBelow : ℕ → List ℕ → Type 0
 AllBelow n [] = Unit {0}
 AllBelow n (i ∷ is) = (i < n) × AllBelow n is
@@ -45,7 +46,7 @@ below_more : (n m : ℕ) (xs : List ℕ) → n ≤ m → AllBelow n xs → AllBe
 below_more n m [] le h = tt
 below_more n m (x ∷ xs) le h = (omega (arith, le, h.0), below_more n m xs le h.1)
 
--- those before one of some that ascend
+-- the numbers before one of some that ascend
 pub before_one : (low : ℕ) (xs : List ℕ) (y : ℕ) (ys : List ℕ) (high : ℕ) → Ascending low (xs ++ (y ∷ ys)) high → AllBelow y xs
 before_one low [] y ys high h = tt
 before_one low (x ∷ xs) y ys high h =
@@ -75,7 +76,7 @@ pub above_out : (low high from : ℕ) (xs : List ℕ) (to : ℕ) → high ≤ fr
 above_out low high from [] to le h = tt
 above_out low high from (x ∷ xs) to le h = (is_above_out low high x (omega (arith, le, h.0)), above_out low high (x + 1) xs to (omega (arith, le, h.0)) h.1)
 
--- ---- what is before the body that a range lies in is before the range
+-- ---- the tokens before the body are before the range
 
 both_true : (a b : Bool) → (a && b) ≡ true → (a ≡ true) × (b ≡ true)
 both_true true b e = (refl, e)
@@ -88,7 +89,7 @@ begun low high pre (x ∷ xs) from to e h = let le : x.1 ≤ low = grind (arith,
 pub leaves_append : (xs ys : List (Role × ℕ)) → names_only (xs ++ ys) ≡ names_only xs ++ names_only ys
 leaves_append xs ys = map-append (λ (x : Role × ℕ). x.1) xs ys
 
--- the leaves before a block's procedures and statements
+-- the identifiers before a block's procedures and statements
 abbrev pub sections : Tree ℕ block → List (Role × ℕ)
 sections (has_body (declares cs ts vs ps) statements) = identifiers role.Declaring cs ++ (identifiers role.Declaring ts ++ identifiers role.Declaring vs)
 
@@ -130,9 +131,9 @@ module _ (low high : ℕ) where
         below_first low pre (x ∷ names_only f)
         (below_block b (pre ++ (x ∷ names_only f)) from to e (ascend_first from ((pre ++ (x ∷ names_only f)) ++ names_only i) (closing ∷ []) to (subst (λ l. Ascending from l to) split h)))
 
--- ---- marks of which some are passed over
+-- ---- marks of which some are skipped
 
--- the first marks are the second ones, and others at tokens that pass a test
+-- states that the first marks are the second ones and others, whose tokens pass a test
 pub data Covers (out : ℕ → Bool) : List OrdinalMark → List OrdinalMark → Type 0 where
   covers_none : Covers out [] []
   covers_one : {ms ns : List OrdinalMark} → (m : OrdinalMark) → Covers out ms ns → Covers out (m ∷ ms) (m ∷ ns)

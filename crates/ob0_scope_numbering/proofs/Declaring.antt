@@ -1,4 +1,5 @@
--- Loops over what declares: names after the first, sections of parameters, and declarations that are still to be shown.
+-- Loops over declarations: names after the first, sections of parameters, and declarations that are
+-- still to be shown.
 use Rattle.std.proofs.Common.{◌≡◌, ℕ, List, [], ◌∷◌, refl, ap}
 use Rattle.ob0_tree.specs.Tree.{one, then_name}
 use Rattle.ob0_tree.specs.declared.tree.Section.{Section}
@@ -10,7 +11,7 @@ pub names_further : (xs : List ℕ) → further_names (items_of then_name xs) �
 names_further [] = refl
 names_further (x ∷ xs) = ap (λ l. x ∷ l) (names_further xs)
 
--- the declarations from an index on are still to be shown
+-- states that the declarations from an index onwards are still to be shown
 pub record Showing (first : ℕ) (start : Visit) (index : ℕ) (now : Visit) : Type 0 where
   pub so_far : visible_from index now ≡ visible_from first start
   pub kept : now.declarations ≡ start.declarations

@@ -1,10 +1,11 @@
--- Loops that go through a list: what is left to do comes to what there was to do at first.
--- The invariant is a record with one equation, so that `init` and `preserved` close by themselves, also where the step
--- is a call.
+-- Loops over a list: doing the rest of the work now gives the same result as doing all of it at
+-- first. The invariant is a record with one equation, so that `init` and `preserved` are proved
+-- automatically, even if the step is a call.
 use Rattle.std.proofs.Common.{◌≡◌, ℕ, ◌+◌, ◌<◌, ◌≤◌, List, [], ◌∷◌, length, get_or, drop, sym, ap, ◌∙◌}
 use Rattle.std.proofs.lemmas.List.{drop_all, drop_more}
 
--- gone through the first items of a list, and with the others still to go through, as with all of them at first
+-- states that visiting the remaining items now gives the same result as visiting all of them at
+-- first
 pub record Going {A S : Type 0} (go : List A → S → S) (xs : List A) (start : S) (done : ℕ) (now : S) : Type 0 where
   pub so_far : go (drop done xs) now ≡ go xs start
 

@@ -1,4 +1,5 @@
--- A text has fewer declarations than an entry has ordinals, so that entries have the ordinals of all marks.
+-- A text has fewer declarations than an entry has ordinals, so entries can hold the ordinals of all
+-- marks.
 use Rattle.std.proofs.Common.{◌≡◌, ℕ, suc, ◌+◌, ◌≤◌, Option, Some, None, List, [], ◌∷◌, length, replicate, set, refl, sym, ap, ◌∙◌, subst, arith, append-nil}
 use Rattle.std.proofs.Math.Nat.{min-eq_left}
 use Rattle.ob0_scan.specs.Scanned.{IsScan}
@@ -23,19 +24,20 @@ few_between : (low : ℕ) (xs : List ℕ) (high : ℕ) → Ascending low xs high
 few_between low [] high h = omega (arith, h)
 few_between low (x ∷ xs) high h = let more = few_between (x + 1) xs high h.1 in omega (arith, h.0, more)
 
--- ---- the ordinals of a module are before the number of its identifiers, and the seven of predeclared names
+-- ---- the ordinals of a module are below the number of its identifiers plus seven for the
+-- predeclared names
 
 before_more : (k n : ℕ) (o : Option ℕ) → k ≤ n → IsBefore k o → IsBefore n o
 before_more k n None le h = tt
 before_more k n (Some j) le h = omega (arith, le, h)
 
 module _ (table : ℕ → Option ℕ) (n : ℕ) where
-  -- what a table has at these tokens is before a number
+  -- states that the table's entries at these tokens are below a number
   abbrev AreBeforeAt : List ℕ → Type 0
   AreBeforeAt [] = Unit {0}
   AreBeforeAt (i ∷ is) = IsBefore n (table i) × AreBeforeAt is
 
-  -- the ordinals of these marks are before a number
+  -- states that the ordinals of these marks are below a number
   abbrev pub AreMarksBefore : List OrdinalMark → Type 0
   AreMarksBefore [] = Unit {0}
   AreMarksBefore (m ∷ ms) = IsBefore n m.ordinal × AreMarksBefore ms
@@ -54,9 +56,9 @@ module _ (table : ℕ → Option ℕ) (n : ℕ) where
   marks_before [] before has = tt
   marks_before (m ∷ ms) before has = (subst (IsBefore n) has.0 before.0, marks_before ms before.1 has.1)
 
--- ---- entries keep such ordinals
+-- ---- entries can hold such ordinals
 
--- a table with the entry of each mark at its token
+-- a table after writing the entry of each mark at its token
 abbrev pub with_entries : List (Option ℕ) → List OrdinalMark → List (Option ℕ)
 with_entries table [] = table
 with_entries table (m ∷ ms) = with_entries (set table m.token (kept m.ordinal)) ms
@@ -70,7 +72,7 @@ entries_kept read n [] table le h = refl
 entries_kept read n (m ∷ ms) table le h =
     ap (λ o. with_entries (set table m.token o) ms) (kept_before n m.ordinal le h.0) ∙ entries_kept read n ms (set table m.token m.ordinal) le h.1
 
--- the marks of a module are before a number that an entry can have
+-- states that the marks of a module are below a number that an entry can hold
 pub record MarksFew (m : Parsed) (w : Writing) : Type 0 where
   pub read : ℕ → Option ℕ
   pub bound : ℕ

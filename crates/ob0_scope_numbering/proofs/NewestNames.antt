@@ -1,4 +1,5 @@
--- Names that were bound: what is found at one after it has another newest binding, or after a name is added.
+-- Names that were bound: the result of a look-up after a name gets another newest binding, or after
+-- a name is added.
 use Rattle.std.proofs.Common.{◌≡◌, ◌⊎◌, inl, inr, if◌then◌else◌, ℕ, zero, suc, ◌+◌, ◌<◌, Bool, true, false, cond, Option, Some, None, List, [], ◌∷◌, ◌++◌, map, length, get_or, set, option_map, refl, sym, ap, ◌∙◌, subst, arith, Bor, bytes_eq, is_eq, Ordering, Less, Equal, Greater, ⊎_elim}
 use Rattle.std.proofs.Math.ListN.{get_or-append, get_or-map, length-set}
 use Rattle.std.proofs.Math.Seq.{get_or-append_seam, map-set_same}
@@ -16,7 +17,7 @@ use Rattle.ob0_language_names.specs.Names.{Name, same_name}
 use Rattle.ob0_language_names.proofs.NameEquality.{same_name-comm, same_name-refl}
 use Rattle.ob0_scope_numbering.specs.NewestNames.{ArePlaces, IsRenewed, KeepsNewest, newest_in, place_of}
 
--- names that are reported apart: of the first, of a later one, of none
+-- the cases of a look-up: the first name, a later one, or none
 first_place : (same : Bool) (o : Option ℕ) → (if same then Some zero else option_map suc o) ≡ Some zero → same ≡ true
 first_place true o e = refl
 first_place false None e = absurd (cc)
@@ -40,7 +41,7 @@ if_false : (same : Bool) (v w : Option ℕ) → same ≡ false → (if same then
 if_false true v w e = absurd (cc)
 if_false false v w e = refl
 
--- what is at a name's place
+-- the entry at a name's position
 pub record IsAtIndex (es : List BoundName) (x : Name) (i : ℕ) (d : BoundName) : Type 0 where
   pub below : i < length es
   pub named : (get_or es i d).name.now ≡ x
@@ -62,7 +63,7 @@ newest_none (e ∷ es) x h =
     let n = no_place (same_name x e.name.now) (place_of es x) h in
     if_false (same_name x e.name.now) e.newest (newest_in es x) n.0 ∙ newest_none es x n.1
 
--- an entry that is renewed, and one before it
+-- an entry that is changed, and one before it
 here_renewed : (a b c : Bool) (v w r : Option ℕ) → a ≡ b → c ≡ b → (if a then v else r) ≡ (if b then v else (if c then w else r))
 here_renewed true true true v w r f g = refl
 here_renewed true true false v w r f g = refl
@@ -84,7 +85,7 @@ there_placed true false n o s f g = ap (option_map suc) g
 there_placed false true n o s f g = refl
 there_placed false false n o s f g = ap (option_map suc) g
 
--- a name that isn't the first one's is another's
+-- a name that differs from the first one belongs to another entry
 apart : (x y n : Name) → same_name x n ≡ false → same_name x y ≡ true → same_name y n ≡ false
 apart x y n e same = subst (λ z. same_name z n ≡ false) ((bytes_eq-Decides x y).0 same) e
 
@@ -122,7 +123,8 @@ place_added (e ∷ es) r h y =
     there_placed (same_name r.name.now y) (same_name y e.name.now) (length es) (place_of es y) (place_of (es ++ (r ∷ [])) y)
     (apart r.name.now y e.name.now n.0) (place_added es r n.1 y)
 
--- the map has the places of the names, after a name has another newest binding and after one is added
+-- the map has the positions of the names after one gets another newest binding, and after one is
+-- added
 pub places_renewed : (places : BTreeMap Key ℕ) (es : List BoundName) (x : Name) (i : ℕ) (r : BoundName) → r.name.now ≡ x → place_of es x ≡ Some i → ArePlaces places es → ArePlaces places (set es i r)
 places_renewed places es x i r named h w =
     let name : BoundName → Name = λ (e : BoundName). e.name.now in
@@ -141,7 +143,7 @@ then_apart Less p e = refl
 then_apart Equal p e = e
 then_apart Greater p e = refl
 
--- the keys of two names are the same where the names are
+-- two names have the same key if they are the same
 same_key : (a x : Name) → is_eq (ordering_then (nat_cmp (number_of a) (number_of x)) (slice_cmp nat_cmp a x)) ≡ bytes_eq a x
 same_key a x =
     ⊎_elim
@@ -151,7 +153,7 @@ same_key a x =
     (λ n. then_apart (nat_cmp (number_of a) (number_of x)) (slice_cmp nat_cmp a x) (is_eq-slice_cmp a x ∙ n) ∙ sym n)
     (cases_Bool (bytes_eq a x))
 
--- what a map has after it has another value at a key
+-- states that a map results from setting the value of a key
 abbrev pub Renews : Key → BTreeMap Key ℕ → BTreeMap Key ℕ → Option ℕ → Type 0
 Renews key places next value = UpdatesBy compare_keys (compare_keys key) places next value
 
@@ -200,7 +202,7 @@ places_added places next es r h renews w =
           ];
     }
 
--- nothing is bound to a name that is added
+-- a name that is added is unbound
 pub none_newer : (es : List BoundName) (r : BoundName) → r.newest ≡ None → place_of es r.name.now ≡ None → KeepsNewest es (es ++ (r ∷ []))
 none_newer es r e absent = λ y. added es r absent y ∙ one y (same_name r.name.now y) refl
   where

@@ -1,4 +1,5 @@
--- What is known after each part of a module: which names are visible, and that a table with all marks numbers the part.
+-- The state after each part of a module: the visible names, and that a table with all marks numbers
+-- the part.
 use Rattle.std.proofs.Common.{◌≡◌, ◌<◌, ◌≤◌, ℕ, suc, ◌+◌, ◌-◌, true, false, Option, Some, None, List, [], ◌∷◌, ◌++◌, map, length, drop, refl, sym, ap, ◌∙◌, subst, arith, append_assoc, append-nil, length-append}
 use Rattle.std.proofs.lemmas.List.{map-append}
 use Rattle.std.proofs.Math.Seq.{drop-append-add}
@@ -21,7 +22,7 @@ use Rattle.ob0_language_names.proofs.OccurrenceNames.{length-map}
 use Rattle.ob0_language_names.proofs.Peeling.{Two}
 use Rattle.ob0_scope_table.proofs.Plain.{IsPlain, declares_nothing, declaring_only-append}
 
--- a table has each mark's ordinal at its token
+-- states that a table has each mark's ordinal at its token
 abbrev pub HasMarks : (ℕ → Option ℕ) → List OrdinalMark → Type 0
 HasMarks table [] = Unit {0}
 HasMarks table (m ∷ ms) = (table m.token ≡ m.ordinal) × HasMarks table ms
@@ -33,12 +34,12 @@ marks_split table (x ∷ xs) ys h = let rest = marks_split table xs ys h.1 in ((
 abbrev pub tokens_of : List OrdinalMark → List ℕ
 tokens_of ms = map (λ m. m.token) ms
 
--- an ordinal, if there is one, is that of a declaration before this
+-- states that an ordinal, if there is one, is below this one
 abbrev pub IsBefore : ℕ → Option ℕ → Type 0
 IsBefore k None = Unit {0}
 IsBefore k (Some j) = j < k
 
--- all names of a scope are bound to declarations before this
+-- states that all names of a scope are bound to earlier declarations
 abbrev AreBefore : ℕ → Scope Name → Type 0
 AreBefore k [] = Unit {0}
 AreBefore k (b ∷ s) = (b.1 < k) × AreBefore k s
@@ -59,7 +60,8 @@ looked_up_before : (k : ℕ) (s : Scope Name) (x : Name) → AreBefore k s → I
 looked_up_before k [] x h = tt
 looked_up_before k (b ∷ s) x h = elim (same_name x b.0) as (λ v. IsBefore k (elim v [ true ↦ Some b.1 | false ↦ ordinal_of as_names s x ])) [ true ↦ h.0 | false ↦ looked_up_before k s x h.1 ]
 
--- each declaring identifier has the next ordinal, and each other one that of a declaration before it, or none
+-- states that each declaring identifier has the next ordinal, and that each other one has the
+-- ordinal of an earlier declaration or none
 abbrev pub AreInOrder : (ℕ → Option ℕ) → ℕ → List (Role × ℕ) → Type 0
 AreInOrder table k [] = Unit {0}
 AreInOrder table k ((role.Declaring, i) ∷ xs) = (table i ≡ Some k) × AreInOrder table (suc k) xs
@@ -93,7 +95,7 @@ pub record At (v : Visit) (src : Writing) (s : Scope Name) (k : ℕ) : Type 0 wh
   pub next : 7 + length v.declarations ≡ k
   pub before : AreBefore k s
 
--- the same, by the names that are visible and the number of the declarations themselves
+-- the same facts, with the visible names and the number of declarations of the state itself
 pub at_itself : {v : Visit} {src : Writing} {s : Scope Name} {k : ℕ} → At v src s k → At v src v.scope (7 + length v.declarations)
 at_itself {v = v} {k = k} at = record { writing = at.writing; scope = refl; next = refl; before = subst (λ n. AreBefore n v.scope) (sym at.next) (subst (AreBefore k) (sym at.scope) at.before) }
 
@@ -140,7 +142,7 @@ left_extends {s = s} e =
     let count : length (e.newer ++ s) - length s ≡ length e.newer + 0 = omega (arith, length-append e.newer s) in
     ap (λ z. drop (length z - length s) z) e.is ∙ (ap (λ n. drop n (e.newer ++ s)) count ∙ drop-append-add e.newer s 0)
 
--- what the identifiers of a part that declares nothing leave
+-- the state after the identifiers of a part that declares nothing
 record FoundAll (table : ℕ → Option ℕ) (src : Writing) (v w : Visit) (xs : List (Role × ℕ)) : Type 0 where
   writing : w.writing ≡ v.writing
   scope : w.scope ≡ v.scope
@@ -190,7 +192,8 @@ found_every table src (x ∷ xs) v =
           (now.0, (now.1.0, subst (λ s. AllFit table src s xs) a.scope later.1));
     }
 
--- what a part has passed on, with the identifiers in it, the names visible after it, the next ordinal, and what a table with all marks says
+-- the state after a part: the identifiers in it, the names visible after it, the next ordinal, and
+-- the conclusion for a table with all marks
 pub record Passed (table : ℕ → Option ℕ) (src : Writing) (v w : Visit) (ids : List (Role × ℕ)) (s : Scope Name) (k : ℕ) (P : Type 0) : Type 0 where
   pub at : At w src s k
   pub declared : w.declarations ≡ v.declarations ++ declaring_only ids
@@ -203,7 +206,7 @@ module _ {M : Type 0} (table : ℕ → Option ℕ) (label : Labels Name M) (src 
   abbrev Passes : Visit → Visit → List (Role × ℕ) → Scope Name → ℕ → Type 0 → Type 0
   Passes = Passed table src
 
-  -- a part with the names as they are written, and any numbers
+  -- a part with the spellings as its names, and any numbers
   abbrev pub spelled : {s : Sort} → Tree ℕ s → Tree Name s
   spelled t = mapped (name_at src) value t
 
@@ -287,7 +290,7 @@ module _ {M : Type 0} (table : ℕ → Option ℕ) (label : Labels Name M) (src 
             subst (λ n. AreInOrder table n ((r, x) ∷ later)) (sym at.next) (other_in_order table k r x later no_declaration here o);
       }
 
-  -- names have the ordinals from k on
+  -- states that names have the ordinals from k upwards
   abbrev HasNumbers : ℕ → List ℕ → Type 0
   HasNumbers k [] = Unit {0}
   HasNumbers k (x ∷ xs) = (table x ≡ Some k) × HasNumbers (suc k) xs
@@ -330,7 +333,7 @@ module _ {M : Type 0} (table : ℕ → Option ℕ) (label : Labels Name M) (src 
   drop_past : (xs ys : List ℕ) → drop (length xs) (xs ++ ys) ≡ ys
   drop_past xs ys = let n : length xs + 0 ≡ length xs = omega arith in ap (λ n. drop n (xs ++ ys)) (sym n) ∙ drop-append-add xs ys 0
 
-  -- what was declared in a part is visible after it
+  -- the declarations of a part are visible after it
   show_passed : {a b : Visit} {xs : List (Role × ℕ)} {s s' : Scope Name} {k k' : ℕ} {P : Type 0} (ns : List Name) → At a src s k → map (name_at src) (declaring_only xs) ≡ ns → Passes a b xs s' k' P
       → Passes a (visible_from (length a.declarations) b) xs (declare_names k ns s') k' P
   show_passed {a = a} {b = b} {xs = xs} {s' = s'} {k = k} {k' = k'} ns at are p =

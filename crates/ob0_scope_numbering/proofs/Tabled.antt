@@ -1,4 +1,5 @@
--- A module gone through with a table has what a table made of the listed identifiers has.
+-- Visiting a module with a table gives the same result as entering the listed identifiers in the
+-- table.
 use Rattle.std.proofs.Common.{◌≡◌, ℕ, ◌+◌, Bool, true, false, nat_lt, if◌then◌else◌, Option, Some, None, List, [], ◌∷◌, ◌++◌, length, replicate, set, refl, ap, ◌∙◌}
 use Rattle.ob0_scan.specs.Scanned.{IsScan}
 use Rattle.ob0_tree.specs.declared.tree.Role.{Role}
@@ -22,7 +23,7 @@ with_entries-added : (table : List (Option ℕ)) (ms : List OrdinalMark) (i : �
 with_entries-added table [] i ordinal = refl
 with_entries-added table (m ∷ ms) i ordinal = with_entries-added (set table m.token (kept m.ordinal)) ms i ordinal
 
--- the same, with a table of the entries of the listed identifiers
+-- the state with a table that has the entries of the listed identifiers
 abbrev entered : List (Option ℕ) → listing.Visit → tabling.Visit
 entered table v = record { writing = v.writing; scope = v.scope; declarations = v.declarations; uses = v.uses; marks = with_entries table v.marks }
 
@@ -51,7 +52,7 @@ module _ (table : List (Option ℕ)) where
   used-entered : {s : Sort} (t : Tree ℕ s) (v : listing.Visit) → tabling.used t (entered table v) ≡ entered table (listing.used t v)
   used-entered t v = found_all-entered (identifiers role.Declaring t) v
 
-  -- names with a part after them
+  -- names and the part after them
   names-entered : {s : Sort} (is : List ℕ) (t : Tree ℕ s) (v : listing.Visit)
       → tabling.visible_from (length v.declarations) (tabling.used t (tabling.numbered_all is (entered table v))) ≡ entered table (listing.visible_from (length v.declarations) (listing.used t (listing.numbered_all is v)))
   names-entered is t v = ap (tabling.visible_from (length v.declarations)) (ap (tabling.used t) (numbered_all-entered is v) ∙ used-entered t (listing.numbered_all is v))
@@ -111,7 +112,7 @@ module _ (table : List (Option ℕ)) where
       let v₂ = listing.visit_type_section ts v₁ in
       ap (tabling.visit_variable_section vs) (ap (tabling.visit_type_section ts) (constant_section-entered cs v) ∙ type_section-entered ts v₁) ∙ variable_section-entered vs v₂
 
-  -- what comes before a procedure's block
+  -- the heading before a procedure's block
   heading-entered : (x : ℕ) (fs : Tree ℕ (maybe formals)) (v : listing.Visit)
       → tabling.after_heading (length v.declarations) (length v.scope) (tabling.visit_formals fs (tabling.numbered_at x (entered table v)))
       ≡ entered table (listing.after_heading (length v.declarations) (length v.scope) (listing.visit_formals fs (listing.numbered_at x v)))

@@ -1,4 +1,4 @@
--- A table made of marks at ascending tokens has each mark's ordinal at its token.
+-- A table into which marks at ascending tokens were entered has each mark's ordinal at its token.
 use Rattle.std.proofs.Common.{◌≡◌, ◌≢◌, ◌==◌, ◌||◌, ℕ, ◌+◌, ◌<◌, ◌≤◌, Bool, true, false, Option, None, List, [], ◌∷◌, length, replicate, set, refl, sym, ◌∙◌, subst, arith, get_or-set_other, get_or-set_same, ap, le_refl}
 use Rattle.std.proofs.Math.Dec.{ltb}
 use Rattle.std.proofs.lemmas.Bool.{eqb-false, ltb-false, ltb-true}
@@ -20,7 +20,7 @@ ascends_to : (low : ℕ) (xs : List ℕ) (high : ℕ) → Ascending low xs high 
 ascends_to low [] high h = h
 ascends_to low (x ∷ xs) high h = let later = ascends_to (x + 1) xs high h.1 in omega (arith, h.0, later)
 
--- what is below the marks stays
+-- entries before the marks are unchanged
 pub kept_below : (ms : List OrdinalMark) (table : List (Option ℕ)) (low high i : ℕ) → Ascending low (tokens_of ms) high → i < low → ordinal_in (with_marks table ms) i ≡ ordinal_in table i
 kept_below [] table low high i ascend below = refl
 kept_below (m ∷ ms) table low high i ascend below =
@@ -42,7 +42,7 @@ both_false : (a b : Bool) → (a || b) ≡ false → (a ≡ false) × (b ≡ fal
 both_false true b e = absurd (cc)
 both_false false b e = (refl, e)
 
--- what is at no mark's token stays
+-- an entry that isn't at any mark's token is unchanged
 pub kept_elsewhere : (ms : List OrdinalMark) (table : List (Option ℕ)) (i : ℕ) → list_any (λ j. j == i) (tokens_of ms) ≡ false → ordinal_in (with_marks table ms) i ≡ ordinal_in table i
 kept_elsewhere [] table i e = refl
 kept_elsewhere (m ∷ ms) table i e =
@@ -50,7 +50,7 @@ kept_elsewhere (m ∷ ms) table i e =
     let other : i ≢ m.token = λ same. eqb-false m.token i h.0 (sym same) in
     kept_elsewhere ms (set table m.token m.ordinal) i h.1 ∙ get_or-set_other table m.token i m.ordinal None other
 
--- a table of nothing has nothing at each token
+-- an empty table has no ordinal at any token
 pub none_at : (n i : ℕ) → ordinal_in (replicate n None) i ≡ None
 none_at n i = at (ltb i n) refl
   where
@@ -61,7 +61,7 @@ none_at n i = at (ltb i n) refl
     at true e = get_or-replicate n i None None (ltb-true i n e)
     at false e = get_or_past nothing i None (subst (λ k. k ≤ i) (sym (length-replicate n None)) (ltb-false i n e))
 
--- the table of all marks has each at its token
+-- the table of all marks has each one at its token
 pub marks_in_table : (m : Parsed) (w : Writing) (v : Visit) (ordinals : List (Option ℕ)) → IsParsed m → v ≡ visit_module (tree_of m) (started w)
     → ordinals ≡ with_marks (replicate (length m.source.tokens) None) v.marks → HasMarks (ordinal_in ordinals) (visit_module (tree_of m) (started w)).marks
 marks_in_table m w v ordinals parsed gone tabled =

@@ -1,4 +1,4 @@
--- A module's identifiers, gone through in text order, and listed with their ordinals.
+-- The walk over a module's identifiers in text order, with a list of their ordinals.
 -- Rule: none; for contracts of the walk over identifiers.
 use Rattle.std.specs.Prelude.{ℕ, List, [], ◌∷◌, ◌++◌, Option}
 use Rattle.ob0_scope_numbering.specs.Marks.{OrdinalMark}
@@ -9,11 +9,11 @@ use Rattle.ob0_language_names.specs.Scopes.{predeclared_scope}
 use Rattle.ob0_scope_numbering.specs.Visiting as visit
 use Rattle.ob0_scope_numbering.specs.Written.{Writing}
 
--- what is known on the way, with a list of marks
+-- the state of the walk, with a list of marks
 abbrev pub Visit : Type 0
 Visit = visit.Visit (List OrdinalMark)
 
--- after the others
+-- appends a mark
 abbrev pub put : ℕ → Option ℕ → List OrdinalMark → List OrdinalMark
 put i ordinal ms = ms ++ (record { token = i; ordinal = ordinal } ∷ [])
 
@@ -121,7 +121,7 @@ after_heading = visit.after_heading
 abbrev pub leave_block : ℕ → ℕ → ℕ → Visit → Visit
 leave_block = visit.leave_block
 
--- before the first identifier
+-- the state before the first identifier
 abbrev pub started : Writing → Visit
 started writing =
     record {

@@ -7,11 +7,11 @@ pub record OrdinalMark : Type 0 where
   pub token : ℕ
   pub ordinal : Option ℕ
 
--- a table with the ordinal of each mark at its token
+-- a table after entering the ordinal of each mark at its token
 abbrev pub with_marks : List (Option ℕ) → List OrdinalMark → List (Option ℕ)
 with_marks table [] = table
 with_marks table (m ∷ ms) = with_marks (slice_set table m.token m.ordinal) ms
 
--- the first ordinal, at a token
+-- a mark with the first ordinal
 abbrev pub first_at : ℕ → OrdinalMark
 first_at token = record { token = token; ordinal = Some 0 }

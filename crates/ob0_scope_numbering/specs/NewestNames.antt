@@ -11,34 +11,34 @@ abbrev pub newest_in : List BoundName → Name → Option ℕ
 newest_in [] x = None
 newest_in (e ∷ es) x = if same_name x e.name.now then e.newest else newest_in es x
 
--- the place of a name
+-- the position of a name
 abbrev pub place_of : List BoundName → Name → Option ℕ
 place_of [] x = None
 place_of (e ∷ es) x = if same_name x e.name.now then Some 0 else option_map suc (place_of es x)
 
--- a name has another newest binding, and the others have those that they had
+-- states that a name has this newest binding, and that the other names keep theirs
 abbrev pub IsRenewed : List BoundName → List BoundName → Name → Option ℕ → Type 0
 IsRenewed before after x newest =
     (y : Name) → newest_in after y ≡ (if same_name x y then newest else newest_in before y)
 
--- The map has each name's place, and no name is twice.
+-- States that the map has each name's position, and that no name is in the list twice.
 pub record ArePlaces (places : BTreeMap Key ℕ) (entries : List BoundName) : Type 0 where
   pub placed : (x : Name) → get_by (compare_name x) places ≡ place_of entries x
   pub distinct : (i : ℕ) (d : BoundName)
       → i < length entries
       → place_of entries (slice_index_or entries i d).name.now ≡ Some i
 
--- a name has the place after all others, and the others keep theirs
+-- states that a name has the position after all others, and that the others keep theirs
 abbrev pub IsAdded : List BoundName → List BoundName → Name → Type 0
 IsAdded before after x =
     (y : Name)
     → place_of after y ≡ (if same_name x y then Some (length before) else place_of before y)
 
--- each name that has a place keeps it
+-- states that each name in the list keeps its position
 abbrev pub KeepsPlaces : List BoundName → List BoundName → Type 0
 KeepsPlaces before after =
     (y : Name) → (i : ℕ) → place_of before y ≡ Some i → place_of after y ≡ Some i
 
--- each name keeps its newest binding
+-- states that each name keeps its newest binding
 abbrev pub KeepsNewest : List BoundName → List BoundName → Type 0
 KeepsNewest before after = (y : Name) → newest_in after y ≡ newest_in before y

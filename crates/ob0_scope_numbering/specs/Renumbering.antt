@@ -1,5 +1,5 @@
--- A module's identifiers, gone through again where a range of tokens lies in one body: the declarations on the way
--- to it, and its statements.
+-- The walk over a module's identifiers to the body that contains a range of tokens: the
+-- declarations on the way to it, and its statements.
 -- Rule: none; for contracts of the walk over identifiers.
 use Rattle.std.specs.Prelude.{ℕ, ◌+◌, nat_lt, List, [], ◌∷◌, ◌++◌, Option, length, drop, if◌then◌else◌}
 use Rattle.ob0_tree.specs.Tree.{Tree, block, body, declares, declares_procedure, end, has_body, is_module, item, items, maybe, module_text, more, procedure}
@@ -11,27 +11,28 @@ use Rattle.ob0_scope_numbering.specs.Visiting.{Visit, after_heading, numbered_at
 use Rattle.ob0_scope_numbering.specs.Written.{Writing}
 use Rattle.ob0_scope_table.specs.OneBody.{closing_name}
 
--- the first tokens, as long as they are before one
+-- the longest prefix of a list whose tokens are all before this one
 abbrev pub first_before : ℕ → List ℕ → List ℕ
 first_before token [] = []
 first_before token (x ∷ xs) = if nat_lt x token then x ∷ first_before token xs else []
 
--- all declarations before a token are counted
+-- counts all declarations before a token
 abbrev pub caught_up : {M : Type 0} → List ℕ → ℕ → Visit M → Visit M
 caught_up all token v =
     record v {
       declarations = v.declarations ++ first_before token (drop (length v.declarations) all);
     }
 
--- a declaration is counted
+-- counts a declaration
 abbrev pub counted : {M : Type 0} → ℕ → Visit M → Visit M
 counted token v = record v { declarations = v.declarations ++ (token ∷ []) }
 
--- a procedure's name is visible, and what is in it is passed over
+-- makes a procedure's name visible, and skips its content
 abbrev pub passed_over : {M : Type 0} → ℕ → Visit M → Visit M
 passed_over x v = visible x (predeclared_count + length v.declarations) v
 
--- an identifier's ordinal is put to the others; the module has these declarations, and the range begins here
+-- `put` adds an identifier's ordinal to the others; `all` are the module's declarations, and the
+-- range begins at `low`
 module _ {M : Type 0} (put : ℕ → Option ℕ → M → M) (all : List ℕ) (low : ℕ) where
   abbrev mutual
     -- a block: its sections, and then its statements or one of its procedures
@@ -55,7 +56,7 @@ module _ {M : Type 0} (put : ℕ → Option ℕ → M → M) (all : List ℕ) (l
         renumber_block b (after_heading (length v.declarations) (length v.scope)
         (visit_formals put fs (numbered_at put x v)))
 
--- before the first identifier, with a table of ordinals
+-- the state before the first identifier, with a table of ordinals
 abbrev pub started_over : Writing → List (Option ℕ) → tabling.Visit
 started_over writing table =
     record {
@@ -66,6 +67,6 @@ started_over writing table =
       marks = table;
     }
 
--- after the body that a range of tokens lies in
+-- the state after the body that contains a range of tokens
 abbrev pub module_renumbered : List ℕ → ℕ → Tree ℕ module_text → tabling.Visit → tabling.Visit
 module_renumbered all low (is_module x b closing) v = renumber_block tabling.put all low b v

@@ -1,4 +1,4 @@
--- A module's identifiers, gone through in text order, with a table of their ordinals by token.
+-- The walk over a module's identifiers in text order, with a table of their ordinals by token.
 -- Rule: none; for contracts of the walk over identifiers.
 use Rattle.std.specs.Prelude.{ℕ, List, [], Option, None, length, replicate, slice_set}
 use Rattle.ob0_tree.specs.declared.tree.Role.{Role}
@@ -11,11 +11,11 @@ use Rattle.ob0_scope_numbering.specs.Marks.{with_marks}
 use Rattle.ob0_scope_numbering.specs.Visiting as visit
 use Rattle.ob0_scope_numbering.specs.Written.{Writing}
 
--- what is known on the way, with a table by token
+-- the state of the walk, with a table by token
 abbrev pub Visit : Type 0
 Visit = visit.Visit (List (Option ℕ))
 
--- at its token, as an entry has it
+-- writes an ordinal at its token, as an entry holds it
 abbrev pub put : ℕ → Option ℕ → List (Option ℕ) → List (Option ℕ)
 put i ordinal table = slice_set table i (kept ordinal)
 
@@ -127,7 +127,7 @@ after_heading = visit.after_heading
 abbrev pub leave_block : ℕ → ℕ → ℕ → Visit → Visit
 leave_block = visit.leave_block
 
--- before the first identifier
+-- the state before the first identifier
 abbrev pub started : Writing → Visit
 started writing =
     record {
@@ -138,7 +138,7 @@ started writing =
       marks = replicate (length writing.source.tokens) None;
     }
 
--- what is known on the way, with a table that has the marks instead of their list
+-- the state of the walk with a table that has the marks, instead of their list
 abbrev pub tabled : List (Option ℕ) → marking.Visit → Visit
 tabled table v =
     record {
@@ -149,7 +149,7 @@ tabled table v =
       marks = with_marks table v.marks;
     }
 
--- what is known after a module, with the table of its marks
+-- the state after a module, with the table of its marks
 abbrev pub module_numbered : Tree ℕ module_text → Writing → Visit
 module_numbered m writing =
     tabled (replicate (length writing.source.tokens) None)

@@ -1,4 +1,5 @@
--- A module's identifiers, gone through in text order: what is known after each part, however the ordinals are kept.
+-- The walk over a module's identifiers in text order: the state after each part, however the
+-- ordinals are kept.
 -- Rule: none; for contracts of the walk over identifiers.
 use Rattle.std.specs.Prelude.{ℕ, ◌+◌, ◌-◌, List, [], ◌∷◌, ◌++◌, Option, Some, None, map, length, drop}
 use Rattle.ob0_tree.specs.declared.tree.Role.{Role}
@@ -10,8 +11,8 @@ use Rattle.ob0_language_names.specs.Names.{Name, as_names}
 use Rattle.ob0_language_names.specs.Parts.{names_listed}
 use Rattle.ob0_language_names.specs.Scopes.{Scope, declare_names, ordinal_of, predeclared_count}
 
--- How identifiers are written, the names that are visible, the tokens that declare, the tokens of the occurrences, and
--- the ordinals of the identifiers so far.
+-- The state of the walk: the spellings of identifiers, the visible names, the declaring tokens, the
+-- tokens of the occurrences, and the ordinals of the identifiers so far.
 pub record Visit (M : Type 0) : Type 0 where
   pub writing : Writing
   pub scope : Scope Name
@@ -19,11 +20,11 @@ pub record Visit (M : Type 0) : Type 0 where
   pub uses : List ℕ
   pub marks : M
 
--- the name of a declaration of this ordinal is visible
+-- makes the name of the declaration with this ordinal visible
 abbrev pub visible : {M : Type 0} → ℕ → ℕ → Visit M → Visit M
 visible i ordinal v = record v { scope = (name_at v.writing i, ordinal) ∷ v.scope }
 
--- the names of the declarations from this one on are visible
+-- makes the names of the declarations visible, starting at this one
 abbrev pub visible_from : {M : Type 0} → ℕ → Visit M → Visit M
 visible_from first v =
     record v {
@@ -31,25 +32,26 @@ visible_from first v =
           = declare_names (predeclared_count + first) (map (name_at v.writing) (drop first v.declarations)) v.scope;
     }
 
--- only the oldest `len` bindings are left
+-- keeps only the oldest `len` bindings
 abbrev pub left_to : {M : Type 0} → ℕ → Visit M → Visit M
 left_to len v = record v { scope = drop (length v.scope - len) v.scope }
 
--- The parameters of a heading are visible in it without the procedure, and after it with the procedure beneath them.
+-- The state after a heading. The parameters are visible in the heading without the procedure, and
+-- after it with the procedure below them.
 abbrev pub after_heading : {M : Type 0} → ℕ → ℕ → Visit M → Visit M
 after_heading own outside v = visible_from own (left_to outside v)
 
--- after a procedure's block only the procedure is visible
+-- the state after a procedure's block, in which only the procedure is visible
 abbrev pub leave_block : {M : Type 0} → ℕ → ℕ → ℕ → Visit M → Visit M
 leave_block x ordinal outside v = visible x ordinal (left_to outside v)
 
--- an identifier's ordinal is put to the others
+-- `put` adds an identifier's ordinal to the others
 module _ {M : Type 0} (put : ℕ → Option ℕ → M → M) where
-  -- an identifier has this ordinal
+  -- gives an identifier this ordinal
   abbrev pub marked : ℕ → Option ℕ → Visit M → Visit M
   marked i ordinal v = record v { marks = put i ordinal v.marks }
 
-  -- a declaring name has the next ordinal
+  -- gives a declaring name the next ordinal
   abbrev pub numbered_at : ℕ → Visit M → Visit M
   numbered_at i v =
       record v {
@@ -80,7 +82,7 @@ module _ {M : Type 0} (put : ℕ → Option ℕ → M → M) where
   abbrev pub used : {s : Sort} → Tree ℕ s → Visit M → Visit M
   used t v = visited found t v
 
-  -- a declaration's names are visible after it
+  -- declarations, whose names are visible after them
   abbrev pub visit_constant : Tree ℕ (item constant) → Visit M → Visit M
   visit_constant (declares_constant x e) v =
       visible_from (length v.declarations) (used e (numbered_at x v))

@@ -1,4 +1,5 @@
--- How the identifiers of a text are written: as in the text, or those of one declaration by another name.
+-- The spellings of identifiers: as in the text, or a new name for the identifiers of one
+-- declaration.
 -- Rule: none; for contracts: identifiers as they are written.
 use Rattle.std.specs.Prelude.{ℕ, Bool, false, if◌then◌else◌, List, [], Option, Some, None}
 use Rattle.ob0_scan.specs.Scanned.{Scanned}
@@ -8,28 +9,28 @@ use Rattle.ob0_language_names.specs.Names.{Name}
 use Rattle.ob0_scope_table.specs.Resolution.{ordinal_in}
 use Rattle.ob0_language_names.specs.Scopes.{same_ordinal}
 
--- A text with the ordinals of its identifiers by token, the ordinal of the declaration that has a new name, if one has,
--- and that name.
+-- A text with the ordinals of its identifiers by token, the ordinal of the renamed declaration, if
+-- there is one, and its new name.
 pub record Writing : Type 0 where
   pub source : Scanned
   pub ordinals : List (Option ℕ)
   pub declaration : Option ℕ
   pub new : Name
 
--- an identifier of this ordinal has the new name
+-- true if an identifier with this ordinal has the new name
 abbrev pub is_renamed : Option ℕ → Option ℕ → Bool
 is_renamed None ordinal = false
 is_renamed (Some d) ordinal = same_ordinal ordinal d
 
--- how a token is written
+-- the spelling of a token
 abbrev pub name_at : Writing → ℕ → Name
 name_at w i =
     if is_renamed w.declaration (ordinal_in w.ordinals i) then w.new else text_at w.source i
 
--- each as in the text
+-- the spellings of the text
 abbrev pub as_in : Scanned → Writing
 as_in source = record { source = source; ordinals = []; declaration = None; new = [] }
 
--- a tree over indexes of tokens, with the names as they are written
+-- a tree over indexes of tokens, with the spellings in place of the indexes
 abbrev pub spelled_by : {s : Sort} → Writing → Tree ℕ s → Tree Name s
 spelled_by w t = mapped (name_at w) (value_at w.source) t

@@ -1,5 +1,6 @@
-//! Goes through the identifiers of a module, as they are written or with another name for one declaration, and gives
-//! each the ordinal of its declaration, by the names that are visible at its place.
+//! Visits the identifiers of a module and gives each the ordinal of its declaration, according to
+//! the names visible at its place. One declaration may have a new name instead of its name in the
+//! text.
 #![tactic(auto)]
 
 mod newest;

@@ -1,11 +1,13 @@
 //! The newest binding of each name.
 //!
-//! Each name that was bound once is in a list with its newest binding, and a map has its place in that list. A name
-//! keeps its place, so hiding a binding and giving one up change the list alone and allocate nothing: a binding has its
-//! name's place, and no text is looked at when it is left. A key is a name with a number of its last eight bytes before
-//! it: nearly all comparisons are of two numbers, and where these are the same the names decide, so no text makes a
-//! look-up slow. Before the map a small list is searched, by a few bytes of the name, for the place at which such a
-//! name was last. What it holds is only a hint, which is compared with the name, so nothing is proved of it.
+//! Each name that was ever bound is in a list with its newest binding, and a map has its position
+//! in that list. A name keeps its position, so hiding and removing a binding change only the list
+//! and allocate nothing. A binding has its name's position, so no text is read when it is removed.
+//! A key is a name preceded by a number made of its last eight bytes. Nearly all comparisons are
+//! between two numbers; if these are equal, the names decide, so no text can make a look-up slow.
+//! Before the map, a small table is searched, by a few bytes of the name, for the position that
+//! such a name had last. Its content is only a hint, which is compared with the name, so nothing
+//! has to be proved about it.
 
 ghost use Rattle.std.specs.Prelude.{◌≡◌, [], IfOk, IfSome, OnErr, OnOk, None, Some};
 ghost use Rattle.ob0_scope_numbering.specs.Keys.{number_of, with_byte, with_bytes};
@@ -16,27 +18,28 @@ use std::alloc::{AllocError, Global};
 use std::collections::BTreeMap;
 use std::marker::Model;
 
-/// How many names are found without the map. It is a power of two.
+/// The number of names that can be found without the map, a power of two.
 const RECENT: usize = 1024;
 
-/// A name as a key. Before it is a number made of its last bytes, which distinguishes most names.
+/// A name as a key. The number before it is made of its last bytes, which distinguish most names.
 type Key<'t> = (u64, &'t str);
 
-/// The key of a name.
+/// Returns the key of a name.
 fn key_of<'t>(name: &'t str) -> (u64, &'t str)
     ensures { result ≡ (number_of name.entry.now, name.entry) }
 {
     (number_of(name.as_bytes()), name)
 }
 
-/// The number before a name: that of its last eight bytes. So a long name costs no more than a short one.
+/// Returns the number before a name, made of its last eight bytes. So a long name costs no more
+/// than a short one.
 fn number_of(bytes: &[u8]) -> u64
     ensures { result ≡ number_of bytes.now }
 {
     number_of_all(&bytes[bytes.len().saturating_sub(8)..])
 }
 
-/// The number of some bytes, each a digit.
+/// Returns the number whose digits are some bytes.
 fn number_of_all(bytes: &[u8]) -> u64
     ensures { result ≡ with_bytes bytes.now 0 }
 {
@@ -47,14 +50,15 @@ fn number_of_all(bytes: &[u8]) -> u64
     number
 }
 
-/// The number with a byte after it.
+/// Appends a byte to a number as its last digit.
 fn with_byte(number: u64, byte: u8) -> u64
     ensures { result ≡ with_byte number byte }
 {
     number.wrapping_mul(256).wrapping_add(u64::from(byte))
 }
 
-/// A few bytes of a name side by side, enough to distinguish most names: of a long one the first and the last three.
+/// Returns a few bytes of a name side by side, enough to distinguish most names: of a long one, the
+/// first and the last three.
 fn sketch(name: &str) -> u64 {
     let bytes = name.as_bytes();
     let len = bytes.len();
@@ -70,25 +74,27 @@ fn sketch(name: &str) -> u64 {
     ends << 16 | u64::from(bytes[len - 2]) << 8 | u64::from(bytes[len - 3])
 }
 
-/// Where a name is noted among the recent ones. The product's first bits depend on all bits of the sketch.
+/// Returns the slot of a name in the table of recent names. The first bits of the product depend on
+/// all bits of the sketch.
 fn slot_of(name: &str) -> usize {
     (sketch(name).wrapping_mul(0x9E37_79B9_7F4A_7C15) >> 54) as usize
 }
 
-/// Places for the names that are found without the map. A place that is noted there counts only where the name is at it.
+/// Makes the table of recent names. An entry counts only if the name is at its position.
 fn no_recent(alloc: Global) -> Result<Vec<usize>, AllocError> {
     vec![in alloc; 0; RECENT]
 }
 
-/// A name that was bound, with the index of its newest binding, where it has one.
+/// A name that was bound, with the index of its newest binding, if it has one.
 #[derive(Clone, Copy)]
 pub(crate) struct BoundName<'t> {
     name: &'t str,
     newest: Option<usize>,
 }
 
-/// The names that were bound so far, in the order in which they were bound first, each once. A name's place is found in
-/// logarithmic time, whatever the names are; that of a name that was looked up before is mostly found at once.
+/// The names that were bound so far, each once, in the order in which they were first bound. A
+/// name's position is found in logarithmic time, whatever the names are. A name that was looked up
+/// before is usually found at once.
 #[derive(Drop)]
 pub(crate) struct Newest<'t> {
     entries: Vec<BoundName<'t>>,
@@ -109,7 +115,8 @@ impl<'t> Model for Newest<'t> {
 }
 
 impl<'t> Newest<'t> {
-    /// No bindings yet. The name `first` has the first place, where it is found without a look at its text.
+    /// Makes an empty list of bindings. The name `first` has the first position, at which it is
+    /// found without reading its text.
     pub(crate) fn new(alloc: Global, first: &'t str) -> Result<Newest<'t>, AllocError>
         ensures none { IfOk result (λ t. (x : Name) → newest_in t x ≡ None) }
         ensures first { IfOk result (λ t. place_of t first.now ≡ Some 0) }
@@ -129,7 +136,7 @@ impl<'t> Newest<'t> {
         })
     }
 
-    /// The index of the newest binding of the name that has the first place.
+    /// Returns the index of the newest binding of the name at the first position.
     pub(crate) fn first(&self) -> Option<usize>
         ensures { (x : Name) → place_of self.now x ≡ Some 0 → result ≡ newest_in self.now x }
     {
@@ -139,7 +146,7 @@ impl<'t> Newest<'t> {
         self.entries[0].newest
     }
 
-    /// The place of a name, where it is the one that is noted here.
+    /// Returns the position of a name if this slot has it.
     #[inline(always)]
     fn find_entry(&self, slot: usize, name: &'t str) -> Option<usize>
         ensures { IfSome result (λ place. place_of self.now name.now ≡ Some place) }
@@ -155,7 +162,7 @@ impl<'t> Newest<'t> {
         }
     }
 
-    /// Notes the place of a name.
+    /// Enters the position of a name in a slot.
     fn remember(&mut self, slot: usize, place: usize)
         ensures { self.new ≡ self.old }
     {
@@ -164,7 +171,7 @@ impl<'t> Newest<'t> {
         }
     }
 
-    /// The place of a name.
+    /// Returns the position of a name.
     #[inline(always)]
     fn find(&mut self, name: &'t str) -> Option<usize>
         ensures found { result ≡ place_of self.old name.now }
@@ -177,7 +184,7 @@ impl<'t> Newest<'t> {
         }
     }
 
-    /// The place of a name by the map. It is noted for the next look-up.
+    /// Looks up the position of a name in the map, and remembers it for the next look-up.
     #[cold]
     fn find_by_map(&mut self, slot: usize, name: &'t str) -> Option<usize>
         ensures found { result ≡ place_of self.old name.now }
@@ -191,7 +198,7 @@ impl<'t> Newest<'t> {
         Some(place)
     }
 
-    /// Adds a name that has no place. Nothing is bound to it yet.
+    /// Adds a name that isn't in the list. It has no binding yet.
     fn add(&mut self, name: &'t str) -> Result<(), AllocError>
         requires { place_of self.old name.now ≡ None }
         ensures added { OnOk result (IsAdded self.old self.new name.now) }
@@ -204,7 +211,7 @@ impl<'t> Newest<'t> {
         Ok(())
     }
 
-    /// The place of a name, which is added where it has none.
+    /// Returns the position of a name, which is added if it has none.
     pub(crate) fn place(&mut self, name: &'t str) -> Result<usize, AllocError>
         ensures placed { IfOk result (λ place. place_of self.new name.now ≡ Some place) }
         ensures places { OnOk result (KeepsPlaces self.old self.new) }
@@ -220,7 +227,7 @@ impl<'t> Newest<'t> {
         Ok(place)
     }
 
-    /// The index of the newest binding of the name at a place.
+    /// Returns the index of the newest binding of the name at a position.
     pub(crate) fn newest_at(&self, place: usize, name: &'t str) -> Option<usize>
         requires { place_of self.now name.now ≡ Some place }
         ensures { result ≡ newest_in self.now name.now }
@@ -228,7 +235,7 @@ impl<'t> Newest<'t> {
         self.entries[place].newest
     }
 
-    /// Gives the name at a place another newest binding.
+    /// Sets the newest binding of the name at a position.
     pub(crate) fn renew(&mut self, place: usize, name: &'t str, newest: Option<usize>)
         requires { place_of self.old name.now ≡ Some place }
         ensures renewed { IsRenewed self.old self.new name.now newest }
@@ -237,7 +244,7 @@ impl<'t> Newest<'t> {
         self.entries[place] = BoundName { name, newest };
     }
 
-    /// The index of a name's newest binding.
+    /// Returns the index of a name's newest binding.
     pub(crate) fn get(&mut self, name: &'t str) -> Option<usize>
         ensures found { result ≡ newest_in self.old name.now }
         ensures same { self.new ≡ self.old }

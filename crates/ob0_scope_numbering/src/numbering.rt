@@ -1,21 +1,24 @@
-//! Goes through the declarations of a module in text order, and gives each identifier the ordinal of its declaration.
+//! Visits the declarations of a module in text order, and gives each identifier the ordinal of its
+//! declaration.
 //!
-//! Through the expressions, types and statements, which declare nothing, goes the walk of `ob0_tree`, of which
-//! `Numbering` is a `Visitor`. A clause is an equation of whole states: `self.new ≡ visit_constant c self.old`. With
-//! such clauses most descents and loops over declarations close without an answer.
+//! Expressions, types and statements declare nothing. They are visited by the walk of `ob0_tree`,
+//! for which `Numbering` is a `Visitor`. A clause is an equation between whole states: `self.new ≡
+//! visit_constant c self.old`. With such clauses most descents and loops over declarations need no
+//! proof file.
 //!
-//! Names become visible in the order of their ordinals (`show_from`). That serves constants, groups, and a procedure's
-//! heading: after it the scope is cut back and `show_from` shows the procedure and then its parameters, so that the
-//! procedure lies beneath them.
+//! Names become visible in the order of their ordinals (`show_from`). That serves constants,
+//! groups, and a procedure's heading. After a heading the scope is cut back. Then `show_from` shows
+//! the procedure and its parameters, so that the procedure is below them.
 //!
-//! Each identifier's ordinal is written into the table at its token as soon as it is known, that of fields and of the
-//! module's name too. How ordinals are kept is open in the definition of the walk (`Visiting`): `Tabling` has the
-//! table, as the code, `Marking` a list of marks (token, ordinal). The contract says that the table is what the marks
-//! make of an empty one, so all other proofs are about the marks, whose tokens ascend.
+//! Each identifier's ordinal is written into the table at its token as soon as it is known, even
+//! for fields and the module's name. The definition of the walk (`Visiting`) leaves open how
+//! ordinals are kept: `Tabling` has the table, like the code, and `Marking` a list of marks (token,
+//! ordinal). The contract says that the table results from entering the marks in an empty table. So
+//! all other proofs are about the marks, whose tokens ascend.
 //!
-//! An entry of the table has 32 bits (`OrdinalEntry`). An ordinal past the greatest counts as the greatest, so no
-//! function of the walk needs a bound. A text has no more tokens than bytes and each declaration a token of its own, so
-//! entries have the ordinals of all marks.
+//! An entry of the table has 32 bits (`OrdinalEntry`). An ordinal above the greatest counts as the
+//! greatest, so no function of the walk needs a bound. A text has no more tokens than bytes, and
+//! each declaration has a different token, so entries can hold the ordinals of all marks.
 
 ghost use Rattle.std.specs.Prelude.{◌≡◌, ◌+◌, ◌<◌, ◌^◌, [], OnOk, IfOk, length, Some, None};
 ghost use Rattle.ob0_tree.specs.declared.tree.Role.TheVariants as roles;
@@ -41,7 +44,8 @@ use ob0_tree::{
 use std::alloc::{AllocError, Global};
 use std::marker::Model;
 
-/// What is known in the middle of a module. The table has the ordinal of each identifier so far at its token.
+/// The state in the middle of a module. The table has the ordinal of each identifier so far at its
+/// token.
 #[derive(Drop)]
 pub struct Numbering<'t> {
     tokens: &'t Tokens,
@@ -72,7 +76,7 @@ impl<'t> Model for Numbering<'t> {
     } };
 }
 
-/// In the parts that declare nothing.
+/// Handles the identifiers in the parts that declare nothing.
 impl<'t> Visitor for Numbering<'t> {
     ghost use Rattle.ob0_scope_numbering.specs.Tabling.{found};
 
@@ -90,7 +94,7 @@ impl<'t> Visitor for Numbering<'t> {
     }
 }
 
-/// The ordinal of a declaration by its index among the declarations of the text.
+/// Returns the ordinal of a declaration from its index among the declarations of the text.
 fn ordinal_at_index(index: usize) -> usize
     requires { index < 2 ^ 63 }
     ensures { result ≡ predeclared_count + index }
@@ -98,7 +102,7 @@ fn ordinal_at_index(index: usize) -> usize
     PREDECLARED + index
 }
 
-/// The predeclared names, visible, and the new name that a declaration has.
+/// Returns the scope with the predeclared names, and with the new name of a declaration.
 fn predeclared_names<'t>(alloc: Global, new: &'t str) -> Result<Visible<'t>, AllocError>
     ensures { IfOk result
         (λ v. v ≡ record { new_name = new.entry.now; scope = predeclared_scope as_names }) }
@@ -108,7 +112,7 @@ fn predeclared_names<'t>(alloc: Global, new: &'t str) -> Result<Visible<'t>, All
     Ok(visible)
 }
 
-/// Makes the predeclared names visible, where none is yet.
+/// Makes the predeclared names visible in an empty scope.
 fn declare_predeclared(visible: &mut Visible<'_>) -> Result<(), AllocError>
     ensures { OnOk result (visible.old.scope ≡ []
         → visible.new ≡ with_scope visible.old (predeclared_scope as_names)) }
@@ -123,7 +127,7 @@ fn declare_predeclared(visible: &mut Visible<'_>) -> Result<(), AllocError>
     Ok(())
 }
 
-/// Goes through a module of which the identifiers are written so.
+/// Visits a module whose identifiers have these spellings.
 fn visit_module<'t>(
     alloc: Global,
     read: &'t Module<'t>,
@@ -147,8 +151,8 @@ fn visit_module<'t>(
     Ok(numbering)
 }
 
-/// Numbers again the body in which a range of tokens lies, over a table in which all else is numbered. The module has
-/// these declarations, and the range begins at the token `low`.
+/// Numbers the body that contains a range of tokens again, in a table that has the numbers of
+/// everything else. `all` are the module's declarations, and the range begins at the token `low`.
 pub fn number_body(
     alloc: Global,
     read: &Module<'_>,
@@ -174,8 +178,8 @@ pub fn number_body(
     Ok(ordinals)
 }
 
-/// Numbers a module of which the identifiers are written so. The table has each ordinal: a text has no more declarations
-/// than bytes.
+/// Numbers a module whose identifiers have these spellings. The table can hold every ordinal,
+/// because a text has no more declarations than bytes.
 pub fn number<'t>(
     alloc: Global,
     read: &'t Module<'t>,
@@ -183,13 +187,13 @@ pub fn number<'t>(
 ) -> Result<Numbering<'t>, AllocError>
     ensures { IfOk result (λ n. n ≡ module_numbered (tree_of read.now) writing.entry) }
 {
-    // For the proof: what the contracts of these calls say.
+    // The proof needs the contracts of these calls.
     let _scanned = read.tokens().text();
     visit_module(alloc, read, writing)
 }
 
 impl<'t> Numbering<'t> {
-    /// The declaring tokens, the tokens of the occurrences, and the table.
+    /// Returns the declaring tokens, the tokens of the occurrences, and the table.
     pub fn into_parts(self) -> (Vec<usize>, Vec<usize>, Vec<OrdinalEntry>)
         ensures declarations { result.0.items ≡ self.entry.declarations }
         ensures uses { result.1.items ≡ self.entry.uses }
@@ -207,14 +211,14 @@ impl<'t> Numbering<'t> {
         (declarations, occurrences, table)
     }
 
-    /// How many declarations there are so far, the predeclared ones not counted.
+    /// Returns the number of declarations so far, without the predeclared ones.
     fn declaration_count(&self) -> usize
         ensures { result ≡ length self.now.declarations }
     {
         self.declarations.len()
     }
 
-    /// How many names are visible.
+    /// Returns the number of visible names.
     fn bindings(&self) -> usize
         ensures { result ≡ length self.now.scope }
     {
@@ -251,7 +255,7 @@ impl<'t> Numbering<'t> {
         }
     }
 
-    /// Makes the names of the declarations from this one on visible.
+    /// Makes the names of the declarations visible, starting at this one.
     fn show_from(&mut self, first: usize) -> Result<(), AllocError>
         ensures { OnOk result (self.new ≡ visible_from first self.old) }
     {
@@ -269,7 +273,7 @@ impl<'t> Numbering<'t> {
         self.visible.leave_to(len);
     }
 
-    /// Whether an identifier has the new name.
+    /// True if an identifier has the new name.
     fn is_renamed(&self, token: usize) -> bool
         ensures { result
             ≡ is_renamed self.now.writing.declaration (ordinal_in self.now.writing.ordinals token) }
@@ -277,7 +281,7 @@ impl<'t> Numbering<'t> {
         is_renamed(self.declaration, ordinal_at(self.ordinals, token))
     }
 
-    /// The ordinal of the declaration to which the name at a token is bound.
+    /// Returns the ordinal of the declaration to which the name at a token is bound.
     fn ordinal_bound(&mut self, token: usize) -> Option<usize>
         ensures found { result
             ≡ ordinal_of as_names self.old.scope (name_at self.old.writing token) }
@@ -290,7 +294,7 @@ impl<'t> Numbering<'t> {
         }
     }
 
-    /// Passes an identifier that is bound to nothing.
+    /// Marks an identifier that is unbound.
     #[inline(always)]
     fn pass(&mut self, token: usize) -> Result<(), AllocError>
         ensures { OnOk result (self.new ≡ marked token None self.old) }
@@ -299,7 +303,7 @@ impl<'t> Numbering<'t> {
         Ok(())
     }
 
-    /// Looks a name up.
+    /// Looks up a name.
     #[inline(always)]
     fn look_up(&mut self, token: usize) -> Result<(), AllocError>
         ensures { OnOk result (self.new ≡ found roles.LookedUp token self.old) }
@@ -408,8 +412,8 @@ impl<'t> Numbering<'t> {
     {
         let own = self.declaration_count();
         let outside = self.bindings();
-        // The parameters are bound twice, and left both times: a heading doesn't see its own procedure,
-        // and a body sees it below its parameters.
+        // The parameters are bound and removed twice: a heading doesn't see its own procedure, and
+        // a body sees it below its parameters.
         let ordinal = self.number(p.name)?;
         self.heading(&p.formals)?;
         self.leave_to(outside);
@@ -434,7 +438,7 @@ impl<'t> Numbering<'t> {
         body(self, &b.body)
     }
 
-    /// Counts the declarations before a token, of those that the module has.
+    /// Counts the module's declarations up to a token.
     fn catch_up(&mut self, all: &[usize], token: usize) -> Result<(), AllocError>
         ensures { OnOk result (self.new ≡ caught_up all.now token self.old) }
     {
@@ -456,7 +460,7 @@ impl<'t> Numbering<'t> {
         Ok(())
     }
 
-    /// Makes the name of the next declaration visible, and passes over what is in it.
+    /// Makes the name of the next declaration visible, and skips its content.
     fn pass_over(&mut self, token: usize) -> Result<(), AllocError>
         ensures { OnOk result (self.new ≡ passed_over token self.old) }
     {

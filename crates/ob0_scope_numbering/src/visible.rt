@@ -9,7 +9,7 @@ use crate::newest::Newest;
 use std::alloc::{AllocError, Global};
 use std::marker::Model;
 
-/// A declaration that is visible, with the place of its name and the index of the binding that it hides.
+/// A visible declaration, with the position of its name and the index of the binding that it hides.
 #[derive(Drop)]
 pub(crate) struct Binding<'t> {
     name: &'t str,
@@ -18,9 +18,9 @@ pub(crate) struct Binding<'t> {
     hidden: Option<usize>,
 }
 
-/// The bindings of a place, oldest first, and the new name that a declaration has. For each name the index of its
-/// newest binding is kept. The new name may be far longer than any of the text, so what it is bound to is found without
-/// reading it.
+/// The bindings at a place, oldest first, and the new name of a declaration. Each name has the
+/// index of its newest binding. The new name may be far longer than the names of the text, so its
+/// binding is found without reading it.
 #[derive(Drop)]
 pub(crate) struct Visible<'t> {
     new_name: &'t str,
@@ -39,7 +39,7 @@ impl<'t> Model for Visible<'t> {
 }
 
 impl<'t> Visible<'t> {
-    /// No bindings yet.
+    /// Makes an empty scope.
     pub(crate) fn new(alloc: Global, new_name: &'t str) -> Result<Visible<'t>, AllocError>
         ensures { IfOk result (λ v. v ≡ record { new_name = new_name.entry.now; scope = [] }) }
     {
@@ -50,14 +50,14 @@ impl<'t> Visible<'t> {
         })
     }
 
-    /// How many bindings there are.
+    /// Returns the number of bindings.
     pub(crate) fn len(&self) -> usize
         ensures { result ≡ length self.now.scope }
     {
         self.bindings.len()
     }
 
-    /// The ordinal of the declaration to which a name is bound.
+    /// Returns the ordinal of the declaration to which a name is bound.
     pub(crate) fn look_up(&mut self, name: &'t str) -> Option<usize>
         ensures found { result ≡ ordinal_of as_names self.old.scope name.now }
         ensures same { self.new ≡ self.old }
@@ -69,7 +69,7 @@ impl<'t> Visible<'t> {
         Some(self.bindings[index].ordinal)
     }
 
-    /// The ordinal of the declaration to which the new name is bound.
+    /// Returns the ordinal of the declaration to which the new name is bound.
     pub(crate) fn look_up_new(&self) -> Option<usize>
         ensures { result ≡ ordinal_of as_names self.now.scope self.now.new_name }
     {
@@ -89,7 +89,7 @@ impl<'t> Visible<'t> {
         self.declare(self.new_name, ordinal)
     }
 
-    /// Binds a name; what it was bound to before is hidden.
+    /// Binds a name, and hides its earlier binding. If an allocation fails, the scope is unchanged.
     pub(crate) fn declare(&mut self, name: &'t str, ordinal: usize) -> Result<(), AllocError>
         ensures bound { OnOk result
             (self.new ≡ with_scope self.old ((name.entry.now, ordinal) ∷ self.old.scope)) }
@@ -118,7 +118,7 @@ impl<'t> Visible<'t> {
         }
     }
 
-    /// Removes the newest binding, so that what it hid is visible again.
+    /// Removes the newest binding, so that the binding it hid is visible again.
     fn leave(&mut self)
         ensures { self.new ≡ with_scope self.old (drop 1 self.old.scope) }
     {

@@ -1,7 +1,7 @@
-//! How the identifiers of a text are written.
+//! The spellings of a text's identifiers.
 //!
-//! An identifier is written as in the text, or, where the table gives it the declaration's ordinal, by the new name. So
-//! the same walk gives the numbered tree of the renamed module.
+//! An identifier has the spelling of the text, or the new name if the table gives it the ordinal of
+//! the renamed declaration. So the same walk gives the numbered tree of the renamed module.
 
 ghost use Rattle.std.specs.Prelude.{◌≡◌};
 ghost use Rattle.ob0_scope_numbering.specs.Written.{as_in, is_renamed};
@@ -10,7 +10,7 @@ use ob0_scan::Tokens;
 use ob0_scope_table::OrdinalEntry;
 use std::marker::Model;
 
-/// A text, and a name that is in place of each identifier of one declaration, if there is one.
+/// A text, and a new name for each identifier of one declaration, if one is renamed.
 #[derive(Drop)]
 pub struct Writing<'t> {
     pub tokens: &'t Tokens,
@@ -32,7 +32,7 @@ impl<'t> Model for Writing<'t> {
     } };
 }
 
-/// Whether an identifier of this ordinal has the new name.
+/// True if an identifier with this ordinal has the new name.
 pub(crate) fn is_renamed(declaration: Option<usize>, ordinal: Option<usize>) -> bool
     ensures { result ≡ is_renamed declaration ordinal }
 {
@@ -46,7 +46,7 @@ pub(crate) fn is_renamed(declaration: Option<usize>, ordinal: Option<usize>) -> 
 }
 
 impl<'t> Writing<'t> {
-    /// Each identifier as in the text.
+    /// Returns the spellings of the text, without any new name.
     pub fn as_in(tokens: &'t Tokens) -> Writing<'t>
         ensures { result ≡ as_in tokens.now }
     {

@@ -1,6 +1,5 @@
 -- The spans of tokens ascend. So the places of two tokens are in the same order in all texts with
--- the same number of tokens, and the token that begins or ends at a place can be found from the
--- place.
+-- the same number of tokens. The token that begins or ends at a place can be found from the place.
 use Rattle.std.proofs.Common.{◌≡◌, ℕ, zero, suc, ◌+◌, ◌<◌, ◌≤◌, ◌==◌, Bool, true, false, cond, Some, None, List, [], ◌∷◌, ◌++◌, length, map, get_or, slice_get, add-one, refl, sym, ap, ◌∙◌, subst, arith, ⊎_elim, eqb-true, eq-eqb, take}
 use Rattle.std.specs.Prelude.{nat_lt}
 use Rattle.std.specs.Cmp.{nat_cmp_is}

@@ -14,8 +14,8 @@ use Rattle.ob0_scope_table.specs.declared.fault_tokens.FaultAt.{FaultAt}
 abbrev pub first_start : Scanned → ℕ
 first_start source = (span_at source 0).start
 
--- States that the tokens of two texts have the same kinds and spellings, one after the other, and
--- that both texts begin with a token or neither does.
+-- Two texts whose tokens have the same kinds and spellings, one after the other. Both texts begin
+-- with a token, or neither does.
 pub record AreWrittenAlike (old new : Scanned) : Type 0 where
   pub old_scan : IsScan old
   pub new_scan : IsScan new

@@ -35,9 +35,9 @@ use std::marker::Model;
 /// would take as many steps.
 const MOST_FAULTY: usize = 32;
 
-/// The result of checking a module. `known` has its declarations, and `fields` has its fields if it
-/// is well-typed. `faults` has the faults of its scopes and types. `faulty` has the bodies with a
-/// fault of types, by their closing names. It borrows nothing.
+/// The result of checking a module. If the module is well-typed, `known` has its declarations and
+/// `fields` its fields. `faults` has the faults of its scopes and types. `faulty` has the bodies
+/// with a fault of types, by their closing names. It borrows nothing.
 #[derive(Drop)]
 pub struct ModuleTypes {
     pub known: Option<DeclarationTable>,
@@ -332,7 +332,7 @@ fn is_of_declarations(fault: &Fault) -> bool
 impl<'t> Checked<'t> {
     ghost use Rattle.ob0_types.specs.CheckedModules.{AreTypesOf, IsChecked, checked_by};
 
-    /// Joins the result of checking a module to the module.
+    /// Joins a module to the result of checking it.
     fn new(resolved: &'t Resolved<'t>, types: ModuleTypes) -> Checked<'t>
         requires { AreTypesOf resolved.now types }
         ensures { result ≡ checked_by resolved.now types }
@@ -343,7 +343,7 @@ impl<'t> Checked<'t> {
         }
     }
 
-    /// Joins the result of checking a module, which is kept elsewhere, to the module.
+    /// Joins a module to the result of checking it, which is kept elsewhere.
     pub fn from_parts(resolved: &'t Resolved<'t>, types: &'t ModuleTypes) -> Checked<'t>
         requires { AreTypesOf resolved.now types.now }
         ensures { result ≡ checked_by resolved.now types.now }

@@ -1,7 +1,7 @@
--- The meaning of a name agrees with its object. Only the tokens of the tree itself are considered,
--- because a declaration remains in the state after its scope has ended, when its name has no
--- meaning any more. The same list requires that a field's token is spelled as in the text. So
--- fields need no more than names, whatever the labels are.
+-- The meaning of a name agrees with its object. Only the tokens of the tree itself are considered:
+-- a declaration remains in the state after its scope has ended, although its name has no meaning
+-- there. The same list requires that a field's token is spelled as in the text. So fields need no
+-- more than names, whatever the labels are.
 use Rattle.std.proofs.Common.{◌≡◌, ℕ, Bool, true, false, true≢false, List, [], ◌∷◌, Option, Some, None, option_map, is_some, if◌then◌else◌, refl, sym, subst, subst₂}
 use Rattle.ob0_tree.specs.declared.tree.Role.{Role}
 use Rattle.ob0_tree.specs.declared.tree.Role.TheVariants as role

@@ -1,5 +1,5 @@
--- No fault is reported for well-typed targets of assignments. Expressions have all their names
--- here.
+-- No fault is reported for well-typed expressions, with all their names, and for well-typed targets
+-- of assignments.
 use Rattle.std.proofs.Common.{◌≡◌, ℕ, false, List, [], Option, Some, None, refl, sym, ap, ◌∙◌}
 use Rattle.ob0_tree.specs.declared.tree.Role.{Role}
 use Rattle.ob0_tree.specs.declared.tree.Role.TheVariants as role

@@ -45,7 +45,7 @@ pub record IsAlikeAt (old new : Resolution) (token : ℕ) : Type 0 where
   pub value : value_at new.module_read.source token ≡ value_at old.module_read.source token
   pub bound : ordinal_in new.ordinals token ≡ ordinal_in old.ordinals token
 
--- Two modules with the same tree and the same number of tokens, which are alike except in the
+-- Two modules with the same tree and the same number of tokens. They are alike except in the
 -- statements of the blocks whose closing names pass a test.
 pub record AreAlikeBut (left_out : ℕ → Bool) (old new : Resolution) : Type 0 where
   pub tree : tree_of new.module_read ≡ tree_of old.module_read

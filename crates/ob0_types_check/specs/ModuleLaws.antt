@@ -36,7 +36,7 @@ pub record KnowsDeclarations (p : SoFar) (m : Tree Name module_text) : Type 0 wh
   pub predeclared : (k : ℕ) → k < predeclared_count → declared_object m k ≡ object_bound (outermost as_labels) k
   pub room : predeclared_count ≤ length p.declared
 
--- states that a table holds what each declaration of a module is
+-- states that a table has the object of each declaration of a module
 abbrev pub HasDeclarations : Tree Name module_text → Tables → Type 0
 HasDeclarations m t = (k : ℕ) → declared_in t k ≡ declared_object m k
 

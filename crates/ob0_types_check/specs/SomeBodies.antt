@@ -104,7 +104,7 @@ pub record WereFaulty (wanted : ℕ → Bool) (r : Resolution) : Type 0 where
   pub faulty : AllPass wanted (faulty_bodies old)
   pub alike : AreAlikeBut wanted old r
 
--- states that then only names, declarations and wanted bodies have faults
+-- states that walking only the wanted bodies then gives the same report as walking all
 abbrev pub SomeBodiesReported : Type 0
 SomeBodiesReported =
     (wanted : ℕ → Bool) (r : Resolution)

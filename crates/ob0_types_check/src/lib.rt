@@ -1,5 +1,5 @@
 //! Reports the type errors of a module and their places (docs/LANGUAGE.md, Faults of scopes and
-//! types). If there is none, the report says what each declaration is.
+//! types). If there is none, the report has the declarations.
 //!
 //! The laws state that nothing is reported exactly if every name is bound and all types fit.
 #![tactic(auto)]

@@ -33,7 +33,7 @@
 //! same token. Every fault has a place: `span_at` gives the start of the text if there is no token.
 //!
 //! A body declares nothing. So if only the tokens of one body changed, the facts at every other
-//! place are unchanged, and a body that had no faults still has none (`some_bodies_reported`).
+//! place are unchanged. Any other body that had no faults still has none (`some_bodies_reported`).
 //! `report_bodies` therefore walks the declarations, the changed body and the bodies that had
 //! faults, and skips all others. The walk returns the list of bodies with faults.
 //!
@@ -77,7 +77,7 @@ use std::alloc::{AllocError, Global};
 pub struct Report {
     /// The undeclared names in text order, and then the faults of types.
     pub faults: Vec<Fault>,
-    /// What the declarations are, or None if there is a fault.
+    /// The declarations, or None if there is a fault.
     pub known: Option<DeclarationTable>,
     /// The bodies in which a fault of types is reported, by the tokens of their closing names, in
     /// text order.
@@ -100,8 +100,8 @@ impl<'b> Wanted<'b> {
 }
 
 /// Returns the undeclared names of a module in text order and then its faults of types; if there is
-/// none, also what its declarations are. Duplicate declarations and wrong closing names aren't
-/// reported here.
+/// none, also its declarations. Duplicate declarations and wrong closing names aren't reported
+/// here.
 pub fn report_faults<'t>(alloc: Global, resolved: &'t Resolved<'t>) -> Result<Report, AllocError>
     ensures { IfOk result (IsReportOf resolved.now) }
 {

@@ -1,11 +1,11 @@
 -- Rewriting the fields of a module is the same as rewriting each token according to a table of
--- owners: at each place, the environment gives a name the object of its declaration.
--- One induction over blocks and procedures takes a list of names with their ordinals and objects.
--- That list represents the environment by name, the environment by ordinal and the scope. The
--- induction shows that the bindings of the part have descending ordinals (`Descends`). It also
--- gives the part with its fields rewritten, if each binding has the object of its ordinal
--- (`Right`). In descending bindings each one is found at its ordinal (`bound_right`), so the whole
--- module's bindings are `Right`, and splitting the lists gives the same for each part.
+-- owners: at each place, the environment gives a name the object of its declaration. One induction
+-- over blocks and procedures takes a list of names with their ordinals and objects. That list
+-- represents the environment by name, the environment by ordinal and the scope. The induction shows
+-- that the bindings of the part have descending ordinals (`Descends`). It also gives the part with
+-- its fields rewritten, if each binding has the object of its ordinal (`Right`). In descending
+-- bindings each one is found at its ordinal (`bound_right`), so the whole module's bindings are
+-- `Right`. Splitting the lists gives the same for each part.
 use Rattle.std.proofs.Common.{◌≡◌, ℕ, suc, ◌+◌, Bool, true, false, ◌&&◌, if◌then◌else◌, List, [], ◌∷◌, ◌++◌, map, Some, None, Option, option_map, option_and_then, unwrap_or, refl, sym, ap, ◌∙◌, subst, arith, le_refl, le_of_lt, lit<, true≢false, append-nil}
 use Rattle.std.proofs.lemmas.Bool.{and_parts}
 use Rattle.ob0_tree.specs.Tree.{Tree, block, body, constants, declares, declares_procedure, end, formals, has_body, is_module, item, items, Item, mapped, maybe, more, occurrences, procedure, type_names, variables}

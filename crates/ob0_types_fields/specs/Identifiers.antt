@@ -121,7 +121,7 @@ RenamedAtTokens =
     then new
     else text_at r.module_read.source i) (value_at r.module_read.source) (tree_of r.module_read)
 
--- States that another field of a record has the new name exactly if this differs from the old one
+-- States when another field of a record has the new name: the new name differs from the old one,
 -- and a token declares a field of the record with it.
 abbrev pub DuplicateByToken : Type 0
 DuplicateByToken =

@@ -39,8 +39,8 @@ abbrev pub written_over : List FieldName → ℕ → List FieldName → List Fie
 written_over xs k [] = xs
 written_over xs k (y ∷ ys) = written_over (set xs k y) (k + 1) ys
 
--- A list of fields in text order, in which the fields between these two ends are replaced by others
--- at the same tokens.
+-- A list of fields in text order, whose fields between these two ends are at the same tokens as the
+-- others.
 pub record HasOthersWithin (all before others after : List FieldName) : Type 0 where
   pub old : List FieldName
   pub top : ℕ

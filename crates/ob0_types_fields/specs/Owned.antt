@@ -209,7 +209,8 @@ HasOwners table [] = Unit {0}
 HasOwners table (x ∷ xs) = (table x.0 ≡ x.1) × HasOwners table xs
 
 -- States that, in a well-typed module, a table with the listed owners at its tokens is a table of
--- owners. So at each place the environment gives a name the object of its declaration.
+-- owners. The reason is that at each place the environment gives a name the object of its
+-- declaration.
 abbrev pub OwnersByDeclaration : Type 0
 OwnersByDeclaration =
     (r : Resolution) (owners : List (Option ℕ))

@@ -29,8 +29,8 @@ pub fn renamed_at_tokens()
     ensures { RenamedAtTokens }
 {}
 
-/// States that a record has another field with a new name exactly if the name isn't the field's own
-/// and a token declares a field of the record with that name.
+/// States when a record has another field with a new name: the name isn't the field's own, and a
+/// token declares a field of the record with it.
 pub fn duplicate_by_token()
     ensures { DuplicateByToken }
 {}

@@ -1,7 +1,7 @@
 //! The table of a valid module: the shapes of its types, and the objects of its declarations.
 //!
 //! Types are places in a table. The entry of an ARRAY or RECORD refers only to earlier entries
-//! (`AreEntriesInOrder`), and `shapes_of` computes the shapes of the table starting at the first
+//! (`AreEntriesInOrder`). `shapes_of` computes the shapes of the table, starting at the first
 //! entry. The value of `DeclarationTable` is its two lists of entries, as the code has them. The
 //! shapes are functions of this value, because the definitions' `Shape` isn't a type of the code.
 

@@ -22,7 +22,7 @@ use ob0_tree::{
 use ob0_types_table::{TypeId, number_at, operators};
 use std::alloc::AllocError;
 
-/// The known facts of an expression.
+/// The facts about an expression.
 #[derive(Clone, Copy)]
 pub(crate) struct Operand {
     pub(crate) of: TypeId,
