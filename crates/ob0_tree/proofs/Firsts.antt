@@ -19,22 +19,22 @@ found_later (x ∷ xs) ys e none = absurd (cc)
 pub record Seeking {A : Type 0} {i : Item} (f : A → Tree ℕ (item i)) (xs : List A) (done : ℕ) : Type 0 where
   pub so_far : first_identifier (items_of f (drop done xs)) ≡ first_identifier (items_of f xs)
 
-module _ {A : Type 0} {i : Item} (f : A → Tree ℕ (item i)) {xs : List A} {done : ℕ} (x : A) where
-  split : done < length xs → x ≡ get_or xs done x → drop done xs ≡ x ∷ drop (done + 1) xs
-  split less here = drop_more xs done x less ∙ ap (λ y. y ∷ drop (done + 1) xs) (sym here)
+split : {A : Type 0} (xs : List A) (done : ℕ) (x : A) → done < length xs → x ≡ get_or xs done x → drop done xs ≡ x ∷ drop (done + 1) xs
+split xs done x less here = drop_more xs done x less ∙ ap (λ y. y ∷ drop (done + 1) xs) (sym here)
 
+module _ {A : Type 0} {i : Item} (f : A → Tree ℕ (item i)) {xs : List A} {done : ℕ} (x : A) where
   -- the part here has one
   pub found_here : {found : Option ℕ} → Seeking f xs done → done < length xs → x ≡ get_or xs done x → found ≡ first_identifier (f x) → is_some found ≡ true → found ≡ first_identifier (items_of f xs)
   found_here w less here e some =
       found_first (identifiers role.Declaring (f x)) (identifiers role.Declaring (items_of f (drop (done + 1) xs))) e some
-      ∙ (ap (λ ys. first_identifier (items_of f ys)) (sym (split less here)) ∙ w.so_far)
+      ∙ (ap (λ ys. first_identifier (items_of f ys)) (sym (split xs done x less here)) ∙ w.so_far)
 
   -- it has none
   pub seeks_on : {found : Option ℕ} → Seeking f xs done → done < length xs → x ≡ get_or xs done x → found ≡ first_identifier (f x) → is_some found ≡ false → Seeking f xs (done + 1)
   seeks_on w less here e none =
       record {
         so_far = found_later (identifiers role.Declaring (f x)) (identifiers role.Declaring (items_of f (drop (done + 1) xs))) e none
-            ∙ (ap (λ ys. first_identifier (items_of f ys)) (sym (split less here)) ∙ w.so_far);
+            ∙ (ap (λ ys. first_identifier (items_of f ys)) (sym (split xs done x less here)) ∙ w.so_far);
       }
 
 pub none_found : {A : Type 0} {i : Item} {f : A → Tree ℕ (item i)} {xs : List A} {done : ℕ} → Seeking f xs done → length xs ≤ done → None ≡ first_identifier (items_of f xs)
