@@ -22,7 +22,8 @@ use Rattle.ob0_parse_descent.proofs.Unique.{same}
 use Rattle.ob0_scope.specs.NewBody.{WasBoundElsewhere}
 use Rattle.ob0_scope_table.specs.Bindings.{resolution_by}
 use Rattle.ob0_scope_table.specs.BodyPlaces.{body_place, tree_in}
-use Rattle.ob0_scope_table.specs.BodyReplaced.{IsBodyReplaced, Way, body_at, closing_at, first_of, moved, way_to, without}
+use Rattle.ob0_tree.specs.FirstIdentifier.{first_of}
+use Rattle.ob0_scope_table.specs.BodyReplaced.{IsBodyReplaced, Way, body_at, closing_at, moved, way_to, without}
 use Rattle.ob0_scope_table.specs.OneBody.{is_out}
 use Rattle.ob0_scope_table.proofs.BodyPlaces.{body_place_read}
 use Rattle.ob0_scope_table.proofs.Moved.{moved_above, moved_below, out_cases}

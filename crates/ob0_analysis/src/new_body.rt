@@ -37,7 +37,7 @@ pub(crate) fn module_after(
         same,
         place,
     } = last;
-    let now = place_of_body(&tree, same.prefix, same.new_suffix)?;
+    let now = place_of_body(&tree, same.prefix, same.new_suffix);
     if !is_same_body(place, now, same) {
         return ModuleParts::of(alloc, tokens, tree);
     }

@@ -5,7 +5,8 @@ use Rattle.ob0_tree.specs.declared.tree.Role.{Role}
 use Rattle.ob0_tree.specs.declared.tree.Role.TheVariants as role
 use Rattle.ob0_tree.specs.Order.{Ascending, leaves, names_only}
 use Rattle.ob0_tree.specs.Tree.{Tree, block, body, declares, declares_procedure, end, has_body, identifiers, is_module, item, items, maybe, module_text, more, none, procedure}
-use Rattle.ob0_scope_table.specs.BodyReplaced.{Way, body_among, body_at, body_in, body_inside, closing_among, closing_at, closing_in, closing_inside, first_of, later, way_among, way_in_block, way_in_procedure, way_to}
+use Rattle.ob0_tree.specs.FirstIdentifier.{first_of}
+use Rattle.ob0_scope_table.specs.BodyReplaced.{Way, body_among, body_at, body_in, body_inside, closing_among, closing_at, closing_in, closing_inside, later, way_among, way_in_block, way_in_procedure, way_to}
 use Rattle.ob0_scope_table.specs.OneBody.{begins_by, closing_name, is_in_block, is_in_body, is_in_procedure, is_in_procedures}
 use Rattle.ob0_scope_table.proofs.OneBody.{le_true}
 use Rattle.ob0_scope_numbering.proofs.Covered.{AllBelow, ascend_first, ascend_second, leaves_append}

@@ -8,7 +8,7 @@ use Rattle.ob0_tree.specs.declared.tree.Role.{Role}
 use Rattle.ob0_tree.specs.declared.tree.Role.TheVariants as role
 use Rattle.ob0_tree.specs.Order.{Ascending, names_only}
 use Rattle.ob0_tree.proofs.Occurring.{looked_up_only, looked_up_only-append}
-use Rattle.ob0_scope_table.specs.BodyReplaced.{first_of}
+use Rattle.ob0_tree.specs.FirstIdentifier.{first_of}
 use Rattle.ob0_scope_table.specs.Resolution.{declaring_only, ordinal_in}
 use Rattle.ob0_scope_table.proofs.Plain.{declaring_only-append}
 use Rattle.ob0_scope_numbering.proofs.Covered.{AllBelow, ascend_second, before_one, leaves_append}

@@ -9,7 +9,8 @@ use Rattle.ob0_tree.specs.declared.tree.Block.{Block, out-Block}
 use Rattle.ob0_tree.specs.declared.tree.Procedure.{Procedure, out-Procedure}
 use Rattle.ob0_tree.proofs.Viewed.{block_parts, procedure_parts}
 use Rattle.ob0_scope_table.specs.BodyPlaces.{body_place, place_if, place_in_block, place_in_procedure}
-use Rattle.ob0_scope_table.specs.BodyReplaced.{Way, body_at, body_in, body_inside, closing_at, closing_in, closing_inside, first_of, later, way_among, way_in_procedure, way_to}
+use Rattle.ob0_tree.specs.FirstIdentifier.{first_of}
+use Rattle.ob0_scope_table.specs.BodyReplaced.{Way, body_at, body_in, body_inside, closing_at, closing_in, closing_inside, later, way_among, way_in_procedure, way_to}
 use Rattle.ob0_scope_table.specs.OneBody.{begins_by, closing_name, is_in_block, is_in_body, is_in_procedure, is_in_procedures}
 use Rattle.ob0_scope_table.specs.declared.one_body.BodyPlace.{BodyPlace}
 use Rattle.ob0_scope_table.proofs.OneBody.{le_false, le_true, less_false, less_true}

@@ -1,6 +1,6 @@
 //! Whether a range of tokens lies in the statements of one block, and where these are.
 
-ghost use Rattle.std.specs.Prelude.{◌≡◌, IfOk};
+ghost use Rattle.std.specs.Prelude.{◌≡◌};
 ghost use Rattle.ob0_tree.specs.Parsed.{tree_of};
 ghost use Rattle.ob0_tree.specs.View.{block_of, body_of, procedure_of};
 ghost use Rattle.ob0_tree.specs.Tree.{identifiers};
@@ -8,28 +8,7 @@ ghost use Rattle.ob0_tree.specs.declared.tree.Role.TheVariants as roles;
 ghost use Rattle.ob0_scope_table.specs.BodyPlaces.{body_place, place_if, place_in_block, place_in_procedure, tree_in};
 ghost use Rattle.ob0_scope_table.specs.OneBody.{begins_by, is_in_body};
 
-use ob0_tree::walk::{Visitor, body};
-use ob0_tree::{Block, Module, ModuleTree, Procedure, Role, Statement};
-use std::alloc::AllocError;
-
-/// The first identifier of a part, once there is one.
-#[derive(Drop)]
-struct First {
-    token: Option<usize>,
-}
-
-impl Visitor for First {
-    ghost use Rattle.ob0_scope_table.specs.OneBody.{with_first};
-
-    ghost seen = { with_first };
-
-    fn see(&mut self, _role: Role, token: usize) -> Result<(), AllocError> {
-        if self.token.is_none() {
-            self.token = Some(token);
-        }
-        Ok(())
-    }
-}
+use ob0_tree::{Block, Module, ModuleTree, Procedure, Statement, first_identifier};
 
 /// Where a body is: the token of its first identifier, and that of the closing name of its block.
 #[derive(Clone, Copy)]
@@ -40,57 +19,43 @@ pub struct BodyPlace {
 
 /// Whether the tokens from `low` on and before `high` lie in the statements of one block of a module: none before the
 /// first identifier of these, and none after the last.
-pub fn is_in_body(read: &Module<'_>, low: usize, high: usize) -> Result<bool, AllocError>
-    ensures { IfOk result (λ lies. lies ≡ is_in_body low high (tree_of read.now)) }
+pub fn is_in_body(read: &Module<'_>, low: usize, high: usize) -> bool
+    ensures { result ≡ is_in_body low high (tree_of read.now) }
 {
     if high > read.closing() {
-        return Ok(false);
+        return false;
     }
-    let place = place_in_block(read.block(), read.closing(), low, high)?;
-    Ok(place.is_some())
+    place_in_block(read.block(), read.closing(), low, high).is_some()
 }
 
 /// The place of the body in which the tokens from `low` on and before `high` lie, if they lie in one.
-pub fn place_of_body(
-    tree: &ModuleTree,
-    low: usize,
-    high: usize,
-) -> Result<Option<BodyPlace>, AllocError>
-    ensures { IfOk result (λ place. place ≡ body_place low high (tree_in tree.now)) }
+pub fn place_of_body(tree: &ModuleTree, low: usize, high: usize) -> Option<BodyPlace>
+    ensures { result ≡ body_place low high (tree_in tree.now) }
 {
     if high > tree.closing {
-        return Ok(None);
+        return None;
     }
     place_in_block(&tree.block, tree.closing, low, high)
 }
 
 /// The place of the body of a module in which the tokens from `low` on and before `high` lie, if they lie in one.
-pub fn place_in_module(
-    read: &Module<'_>,
-    low: usize,
-    high: usize,
-) -> Result<Option<BodyPlace>, AllocError>
-    ensures { IfOk result (λ place. place ≡ body_place low high (tree_of read.now)) }
+pub fn place_in_module(read: &Module<'_>, low: usize, high: usize) -> Option<BodyPlace>
+    ensures { result ≡ body_place low high (tree_of read.now) }
 {
     if high > read.closing() {
-        return Ok(None);
+        return None;
     }
     place_in_block(read.block(), read.closing(), low, high)
 }
 
 #[cycle(places)]
-fn place_in_block(
-    b: &Block,
-    closing: usize,
-    low: usize,
-    high: usize,
-) -> Result<Option<BodyPlace>, AllocError>
-    ensures { IfOk result (λ place. place ≡ place_in_block low high closing (block_of b.now)) }
+fn place_in_block(b: &Block, closing: usize, low: usize, high: usize) -> Option<BodyPlace>
+    ensures { result ≡ place_in_block low high closing (block_of b.now) }
 {
     for p in &b.procedures {
         if p.closing >= low {
             if high > p.closing {
-                return Ok(None);
+                return None;
             }
             return place_in_procedure(p, low, high);
         }
@@ -99,12 +64,8 @@ fn place_in_block(
 }
 
 #[cycle(places)]
-fn place_in_procedure(
-    p: &Procedure,
-    low: usize,
-    high: usize,
-) -> Result<Option<BodyPlace>, AllocError>
-    ensures { IfOk result (λ place. place ≡ place_in_procedure low high (procedure_of p.now)) }
+fn place_in_procedure(p: &Procedure, low: usize, high: usize) -> Option<BodyPlace>
+    ensures { result ≡ place_in_procedure low high (procedure_of p.now) }
 {
     place_in_block(&p.block, p.closing, low, high)
 }
@@ -114,23 +75,14 @@ fn place_of_statements(
     statements: &Option<Vec<Statement>>,
     closing: usize,
     low: usize,
-) -> Result<Option<BodyPlace>, AllocError>
-    ensures { IfOk result (λ place. place
+) -> Option<BodyPlace>
+    ensures { result
         ≡ place_if (begins_by low (identifiers roles.Declaring (body_of statements.now)))
-        (body_of statements.now) closing) }
+        (body_of statements.now) closing }
 {
-    let mut first = First { token: None };
-    body(&mut first, statements)?;
-    match first.token {
-        Some(token) => {
-            if token > low {
-                return Ok(None);
-            }
-            Ok(Some(BodyPlace {
-                first: token,
-                closing,
-            }))
-        }
-        None => Ok(None),
+    let first = first_identifier(statements)?;
+    if first > low {
+        return None;
     }
+    Some(BodyPlace { first, closing })
 }

@@ -18,7 +18,8 @@ use Rattle.ob0_language_types.specs.Expressions.{Meanings}
 use Rattle.ob0_language_types.specs.WellTyped.{Signature, WellTyped}
 use Rattle.ob0_language_fields.specs.Fields.{refielded}
 use Rattle.ob0_language_values.specs.Values.{Shape}
-use Rattle.ob0_scope_table.specs.BodyReplaced.{IsBodyReplaced, Way, body_at, closing_at, first_of, moved, without}
+use Rattle.ob0_tree.specs.FirstIdentifier.{first_of}
+use Rattle.ob0_scope_table.specs.BodyReplaced.{IsBodyReplaced, Way, body_at, closing_at, moved, without}
 use Rattle.ob0_scope_table.specs.Resolution.{IsResolution, Resolution, ordinal_in}
 use Rattle.ob0_scope_table.proofs.BodyReplaced.{names_outside, without_mapped}
 use Rattle.ob0_scope_table.proofs.FewTokens.{few_tokens}

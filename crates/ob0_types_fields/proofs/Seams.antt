@@ -4,7 +4,7 @@ use Rattle.std.proofs.lemmas.List.Elements.{filter-append}
 use Rattle.std.specs.List.{AllByRecursion, filter}
 use Rattle.ob0_tree.specs.declared.tree.Role.{Role}
 use Rattle.ob0_tree.specs.Order.{Ascending, names_only}
-use Rattle.ob0_scope_table.specs.BodyReplaced.{first_of}
+use Rattle.ob0_tree.specs.FirstIdentifier.{first_of}
 use Rattle.ob0_scope_table.proofs.OneBody.{le_true}
 use Rattle.ob0_types_fields.specs.declared.field_name.FieldName.{FieldName}
 use Rattle.ob0_types_fields.specs.Listed.{fields_from}
