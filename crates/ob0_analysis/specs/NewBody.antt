@@ -9,8 +9,6 @@ use Rattle.ob0_scope_table.specs.declared.one_body.BodyPlace.{BodyPlace}
 pub record IsSameBody (was : BodyPlace) (now : Option BodyPlace) (s : SameTokens) : Type 0 where
   pub place : BodyPlace
   pub is : now ≡ Some place
-  pub old_range : s.prefix ≤ s.old_suffix
-  pub new_range : s.prefix ≤ s.new_suffix
   pub first : was.first ≡ place.first
   pub front : was.first < s.prefix
   pub back : s.old_suffix < was.closing

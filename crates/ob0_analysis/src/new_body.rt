@@ -54,12 +54,6 @@ fn is_same_body(was: BodyPlace, now: Option<BodyPlace>, same: SameTokens) -> boo
     let Some(place) = now else {
         return false;
     };
-    if same.prefix > same.old_suffix {
-        return false;
-    }
-    if same.prefix > same.new_suffix {
-        return false;
-    }
     if was.first != place.first {
         return false;
     }

@@ -55,7 +55,7 @@ front_stays old new same from at next t h inside p =
     let small : at + (next - at) ≤ same.prefix = omega (arith, p.forward, inside) in
     let alike : slice_range (kinds old) at next ≡ slice_range (kinds new) at next =
     sym (within_front (kinds old) at (next - at) same.prefix small) ∙ ap (λ ks. take (next - at) (drop at ks)) (sym h.front) ∙ within_front (kinds new) at (next - at) same.prefix small in
-    there_again old new from at next at next t p alike p.forward (omega (arith, inside, h.front_inside))
+    there_again old new from at next at next t p alike p.forward (omega (arith, inside, h.new_range, h.new_inside))
 
 count_kinds : (ts : List Token) (i : ℕ) → length (drop i (kinds ts)) ≡ length ts - i
 count_kinds ts i = length-drop i (kinds ts) ∙ ap (λ n. n - i) (length-map ts (λ (t : Token). valueless t.kind))
@@ -72,7 +72,7 @@ back_moves old new same from at next here end t h in_at to_here in_next to_end p
     let dropped : drop at (kinds old) ≡ drop here (kinds new) =
     ap (λ n. drop n (kinds old)) (sym old_place) ∙ sym (drop-drop i same.old_suffix (kinds old)) ∙ ap (drop i) (sym h.back) ∙ drop-drop i same.new_suffix (kinds new) ∙ ap (λ n. drop n (kinds new)) new_place in
     there_again old new from at next here end t p (ap (λ n. take n (drop at (kinds old))) count ∙ ap (take (end - here)) dropped)
-    (omega (arith, in_at, to_here, in_next, to_end, p.forward)) (omega (arith, both, in_next, to_end, p.within, h.back_inside, h.old_back_inside))
+    (omega (arith, in_at, to_here, in_next, to_end, p.forward)) (omega (arith, both, in_next, to_end, p.within, h.new_inside, h.old_inside))
 
 -- ---- by the code's values
 
