@@ -7,7 +7,7 @@ use Rattle.ob0_scan.specs.Reused.{valueless, kinds}
 use Rattle.ob0_tree.specs.declared.tree.Procedure.{Procedure, out-Procedure, roll-out-Procedure}
 use Rattle.ob0_tree.specs.Tree.{Sort, Tree, declares_procedure}
 use Rattle.ob0_tree.specs.View.{procedure_of, formals_of, block_of, body_of}
-use Rattle.ob0_tree.proofs.Viewed.{procedure_made}
+use Rattle.ob0_tree.proofs.Viewed.{procedure_parts}
 use Rattle.ob0_scan.specs.SameKinds.{HasSameTokens}
 use Rattle.ob0_parse.specs.KeptTokens.{lexemes_by, first_of, end_of, IsThere, IsMade, IsWaiting, IsBodyThere, CarriesBody, CarriesAnyBody, Each, AreKept}
 use Rattle.ob0_parse.specs.declared.kept.KeptBody.{KeptBody}
@@ -75,9 +75,6 @@ back_moves old new same from at next here end t h in_at to_here in_next to_end p
     (omega (arith, in_at, to_here, in_next, to_end, p.forward)) (omega (arith, both, in_next, to_end, p.within, h.new_inside, h.old_inside))
 
 -- ---- by the code's values
-
-pub procedure_parts : (p : Procedure) → procedure_of p ≡ declares_procedure (out-Procedure p).name (formals_of (out-Procedure p).formals) (block_of (out-Procedure p).block) (out-Procedure p).closing
-procedure_parts p = sym (ap procedure_of (roll-out-Procedure p)) ∙ procedure_made (out-Procedure p)
 
 pub first_is : (p : Procedure) → first_of (procedure_of p) ≡ (out-Procedure p).name - 1
 first_is p = ap first_of (procedure_parts p)

@@ -1,6 +1,7 @@
 -- Where the body is in which a range of tokens lies: by the procedures of a block, one after the other.
 use Rattle.std.proofs.Common.{◌≡◌, ◌<◌, ◌≤◌, ℕ, zero, ◌+◌, Bool, true, false, ◌&&◌, if◌then◌else◌, nat_le, nat_lt, Option, Some, None, is_some, option_map, List, [], ◌∷◌, length, drop, get_or, refl, sym, ap, ◌∙◌, arith}
 use Rattle.std.proofs.lemmas.List.{drop_all, drop_more}
+use Rattle.std.proofs.lemmas.Option.{same_Some}
 use Rattle.ob0_tree.specs.declared.tree.Role.{Role}
 use Rattle.ob0_tree.specs.declared.tree.Role.TheVariants as role
 use Rattle.ob0_tree.specs.Tree.{Tree, block, body, constants, declares, declares_procedure, end, has_body, identifiers, item, items, maybe, module_text, more, procedure, type_names, variables}
@@ -18,9 +19,6 @@ use Rattle.ob0_scope_table.proofs.OneBody.{le_false, le_true, less_false, less_t
 abbrev pub a_place : ℕ → ℕ → Option BodyPlace
 a_place first closing = Some (record { first = first; closing = closing })
 
-some_same : {A : Type 0} (x y : A) → Some x ≡ Some y → x ≡ y
-some_same x y e = ap (λ o. elim o [ Some z ↦ z | None ↦ x ]) e
-
 -- ---- what a place says
 
 -- of a body that is sought, with its closing name
@@ -33,7 +31,7 @@ place_there : (statements : Tree ℕ (maybe body)) (closing : ℕ) (p : BodyPlac
     → option_map (λ first. record { first = first; closing = closing }) o ≡ Some p → IsPlaceOf true statements closing p
 place_there statements closing p None is e = absurd (cc)
 place_there statements closing p (Some first) is e =
-    let same = some_same (record { first = first; closing = closing }) p e in
+    let same = same_Some (record { first = first; closing = closing }) p e in
     record { is_sought = refl; first = is ∙ ap (λ (q : BodyPlace). Some q.first) same; closes = ap (λ (q : BodyPlace). q.closing) same }
 
 place_read : (sought : Bool) (statements : Tree ℕ (maybe body)) (closing : ℕ) (p : BodyPlace) → place_if sought statements closing ≡ Some p → IsPlaceOf sought statements closing p
@@ -58,13 +56,13 @@ module _ (low closing : ℕ) where
   by_after : (xs : List (Role × ℕ)) (first : ℕ) → first_of xs ≡ Some first → low < first → None ≡ place_by low closing xs
   by_after [] first e less = refl
   by_after (x ∷ xs) first e less =
-      let same = some_same x.1 first e in
+      let same = same_Some x.1 first e in
       ap (λ b. if b then a_place x.1 closing else None) (sym (le_false x.1 low (omega (arith, same, less))))
 
   by_from : (xs : List (Role × ℕ)) (first : ℕ) → first_of xs ≡ Some first → first ≤ low → a_place first closing ≡ place_by low closing xs
   by_from [] first e le = absurd (cc)
   by_from (x ∷ xs) first e le =
-      let same = some_same x.1 first e in
+      let same = same_Some x.1 first e in
       ap (λ n. a_place n closing) (sym same) ∙ ap (λ b. if b then a_place x.1 closing else None) (sym (le_true x.1 low (omega (arith, same, le))))
 
   module _ (statements : Tree ℕ (maybe body)) where
