@@ -22,10 +22,7 @@ pub struct BodyPlace {
 pub fn is_in_body(read: &Module<'_>, low: usize, high: usize) -> bool
     ensures { result ≡ is_in_body low high (tree_of read.now) }
 {
-    if high > read.closing() {
-        return false;
-    }
-    place_in_block(read.block(), read.closing(), low, high).is_some()
+    place_in_module(read, low, high).is_some()
 }
 
 /// The place of the body in which the tokens from `low` on and before `high` lie, if they lie in one.
