@@ -29,7 +29,7 @@ as_many : (s : SameTokens) (old new : List Token) → HasSameTokens s old new �
 as_many s old new h =
     let left : length (kinds new) - s.new_suffix ≡ length (kinds old) - s.old_suffix =
     sym (length-drop s.new_suffix (kinds new)) ∙ (ap length h.back ∙ length-drop s.old_suffix (kinds old)) in
-    omega (arith, left, count_kinds new, count_kinds old, h.back_inside, h.old_back_inside)
+    omega (arith, left, count_kinds new, count_kinds old, h.new_inside, h.old_inside)
 
 module _ (s wider : SameTokens) (still : IsStillSame s wider) where
   abbrev more : ℕ
@@ -43,10 +43,10 @@ module _ (s wider : SameTokens) (still : IsStillSame s wider) where
 
   tokens_still : (old new : List Token) → HasSameTokens s old new → wider.old_suffix ≤ length old → HasSameTokens wider old new
   tokens_still old new h inside = record {
-    front_inside = omega (arith, still.front, h.front_inside);
-    back_inside = omega (arith, still.as_far, inside, as_many s old new h);
-    old_front_inside = omega (arith, still.front, h.old_front_inside);
-    old_back_inside = inside;
+    old_range = omega (arith, still.front, still.back, h.old_range);
+    new_range = omega (arith, still.front, still.back, still.as_far, h.new_range);
+    old_inside = inside;
+    new_inside = omega (arith, still.as_far, inside, as_many s old new h);
     front = less_front wider.prefix s.prefix (kinds new) (kinds old) still.front h.front;
     back = less_back s.new_suffix s.old_suffix more wider.new_suffix wider.old_suffix (kinds new) (kinds old) here there h.back;
   }
@@ -65,10 +65,10 @@ module _ (s wider : SameTokens) (still : IsStillSame s wider) where
 
 joined : (s t : SameTokens) (old mid new : List Token) → t.prefix ≡ s.prefix → t.old_suffix ≡ s.new_suffix → HasSameTokens s old mid → HasSameTokens t mid new → HasSameTokens (record { prefix = s.prefix; old_suffix = s.old_suffix; new_suffix = t.new_suffix }) old new
 joined s t old mid new p q h k = record {
-  front_inside = omega (arith, p, k.front_inside);
-  back_inside = k.back_inside;
-  old_front_inside = h.old_front_inside;
-  old_back_inside = h.old_back_inside;
+  old_range = h.old_range;
+  new_range = omega (arith, p, k.new_range);
+  old_inside = h.old_inside;
+  new_inside = k.new_inside;
   front = ap (λ n. take n (kinds new)) (sym p) ∙ (k.front ∙ (ap (λ n. take n (kinds mid)) p ∙ h.front));
   back = k.back ∙ (ap (λ n. drop n (kinds mid)) q ∙ h.back);
 }
@@ -103,7 +103,7 @@ is_last new tree b types s wider place h still inside placed = record {
 pub last_stays : (mid new : Scanned) (last : LastModule) (change wider : SameTokens) → WasLast mid last → HasSameTokens change mid.tokens new.tokens → HasSameWords change mid new → IsScan new → IsStillSame change wider → wider.prefix ≡ last.same.prefix → wider.old_suffix ≡ last.same.new_suffix
     → WasLast new (record { bindings = last.bindings; types = last.types; same = record { prefix = last.same.prefix; old_suffix = last.same.old_suffix; new_suffix = wider.new_suffix }; place = last.place })
 last_stays mid new last change wider w tokens words scan still p q =
-    let inside : wider.old_suffix ≤ length mid.tokens = omega (arith, q, w.had.same.back_inside) in
+    let inside : wider.old_suffix ≤ length mid.tokens = omega (arith, q, w.had.same.new_inside) in
     record {
       tree = w.tree;
       had = record {

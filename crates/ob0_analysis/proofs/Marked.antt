@@ -10,6 +10,7 @@ use Rattle.ob0_tree.specs.Lexeme.{Terminal, Name, Number, EndOfText, relabelled}
 use Rattle.ob0_tree.specs.Parsed.{IsParsed, Parsed, tree_of}
 use Rattle.ob0_tree.specs.Places.{lexeme_of, lexemes_from}
 use Rattle.ob0_tree.specs.Tree.{spell}
+use Rattle.ob0_parse_descent.proofs.Unique.{head_of, tail_of}
 
 -- tokens of these kinds; the first has this index
 abbrev pub marked : ℕ → List TokenKind → List (Terminal ℕ)
@@ -41,12 +42,6 @@ pub drop_marked : (n i j : ℕ) (ks : List TokenKind) → i + n ≡ j → drop n
 drop_marked zero i j ks e = let same : i ≡ j = omega (arith, e) in ap (λ n. marked n ks) same
 drop_marked (suc n) i j [] e = refl
 drop_marked (suc n) i j (k ∷ ks) e = drop_marked n (i + 1) j ks (omega (arith, e))
-
-tail_of : {A : Type 0} {a b : A} {x y : List A} → a ∷ x ≡ b ∷ y → x ≡ y
-tail_of e = cc
-
-head_of : {A : Type 0} {a b : A} {x y : List A} → a ∷ x ≡ b ∷ y → a ≡ b
-head_of e = cc
 
 name_alone : (i n : ℕ) (k : TokenKind) → lexeme_of i k ≡ Name n → n ≡ i
 name_alone i n kind.Identifier e = cc

@@ -23,7 +23,8 @@ use Rattle.ob0_parse_descent.proofs.Unique.{same}
 use Rattle.ob0_scope.specs.NewBody.{WasBoundElsewhere}
 use Rattle.ob0_scope_table.specs.Bindings.{resolution_by}
 use Rattle.ob0_scope_table.specs.BodyPlaces.{body_place, tree_in}
-use Rattle.ob0_scope_table.specs.BodyReplaced.{IsBodyReplaced, Way, body_at, closing_at, first_of, moved, way_to, without}
+use Rattle.ob0_tree.specs.FirstIdentifier.{first_of}
+use Rattle.ob0_scope_table.specs.BodyReplaced.{IsBodyReplaced, Way, body_at, closing_at, moved, way_to, without}
 use Rattle.ob0_scope_table.specs.OneBody.{is_out}
 use Rattle.ob0_scope_table.proofs.BodyPlaces.{body_place_read}
 use Rattle.ob0_scope_table.proofs.Moved.{moved_above, moved_below, out_cases}
@@ -165,7 +166,7 @@ module _ (s : SameTokens) (old_range : s.prefix ≤ s.old_suffix) (new_range : s
       ∙ (way_moved s.prefix (moved s) same_side (without (way_to s.prefix (tree_of old)) (tree_of old))
       ∙ way_less s.prefix (way_to s.prefix (tree_of old)) (tree_of old)))
 
-module _ (old new : Parsed) (s : SameTokens) (tokens : HasSameTokens s old.source.tokens new.source.tokens) (old_range : s.prefix ≤ s.old_suffix) (new_range : s.prefix ≤ s.new_suffix) where
+module _ (old new : Parsed) (s : SameTokens) (tokens : HasSameTokens s old.source.tokens new.source.tokens) where
   -- without its body the new module equals the old one without its body, moved
   without_same : (way new_way : Way) (first closing now_closing : ℕ) → Halves old way first closing → Halves new new_way first now_closing → first < s.prefix → s.old_suffix < closing → now_closing + s.old_suffix ≡ closing + s.new_suffix
       → without new_way (tree_of new) ≡ mapped (moved s) (moved s) (without way (tree_of old))
@@ -191,7 +192,7 @@ module _ (old new : Parsed) (s : SameTokens) (tokens : HasSameTokens s old.sourc
       ap (λ k. drop k ks) (sym there) ∙ (sym (drop-drop d s.old_suffix ks) ∙ (ap (drop d) (sym tokens.back) ∙ (drop-drop d s.new_suffix js ∙ ap (λ k. drop k js) here))) in
       let back_marked : was.back ≡ marked was.before (drop was.before ks) = was.back_is ∙ drop_marked was.before 0 was.before ks (omega arith) in
       let goes : (e : ℕ) → e < length (drop was.before ks) → moved s (was.before + e) ≡ is.before + e =
-      λ e less. let high : s.old_suffix ≤ was.before + e = omega (arith, there) in moved_above s (was.before + e) old_range high ∙ omega (arith, there, here) in
+      λ e less. let high : s.old_suffix ≤ was.before + e = omega (arith, there) in moved_above s (was.before + e) tokens.old_range high ∙ omega (arith, there, here) in
       let back_moved : map r was.back ≡ is.back =
       ap (map r) back_marked ∙ (moved_on (moved s) was.before is.before (drop was.before ks) goes ∙ (ap (marked is.before) same_drop ∙ (sym (drop_marked is.before 0 is.before js (omega arith)) ∙ sym is.back_is))) in
       let spelled : spell (without new_way (tree_of new)) ≡ spell (mapped (moved s) (moved s) (without way (tree_of old))) =
@@ -227,20 +228,20 @@ body_replaced old new s old_scan new_scan old_parsed new_parsed tokens written p
     let was = halves old old_parsed way first place.closing p.first p.closes in
     let is = halves new new_parsed new_way first b.place.closing is_first q.closes in
     let moved_too : without new_way (tree_of new) ≡ mapped (moved s) (moved s) (without way (tree_of old)) =
-    without_same old new s tokens b.old_range b.new_range way new_way first place.closing b.place.closing was is b.front b.back b.closing in
+    without_same old new s tokens way new_way first place.closing b.place.closing was is b.front b.back b.closing in
     let back : s.old_suffix ≤ place.closing = omega (arith, b.back) in
     let closes : closing_at new_way (tree_of new) ≡ moved s (closing_at way (tree_of old)) =
-    q.closes ∙ sym (ap (moved s) p.closes ∙ (moved_above s place.closing b.old_range back ∙ omega (arith, b.closing, back))) in
-    let one_way : new_way ≡ way = same_way s b.old_range b.new_range old new moved_too in
+    q.closes ∙ sym (ap (moved s) p.closes ∙ (moved_above s place.closing tokens.old_range back ∙ omega (arith, b.closing, back))) in
+    let one_way : new_way ≡ way = same_way s tokens.old_range tokens.new_range old new moved_too in
     record {
-      old_range = b.old_range;
-      new_range = b.new_range;
+      old_range = tokens.old_range;
+      new_range = tokens.new_range;
       old_scan = old_scan;
       new_scan = new_scan;
       old_parsed = old_parsed;
       new_parsed = new_parsed;
       outside = subst (λ w. without w (tree_of new) ≡ mapped (moved s) (moved s) (without way (tree_of old))) one_way moved_too;
-      words = words_outside s old.source new.source written b.old_range;
+      words = words_outside s old.source new.source written tokens.old_range;
       old_way = refl;
       new_way = one_way;
       old_in_body = p.is_sought;

@@ -14,6 +14,7 @@ use Rattle.ob0_tree.specs.declared.tree.Relation.TheVariants as relation
 use Rattle.ob0_tree.specs.declared.tree.Sign.{Sign}
 use Rattle.ob0_tree.specs.declared.tree.Sign.TheVariants as sign
 use Rattle.ob0_tree.specs.Tree.{Item, selector, multiplier, addend, comparison, arguments, further_argument, further_statement, elsif_part, else_part, further_name, further_fields, formals, further_section, constant, constants, type_name, type_names, variable, variables, procedure, body, Sort, item, items, maybe, expression, simple, term, factor, statement, sequence, names, written_type, fields, section, declarations, block, module_text, Tree, none, one, end, more, compares, relates, sum, adds, product, multiplies, designator, integer, parenthesised, negation, field, index, empty, assigns, calls, branches, while_loop, repeat_loop, no_arguments, some_arguments, then_argument, runs, then_statement, elsif_branch, else_branch, listed, then_name, named_type, array_type, record_type, no_fields, some_fields, then_fields, no_formals, some_formals, value_section, variable_section, then_section, declares_constant, declares_constants, declares_type, declares_types, declares_variable, declares_variables, declares_procedure, declares, begins, has_body, is_module, spell}
+use Rattle.ob0_parse_descent.proofs.Unique.{head_of, tail_of}
 
 -- the token BEGIN
 abbrev pub begin_mark : {N : Type 0} → Terminal N
@@ -67,12 +68,6 @@ first_part (x ∷ xs) ys h =
 is_there : {N : Type 0} (xs ys : List (Terminal N)) → NoBegin (xs ++ (begin_mark ∷ ys)) → ⊥
 is_there [] ys h = absurd (cc (h.has))
 is_there (x ∷ xs) ys h = is_there xs ys (record { has = or_right (is_begin x) (has_begin (xs ++ (begin_mark ∷ ys))) h.has })
-
-tail_of : {A : Type 0} {a b : A} {x y : List A} → a ∷ x ≡ b ∷ y → x ≡ y
-tail_of e = cc
-
-head_of : {A : Type 0} {a b : A} {x y : List A} → a ∷ x ≡ b ∷ y → a ≡ b
-head_of e = cc
 
 -- the last BEGIN of a list of tokens is unique
 pub last_begin : {N : Type 0} (a u b v : List (Terminal N)) → NoBegin u → NoBegin v → a ++ (begin_mark ∷ u) ≡ b ++ (begin_mark ∷ v) → a ≡ b

@@ -48,7 +48,7 @@ module _ (s : SameTokens) (old new : Scanned) (alike : kinds new.tokens ≡ kind
       let left : length after - s.new_suffix ≡ length before - s.old_suffix = sym (length-drop s.new_suffix after) ∙ (ap length written.back ∙ length-drop s.old_suffix before) in
       let a : length after ≡ length new.tokens = length-map new.tokens (read_in new.text) in
       let b : length before ≡ length old.tokens = length-map old.tokens (read_in old.text) in
-      omega (arith, left, a, b, as_many, same.back_inside, same.old_back_inside)
+      omega (arith, left, a, b, as_many, same.new_inside, same.old_inside)
 
   same_outside : (i : ℕ) → is_out s.prefix s.old_suffix i ≡ true → slice_get after i ≡ slice_get before i
   same_outside i e = one (nat_lt i s.prefix) refl

@@ -1,6 +1,6 @@
 -- A text in which the statements of one body were replaced.
 -- Rule: none; for private contracts: what an analysis takes over.
-use Rattle.std.specs.Prelude.{◌≡◌, ◌<◌, ◌≤◌, ◌+◌, Option, Some}
+use Rattle.std.specs.Prelude.{◌≡◌, ◌<◌, ◌+◌, Option, Some}
 use Rattle.ob0_scan.specs.declared.tokens.SameTokens.{SameTokens}
 use Rattle.ob0_scope_table.specs.declared.one_body.BodyPlace.{BodyPlace}
 
@@ -10,8 +10,6 @@ use Rattle.ob0_scope_table.specs.declared.one_body.BodyPlace.{BodyPlace}
 pub record IsSameBody (was : BodyPlace) (now : Option BodyPlace) (s : SameTokens) : Type 0 where
   pub place : BodyPlace
   pub is : now ≡ Some place
-  pub old_range : s.prefix ≤ s.old_suffix
-  pub new_range : s.prefix ≤ s.new_suffix
   pub first : was.first ≡ place.first
   pub front : was.first < s.prefix
   pub back : s.old_suffix < was.closing

@@ -9,14 +9,13 @@
 //! dropped then, so the body's place couldn't be found later. A further change must lie in the same
 //! body (`after`).
 
-ghost use Rattle.std.specs.Prelude.{◌≡◌, ◌≤◌, IfOk, IfSome, Some};
+ghost use Rattle.std.specs.Prelude.{◌≡◌, ◌≤◌, IfSome, Some};
 ghost use Rattle.ob0_analysis.specs.LastModule.{HadModule, IsStillSame, StaysLast, WasLast};
 
 use ob0_scan::{SameTokens, Tokens};
 use ob0_scope_table::{Bindings, BodyPlace, place_of_body};
 use ob0_tree::ModuleTree;
 use ob0_types::ModuleTypes;
-use std::alloc::AllocError;
 
 /// The names and types of the last text that was a module. `same` has the tokens that the current
 /// text shares with it, and `place` is the old place of the body that contains all differences.
@@ -36,25 +35,19 @@ impl LastModule {
         bindings: Bindings,
         types: ModuleTypes,
         same: SameTokens,
-    ) -> Result<Option<LastModule>, AllocError>
+    ) -> Option<LastModule>
         requires { HadModule tokens.now tree.now bindings types same }
-        ensures { IfOk result (λ last. IfSome last (WasLast tokens.now)) }
+        ensures { IfSome result (WasLast tokens.now) }
     {
-        let Some(body) = place_of_body(tree, same.prefix, same.old_suffix)? else {
-            return Ok(None);
-        };
-        let Some(wider) = around(same, body, tokens.tokens().len()) else {
-            return Ok(None);
-        };
-        let Some(place) = place_of_body(tree, wider.prefix, wider.old_suffix)? else {
-            return Ok(None);
-        };
-        Ok(Some(LastModule {
+        let body = place_of_body(tree, same.prefix, same.old_suffix)?;
+        let wider = around(same, body, tokens.tokens().len())?;
+        let place = place_of_body(tree, wider.prefix, wider.old_suffix)?;
+        Some(LastModule {
             bindings,
             types,
             same: wider,
             place,
-        }))
+        })
     }
 
     /// Keeps the last module after a further change, if the differences still lie in the same body.

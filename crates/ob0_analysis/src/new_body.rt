@@ -38,7 +38,7 @@ pub(crate) fn module_after(
         same,
         place,
     } = last;
-    let now = place_of_body(&tree, same.prefix, same.new_suffix)?;
+    let now = place_of_body(&tree, same.prefix, same.new_suffix);
     if !is_same_body(place, now, same) {
         return ModuleParts::of(alloc, tokens, tree);
     }
@@ -55,12 +55,6 @@ fn is_same_body(was: BodyPlace, now: Option<BodyPlace>, same: SameTokens) -> boo
     let Some(place) = now else {
         return false;
     };
-    if same.prefix > same.old_suffix {
-        return false;
-    }
-    if same.prefix > same.new_suffix {
-        return false;
-    }
     if was.first != place.first {
         return false;
     }

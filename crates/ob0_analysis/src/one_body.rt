@@ -19,14 +19,10 @@ use ob0_types::{ModuleTypes, types_again};
 use std::alloc::{AllocError, Global};
 
 /// Returns whether the tokens that may differ in spelling from the previous text lie in one body.
-pub(crate) fn is_in_one_body(
-    tokens: &Tokens,
-    tree: &ModuleTree,
-    same: SameTokens,
-) -> Result<bool, AllocError>
+pub(crate) fn is_in_one_body(tokens: &Tokens, tree: &ModuleTree, same: SameTokens) -> bool
     requires { IsParsed (parsed_by tokens.now tree.now) }
-    ensures { IfOk result (λ lies. lies
-        ≡ is_in_body same.prefix same.old_suffix (tree_of (parsed_by tokens.now tree.now))) }
+    ensures { result
+        ≡ is_in_body same.prefix same.old_suffix (tree_of (parsed_by tokens.now tree.now)) }
 {
     let read = Module::from_parts(tokens, tree);
     is_in_body(&read, same.prefix, same.old_suffix)

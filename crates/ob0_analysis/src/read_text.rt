@@ -322,7 +322,7 @@ impl ReadText {
         requires { HadModule tokens tree bindings types same }
         ensures { IfOk result (λ r. r ≡ tokens.text) }
     {
-        let last = LastModule::of(&tokens, &tree, bindings, types, same)?;
+        let last = LastModule::of(&tokens, &tree, bindings, types, same);
         let kept = Kept::of(alloc, tree).after(alloc, same)?;
         ReadText::of_tokens(alloc, tokens, kept, last)
     }
@@ -346,7 +346,7 @@ impl ReadText {
             → IsResolution (resolution_by (parsed_by tokens tree) bindings) }
         ensures { IfOk result (λ r. r ≡ tokens.text) }
     {
-        let in_body = is_in_one_body(&tokens, &tree, same)?;
+        let in_body = is_in_one_body(&tokens, &tree, same);
         if same_names && bindings.faults.is_empty() {
             return ReadText::of_bindings(alloc, tokens, tree, bindings, types, same, in_body);
         }

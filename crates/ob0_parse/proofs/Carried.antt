@@ -7,7 +7,7 @@ use Rattle.ob0_scan.specs.Reused.{valueless, kinds}
 use Rattle.ob0_tree.specs.declared.tree.Procedure.{Procedure, out-Procedure, roll-out-Procedure}
 use Rattle.ob0_tree.specs.Tree.{Sort, Tree, declares_procedure}
 use Rattle.ob0_tree.specs.View.{procedure_of, formals_of, block_of, body_of}
-use Rattle.ob0_tree.proofs.Viewed.{procedure_made}
+use Rattle.ob0_tree.proofs.Viewed.{procedure_parts}
 use Rattle.ob0_scan.specs.SameKinds.{HasSameTokens}
 use Rattle.ob0_parse.specs.KeptTokens.{lexemes_by, first_of, end_of, IsThere, IsMade, IsWaiting, IsBodyThere, CarriesBody, CarriesAnyBody, Each, AreKept}
 use Rattle.ob0_parse.specs.declared.kept.KeptBody.{KeptBody}
@@ -55,7 +55,7 @@ front_stays old new same from at next t h inside p =
     let small : at + (next - at) ≤ same.prefix = omega (arith, p.forward, inside) in
     let alike : slice_range (kinds old) at next ≡ slice_range (kinds new) at next =
     sym (within_front (kinds old) at (next - at) same.prefix small) ∙ ap (λ ks. take (next - at) (drop at ks)) (sym h.front) ∙ within_front (kinds new) at (next - at) same.prefix small in
-    there_again old new from at next at next t p alike p.forward (omega (arith, inside, h.front_inside))
+    there_again old new from at next at next t p alike p.forward (omega (arith, inside, h.new_range, h.new_inside))
 
 count_kinds : (ts : List Token) (i : ℕ) → length (drop i (kinds ts)) ≡ length ts - i
 count_kinds ts i = length-drop i (kinds ts) ∙ ap (λ n. n - i) (length-map ts (λ (t : Token). valueless t.kind))
@@ -72,12 +72,9 @@ back_moves old new same from at next here end t h in_at to_here in_next to_end p
     let dropped : drop at (kinds old) ≡ drop here (kinds new) =
     ap (λ n. drop n (kinds old)) (sym old_place) ∙ sym (drop-drop i same.old_suffix (kinds old)) ∙ ap (drop i) (sym h.back) ∙ drop-drop i same.new_suffix (kinds new) ∙ ap (λ n. drop n (kinds new)) new_place in
     there_again old new from at next here end t p (ap (λ n. take n (drop at (kinds old))) count ∙ ap (take (end - here)) dropped)
-    (omega (arith, in_at, to_here, in_next, to_end, p.forward)) (omega (arith, both, in_next, to_end, p.within, h.back_inside, h.old_back_inside))
+    (omega (arith, in_at, to_here, in_next, to_end, p.forward)) (omega (arith, both, in_next, to_end, p.within, h.new_inside, h.old_inside))
 
 -- ---- procedures as values of the code
-
-pub procedure_parts : (p : Procedure) → procedure_of p ≡ declares_procedure (out-Procedure p).name (formals_of (out-Procedure p).formals) (block_of (out-Procedure p).block) (out-Procedure p).closing
-procedure_parts p = sym (ap procedure_of (roll-out-Procedure p)) ∙ procedure_made (out-Procedure p)
 
 pub first_is : (p : Procedure) → first_of (procedure_of p) ≡ (out-Procedure p).name - 1
 first_is p = ap first_of (procedure_parts p)

@@ -11,13 +11,8 @@ use Rattle.ob0_tree.specs.Lexeme.{Terminal, Name, Mark, EndOfText}
 use Rattle.ob0_tree.specs.Module.{max_nesting}
 use Rattle.ob0_tree.specs.Places.{lexeme_of, lexemes_from, lexemes}
 use Rattle.ob0_tree.specs.Tree.{procedure, Sort, item, Tree, declares_procedure, spell, nesting}
+use Rattle.ob0_parse_descent.proofs.Unique.{head_of, tail_of}
 use Rattle.ob0_parse.specs.KeptTokens.{lexemes_by, first_of, end_of, IsInPlace}
-
-pub tail_of : {A : Type 0} {a b : A} {x y : List A} → a ∷ x ≡ b ∷ y → x ≡ y
-tail_of e = cc
-
-pub head_of : {A : Type 0} {a b : A} {x y : List A} → a ∷ x ≡ b ∷ y → a ≡ b
-head_of e = cc
 
 -- ---- tokens, given by their kinds
 
@@ -25,7 +20,8 @@ pub count_lexemes : (i : ℕ) (ts : List Token) → length (lexemes_from i ts) �
 count_lexemes i [] = refl
 count_lexemes i (t ∷ ts) = let h = count_lexemes (i + 1) ts in omega (arith, h)
 
-by_kind : (i : ℕ) (k : TokenKind) → lexeme_of i (valueless k) ≡ lexeme_of i k
+-- a token by its index is the same whatever its value
+pub by_kind : (i : ℕ) (k : TokenKind) → lexeme_of i (valueless k) ≡ lexeme_of i k
 by_kind i kind.Identifier = refl
 by_kind i (kind.Reserved word) = refl
 by_kind i (kind.Integer value) = refl

@@ -8,7 +8,7 @@ use Rattle.ob0_tree.specs.Tree.{Sort, Item, item, Tree, more, some_arguments, th
 use Rattle.ob0_tree.specs.View.{items_of, expression_of, further_argument_of, arguments_listed, statement_of, further_statement_of, sequence_listed, fields_of, further_fields_of_group, record_listed, section_of, further_section_of, formals_listed}
 use Rattle.ob0_parse.specs.Moving.{moved}
 use Rattle.ob0_parse.specs.declared.moving.Move.{Move}
-use Rattle.ob0_parse.proofs.Keeping.{head_of, tail_of}
+use Rattle.ob0_parse_descent.proofs.Unique.{head_of, tail_of}
 
 -- the first items, as many as given, are moved, and the others are unchanged
 abbrev pub AreMoved : {A : Type 0} {s : Sort} → (A → Tree ℕ s) → Move → List A → ℕ → List A → Type 0

@@ -18,14 +18,8 @@ use Rattle.ob0_parse_descent.specs.Descent.{DescendsText, Expects, Deep}
 use Rattle.ob0_parse.specs.RefusedBy.{NoneBegins, RefusedBy}
 use Rattle.ob0_parse_descent.specs.declared.refusal.ParseRefusal.{ParseRefusal}
 use Rattle.ob0_parse_descent.specs.declared.refusal.ParseRefusal.TheVariants.{Syntax, TooDeep, Memory}
+use Rattle.ob0_parse.proofs.Keeping.{by_kind}
 use Rattle.ob0_parse.proofs.Whole.{module_spelled, texts, indexes_again, reindexed-take}
-
--- a token by its index doesn't depend on its value
-by_kind : (i : ℕ) (k : TokenKind) → lexeme_of i (valueless k) ≡ lexeme_of i k
-by_kind i kind.Identifier = refl
-by_kind i (kind.Reserved word) = refl
-by_kind i (kind.Integer value) = refl
-by_kind i (kind.Symbol symbol) = refl
 
 -- tokens by their indexes, computed from only their kinds
 from_kinds : ℕ → List TokenKind → List (Terminal ℕ)

@@ -46,10 +46,10 @@ same_tokens old between front following removed added s ordered inside is_front 
     let count : length all ≡ front + (length between + (length old - following)) = joined_length old between front following removed added front_inside in
     let first : length (take front old ++ between) ≡ s.new_suffix = length-append (take front old) between ∙ omega (arith, is_back, count, inside, length-take-le front old front_inside) in
     record {
-      front_inside = omega (arith, count, is_front);
-      back_inside = omega (arith, is_back, count);
-      old_front_inside = omega (arith, is_front, front_inside);
-      old_back_inside = omega (arith, is_old_back, inside);
+      old_range = omega (arith, is_front, is_old_back, ordered);
+      new_range = omega (arith, is_front, is_back, count, inside);
+      old_inside = omega (arith, is_old_back, inside);
+      new_inside = omega (arith, is_back, count);
       front = ap (λ n. take n (kinds all)) is_front ∙ front_kinds old (between ++ moved) front front_inside ∙ ap (λ n. take n (kinds old)) (sym is_front);
       back = ap (λ (l : List Token). drop s.new_suffix (kinds l)) (sym (append_assoc (take front old) between moved))
           ∙ back_kinds old (take front old ++ between) following s.new_suffix removed added first

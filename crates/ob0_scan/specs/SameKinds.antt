@@ -7,12 +7,12 @@ use Rattle.ob0_scan.specs.Reused.{kinds, words_in}
 use Rattle.ob0_scan.specs.Scanned.{Scanned}
 
 -- The first tokens of a text have the same kinds as before. The same holds for the last tokens,
--- those starting at `new_suffix`, which started at `old_suffix` before.
+-- those starting at `new_suffix`, which started at `old_suffix` before. No token is in both parts.
 pub record HasSameTokens (s : SameTokens) (old new : List Token) : Type 0 where
-  pub front_inside : s.prefix ≤ length new
-  pub back_inside : s.new_suffix ≤ length new
-  pub old_front_inside : s.prefix ≤ length old
-  pub old_back_inside : s.old_suffix ≤ length old
+  pub old_range : s.prefix ≤ s.old_suffix
+  pub new_range : s.prefix ≤ s.new_suffix
+  pub old_inside : s.old_suffix ≤ length old
+  pub new_inside : s.new_suffix ≤ length new
   pub front : take s.prefix (kinds new) ≡ take s.prefix (kinds old)
   pub back : drop s.new_suffix (kinds new) ≡ drop s.old_suffix (kinds old)
 

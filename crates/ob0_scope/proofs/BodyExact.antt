@@ -2,25 +2,19 @@
 -- closing name of its block.
 use Rattle.std.proofs.Common.{◌≡◌, ◌<◌, ◌≤◌, ℕ, zero, ◌+◌, Bool, true, false, ◌&&◌, nat_le, nat_lt, if◌then◌else◌, Some, List, [], ◌∷◌, ◌++◌, refl, sym, ap, ◌∙◌, subst, arith, append_assoc, append-nil, lt-ltb, le-ltb}
 use Rattle.std.proofs.lemmas.Bool.Decides.{nat_tests}
+use Rattle.std.proofs.lemmas.Bool.{and_parts}
 use Rattle.ob0_tree.specs.declared.tree.Role.{Role}
 use Rattle.ob0_tree.specs.declared.tree.Role.TheVariants as role
 use Rattle.ob0_tree.specs.Order.{Ascending, leaves, names_only}
 use Rattle.ob0_tree.specs.Tree.{Tree, block, body, declares, declares_procedure, end, has_body, identifiers, is_module, item, items, maybe, module_text, more, none, procedure}
-use Rattle.ob0_scope_table.specs.BodyReplaced.{Way, body_among, body_at, body_in, body_inside, closing_among, closing_at, closing_in, closing_inside, first_of, later, way_among, way_in_block, way_in_procedure, way_to}
+use Rattle.ob0_tree.specs.FirstIdentifier.{first_of}
+use Rattle.ob0_tree.proofs.AscendingNumbers.{AllBelow, AllFrom, ascend_first, ascend_second, ascending_from, below_second, from_second, leaves_append}
+use Rattle.ob0_scope_table.specs.BodyReplaced.{Way, body_among, body_at, body_in, body_inside, closing_among, closing_at, closing_in, closing_inside, later, way_among, way_in_block, way_in_procedure, way_to}
 use Rattle.ob0_scope_table.specs.OneBody.{begins_by, closing_name, is_in_block, is_in_body, is_in_procedure, is_in_procedures}
 use Rattle.ob0_scope_table.proofs.OneBody.{le_true}
-use Rattle.ob0_scope_numbering.proofs.Covered.{AllBelow, ascend_first, ascend_second, leaves_append}
 use Rattle.ob0_scope.proofs.Bodies.{Place, among, one_later}
 use Rattle.ob0_scope.proofs.BodySplit.{split_among, split_inside}
-use Rattle.ob0_scope.proofs.CarriedLists.{AllFrom, ascending_from, below_second, some_first}
-
-from_second : (n : ℕ) (xs ys : List ℕ) → AllFrom n (xs ++ ys) → AllFrom n ys
-from_second n [] ys h = h
-from_second n (x ∷ xs) ys h = from_second n xs ys h.1
-
-both_true : (a b : Bool) → (a && b) ≡ true → (a ≡ true) × (b ≡ true)
-both_true true b e = (refl, e)
-both_true false b e = absurd (cc)
+use Rattle.ob0_scope.proofs.CarriedLists.{some_first}
 
 -- the first of some identifiers is one of them
 first_from : (n first : ℕ) (ids : List (Role × ℕ)) (others : List ℕ) → first_of ids ≡ Some first → AllFrom n (names_only ids ++ others) → n ≤ first
@@ -132,7 +126,7 @@ module _ (low high first closing : ℕ) (less : first < low) where
             ap (λ b. if b then is_in_procedures first closing ps statements else nat_le closing (closing_name p) && is_in_procedure first closing p) (lt-ltb (closing_name p) first (omega (arith, past)))
             ∙ further (closing_name p + 1) to lies after e' f'
         one further inside false is lies e f =
-            let both = both_true (nat_le high (closing_name p)) (is_in_procedure low high p) lies in
+            let both = and_parts (nat_le high (closing_name p)) (is_in_procedure low high p) lies in
             let le : low ≤ closing_name p = grind (arith, nat_tests) in
             let rising_p = ascend_first from (leaves p) (leaves ps ++ leaves statements) to rise in
             let last = closing_last (way_in_procedure low p) p from to rising_p in
@@ -148,7 +142,7 @@ module _ (low high first closing : ℕ) (less : first < low) where
 
   pub module_exact : (t : Tree ℕ module_text) (to : ℕ) → is_in_body low high t ≡ true → Ascending 0 (leaves t) to → first_of (identifiers role.Declaring (body_at (way_to low t) t)) ≡ Some first → closing ≡ closing_at (way_to low t) t → is_in_body first closing t ≡ true
   module_exact (is_module x b closing') to lies rising e f =
-      let both = both_true (nat_le high closing') (is_in_block low high b) lies in
+      let both = and_parts (nat_le high closing') (is_in_block low high b) lies in
       let ids = identifiers role.Declaring b in
       let as_procedure : leaves (is_module x b closing') ≡ leaves (declares_procedure x none b closing') = ap (λ l. x ∷ l) (leaves_append ids ((role.ModuleName, closing') ∷ []) ∙ sym (leaves_append ids ((role.ClosingName, closing') ∷ []))) in
       let last = closing_last (way_in_block low b) (declares_procedure x none b closing') 0 to (subst (λ l. Ascending 0 l to) as_procedure rising) in

@@ -8,47 +8,14 @@ use Rattle.ob0_tree.specs.declared.tree.Role.{Role}
 use Rattle.ob0_tree.specs.declared.tree.Role.TheVariants as role
 use Rattle.ob0_tree.specs.Order.{Ascending, names_only}
 use Rattle.ob0_tree.proofs.Occurring.{looked_up_only, looked_up_only-append}
-use Rattle.ob0_scope_table.specs.BodyReplaced.{first_of}
+use Rattle.ob0_tree.specs.FirstIdentifier.{first_of}
+use Rattle.ob0_tree.proofs.AscendingNumbers.{AllBelow, AllFrom, ascend_second, ascending_below, ascending_from, before_one, below_more, from_first, from_less, leaves_append}
+use Rattle.ob0_tree.proofs.MappedIdentifiers.{beside_role}
 use Rattle.ob0_scope_table.specs.Resolution.{declaring_only, ordinal_in}
 use Rattle.ob0_scope_table.proofs.Plain.{declaring_only-append}
-use Rattle.ob0_scope_numbering.proofs.Covered.{AllBelow, ascend_second, before_one, leaves_append}
 use Rattle.ob0_scope_numbering.proofs.Tables.{none_at}
 use Rattle.ob0_scope.specs.Carried.{after_body, before_body, carried, carried_table, shifted}
 use Rattle.ob0_scope.specs.declared.carrying.BodyRange.{BodyRange}
-use Rattle.ob0_scope.proofs.MappedIdentifiers.{beside_role}
-
--- ---- numbers below a limit, and numbers at or above it
-
--- states that no number is below a limit
-abbrev pub AllFrom : ℕ → List ℕ → Type 0
-AllFrom n [] = Unit {0}
-AllFrom n (i ∷ is) = (n ≤ i) × AllFrom n is
-
-pub below_more : (n m : ℕ) (xs : List ℕ) → n ≤ m → AllBelow n xs → AllBelow m xs
-below_more n m [] le h = tt
-below_more n m (x ∷ xs) le h = (omega (arith, le, h.0), below_more n m xs le h.1)
-
-pub from_less : (n m : ℕ) (xs : List ℕ) → n ≤ m → AllFrom m xs → AllFrom n xs
-from_less n m [] le h = tt
-from_less n m (x ∷ xs) le h = (omega (arith, le, h.0), from_less n m xs le h.1)
-
-pub ascending_from : (low : ℕ) (xs : List ℕ) (high : ℕ) → Ascending low xs high → AllFrom low xs
-ascending_from low [] high h = tt
-ascending_from low (x ∷ xs) high h = (h.0, from_less low (x + 1) xs (omega (arith, h.0)) (ascending_from (x + 1) xs high h.1))
-
-pub ascending_below : (low : ℕ) (xs : List ℕ) (high : ℕ) → Ascending low xs high → (low ≤ high) × AllBelow high xs
-ascending_below low [] high h = (h, tt)
-ascending_below low (x ∷ xs) high h =
-    let later = ascending_below (x + 1) xs high h.1 in
-    (omega (arith, h.0, later.0), (omega (arith, later.0), later.1))
-
-pub below_second : (n : ℕ) (xs ys : List ℕ) → AllBelow n (xs ++ ys) → AllBelow n ys
-below_second n [] ys h = h
-below_second n (x ∷ xs) ys h = below_second n xs ys h.1
-
-from_first : (n : ℕ) (xs ys : List ℕ) → AllFrom n (xs ++ ys) → AllFrom n xs
-from_first n [] ys h = tt
-from_first n (x ∷ xs) ys h = (h.0, from_first n xs ys h.1)
 
 -- ---- identifiers in three parts
 

@@ -2,6 +2,7 @@
 use Rattle.std.proofs.Common.{◌≡◌, ℕ, Bool, true, false, not, ◌||◌, Option, Some, None, List, [], ◌∷◌, ◌++◌, map, length, refl, sym, ap, ◌∙◌, subst, is_some, if◌then◌else◌, replicate, ◌==◌}
 use Rattle.std.proofs.lemmas.List.Folds.{list_any-append}
 use Rattle.std.specs.List.{filter, list_any}
+use Rattle.std.proofs.lemmas.Bool.{or_parts}
 use Rattle.ob0_scan.specs.declared.fault.Code.TheVariants as code
 use Rattle.ob0_scan.specs.declared.fault.Fault.{Fault}
 use Rattle.ob0_scan.specs.declared.fault.Code.{Code}
@@ -51,10 +52,6 @@ all_occurrences : (source : Scanned) (ordinals : List (Option ℕ)) (is : List �
 all_occurrences source ordinals [] = refl
 all_occurrences source ordinals (i ∷ is) = occurrences_kept (ordinal_in ordinals i) (span_at source i) (undeclared_at source ordinals is) (all_occurrences source ordinals is)
 
-both_false : (a b : Bool) → (a || b) ≡ false → (a ≡ false) × (b ≡ false)
-both_false true b e = absurd (cc)
-both_false false b e = (refl, e)
-
 not_false : (a : Bool) → not a ≡ false → a ≡ true
 not_false true e = refl
 not_false false e = absurd (cc)
@@ -70,7 +67,7 @@ left_out false f fs gs e h = h
 declarations_left_out : (fs gs : List Fault) → list_any (λ f. not (is_of_declarations f)) fs ≡ false → filter is_of_occurrences (fs ++ gs) ≡ filter is_of_occurrences gs
 declarations_left_out [] gs e = refl
 declarations_left_out (f ∷ fs) gs e =
-    let h = both_false (not (is_of_declarations f)) (list_any (λ f. not (is_of_declarations f)) fs) e in
+    let h = or_parts (not (is_of_declarations f)) (list_any (λ f. not (is_of_declarations f)) fs) e in
     left_out (is_of_occurrences f) f (filter is_of_occurrences (fs ++ gs)) (filter is_of_occurrences gs) (apart f.code f.span (not_false (is_of_declarations f) h.0)) (declarations_left_out fs gs h.1)
 
 no_more : (a b : Bool) → b ≡ false → (a || b) ≡ a

@@ -5,7 +5,7 @@
 use Rattle.std.proofs.Common.{◌≡◌, ◌==◌, ◌||◌, ◌<◌, ◌≤◌, ℕ, ◌+◌, ◌-◌, ◌^◌, Bool, true, false, nat_lt, nat_le, Option, Some, None, List, [], ◌∷◌, ◌++◌, map, length, drop, replicate, get_or, refl, sym, ap, ◌∙◌, subst, arith, append-nil, append_assoc, eq-eqb, eqb-true}
 use Rattle.std.proofs.Math.Dec.{ltb}
 use Rattle.std.proofs.Math.Nat.{min-eq_left}
-use Rattle.std.proofs.lemmas.Bool.{ltb-false, ltb-true}
+use Rattle.std.proofs.lemmas.Bool.{ltb-false, ltb-true, or_parts}
 use Rattle.std.proofs.lemmas.Bool.Decides.{nat_tests}
 use Rattle.std.proofs.lemmas.List.{map-append}
 use Rattle.std.proofs.lemmas.List.Folds.{list_any-append}
@@ -24,7 +24,10 @@ use Rattle.ob0_tree.proofs.Leaves.{leaves_ascend}
 use Rattle.ob0_tree.proofs.Occurring.{looked_up-occurrences, looked_up_only}
 use Rattle.ob0_language_names.specs.Names.{as_names}
 use Rattle.ob0_language_names.specs.Scopes.{relabelled}
-use Rattle.ob0_scope_table.specs.BodyReplaced.{IsBodyReplaced, Way, body_at, closing_at, first_of, moved, way_to, without}
+use Rattle.ob0_tree.specs.FirstIdentifier.{first_of}
+use Rattle.ob0_tree.proofs.AscendingNumbers.{AllBelow, AllFrom, below_more, from_less, leaves_append}
+use Rattle.ob0_tree.proofs.MappedIdentifiers.{beside_role, identifiers-mapped, leaves_mapped}
+use Rattle.ob0_scope_table.specs.BodyReplaced.{IsBodyReplaced, Way, body_at, closing_at, moved, way_to, without}
 use Rattle.ob0_scope_table.specs.DeclaredTwice.{twice_in}
 use Rattle.ob0_scope_table.specs.OneBody.{is_out}
 use Rattle.ob0_scope_table.specs.Resolution.{IsBinding, IsResolution, bound_at, declaring_only, ordinal_in, undeclared_at, with_ordinal}
@@ -37,7 +40,6 @@ use Rattle.ob0_scope_numbering.specs.Marks.{OrdinalMark, with_marks}
 use Rattle.ob0_scope_numbering.specs.Renumbering.{module_renumbered, started_over}
 use Rattle.ob0_scope_numbering.specs.Written.{as_in}
 use Rattle.ob0_scope_numbering.proofs.BodyTables.{HasMarksAt, body_renumbered}
-use Rattle.ob0_scope_numbering.proofs.Covered.{AllBelow, leaves_append}
 use Rattle.ob0_scope_table.proofs.FewTokens.{few_tokens}
 use Rattle.ob0_scope_numbering.proofs.Passing.{HasMarks, at_start, module_passed, tokens_of}
 use Rattle.ob0_scope_numbering.proofs.Tables.{marks_in_table}
@@ -45,10 +47,8 @@ use Rattle.ob0_scope.specs.Carried.{IsNewBody, carried, carried_table, no_names,
 use Rattle.ob0_scope.specs.declared.carrying.BodyRange.{BodyRange}
 use Rattle.ob0_scope.proofs.BodyExact.{module_exact}
 use Rattle.ob0_scope.proofs.BodySplit.{split_module}
-use Rattle.ob0_scope.proofs.CarriedLists.{AllFrom, Parted, below_more, carried_picked, far, from_less, parted, picks_declaring, picks_looked_up, same_parts, some_first, table_after, table_before, table_within}
+use Rattle.ob0_scope.proofs.CarriedLists.{Parted, carried_picked, far, parted, picks_declaring, picks_looked_up, same_parts, some_first, table_after, table_before, table_within}
 use Rattle.ob0_scope.proofs.Made.{resolution_marked}
-use Rattle.ob0_scope.proofs.MappedIdentifiers.{beside_role, identifiers-mapped}
-use Rattle.ob0_scope.proofs.Placed.{leaves-mapped}
 use Rattle.ob0_scope.proofs.WithoutRelabelled.{without_relabelled}
 
 -- ---- the names of a body
@@ -212,7 +212,7 @@ same_outside old new way s before now r was is =
     ∙ (sym (without_relabelled as_names with_ordinal way (named_tree_of m))
     ∙ (ap (without way) bound ∙ without_mapped (bound_at m.source ordinals) (value_at m.source) way (tree_of m))) in
     let listed : (m : Parsed) (ordinals : List (Option ℕ)) → map (λ (p : Option ℕ × List ℕ). p.0) (leaves (mapped (bound_at m.source ordinals) (value_at m.source) (without way (tree_of m)))) ≡ map (ordinal_in ordinals) (leaves (without way (tree_of m))) =
-    λ m ordinals. ap (map (λ (p : Option ℕ × List ℕ). p.0)) (leaves-mapped (bound_at m.source ordinals) (value_at m.source) (without way (tree_of m))) ∙ ordinals_of m.source ordinals (leaves (without way (tree_of m))) in
+    λ m ordinals. ap (map (λ (p : Option ℕ × List ℕ). p.0)) (leaves_mapped (bound_at m.source ordinals) (value_at m.source) (without way (tree_of m))) ∙ ordinals_of m.source ordinals (leaves (without way (tree_of m))) in
     sym (listed new now)
     ∙ (ap (λ t. map (λ (p : Option ℕ × List ℕ). p.0) (leaves t)) (sym (outside new now is) ∙ (ap (relabelled as_names with_ordinal) (names_outside old new way s r) ∙ outside old before was))
     ∙ listed old before)
@@ -260,10 +260,6 @@ module _ (range : BodyRange) (table : List (Option ℕ)) (now : ℕ → Option �
 
 -- ---- tokens that aren't identifiers
 
-both_false : (a b : Bool) → (a || b) ≡ false → (a ≡ false) × (b ≡ false)
-both_false true b e = absurd (cc)
-both_false false b e = (refl, e)
-
 absent_below : (j n : ℕ) (xs : List ℕ) → n ≤ j → AllBelow n xs → list_any (λ i. i == j) xs ≡ false
 absent_below j n [] le h = refl
 absent_below j n (x ∷ xs) le h = one (x == j) refl ∙ absent_below j n xs le h.1
@@ -285,7 +281,7 @@ absent_back f j [] e = refl
 absent_back f j (x ∷ xs) e = one (x == j) refl ∙ absent_back f j xs h.1
   where
     h : ((f x == f j) ≡ false) × (list_any (λ i. i == f j) (map f xs) ≡ false)
-    h = both_false (f x == f j) (list_any (λ i. i == f j) (map f xs)) e
+    h = or_parts (f x == f j) (list_any (λ i. i == f j) (map f xs)) e
 
     one : (b : Bool) → (x == j) ≡ b → (b || list_any (λ i. i == j) xs) ≡ list_any (λ i. i == j) xs
     one true g = absurd (let same : (f x == f j) ≡ true = eq-eqb (f x) (f j) (ap f (eqb-true x j g)) in cc)
@@ -320,10 +316,10 @@ module _ (old new : Parsed) (way : Way) (range : BodyRange) (known : Known old n
       absent = ap (list_any (λ i. i == token)) (sym new_names) ∙ e
 
       apart : (list_any (λ i. i == token) before_names ≡ false) × (list_any (λ i. i == token) (names_only known.others ++ map (far range) after_names) ≡ false)
-      apart = both_false (list_any (λ i. i == token) before_names) (list_any (λ i. i == token) (names_only known.others ++ map (far range) after_names)) (sym (list_any-append (λ i. i == token) before_names (names_only known.others ++ map (far range) after_names)) ∙ absent)
+      apart = or_parts (list_any (λ i. i == token) before_names) (list_any (λ i. i == token) (names_only known.others ++ map (far range) after_names)) (sym (list_any-append (λ i. i == token) before_names (names_only known.others ++ map (far range) after_names)) ∙ absent)
 
       last : list_any (λ i. i == token) (map (far range) after_names) ≡ false
-      last = (both_false (list_any (λ i. i == token) (names_only known.others)) (list_any (λ i. i == token) (map (far range) after_names)) (sym (list_any-append (λ i. i == token) (names_only known.others) (map (far range) after_names)) ∙ apart.1)).1
+      last = (or_parts (list_any (λ i. i == token) (names_only known.others)) (list_any (λ i. i == token) (map (far range) after_names)) (sym (list_any-append (λ i. i == token) (names_only known.others) (map (far range) after_names)) ∙ apart.1)).1
 
       first_case : token < range.first → ordinal_in (carried_table range table) token ≡ None
       first_case h =

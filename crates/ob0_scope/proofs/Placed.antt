@@ -15,6 +15,7 @@ use Rattle.ob0_tree.specs.Places.{text_at, value_at}
 use Rattle.ob0_tree.specs.Tree.{Sort, Tree, identifiers, mapped, spell}
 use Rattle.ob0_tree.specs.declared.tree.Role.{Role}
 use Rattle.ob0_tree.specs.declared.tree.Role.TheVariants as role
+use Rattle.ob0_tree.proofs.MappedIdentifiers.{leaves_mapped}
 use Rattle.ob0_language_names.specs.Names.{Label, as_names, declared, same_label}
 use Rattle.ob0_language_names.specs.Occurrences.{label_ordinal}
 use Rattle.ob0_scope_table.specs.Resolution.{IsResolution, Resolution, label_at, ordinal_in, span_at}
@@ -24,18 +25,6 @@ use Rattle.ob0_scope.specs.declared.naming.Named as named
 use Rattle.ob0_scope.specs.Listing.{is_identifier, is_name_on}
 use Rattle.ob0_scope_table.specs.Spans.{is_on}
 use Rattle.ob0_scope.specs.NamesAtPlaces.{BoundIdentifier, is_declaring, name_on, named_by, refers, bound_identifiers, tokens_bound}
-
-names_mapped : {N M : Type 0} (f : N → M) (g : ℕ → ℕ) (xs : List (Terminal N)) → lexeme_names (map (relabelled f g) xs) ≡ map f (lexeme_names xs)
-names_mapped f g [] = refl
-names_mapped f g (Name n ∷ xs) = ap (λ z. f n ∷ z) (names_mapped f g xs)
-names_mapped f g (Number n ∷ xs) = names_mapped f g xs
-names_mapped f g (Mark k ∷ xs) = names_mapped f g xs
-names_mapped f g (EndOfText ∷ xs) = names_mapped f g xs
-
-pub leaves-mapped : {N M : Type 0} {s : Sort} (f : N → M) (g : ℕ → ℕ) (t : Tree N s) → leaves (mapped f g t) ≡ map f (leaves t)
-leaves-mapped f g t =
-    leaves_spelled role.Declaring (mapped f g t)
-    ∙ (ap lexeme_names (spell_mapped f g t) ∙ (names_mapped f g (spell t) ∙ ap (map f) (sym (leaves_spelled role.Declaring t))))
 
 -- an identifier with the label of its token
 abbrev bound_by : (ℕ → Label) → Role × ℕ → BoundIdentifier
@@ -49,7 +38,7 @@ pub bound_by_table : (r : Resolution) → IsResolution r → bound_identifiers r
 bound_by_table r is =
     let m = r.module_read in
     let ids = identifiers role.Declaring (tree_of m) in
-    ap (zip ids) (ap leaves is.numbering ∙ leaves-mapped (label_at m.source r.ordinals) (value_at m.source) (tree_of m))
+    ap (zip ids) (ap leaves is.numbering ∙ leaves_mapped (label_at m.source r.ordinals) (value_at m.source) (tree_of m))
     ∙ zipped (label_at m.source r.ordinals) ids
 
 -- references

@@ -15,6 +15,7 @@ use Rattle.ob0_tree.specs.Parsed.{tree_of}
 use Rattle.ob0_tree.specs.Places.{text_at, value_at}
 use Rattle.ob0_tree.specs.Tree.{identifiers, mapped}
 use Rattle.ob0_tree.proofs.Leaves.{leaves_ascend}
+use Rattle.ob0_tree.proofs.MappedIdentifiers.{leaves_mapped}
 use Rattle.ob0_language_names.specs.Names.{as_names}
 use Rattle.ob0_language_names.specs.Occurrences.{label_ordinal}
 use Rattle.ob0_scope_table.specs.Resolution.{IsResolution, Resolution, declaring_only, label_at, ordinal_in, token_declaring}
@@ -25,7 +26,7 @@ use Rattle.ob0_scope_numbering.specs.Marks.{OrdinalMark, with_marks}
 use Rattle.ob0_scope.specs.NamesAtPlaces.{is_declaring, tokens_bound}
 use Rattle.ob0_scope_numbering.specs.Written.{as_in}
 use Rattle.ob0_scope_numbering.proofs.Passing.{AreInOrder, HasMarks, IsBefore, at_start, module_passed, tokens_of}
-use Rattle.ob0_scope.proofs.Placed.{bound_listed, is_listed, leaves-mapped, tokens_listed}
+use Rattle.ob0_scope.proofs.Placed.{bound_listed, is_listed, tokens_listed}
 use Rattle.ob0_scope.proofs.Renumbered.{ordinals_back}
 use Rattle.ob0_scope_numbering.proofs.Tables.{marks_in_table}
 
@@ -46,7 +47,7 @@ marks_resolved r is =
     let passed = module_passed (ordinal_in made) (as_label as_names) w (tree_of m) (started w) (at_start w) in
     let same : mapped (label_at m.source made) (value_at m.source) (tree_of m) ≡ mapped (label_at m.source r.ordinals) (value_at m.source) (tree_of m) = sym (passed.agree are_there).1 ∙ is.numbering in
     let read : (ordinals : List (Option ℕ)) → map label_ordinal (leaves (mapped (label_at m.source ordinals) (value_at m.source) (tree_of m))) ≡ map (ordinal_in ordinals) (leaves (tree_of m)) =
-    λ ordinals. ap (map label_ordinal) (leaves-mapped (label_at m.source ordinals) (value_at m.source) (tree_of m)) ∙ ordinals_back (λ i. text_at m.source i) ordinals (leaves (tree_of m)) in
+    λ ordinals. ap (map label_ordinal) (leaves_mapped (label_at m.source ordinals) (value_at m.source) (tree_of m)) ∙ ordinals_back (λ i. text_at m.source i) ordinals (leaves (tree_of m)) in
     let each : map (ordinal_in made) (leaves (tree_of m)) ≡ map (ordinal_in r.ordinals) (leaves (tree_of m)) = sym (read made) ∙ (ap (λ t. map label_ordinal (leaves t)) same ∙ read r.ordinals) in
     marks_same (ordinal_in made) (ordinal_in r.ordinals) marks (subst (λ ts. map (ordinal_in made) ts ≡ map (ordinal_in r.ordinals) ts) (sym passed.tokens) each) are_there
 

@@ -7,7 +7,8 @@ use Rattle.ob0_tree.specs.declared.tree.Role.{Role}
 use Rattle.ob0_tree.specs.declared.tree.Role.TheVariants as role
 use Rattle.ob0_tree.specs.Parsed.{Parsed, tree_of}
 use Rattle.ob0_tree.specs.Tree.{identifiers, occurrences}
-use Rattle.ob0_scope_table.specs.BodyReplaced.{body_at, closing_at, first_of, way_to}
+use Rattle.ob0_tree.specs.FirstIdentifier.{first_of}
+use Rattle.ob0_scope_table.specs.BodyReplaced.{body_at, closing_at, way_to}
 use Rattle.ob0_scope_table.specs.declared.resolved.Bindings.{Bindings}
 use Rattle.ob0_scope.specs.NewBody.{WasBoundElsewhere}
 use Rattle.ob0_scope.specs.declared.carrying.BodyRange.{BodyRange}

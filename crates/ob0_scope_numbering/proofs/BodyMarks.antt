@@ -4,10 +4,12 @@ use Rattle.std.proofs.Common.{◌≡◌, ◌<◌, ◌≤◌, ℕ, ◌+◌, Bool,
 use Rattle.std.proofs.lemmas.Bool.Decides.{nat_tests}
 use Rattle.std.proofs.lemmas.List.{append_cancel_left, map-append}
 use Rattle.std.proofs.Math.Seq.{drop-append_seam}
+use Rattle.std.proofs.lemmas.Bool.{and_parts}
 use Rattle.ob0_tree.specs.declared.tree.Role.{Role}
 use Rattle.ob0_tree.specs.declared.tree.Role.TheVariants as role
 use Rattle.ob0_tree.specs.Order.{Ascending, leaves, names_only}
 use Rattle.ob0_tree.specs.Tree.{Tree, block, body, declares, declares_procedure, end, has_body, identifiers, is_module, item, items, maybe, module_text, more, procedure}
+use Rattle.ob0_tree.proofs.AscendingNumbers.{AllBelow, ascend_first, ascend_past, ascend_second, before_one, below_more, below_second, leaves_append}
 use Rattle.ob0_language_names.specs.Names.{Name}
 use Rattle.ob0_language_names.specs.Parts.{procedure_name}
 use Rattle.ob0_scope_table.specs.OneBody.{closing_name, is_in_block, is_in_body, is_in_procedure, is_in_procedures, is_out}
@@ -18,7 +20,7 @@ use Rattle.ob0_scope_numbering.specs.Marks.{OrdinalMark}
 use Rattle.ob0_scope_numbering.specs.Renumbering.{caught_up, first_before, passed_over, renumber_block, renumber_procedure, renumber_procedures}
 use Rattle.ob0_scope_numbering.specs.Written.{Writing, name_at}
 use Rattle.ob0_scope_numbering.proofs.Alongside.{Adds, Alike, AllOut, Beside, Goes, adds_then, declared_goes, ending_goes, goes_then, heading_goes, marked_goes, out_parts, out_split, procedure_goes, procedures_go, used_adds, used_goes}
-use Rattle.ob0_scope_numbering.proofs.Covered.{AllBelow, Covers, above_out, ascend_first, ascend_second, before_one, below_block, below_out, below_procedures, covers_all, covers_both, covers_more, covers_none, covers_same, is_above_out, leaves_append}
+use Rattle.ob0_scope_numbering.proofs.Covered.{Covers, above_out, below_block, below_out, below_procedures, covers_all, covers_both, covers_more, covers_none, covers_same, is_above_out}
 use Rattle.ob0_scope_numbering.proofs.Tabled.{marks_again}
 use Rattle.ob0_scope_numbering.proofs.Passing.{At, at_itself, at_start, constant_section_passed, heading_passed, pass_then, procedure_passed, procedures_passed, spelled, tokens_of, type_section_passed, used_passed, variable_section_passed}
 
@@ -60,22 +62,6 @@ stops_at : (x : ℕ) (xs extra : List ℕ) → AllBelow x xs → first_before x 
 stops_at x [] extra h = ap (λ b. if b then x ∷ first_before x extra else []) (not_itself x)
 stops_at x (y ∷ ys) extra h =
     ap (λ b. if b then y ∷ first_before x (ys ++ (x ∷ extra)) else []) (is_less y x h.0) ∙ ap (λ l. y ∷ l) (stops_at x ys extra h.1)
-
-below_second : (n : ℕ) (xs ys : List ℕ) → AllBelow n (xs ++ ys) → AllBelow n ys
-below_second n [] ys h = h
-below_second n (x ∷ xs) ys h = below_second n xs ys h.1
-
-below_more : (n m : ℕ) (xs : List ℕ) → n ≤ m → AllBelow n xs → AllBelow m xs
-below_more n m [] le h = tt
-below_more n m (x ∷ xs) le h = (omega (arith, le, h.0), below_more n m xs le h.1)
-
-ascend_past : (from : ℕ) (xs : List ℕ) (y : ℕ) (ys : List ℕ) (to : ℕ) → Ascending from (xs ++ (y ∷ ys)) to → Ascending (y + 1) ys to
-ascend_past from [] y ys to h = h.1
-ascend_past from (x ∷ xs) y ys to h = ascend_past (x + 1) xs y ys to h.1
-
-both_true : (a b : Bool) → (a && b) ≡ true → (a ≡ true) × (b ≡ true)
-both_true true b e = (refl, e)
-both_true false b e = absurd (cc)
 
 -- ---- a procedure's tokens end with its closing name
 
@@ -239,7 +225,7 @@ module _ (old new : Writing) (all : List ℕ) (bound low high : ℕ) (same : (i 
       record { near = goes_then out old new same n r.near; added = r.added; is = r.is; covers = covers_both out covered r.covers }
   one_procedure q ps statements o w v from to rest later here first at near on parts false e inside_it =
       let v₁ = caught_up all (procedure_name q) v in
-      let both = both_true (nat_le high (closing_name q)) (is_in_procedure low high q) inside_it in
+      let both = and_parts (nat_le high (closing_name q)) (is_in_procedure low high q) inside_it in
       let reaches_end = both.0 in
       let le : high ≤ closing_name q = grind (arith, nat_tests) in
       let passed = procedure_passed nowhere written new value q w w.scope (7 + length w.declarations) at in
@@ -366,7 +352,7 @@ module _ (old new : Writing) (all : List ℕ) (bound low high : ℕ) (same : (i 
   module_marked (is_module x b closing) to lies rising declared =
       let i = identifiers role.Declaring b in
       let last : List (Role × ℕ) = (role.ModuleName, closing) ∷ [] in
-      let both = both_true (nat_le high closing) (is_in_block low high b) lies in
+      let both = and_parts (nat_le high closing) (is_in_block low high b) lies in
       let le : high ≤ closing = grind (arith, nat_tests) in
       let o = started old in
       let w = started new in

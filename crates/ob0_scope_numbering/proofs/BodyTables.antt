@@ -8,7 +8,7 @@ use Rattle.ob0_tree.specs.declared.tree.Role.TheVariants as role
 use Rattle.ob0_tree.specs.Order.{Ascending, leaves}
 use Rattle.ob0_tree.specs.Parsed.{IsParsed, Parsed, tree_of}
 use Rattle.ob0_tree.specs.Tree.{identifiers}
-use Rattle.ob0_tree.proofs.Leaves.{ascending_lower, leaves_ascend}
+use Rattle.ob0_tree.proofs.Leaves.{ascending_bounds, ascending_lower, leaves_ascend}
 use Rattle.ob0_language_names.specs.Names.{as_names}
 use Rattle.ob0_language_names.specs.Scopes.{as_label}
 use Rattle.ob0_scope_table.specs.OneBody.{IsBodyChange, is_in_body, is_out}
@@ -69,10 +69,6 @@ marks_alike out read (o ∷ os) [] has alike = absurd alike
 marks_alike out read (o ∷ os) (m ∷ ms) has alike =
     (λ e. ap read (sym alike.0) ∙ (has.0 ∙ alike.1.0 (subst (λ i. out i ≡ true) (sym alike.0) e)), marks_alike out read os ms has.1 alike.1.1)
 
-bounds : (low : ℕ) (xs : List ℕ) (high : ℕ) → Ascending low xs high → low ≤ high
-bounds low [] high h = h
-bounds low (x ∷ xs) high h = let later = bounds (x + 1) xs high h.1 in omega (arith, h.0, later)
-
 -- a table with the marks outside a body has all marks after entering the marks of the body
 covered_marks : (out : ℕ → Bool) (table : List (Option ℕ)) {ms ns : List OrdinalMark} (low high : ℕ) → HasMarksAt out (ordinal_in table) ms → Covers out ms ns → Ascending low (tokens_of ms) high → high ≤ length table
     → HasMarks (ordinal_in (with_marks table ns)) ms
@@ -81,7 +77,7 @@ covered_marks out table low high has (covers_one {ms} {ns} m p) ascend within =
     let next : List (Option ℕ) = set table m.token m.ordinal in
     let here : m.token < m.token + 1 = omega arith in
     let others = covers_ascend out (m.token + 1) high p ascend.1 in
-    let last = bounds (m.token + 1) (tokens_of ms) high ascend.1 in
+    let last = ascending_bounds (m.token + 1) (tokens_of ms) high ascend.1 in
     let inside : m.token < length table = omega (arith, last, within) in
     let still : high ≤ length next = subst (λ n. high ≤ n) (sym (length-set table m.token m.ordinal)) within in
     let older = kept_marks out table m.token m.ordinal ms high ascend.1 has.1 in

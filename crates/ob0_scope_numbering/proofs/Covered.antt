@@ -3,26 +3,18 @@
 use Rattle.std.proofs.Common.{◌≡◌, ◌<◌, ◌≤◌, ℕ, ◌+◌, Bool, true, false, ◌&&◌, ◌||◌, nat_le, nat_lt, if◌then◌else◌, List, [], ◌∷◌, ◌++◌, refl, subst, arith, append_assoc}
 use Rattle.std.proofs.lemmas.List.{map-append}
 use Rattle.std.proofs.lemmas.Bool.Decides.{nat_tests}
+use Rattle.std.proofs.lemmas.Bool.{and_parts}
 use Rattle.ob0_tree.specs.declared.tree.Role.{Role}
 use Rattle.ob0_tree.specs.declared.tree.Role.TheVariants as role
 use Rattle.ob0_tree.specs.Order.{Ascending, leaves, names_only}
 use Rattle.ob0_tree.specs.Tree.{Tree, block, body, declares, declares_procedure, end, has_body, identifiers, item, items, maybe, more, procedure}
-use Rattle.ob0_tree.proofs.Leaves.{ascending_bounds, ascending_lower}
+use Rattle.ob0_tree.proofs.Leaves.{ascending_lower}
+use Rattle.ob0_tree.proofs.AscendingNumbers.{AllBelow, ascend_first, ascend_second, before_one, below_first, below_more, leaves_append}
 use Rattle.ob0_scope_table.specs.OneBody.{begins_by, closing_name, is_in_block, is_in_procedure, is_in_procedures, is_out}
 use Rattle.ob0_scope_table.specs.Resolution.{declaring_only}
 use Rattle.ob0_scope_numbering.specs.Marks.{OrdinalMark}
 use Rattle.ob0_scope_numbering.proofs.Alongside.{AllOut}
 use Rattle.ob0_scope_numbering.proofs.Passing.{tokens_of}
-
--- ---- numbers that ascend
-
-pub ascend_first : (low : ℕ) (xs ys : List ℕ) (high : ℕ) → Ascending low (xs ++ ys) high → Ascending low xs high
-ascend_first low [] ys high h = ascending_bounds low ys high h
-ascend_first low (x ∷ xs) ys high h = (h.0, ascend_first (x + 1) xs ys high h.1)
-
-pub ascend_second : (low : ℕ) (xs ys : List ℕ) (high : ℕ) → Ascending low (xs ++ ys) high → Ascending low ys high
-ascend_second low [] ys high h = h
-ascend_second low (x ∷ xs) ys high h = ascending_lower low (x + 1) ys high (omega (arith, h.0)) (ascend_second (x + 1) xs ys high h.1)
 
 -- the declaring identifiers ascend if all identifiers do
 pub declaring_ascend : (xs : List (Role × ℕ)) (low high : ℕ) → Ascending low (names_only xs) high → Ascending low (declaring_only xs) high
@@ -32,26 +24,6 @@ declaring_ascend ((role.LookedUp, n) ∷ xs) low high h = ascending_lower low (n
 declaring_ascend ((role.ClosingName, n) ∷ xs) low high h = ascending_lower low (n + 1) (declaring_only xs) high (omega (arith, h.0)) (declaring_ascend xs (n + 1) high h.1)
 declaring_ascend ((role.FieldName, n) ∷ xs) low high h = ascending_lower low (n + 1) (declaring_only xs) high (omega (arith, h.0)) (declaring_ascend xs (n + 1) high h.1)
 declaring_ascend ((role.ModuleName, n) ∷ xs) low high h = ascending_lower low (n + 1) (declaring_only xs) high (omega (arith, h.0)) (declaring_ascend xs (n + 1) high h.1)
-
--- states that all numbers are below a number
-abbrev pub AllBelow : ℕ → List ℕ → Type 0
-AllBelow n [] = Unit {0}
-AllBelow n (i ∷ is) = (i < n) × AllBelow n is
-
-pub below_first : (n : ℕ) (xs ys : List ℕ) → AllBelow n (xs ++ ys) → AllBelow n xs
-below_first n [] ys h = tt
-below_first n (x ∷ xs) ys h = (h.0, below_first n xs ys h.1)
-
-below_more : (n m : ℕ) (xs : List ℕ) → n ≤ m → AllBelow n xs → AllBelow m xs
-below_more n m [] le h = tt
-below_more n m (x ∷ xs) le h = (omega (arith, le, h.0), below_more n m xs le h.1)
-
--- the numbers before one of some that ascend
-pub before_one : (low : ℕ) (xs : List ℕ) (y : ℕ) (ys : List ℕ) (high : ℕ) → Ascending low (xs ++ (y ∷ ys)) high → AllBelow y xs
-before_one low [] y ys high h = tt
-before_one low (x ∷ xs) y ys high h =
-    let later = ascend_second (x + 1) xs (y ∷ ys) high h.1 in
-    (omega (arith, later.0), before_one (x + 1) xs y ys high h.1)
 
 is_below_out : (low high i : ℕ) → i < low → is_out low high i ≡ true
 is_below_out low high i less = one (nat_lt i low) refl
@@ -78,16 +50,9 @@ above_out low high from (x ∷ xs) to le h = (is_above_out low high x (omega (ar
 
 -- ---- the tokens before the body are before the range
 
-both_true : (a b : Bool) → (a && b) ≡ true → (a ≡ true) × (b ≡ true)
-both_true true b e = (refl, e)
-both_true false b e = absurd (cc)
-
 begun : (low high : ℕ) (pre : List ℕ) (xs : List (Role × ℕ)) (from to : ℕ) → begins_by low xs ≡ true → Ascending from (pre ++ names_only xs) to → AllBelow low pre
 begun low high pre [] from to e h = absurd (cc)
 begun low high pre (x ∷ xs) from to e h = let le : x.1 ≤ low = grind (arith, nat_tests) in below_more x.1 low pre le (before_one from pre x.1 (names_only xs) to h)
-
-pub leaves_append : (xs ys : List (Role × ℕ)) → names_only (xs ++ ys) ≡ names_only xs ++ names_only ys
-leaves_append xs ys = map-append (λ (x : Role × ℕ). x.1) xs ys
 
 -- the identifiers before a block's procedures and statements
 abbrev pub sections : Tree ℕ block → List (Role × ℕ)
@@ -120,7 +85,7 @@ module _ (low high : ℕ) where
             below_first low pre (leaves p) (later g (subst (λ l. Ascending from l to) split h))
         one later here false g =
             let split : pre ++ (names_only (identifiers role.Declaring p ++ identifiers role.Declaring ps) ++ leaves statements) ≡ (pre ++ leaves p) ++ (leaves ps ++ leaves statements) = simp (leaves_append, append_assoc) in
-            here (both_true (nat_le high (closing_name p)) (is_in_procedure low high p) g).1 (ascend_first from (pre ++ leaves p) (leaves ps ++ leaves statements) to (subst (λ l. Ascending from l to) split h))
+            here (and_parts (nat_le high (closing_name p)) (is_in_procedure low high p) g).1 (ascend_first from (pre ++ leaves p) (leaves ps ++ leaves statements) to (subst (λ l. Ascending from l to) split h))
 
     pub below_procedure : (p : Tree ℕ (item procedure)) (pre : List ℕ) (from to : ℕ) → is_in_procedure low high p ≡ true → Ascending from (pre ++ leaves p) to → AllBelow low pre
     below_procedure (declares_procedure x fs b closing) pre from to e h =

@@ -1,13 +1,13 @@
 -- A table into which marks at ascending tokens were entered has each mark's ordinal at its token.
 use Rattle.std.proofs.Common.{◌≡◌, ◌≢◌, ◌==◌, ◌||◌, ℕ, ◌+◌, ◌<◌, ◌≤◌, Bool, true, false, Option, None, List, [], ◌∷◌, length, replicate, set, refl, sym, ◌∙◌, subst, arith, get_or-set_other, get_or-set_same, ap, le_refl}
 use Rattle.std.proofs.Math.Dec.{ltb}
-use Rattle.std.proofs.lemmas.Bool.{eqb-false, ltb-false, ltb-true}
+use Rattle.std.proofs.lemmas.Bool.{eqb-false, ltb-false, ltb-true, or_parts}
 use Rattle.std.proofs.lemmas.List.{get_or-replicate, get_or_past, length-replicate}
 use Rattle.std.specs.List.{list_any}
 use Rattle.std.proofs.Math.ListN.{length-set}
 use Rattle.ob0_tree.specs.Order.{Ascending}
 use Rattle.ob0_tree.specs.Parsed.{IsParsed, Parsed, tree_of}
-use Rattle.ob0_tree.proofs.Leaves.{leaves_ascend}
+use Rattle.ob0_tree.proofs.Leaves.{ascending_bounds, leaves_ascend}
 use Rattle.ob0_scope_numbering.specs.Marking.{Visit, started, visit_module}
 use Rattle.ob0_scope_numbering.specs.Marks.{OrdinalMark, with_marks}
 use Rattle.ob0_scope_numbering.specs.Written.{Writing}
@@ -15,10 +15,6 @@ use Rattle.ob0_language_names.specs.Names.{as_names}
 use Rattle.ob0_language_names.specs.Scopes.{as_label}
 use Rattle.ob0_scope_table.specs.Resolution.{ordinal_in}
 use Rattle.ob0_scope_numbering.proofs.Passing.{HasMarks, at_start, module_passed, tokens_of}
-
-ascends_to : (low : ℕ) (xs : List ℕ) (high : ℕ) → Ascending low xs high → low ≤ high
-ascends_to low [] high h = h
-ascends_to low (x ∷ xs) high h = let later = ascends_to (x + 1) xs high h.1 in omega (arith, h.0, later)
 
 -- entries before the marks are unchanged
 pub kept_below : (ms : List OrdinalMark) (table : List (Option ℕ)) (low high i : ℕ) → Ascending low (tokens_of ms) high → i < low → ordinal_in (with_marks table ms) i ≡ ordinal_in table i
@@ -33,20 +29,16 @@ marks_are_there [] table low high ascend within = tt
 marks_are_there (m ∷ ms) table low high ascend within =
     let next : List (Option ℕ) = set table m.token m.ordinal in
     let here : m.token < m.token + 1 = omega arith in
-    let last = ascends_to (m.token + 1) (tokens_of ms) high ascend.1 in
+    let last = ascending_bounds (m.token + 1) (tokens_of ms) high ascend.1 in
     let inside : m.token < length table = omega (arith, last, within) in
     let still : high ≤ length next = subst (λ n. high ≤ n) (sym (length-set table m.token m.ordinal)) within in
     (kept_below ms next (m.token + 1) high m.token ascend.1 here ∙ get_or-set_same table m.token m.ordinal None inside, marks_are_there ms next (m.token + 1) high ascend.1 still)
-
-both_false : (a b : Bool) → (a || b) ≡ false → (a ≡ false) × (b ≡ false)
-both_false true b e = absurd (cc)
-both_false false b e = (refl, e)
 
 -- an entry that isn't at any mark's token is unchanged
 pub kept_elsewhere : (ms : List OrdinalMark) (table : List (Option ℕ)) (i : ℕ) → list_any (λ j. j == i) (tokens_of ms) ≡ false → ordinal_in (with_marks table ms) i ≡ ordinal_in table i
 kept_elsewhere [] table i e = refl
 kept_elsewhere (m ∷ ms) table i e =
-    let h = both_false (m.token == i) (list_any (λ j. j == i) (tokens_of ms)) e in
+    let h = or_parts (m.token == i) (list_any (λ j. j == i) (tokens_of ms)) e in
     let other : i ≢ m.token = λ same. eqb-false m.token i h.0 (sym same) in
     kept_elsewhere ms (set table m.token m.ordinal) i h.1 ∙ get_or-set_other table m.token i m.ordinal None other
 

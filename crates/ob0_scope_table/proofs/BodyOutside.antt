@@ -2,6 +2,7 @@
 -- tokens that the body contains. The reason is that they ascend, and that the body's first
 -- identifier isn't after the start of the range.
 use Rattle.std.proofs.Common.{◌≡◌, ◌<◌, ◌≤◌, ℕ, zero, ◌+◌, Bool, true, false, ◌&&◌, ◌||◌, nat_le, nat_lt, if◌then◌else◌, List, [], ◌∷◌, ◌++◌, refl, sym, ap, ◌∙◌, subst, arith, append_assoc, le_refl, lt-ltb, le-leb, leb-true, ltb-true}
+use Rattle.std.proofs.lemmas.Bool.{and_parts, or_left, or_right}
 use Rattle.ob0_tree.specs.declared.tree.Role.{Role}
 use Rattle.ob0_tree.specs.declared.tree.Role.TheVariants as role
 use Rattle.ob0_tree.specs.Lexeme.{EndOfText, Mark, Name, Number, Terminal}
@@ -71,18 +72,6 @@ begins_terminals least low (Number n ∷ xs) high h b =
 begins_terminals least low (Mark k ∷ xs) high h b = begins_terminals least low xs high h b
 begins_terminals least low (EndOfText ∷ xs) high h b = begins_terminals least low xs high h b
 
-both_true : (a b : Bool) → (a && b) ≡ true → (a ≡ true) × (b ≡ true)
-both_true true b e = (refl, e)
-both_true false b e = absurd (cc)
-
-out_if_below : (a b : Bool) → a ≡ true → (a || b) ≡ true
-out_if_below true b e = refl
-out_if_below false b e = absurd (cc)
-
-out_if_above : (a b : Bool) → b ≡ true → (a || b) ≡ true
-out_if_above true b e = refl
-out_if_above false b e = e
-
 -- ---- the tokens of a block without a body
 
 module _ (P : ℕ → Type 0) where
@@ -105,10 +94,10 @@ module _ (P : ℕ → Type 0) where
 
 module _ (low high : ℕ) (P : ℕ → Type 0) (out : (k : ℕ) → is_out low high k ≡ true → P k) where
   is_below : (k : ℕ) → k < low → P k
-  is_below k less = out k (out_if_below (nat_lt k low) (nat_le high k) (lt-ltb k low less))
+  is_below k less = out k (or_left (nat_lt k low) (nat_le high k) (lt-ltb k low less))
 
   is_above : (k : ℕ) → high ≤ k → P k
-  is_above k le = out k (out_if_above (nat_lt k low) (nat_le high k) (le-leb high k le))
+  is_above k le = out k (or_right (nat_lt k low) (nat_le high k) (le-leb high k le))
 
   all_below : (least : ℕ) (xs : List ℕ) (top : ℕ) → Ascending least xs top → top ≤ low → AllOf P xs
   all_below least [] top h le = tt
@@ -216,7 +205,7 @@ module _ (low high : ℕ) (P : ℕ → Type 0) (out : (k : ℕ) → is_out low h
                 begins = subst (Begins low) (sym e) (begins_before least low (places p) others top all f.begins);
               }
           | false ↦ λ after is.
-              let parts = both_true (nat_le high (closing_name p)) (is_in_procedure low high p) is in
+              let parts = and_parts (nat_le high (closing_name p)) (is_in_procedure low high p) is in
               let reaches = leb-true high (closing_name p) parts.0 in
               let f = procedure_found least s.middle p s.first reaches parts.1 in
               let less = closes_below p least s.middle s.first in
@@ -239,7 +228,7 @@ module _ (low high : ℕ) (P : ℕ → Type 0) (out : (k : ℕ) → is_out low h
 
   pub module_outside : (least top : ℕ) (m : Tree ℕ module_text) → Ascending least (places m) top → is_in_body low high m ≡ true → EachToken P (without (way_to low m) m)
   module_outside least top (is_module x b closing) h is =
-      let parts = both_true (nat_le high closing) (is_in_block low high b) is in
+      let parts = and_parts (nat_le high closing) (is_in_block low high b) is in
       let reaches = leb-true high closing parts.0 in
       let w = with_block x [] b closing least top h reaches (λ start asc. block_found start closing b asc reaches parts.1) in
       (w.0.0, w.1, w.2)

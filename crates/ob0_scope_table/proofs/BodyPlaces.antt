@@ -2,24 +2,23 @@
 -- after the other.
 use Rattle.std.proofs.Common.{◌≡◌, ◌<◌, ◌≤◌, ℕ, zero, ◌+◌, Bool, true, false, ◌&&◌, if◌then◌else◌, nat_le, nat_lt, Option, Some, None, is_some, option_map, List, [], ◌∷◌, length, drop, get_or, refl, sym, ap, ◌∙◌, arith}
 use Rattle.std.proofs.lemmas.List.{drop_all, drop_more}
+use Rattle.std.proofs.lemmas.Option.{same_Some}
 use Rattle.ob0_tree.specs.declared.tree.Role.{Role}
 use Rattle.ob0_tree.specs.declared.tree.Role.TheVariants as role
-use Rattle.ob0_tree.specs.Tree.{Tree, block, body, constants, declares, declares_procedure, end, has_body, identifiers, item, items, maybe, module_text, more, procedure, type_names, variables}
+use Rattle.ob0_tree.specs.Tree.{Tree, block, body, constants, declares, declares_procedure, end, has_body, identifiers, is_module, item, items, maybe, module_text, more, procedure, type_names, variables}
 use Rattle.ob0_tree.specs.View.{block_of, body_of, constants_of, items_of, procedure_of, types_of, variables_of}
 use Rattle.ob0_tree.specs.declared.tree.Block.{Block, out-Block}
 use Rattle.ob0_tree.specs.declared.tree.Procedure.{Procedure, out-Procedure}
 use Rattle.ob0_tree.proofs.Viewed.{block_parts, procedure_parts}
 use Rattle.ob0_scope_table.specs.BodyPlaces.{body_place, place_if, place_in_block, place_in_procedure}
-use Rattle.ob0_scope_table.specs.BodyReplaced.{Way, body_at, body_in, body_inside, closing_at, closing_in, closing_inside, first_of, later, way_among, way_in_procedure, way_to}
+use Rattle.ob0_tree.specs.FirstIdentifier.{first_of}
+use Rattle.ob0_scope_table.specs.BodyReplaced.{Way, body_at, body_in, body_inside, closing_at, closing_in, closing_inside, later, way_among, way_in_block, way_in_procedure, way_to}
 use Rattle.ob0_scope_table.specs.OneBody.{begins_by, closing_name, is_in_block, is_in_body, is_in_procedure, is_in_procedures}
 use Rattle.ob0_scope_table.specs.declared.one_body.BodyPlace.{BodyPlace}
 use Rattle.ob0_scope_table.proofs.OneBody.{le_false, le_true, less_false, less_true}
 
 abbrev pub a_place : ℕ → ℕ → Option BodyPlace
 a_place first closing = Some (record { first = first; closing = closing })
-
-some_same : {A : Type 0} (x y : A) → Some x ≡ Some y → x ≡ y
-some_same x y e = ap (λ o. elim o [ Some z ↦ z | None ↦ x ]) e
 
 -- ---- the properties of a place
 
@@ -33,7 +32,7 @@ place_there : (statements : Tree ℕ (maybe body)) (closing : ℕ) (p : BodyPlac
     → option_map (λ first. record { first = first; closing = closing }) o ≡ Some p → IsPlaceOf true statements closing p
 place_there statements closing p None is e = absurd (cc)
 place_there statements closing p (Some first) is e =
-    let same = some_same (record { first = first; closing = closing }) p e in
+    let same = same_Some (record { first = first; closing = closing }) p e in
     record { is_sought = refl; first = is ∙ ap (λ (q : BodyPlace). Some q.first) same; closes = ap (λ (q : BodyPlace). q.closing) same }
 
 place_read : (sought : Bool) (statements : Tree ℕ (maybe body)) (closing : ℕ) (p : BodyPlace) → place_if sought statements closing ≡ Some p → IsPlaceOf sought statements closing p
@@ -58,13 +57,13 @@ module _ (low closing : ℕ) where
   by_after : (xs : List (Role × ℕ)) (first : ℕ) → first_of xs ≡ Some first → low < first → None ≡ place_by low closing xs
   by_after [] first e less = refl
   by_after (x ∷ xs) first e less =
-      let same = some_same x.1 first e in
+      let same = same_Some x.1 first e in
       ap (λ b. if b then a_place x.1 closing else None) (sym (le_false x.1 low (omega (arith, same, less))))
 
   by_from : (xs : List (Role × ℕ)) (first : ℕ) → first_of xs ≡ Some first → first ≤ low → a_place first closing ≡ place_by low closing xs
   by_from [] first e le = absurd (cc)
   by_from (x ∷ xs) first e le =
-      let same = some_same x.1 first e in
+      let same = same_Some x.1 first e in
       ap (λ n. a_place n closing) (sym same) ∙ ap (λ b. if b then a_place x.1 closing else None) (sym (le_true x.1 low (omega (arith, same, le))))
 
   module _ (statements : Tree ℕ (maybe body)) where
@@ -186,5 +185,9 @@ module _ (low high : ℕ) where
     procedure_placed : (p : Tree ℕ (item procedure)) → is_some (place_in_procedure low high p) ≡ is_in_procedure low high p
     procedure_placed (declares_procedure x fs b closing) = block_placed closing b
 
-  pub module_placed : (own closing : ℕ) (b : Tree ℕ block) (place : Option BodyPlace) → place ≡ place_in_block low high own b → high ≤ closing → is_some place ≡ (nat_le high closing && is_in_block low high b)
-  module_placed own closing b place e le = ap is_some e ∙ (block_placed own b ∙ ap (λ z. z && is_in_block low high b) (sym (le_true high closing le)))
+  pub body_placed : (t : Tree ℕ module_text) → is_some (body_place low high t) ≡ is_in_body low high t
+  body_placed (is_module x b closing) =
+      elim (nat_le high closing) as (λ z. is_some (place_if (z && is_in_block low high b) (body_in (way_in_block low b) b) (closing_in (way_in_block low b) closing b)) ≡ (z && is_in_block low high b)) [
+        | true ↦ block_placed closing b
+        | false ↦ refl
+      ]

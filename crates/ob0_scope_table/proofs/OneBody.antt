@@ -1,5 +1,4 @@
--- The first identifier of a part, after all were seen; and the tokens outside a range, which have
--- the same spellings as before.
+-- Tests of numbers, and the tokens outside a range, which have the same spellings as before.
 use Rattle.std.proofs.Common.{◌≡◌, ◌<◌, ◌≤◌, ℕ, zero, suc, slice_get, Bool, true, false, nat_le, nat_lt, Option, Some, None, List, [], ◌∷◌, refl, sym, ap, ◌∙◌, arith}
 use Rattle.std.proofs.lemmas.Bool.Decides.{nat_tests}
 use Rattle.ob0_scan.specs.declared.lexeme.Token.{Token}
@@ -7,19 +6,7 @@ use Rattle.ob0_scan.specs.Reused.{words_in}
 use Rattle.ob0_scan.specs.Scanned.{Scanned, Word}
 use Rattle.ob0_tree.specs.Parsed.{Parsed}
 use Rattle.ob0_tree.specs.Places.{text_at, text_in, value_in, value_of}
-use Rattle.ob0_tree.specs.declared.tree.Role.{Role}
-use Rattle.ob0_tree.specs.Visited.{visited_all}
-use Rattle.ob0_scope_table.specs.BodyReplaced.{first_of}
-use Rattle.ob0_scope_table.specs.OneBody.{IsBodyChange, is_out, with_first}
-
--- the first one seen remains the first
-stays_first : (xs : List (Role × ℕ)) (t : ℕ) → (visited_all with_first xs (record { token = Some t })).token ≡ Some t
-stays_first [] t = refl
-stays_first (x ∷ xs) t = stays_first xs t
-
-pub first_seen : (xs : List (Role × ℕ)) → (visited_all with_first xs (record { token = None })).token ≡ first_of xs
-first_seen [] = refl
-first_seen (x ∷ xs) = stays_first xs x.1
+use Rattle.ob0_scope_table.specs.OneBody.{IsBodyChange, is_out}
 
 pub less_true : (a b : ℕ) → a < b → nat_lt a b ≡ true
 less_true a b less = one (nat_lt a b) refl

@@ -1,11 +1,11 @@
 -- The place of a body: its first identifier, and the closing name of its block.
 -- Rule: none; for contracts: the body in which a range of tokens lies.
 use Rattle.std.specs.Prelude.{ℕ, Bool, Option, None, if◌then◌else◌, option_map}
-use Rattle.ob0_tree.specs.Tree.{Tree, block, body, identifiers, is_module, item, maybe, module_text, procedure}
+use Rattle.ob0_tree.specs.FirstIdentifier.{first_identifier}
+use Rattle.ob0_tree.specs.Tree.{Tree, block, body, is_module, item, maybe, module_text, procedure}
 use Rattle.ob0_tree.specs.View.{block_of}
 use Rattle.ob0_tree.specs.declared.tree.ModuleTree.{ModuleTree}
-use Rattle.ob0_tree.specs.declared.tree.Role.TheVariants as role
-use Rattle.ob0_scope_table.specs.BodyReplaced.{body_at, body_in, body_inside, closing_at, closing_in, closing_inside, first_of, way_in_block, way_in_procedure, way_to}
+use Rattle.ob0_scope_table.specs.BodyReplaced.{body_at, body_in, body_inside, closing_at, closing_in, closing_inside, way_in_block, way_in_procedure, way_to}
 use Rattle.ob0_scope_table.specs.OneBody.{is_in_block, is_in_body, is_in_procedure}
 use Rattle.ob0_scope_table.specs.declared.one_body.BodyPlace.{BodyPlace}
 
@@ -18,7 +18,7 @@ abbrev pub place_if : Bool → Tree ℕ (maybe body) → ℕ → Option BodyPlac
 place_if sought statements closing =
     if sought
     then option_map (λ first. record { first = first; closing = closing })
-    (first_of (identifiers role.Declaring statements))
+    (first_identifier statements)
     else None
 
 -- the place of the body in a block, if that body contains a range of tokens; the block has this

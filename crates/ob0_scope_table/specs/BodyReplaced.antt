@@ -5,10 +5,9 @@ use Rattle.std.specs.Prelude.{◌≡◌, ◌<◌, ◌≤◌, ◌+◌, ◌-◌, �
 use Rattle.ob0_scan.specs.Reused.{words_in}
 use Rattle.ob0_scan.specs.Scanned.{IsScan}
 use Rattle.ob0_scan.specs.declared.tokens.SameTokens.{SameTokens}
+use Rattle.ob0_tree.specs.FirstIdentifier.{first_identifier}
 use Rattle.ob0_tree.specs.Parsed.{IsParsed, Parsed, tree_of}
-use Rattle.ob0_tree.specs.Tree.{Tree, block, body, declares, declares_procedure, end, has_body, identifiers, is_module, item, items, mapped, maybe, module_text, more, none, procedure}
-use Rattle.ob0_tree.specs.declared.tree.Role.{Role}
-use Rattle.ob0_tree.specs.declared.tree.Role.TheVariants as role
+use Rattle.ob0_tree.specs.Tree.{Tree, block, body, declares, declares_procedure, end, has_body, is_module, item, items, mapped, maybe, module_text, more, none, procedure}
 use Rattle.ob0_scope_table.specs.OneBody.{closing_name, is_in_body, is_out}
 
 -- The way to a body: the procedure that is entered in each block, counted from 0. After the last
@@ -112,11 +111,6 @@ abbrev mutual
 abbrev pub closing_at : {N : Type 0} → Way → Tree N module_text → N
 closing_at way (is_module x b closing) = closing_in way closing b
 
--- the token of the first of some identifiers
-abbrev pub first_of : List (Role × ℕ) → Option ℕ
-first_of [] = None
-first_of (x ∷ xs) = Some x.1
-
 -- the new index of a token that wasn't replaced
 abbrev pub moved : SameTokens → ℕ → ℕ
 moved s i = if nat_lt i s.prefix then i else s.new_suffix + (i - s.old_suffix)
@@ -141,8 +135,8 @@ pub record IsBodyReplaced (old new : Parsed) (way : Way) (s : SameTokens) : Type
   pub old_in_body : is_in_body s.prefix s.old_suffix (tree_of old) ≡ true
   pub new_in_body : is_in_body s.prefix s.new_suffix (tree_of new) ≡ true
   pub first : ℕ
-  pub old_first : first_of (identifiers role.Declaring (body_at way (tree_of old))) ≡ Some first
-  pub new_first : first_of (identifiers role.Declaring (body_at way (tree_of new))) ≡ Some first
+  pub old_first : first_identifier (body_at way (tree_of old)) ≡ Some first
+  pub new_first : first_identifier (body_at way (tree_of new)) ≡ Some first
   pub front : first < s.prefix
   pub back : s.old_suffix < closing_at way (tree_of old)
   pub closing : closing_at way (tree_of new) ≡ moved s (closing_at way (tree_of old))

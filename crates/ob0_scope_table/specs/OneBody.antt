@@ -1,13 +1,12 @@
 -- A change inside the statements of one block: its place, and what is the same outside.
 -- Rule: none; for contracts: what stays where the tokens of one body are written otherwise.
-use Rattle.std.specs.Prelude.{◌≡◌, ℕ, Bool, true, false, ◌&&◌, ◌||◌, nat_le, nat_lt, List, [], ◌∷◌, if◌then◌else◌, slice_get, Some, is_some}
+use Rattle.std.specs.Prelude.{◌≡◌, ℕ, Bool, true, false, ◌&&◌, ◌||◌, nat_le, nat_lt, List, [], ◌∷◌, if◌then◌else◌, slice_get}
 use Rattle.ob0_scan.specs.Reused.{kinds, words_in}
 use Rattle.ob0_scan.specs.Scanned.{IsScan, Scanned}
 use Rattle.ob0_tree.specs.Parsed.{Parsed, tree_of}
 use Rattle.ob0_tree.specs.Tree.{Tree, block, body, declares, declares_procedure, end, has_body, identifiers, is_module, item, items, maybe, module_text, more, procedure}
 use Rattle.ob0_tree.specs.declared.tree.Role.{Role}
 use Rattle.ob0_tree.specs.declared.tree.Role.TheVariants as role
-use Rattle.ob0_scope_table.specs.declared.one_body.First.{First}
 
 -- true for a token before or after a range of tokens
 abbrev pub is_out : ℕ → ℕ → ℕ → Bool
@@ -16,11 +15,6 @@ is_out low high token = nat_lt token low || nat_le high token
 -- a procedure's closing name
 abbrev pub closing_name : {N : Type 0} → Tree N (item procedure) → N
 closing_name (declares_procedure x fs b closing) = closing
-
--- records an identifier if it is the first one
-abbrev pub with_first : Role → ℕ → First → First
-with_first r token first =
-    record { token = if is_some first.token then first.token else Some token }
 
 -- true if there is a first identifier and it isn't after a token
 abbrev pub begins_by : ℕ → List (Role × ℕ) → Bool

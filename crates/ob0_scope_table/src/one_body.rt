@@ -1,7 +1,7 @@
 //! Finds out whether a range of tokens is inside the statements of one block, and where these
 //! statements are.
 
-ghost use Rattle.std.specs.Prelude.{◌≡◌, IfOk};
+ghost use Rattle.std.specs.Prelude.{◌≡◌};
 ghost use Rattle.ob0_tree.specs.Parsed.{tree_of};
 ghost use Rattle.ob0_tree.specs.View.{block_of, body_of, procedure_of};
 ghost use Rattle.ob0_tree.specs.Tree.{identifiers};
@@ -9,28 +9,7 @@ ghost use Rattle.ob0_tree.specs.declared.tree.Role.TheVariants as roles;
 ghost use Rattle.ob0_scope_table.specs.BodyPlaces.{body_place, place_if, place_in_block, place_in_procedure, tree_in};
 ghost use Rattle.ob0_scope_table.specs.OneBody.{begins_by, is_in_body};
 
-use ob0_tree::walk::{Visitor, body};
-use ob0_tree::{Block, Module, ModuleTree, Procedure, Role, Statement};
-use std::alloc::AllocError;
-
-/// The first identifier of a part, once one has been seen.
-#[derive(Drop)]
-struct First {
-    token: Option<usize>,
-}
-
-impl Visitor for First {
-    ghost use Rattle.ob0_scope_table.specs.OneBody.{with_first};
-
-    ghost seen = { with_first };
-
-    fn see(&mut self, _role: Role, token: usize) -> Result<(), AllocError> {
-        if self.token.is_none() {
-            self.token = Some(token);
-        }
-        Ok(())
-    }
-}
+use ob0_tree::{Block, Module, ModuleTree, Procedure, Statement, first_identifier};
 
 /// The place of a body: the token of its first identifier, and the token of its block's closing
 /// name.
@@ -43,59 +22,42 @@ pub struct BodyPlace {
 /// True if the tokens from `low` up to, but not including, `high` are inside the statements of one
 /// block: none of them before the first identifier of these statements, and all of them before the
 /// block's closing name.
-pub fn is_in_body(read: &Module<'_>, low: usize, high: usize) -> Result<bool, AllocError>
-    ensures { IfOk result (λ lies. lies ≡ is_in_body low high (tree_of read.now)) }
+pub fn is_in_body(read: &Module<'_>, low: usize, high: usize) -> bool
+    ensures { result ≡ is_in_body low high (tree_of read.now) }
 {
-    if high > read.closing() {
-        return Ok(false);
-    }
-    let place = place_in_block(read.block(), read.closing(), low, high)?;
-    Ok(place.is_some())
+    place_in_module(read, low, high).is_some()
 }
 
 /// Returns the place of the body that contains the tokens from `low` up to, but not including,
 /// `high`, if one body does.
-pub fn place_of_body(
-    tree: &ModuleTree,
-    low: usize,
-    high: usize,
-) -> Result<Option<BodyPlace>, AllocError>
-    ensures { IfOk result (λ place. place ≡ body_place low high (tree_in tree.now)) }
+pub fn place_of_body(tree: &ModuleTree, low: usize, high: usize) -> Option<BodyPlace>
+    ensures { result ≡ body_place low high (tree_in tree.now) }
 {
     if high > tree.closing {
-        return Ok(None);
+        return None;
     }
     place_in_block(&tree.block, tree.closing, low, high)
 }
 
 /// Returns the place of the body of a module that contains the tokens from `low` up to, but not
 /// including, `high`, if one body does.
-pub fn place_in_module(
-    read: &Module<'_>,
-    low: usize,
-    high: usize,
-) -> Result<Option<BodyPlace>, AllocError>
-    ensures { IfOk result (λ place. place ≡ body_place low high (tree_of read.now)) }
+pub fn place_in_module(read: &Module<'_>, low: usize, high: usize) -> Option<BodyPlace>
+    ensures { result ≡ body_place low high (tree_of read.now) }
 {
     if high > read.closing() {
-        return Ok(None);
+        return None;
     }
     place_in_block(read.block(), read.closing(), low, high)
 }
 
 #[cycle(places)]
-fn place_in_block(
-    b: &Block,
-    closing: usize,
-    low: usize,
-    high: usize,
-) -> Result<Option<BodyPlace>, AllocError>
-    ensures { IfOk result (λ place. place ≡ place_in_block low high closing (block_of b.now)) }
+fn place_in_block(b: &Block, closing: usize, low: usize, high: usize) -> Option<BodyPlace>
+    ensures { result ≡ place_in_block low high closing (block_of b.now) }
 {
     for p in &b.procedures {
         if p.closing >= low {
             if high > p.closing {
-                return Ok(None);
+                return None;
             }
             return place_in_procedure(p, low, high);
         }
@@ -104,12 +66,8 @@ fn place_in_block(
 }
 
 #[cycle(places)]
-fn place_in_procedure(
-    p: &Procedure,
-    low: usize,
-    high: usize,
-) -> Result<Option<BodyPlace>, AllocError>
-    ensures { IfOk result (λ place. place ≡ place_in_procedure low high (procedure_of p.now)) }
+fn place_in_procedure(p: &Procedure, low: usize, high: usize) -> Option<BodyPlace>
+    ensures { result ≡ place_in_procedure low high (procedure_of p.now) }
 {
     place_in_block(&p.block, p.closing, low, high)
 }
@@ -120,23 +78,14 @@ fn place_of_statements(
     statements: &Option<Vec<Statement>>,
     closing: usize,
     low: usize,
-) -> Result<Option<BodyPlace>, AllocError>
-    ensures { IfOk result (λ place. place
+) -> Option<BodyPlace>
+    ensures { result
         ≡ place_if (begins_by low (identifiers roles.Declaring (body_of statements.now)))
-        (body_of statements.now) closing) }
+        (body_of statements.now) closing }
 {
-    let mut first = First { token: None };
-    body(&mut first, statements)?;
-    match first.token {
-        Some(token) => {
-            if token > low {
-                return Ok(None);
-            }
-            Ok(Some(BodyPlace {
-                first: token,
-                closing,
-            }))
-        }
-        None => Ok(None),
+    let first = first_identifier(statements)?;
+    if first > low {
+        return None;
     }
+    Some(BodyPlace { first, closing })
 }

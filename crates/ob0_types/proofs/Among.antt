@@ -2,35 +2,28 @@
 use Rattle.std.proofs.Common.{◌≡◌, ℕ, Bool, true, false, ◌||◌, List, [], ◌∷◌, ◌++◌, refl, ◌∙◌, nat_eq, eq-eqb}
 use Rattle.std.proofs.lemmas.List.Folds.{list_any-append}
 use Rattle.std.specs.List.{AllZip}
+use Rattle.std.proofs.lemmas.Bool.{or_left, or_right}
 use Rattle.ob0_types_check.specs.SomeBodies.{AllPass, is_among}
 
 pub all_weaker : (test other : ℕ → Bool) (xs : List ℕ) → ((k : ℕ) → test k ≡ true → other k ≡ true) → AllPass test xs → AllPass other xs
 all_weaker test other [] f h = tt
 all_weaker test other (x ∷ xs) f h = (f x h.0, all_weaker test other xs f h.1)
 
-or_true : (a b : Bool) → b ≡ true → (a || b) ≡ true
-or_true true b e = refl
-or_true false b e = e
-
-true_or : (a b : Bool) → a ≡ true → (a || b) ≡ true
-true_or true b e = refl
-true_or false b e = absurd (cc)
-
 pub among_further : (xs ys : List ℕ) (k : ℕ) → is_among xs k ≡ true → is_among (xs ++ ys) k ≡ true
-among_further xs ys k h = list_any-append (λ y. nat_eq y k) xs ys ∙ true_or (is_among xs k) (is_among ys k) h
+among_further xs ys k h = list_any-append (λ y. nat_eq y k) xs ys ∙ or_left (is_among xs k) (is_among ys k) h
 
 itself : (x : ℕ) → is_among (x ∷ []) x ≡ true
-itself x = true_or (nat_eq x x) false (eq-eqb x x refl)
+itself x = or_left (nat_eq x x) false (eq-eqb x x refl)
 
 pub among_last : (xs : List ℕ) (x : ℕ) → is_among (xs ++ x ∷ []) x ≡ true
-among_last xs x = list_any-append (λ y. nat_eq y x) xs (x ∷ []) ∙ or_true (is_among xs x) (is_among (x ∷ []) x) (itself x)
+among_last xs x = list_any-append (λ y. nat_eq y x) xs (x ∷ []) ∙ or_right (is_among xs x) (is_among (x ∷ []) x) (itself x)
 
 pub all_among : (xs : List ℕ) → AllPass (is_among xs) xs
 all_among [] = tt
-all_among (x ∷ xs) = (itself_first, all_weaker (is_among xs) (is_among (x ∷ xs)) xs (λ k h. or_true (nat_eq x k) (is_among xs k) h) (all_among xs))
+all_among (x ∷ xs) = (itself_first, all_weaker (is_among xs) (is_among (x ∷ xs)) xs (λ k h. or_right (nat_eq x k) (is_among xs k) h) (all_among xs))
   where
     itself_first : is_among (x ∷ xs) x ≡ true
-    itself_first = true_or (nat_eq x x) (is_among xs x) (eq-eqb x x refl)
+    itself_first = or_left (nat_eq x x) (is_among xs x) (eq-eqb x x refl)
 
 -- a copy of a list
 pub copied_items : (xs ys : List ℕ) → AllZip (λ x y. y ≡ x) xs ys → ys ≡ xs

@@ -283,7 +283,7 @@ fn fields_with_new_body<'t>(
         faulty: _,
     } = before;
     let body = body_from(resolved.module(), same.prefix);
-    let found = place_in_module(resolved.module(), same.prefix, same.new_suffix)?;
+    let found = place_in_module(resolved.module(), same.prefix, same.new_suffix);
     let Some(place) = found else {
         return known_fields(alloc, resolved, known);
     };

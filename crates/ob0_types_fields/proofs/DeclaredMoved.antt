@@ -12,7 +12,7 @@ use Rattle.ob0_scope_table.specs.BodyReplaced.{Way, block_without, procedure_wit
 use Rattle.ob0_types_fields.specs.declared.field_name.FieldName.{FieldName}
 use Rattle.ob0_types_fields.specs.Identifiers.{declared_in_block, declared_in_procedure, declared_in_procedures}
 use Rattle.ob0_types_fields.specs.Owned.{fields_among, marked_block, marked_group, marked_groups, marked_module, marked_names, marked_procedure, marked_procedures, marked_sections, marked_tree, marked_type, marked_types, marked_variables}
-use Rattle.ob0_types_fields.proofs.MappedIdentifiers.{both}
+use Rattle.ob0_tree.proofs.MappedIdentifiers.{both}
 use Rattle.ob0_types_fields.proofs.OwnedAround.{procedure_counted}
 use Rattle.ob0_types_fields.proofs.OwnedTypes.{counted_formals_section, counted_group, counted_procedure, counted_section, counted_type, counted_type_section, counted_variable_section, sections_mapped, types_mapped, variables_mapped}
 

@@ -4,6 +4,7 @@ use Rattle.std.proofs.Common.{◌≡◌, ℕ, suc, ◌==◌, Bool, true, false, 
 use Rattle.std.proofs.lemmas.List.Elements.{All-cons, All-nil}
 use Rattle.std.proofs.lemmas.Slice.Eq.{bytes_eq-Decides}
 use Rattle.std.specs.List.{list_any}
+use Rattle.std.proofs.lemmas.Bool.{or_parts, or_right}
 use Rattle.ob0_scan.specs.Scanned.{Scanned}
 use Rattle.ob0_tree.specs.declared.tree.Role.TheVariants as role
 use Rattle.ob0_tree.specs.Lexeme.{EndOfText, Terminal, Mark, Name, Number, relabelled}
@@ -13,6 +14,7 @@ use Rattle.ob0_tree.specs.Places.{text_at, value_at}
 use Rattle.ob0_tree.specs.Tree.{Sort, Tree, mapped, spell}
 use Rattle.ob0_tree.proofs.Leaves.{leaves_spelled, lexeme_names}
 use Rattle.ob0_tree.proofs.Mapped.{spell_mapped}
+use Rattle.ob0_tree.proofs.MappedIdentifiers.{leaves_mapped}
 use Rattle.ob0_language_names.specs.Names as written
 use Rattle.ob0_language_names.specs.Names.{same_name}
 use Rattle.ob0_scope_table.specs.Resolution.{IsResolution, Resolution}
@@ -29,14 +31,6 @@ use Rattle.ob0_types_fields.specs.Owned.{fields_among, owned_tokens, token_objec
 use Rattle.ob0_types_fields.proofs.DuplicateFields.{and-false, duplicate_by_token-holds}
 use Rattle.ob0_types_fields.proofs.FieldTokens.{renamed_at_tokens-holds}
 use Rattle.ob0_types_fields.proofs.OwnedTokens.{module-tokens, tokens}
-
-or_parts : (a b : Bool) → (a || b) ≡ false → (a ≡ false) × (b ≡ false)
-or_parts true b h = absurd (true≢false h)
-or_parts false b h = (refl, h)
-
-pub or_right : (a b : Bool) → b ≡ true → (a || b) ≡ true
-or_right true b h = refl
-or_right false b h = h
 
 -- ---- a name that isn't the field's
 
@@ -81,18 +75,6 @@ module _ (k : ℕ) (f : written.Name) where
       (names_kept t.ordinal t.declared parts.0, records_kept ts parts.1)
 
 -- ---- the identifiers of a tree whose names are rewritten
-
-names_mapped : {N M : Type 0} (f : N → M) (g : ℕ → ℕ) (xs : List (Terminal N)) → lexeme_names (map (relabelled f g) xs) ≡ map f (lexeme_names xs)
-names_mapped f g [] = refl
-names_mapped f g (Name n ∷ xs) = ap (λ z. f n ∷ z) (names_mapped f g xs)
-names_mapped f g (Number n ∷ xs) = names_mapped f g xs
-names_mapped f g (Mark k ∷ xs) = names_mapped f g xs
-names_mapped f g (EndOfText ∷ xs) = names_mapped f g xs
-
-pub leaves_mapped : {N M : Type 0} {s : Sort} (f : N → M) (g : ℕ → ℕ) (t : Tree N s) → leaves (mapped f g t) ≡ map f (leaves t)
-leaves_mapped f g t =
-    leaves_spelled role.Declaring (mapped f g t)
-    ∙ (ap lexeme_names (spell_mapped f g t) ∙ (names_mapped f g (spell t) ∙ ap (map f) (sym (leaves_spelled role.Declaring t))))
 
 first_is : {A : Type 0} {x y : A} {xs ys : List A} → x ∷ xs ≡ y ∷ ys → x ≡ y
 first_is h = cc

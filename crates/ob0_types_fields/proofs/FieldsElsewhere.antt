@@ -19,7 +19,9 @@ use Rattle.ob0_language_types.specs.Expressions.{Meanings}
 use Rattle.ob0_language_types.specs.WellTyped.{Signature, WellTyped}
 use Rattle.ob0_language_fields.specs.Fields.{refielded}
 use Rattle.ob0_language_values.specs.Values.{Shape}
-use Rattle.ob0_scope_table.specs.BodyReplaced.{IsBodyReplaced, Way, body_at, closing_at, first_of, moved, without}
+use Rattle.ob0_tree.specs.FirstIdentifier.{first_of}
+use Rattle.ob0_tree.proofs.MappedIdentifiers.{leaves_mapped}
+use Rattle.ob0_scope_table.specs.BodyReplaced.{IsBodyReplaced, Way, body_at, closing_at, moved, without}
 use Rattle.ob0_scope_table.specs.Resolution.{IsResolution, Resolution, ordinal_in}
 use Rattle.ob0_scope_table.proofs.BodyReplaced.{names_outside, without_mapped}
 use Rattle.ob0_scope_table.proofs.FewTokens.{few_tokens}
@@ -32,7 +34,6 @@ use Rattle.ob0_types_fields.specs.Listed.{AreFields, Listed, field_now, fields_b
 use Rattle.ob0_types_fields.specs.Owned.{HasOwners, fields_among, marked_tree, owned, owned_module, owned_tokens, token_objects}
 use Rattle.ob0_types_fields.specs.Owners.{of_records}
 use Rattle.ob0_types_fields.proofs.DeclaredMoved.{among_placed, declared_among, declared_placed, declared_without, field_placed, placed}
-use Rattle.ob0_types_fields.proofs.FieldsDeclared.{leaves_mapped}
 use Rattle.ob0_types_fields.proofs.MarkedFields.{marked_tree-fields, module-fields}
 use Rattle.ob0_types_fields.proofs.OwnedAround.{IsAround, module_split}
 use Rattle.ob0_types_fields.proofs.OwnedStatements.{owners_split}

@@ -30,7 +30,7 @@ use Rattle.ob0_language_types.proofs.Conditions.{both_true, hold-true, of_some}
 use Rattle.ob0_language_types.proofs.TypedElsewhere.{then_some}
 use Rattle.ob0_types_fields.specs.Identifiers.{FieldsListed, tokens_of, written_fields}
 use Rattle.ob0_types_fields.specs.Owned.{HasOwners, fields_among, owned_tokens, token_objects}
-use Rattle.ob0_types_fields.proofs.MappedIdentifiers.{beside_role, both, identifiers-mapped}
+use Rattle.ob0_tree.proofs.MappedIdentifiers.{beside_role, both, identifiers-mapped}
 use Rattle.ob0_types_fields.proofs.OwnedModules.{owners_by_declaration-holds}
 use Rattle.ob0_types_fields.proofs.OwnedTokens.{fields_have-owners, module-tokens, tokens, with_owners}
 

@@ -18,7 +18,6 @@ pub mod FieldSpans
 pub mod FieldTokens
 pub mod DuplicateFields
 pub mod FieldsDeclared
-pub mod MappedIdentifiers
 pub mod FieldsListed
 pub mod FieldLabels
 pub mod ConstructorWalks

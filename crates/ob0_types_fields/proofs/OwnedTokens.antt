@@ -8,7 +8,7 @@ use Rattle.ob0_tree.specs.declared.tree.Role.TheVariants as role
 use Rattle.ob0_tree.specs.Order.{Ascending, leaves, names_only}
 use Rattle.ob0_tree.specs.Parsed.{tree_of}
 use Rattle.ob0_tree.specs.Tree.{Sort, Tree, item, adds, array_type, assigns, begins, branches, calls, compares, declares, declares_constant, declares_constants, declares_procedure, declares_type, declares_types, declares_variable, declares_variables, designator, else_branch, elsif_branch, empty, end, field, has_body, identifiers, index, integer, is_module, listed, more, multiplies, named_type, negation, no_arguments, no_fields, no_formals, none, one, parenthesised, product, record_type, relates, repeat_loop, runs, some_arguments, some_fields, some_formals, sum, then_argument, then_fields, then_name, then_section, then_statement, value_section, variable_section, while_loop, block, names, written_type, fields, further_name, further_fields, section, further_section, formals, type_name, type_names, variable, variables, procedure, module_text, items, maybe}
-use Rattle.ob0_tree.proofs.Leaves.{leaves_ascend}
+use Rattle.ob0_tree.proofs.Leaves.{ascending_bounds, leaves_ascend}
 use Rattle.ob0_language_names.specs.Parts.{further_names, names_listed, section_type}
 use Rattle.ob0_scope_table.specs.Resolution.{IsResolution, Resolution, ordinal_in}
 use Rattle.ob0_language_types.specs.Declarations.{after_formals, after_types, after_variables, procedure_constructors}
@@ -176,10 +176,6 @@ module-tokens m (is_module x b closing) =
 
 -- ---- the table
 
-pub ascends_to : (low : ℕ) (xs : List ℕ) (high : ℕ) → Ascending low xs high → low ≤ high
-ascends_to low [] high h = h
-ascends_to low (x ∷ xs) high h = let later = ascends_to (x + 1) xs high h.1 in omega (arith, h.0, later)
-
 -- entries below are unchanged
 kept_below : (xs : List (ℕ × Option ℕ)) (table : List (Option ℕ)) (low high i : ℕ) → Ascending low (tokens xs) high → i < low → ordinal_in (with_fields_at table (fields_among xs)) i ≡ ordinal_in table i
 kept_below [] table low high i ascend below = refl
@@ -192,13 +188,13 @@ fields_are_identifiers : (xs : List (ℕ × Option ℕ)) (table : List (Option �
     → HasOwners (ordinal_in (with_fields_at table (fields_among xs))) xs
 fields_are_identifiers [] table low high ascend within vacant = tt
 fields_are_identifiers ((x, None) ∷ xs) table low high ascend within vacant =
-    let last = ascends_to (x + 1) (tokens xs) high ascend.1 in (
+    let last = ascending_bounds (x + 1) (tokens xs) high ascend.1 in (
       kept_below xs table (x + 1) high x ascend.1 (omega arith) ∙ vacant x ascend.0 (omega (arith, last)),
       fields_are_identifiers xs table (x + 1) high ascend.1 within (λ i l u. vacant i (omega (arith, l, ascend.0)) u),
     )
 fields_are_identifiers ((x, Some k) ∷ xs) table low high ascend within vacant =
     let next : List (Option ℕ) = set table x (Some k) in
-    let last = ascends_to (x + 1) (tokens xs) high ascend.1 in
+    let last = ascending_bounds (x + 1) (tokens xs) high ascend.1 in
     let inside : x < length table = omega (arith, last, within) in
     let still : high ≤ length next = subst (λ n. high ≤ n) (sym (length-set table x (Some k))) within in (
       kept_below xs next (x + 1) high x ascend.1 (omega arith) ∙ get_or-set_same table x (Some k) None inside,

@@ -5,13 +5,14 @@ use Rattle.std.proofs.lemmas.List.Elements.{filter-append}
 use Rattle.std.specs.List.{AllByRecursion, filter}
 use Rattle.ob0_tree.specs.declared.tree.Role.{Role}
 use Rattle.ob0_tree.specs.Order.{Ascending, names_only}
-use Rattle.ob0_scope_table.specs.BodyReplaced.{first_of}
+use Rattle.ob0_tree.specs.FirstIdentifier.{first_of}
+use Rattle.ob0_tree.proofs.Leaves.{ascending_bounds}
 use Rattle.ob0_scope_table.proofs.OneBody.{le_true}
 use Rattle.ob0_types_fields.specs.declared.field_name.FieldName.{FieldName}
 use Rattle.ob0_types_fields.specs.Listed.{fields_from}
 use Rattle.ob0_types_fields.specs.Owned.{fields_among}
 use Rattle.ob0_types_fields.proofs.MarkedFields.{among-append}
-use Rattle.ob0_types_fields.proofs.OwnedTokens.{ascends_to, tokens}
+use Rattle.ob0_types_fields.proofs.OwnedTokens.{tokens}
 
 pub weaker : {X : Type 0} (P Q : X → Type 0) → ((x : X) → P x → Q x) → (xs : List X) → AllByRecursion P xs → AllByRecursion Q xs
 weaker P Q f [] h = tt
@@ -34,7 +35,7 @@ Between low high x = (low ≤ x.0) × (x.0 < high)
 pub all_between : (low : ℕ) (xs : List (ℕ × Option ℕ)) (high : ℕ) → Ascending low (tokens xs) high → AllByRecursion (Between low high) xs
 all_between low [] high h = tt
 all_between low (x ∷ xs) high h =
-    let top = ascends_to (x.0 + 1) (tokens xs) high h.1 in (
+    let top = ascending_bounds (x.0 + 1) (tokens xs) high h.1 in (
       (h.0, omega (arith, top)),
       weaker (Between (x.0 + 1) high) (Between low high) (λ y b. (omega (arith, b.0, h.0), b.1)) xs (all_between (x.0 + 1) xs high h.1),
     )
@@ -80,12 +81,12 @@ between before inner after first closing top ids h e f =
       inside = weaker (Between first d.middle) (Between first closing) (λ x i. (i.0, omega (arith, i.1, d.last.0))) inner (all_between first inner d.middle begun.1);
       above = all_between (closing + 1) after top d.last.1;
       reaches = omega (arith, reach, d.last.0);
-      closes = (let le = ascends_to (closing + 1) (tokens after) top d.last.1 in omega (arith, le));
+      closes = (let le = ascending_bounds (closing + 1) (tokens after) top d.last.1 in omega (arith, le));
     }
   where
     later : (first : ℕ) (xs : List (ℕ × Option ℕ)) (high : ℕ) → BeginsAt first xs → Ascending first (tokens xs) high → first < high
     later first [] high b h = absurd b
-    later first (x ∷ xs) high b h = let le = ascends_to (x.0 + 1) (tokens xs) high h.1 in omega (arith, le, h.0)
+    later first (x ∷ xs) high b h = let le = ascending_bounds (x.0 + 1) (tokens xs) high h.1 in omega (arith, le, h.0)
 
 -- ---- the position of a closing name
 

@@ -3,7 +3,7 @@
 -- this ordinal has the field x; the first of the types `made` has the ordinal k. A record declares
 -- a field once, so the fields of a group can be looked up in the whole record.
 use Rattle.std.proofs.Common.{◌≡◌, ◌⊎◌, inl, inr, ℕ, suc, ◌+◌, ◌<◌, ◌==◌, Bool, true, false, ◌&&◌, ◌||◌, not, if◌then◌else◌, nat_le, List, [], ◌∷◌, ◌++◌, map, length, get_or, is_some, Some, None, Option, option_map, option_and_then, refl, sym, ap, ◌∙◌, subst, true≢false, arith, length-append, eqb-true}
-use Rattle.std.proofs.lemmas.Bool.{and_parts}
+use Rattle.std.proofs.lemmas.Bool.{and_parts, or_right}
 use Rattle.std.proofs.lemmas.List.{get_or-append-add, get_or_append_left}
 use Rattle.std.proofs.lemmas.List.Elements.{All-weaker}
 use Rattle.std.proofs.lemmas.Slice.Eq.{bytes_eq-Decides}
@@ -32,7 +32,7 @@ use Rattle.ob0_types_fields.specs.Identifiers.{declared_fields, declared_in_bloc
 use Rattle.ob0_types_fields.specs.Owned.{marked_group, marked_groups, marked_names, marked_sections, marked_type, marked_types, marked_variables}
 use Rattle.ob0_types_fields.proofs.DeclaredTypes.{BlockIsTyped, Denotes, FormalsAreTyped, ProcedureIsTyped, ProceduresAreTyped, TypesAreTyped, VariablesAreTyped, meaning, module-typed}
 use Rattle.ob0_types_fields.proofs.FieldLabels.{AllWritten, BlockPlain, GroupPlain, GroupsPlain, IsWritten, ProcedurePlain, ProceduresPlain, SectionsPlain, TypePlain, TypesPlain, VariablesPlain, numbered-plain}
-use Rattle.ob0_types_fields.proofs.FieldsDeclared.{fields_declared-holds, or_right}
+use Rattle.ob0_types_fields.proofs.FieldsDeclared.{fields_declared-holds}
 
 -- ---- the fields of the record itself
 

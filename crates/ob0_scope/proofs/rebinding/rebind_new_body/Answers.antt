@@ -6,7 +6,8 @@ use Rattle.ob0_tree.specs.Visited.{visited}
 use Rattle.ob0_tree.specs.declared.tree.Block.{Block}
 use Rattle.ob0_tree.specs.declared.tree.Role.TheVariants as role
 use Rattle.ob0_tree.proofs.Occurring.{looked_up-occurrences}
-use Rattle.ob0_scope_table.specs.BodyReplaced.{body_at, body_in, closing_at, closing_in, first_of, way_in_block, way_to}
+use Rattle.ob0_tree.specs.FirstIdentifier.{first_of}
+use Rattle.ob0_scope_table.specs.BodyReplaced.{body_at, body_in, closing_at, closing_in, way_in_block, way_to}
 use Rattle.ob0_scope.specs.Carried.{NamesInBody, with_name}
 use Rattle.ob0_scope.proofs.NewBody.{names_walked}
 use Rattle.ob0_scope.proofs.rebinding.rebind_new_body.Goals as goal

@@ -1,5 +1,4 @@
 use Rattle.std.proofs.Common.{sym, ap, ◌∙◌, arith}
-use Rattle.std.proofs.lemmas.Result.{MatchResult-weaker}
 use Rattle.ob0_tree.specs.View.{body_of, items_of, procedure_of}
 use Rattle.ob0_tree.specs.declared.tree.Block.{out-Block}
 use Rattle.ob0_scope_table.proofs.BodyPlaces.{block_place, in_procedure, in_statements, past_end, past_one, place_among}
@@ -16,7 +15,7 @@ place_in_block-returns-then-p-low t c =
     let statements = body_of (out-Block c.args.b.now).body in
     let here = in_procedure c.args.low c.args.high c.args.closing statements c.deref-p-items.result.now c.loop-p.p-index c.p-item.result c.loop-p-test.true c.p-item.is (omega (arith, c.if-p-low.true)) (omega (arith, c.if-high-p.false)) in
     let whole = block_place c.args.low c.args.high c.args.closing c.args.b.now ∙ (ap (λ xs. place_among c.args.low c.args.high c.args.closing (items_of procedure_of xs) statements) (sym c.deref-p-items.ensures.value) ∙ (sym c.loop-p.invariant ∙ here)) in
-    MatchResult-weaker c.place_in_procedure.result c.place_in_procedure.ensures (λ place e. e ∙ sym whole) (λ y h. h)
+    c.place_in_procedure.ensures ∙ sym whole
 
 pub place_in_block-loop-p-preserved : goal.place_in_block-loop-p-preserved
 place_in_block-loop-p-preserved t c =
@@ -28,4 +27,4 @@ place_in_block-returns t c =
     let statements = body_of (out-Block c.args.b.now).body in
     let here = in_statements c.args.low c.args.high c.args.closing statements c.deref-p-items.result.now c.loop-p.p-index (omega (arith, c.loop-p-test.false)) in
     let whole = block_place c.args.low c.args.high c.args.closing c.args.b.now ∙ (ap (λ xs. place_among c.args.low c.args.high c.args.closing (items_of procedure_of xs) statements) (sym c.deref-p-items.ensures.value) ∙ (sym c.loop-p.invariant ∙ here)) in
-    MatchResult-weaker c.place_of_statements.result c.place_of_statements.ensures (λ place e. e ∙ sym whole) (λ y h. h)
+    c.place_of_statements.ensures ∙ sym whole

@@ -1,0 +1,41 @@
+-- The first identifier of parts one after another: the first that has one has it.
+use Rattle.std.proofs.Common.{◌≡◌, ℕ, ◌+◌, ◌<◌, ◌≤◌, List, [], ◌∷◌, ◌++◌, length, drop, get_or, Option, Some, None, is_some, true, false, refl, sym, ap, ◌∙◌}
+use Rattle.std.proofs.lemmas.List.{drop_all, drop_more}
+use Rattle.ob0_tree.specs.declared.tree.Role.{Role}
+use Rattle.ob0_tree.specs.declared.tree.Role.TheVariants as role
+use Rattle.ob0_tree.specs.FirstIdentifier.{first_identifier, first_of}
+use Rattle.ob0_tree.specs.Tree.{Tree, Item, item, identifiers}
+use Rattle.ob0_tree.specs.View.{items_of}
+
+pub found_first : (xs ys : List (Role × ℕ)) {found : Option ℕ} → found ≡ first_of xs → is_some found ≡ true → found ≡ first_of (xs ++ ys)
+found_first [] ys e some = absurd (cc)
+found_first (x ∷ xs) ys e some = e
+
+pub found_later : (xs ys : List (Role × ℕ)) {found : Option ℕ} → found ≡ first_of xs → is_some found ≡ false → first_of ys ≡ first_of (xs ++ ys)
+found_later [] ys e none = refl
+found_later (x ∷ xs) ys e none = absurd (cc)
+
+-- in a list of parts, of which those before one have no identifier
+pub record Seeking {A : Type 0} {i : Item} (f : A → Tree ℕ (item i)) (xs : List A) (done : ℕ) : Type 0 where
+  pub so_far : first_identifier (items_of f (drop done xs)) ≡ first_identifier (items_of f xs)
+
+split : {A : Type 0} (xs : List A) (done : ℕ) (x : A) → done < length xs → x ≡ get_or xs done x → drop done xs ≡ x ∷ drop (done + 1) xs
+split xs done x less here = drop_more xs done x less ∙ ap (λ y. y ∷ drop (done + 1) xs) (sym here)
+
+module _ {A : Type 0} {i : Item} (f : A → Tree ℕ (item i)) {xs : List A} {done : ℕ} (x : A) where
+  -- the part here has one
+  pub found_here : {found : Option ℕ} → Seeking f xs done → done < length xs → x ≡ get_or xs done x → found ≡ first_identifier (f x) → is_some found ≡ true → found ≡ first_identifier (items_of f xs)
+  found_here w less here e some =
+      found_first (identifiers role.Declaring (f x)) (identifiers role.Declaring (items_of f (drop (done + 1) xs))) e some
+      ∙ (ap (λ ys. first_identifier (items_of f ys)) (sym (split xs done x less here)) ∙ w.so_far)
+
+  -- it has none
+  pub seeks_on : {found : Option ℕ} → Seeking f xs done → done < length xs → x ≡ get_or xs done x → found ≡ first_identifier (f x) → is_some found ≡ false → Seeking f xs (done + 1)
+  seeks_on w less here e none =
+      record {
+        so_far = found_later (identifiers role.Declaring (f x)) (identifiers role.Declaring (items_of f (drop (done + 1) xs))) e none
+            ∙ (ap (λ ys. first_identifier (items_of f ys)) (sym (split xs done x less here)) ∙ w.so_far);
+      }
+
+pub none_found : {A : Type 0} {i : Item} {f : A → Tree ℕ (item i)} {xs : List A} {done : ℕ} → Seeking f xs done → length xs ≤ done → None ≡ first_identifier (items_of f xs)
+none_found {f = f} {xs = xs} {done = done} w all = sym (ap (λ ys. first_identifier (items_of f ys)) (drop_all done xs all)) ∙ w.so_far
