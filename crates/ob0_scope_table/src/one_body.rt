@@ -20,7 +20,7 @@ pub struct BodyPlace {
 }
 
 /// True if the tokens from `low` up to, but not including, `high` are inside the statements of one
-/// block: none of them before the first identifier of these statements, and all of them before the
+/// block: they begin at or after the first identifier of these statements and end before the
 /// block's closing name.
 pub fn is_in_body(read: &Module<'_>, low: usize, high: usize) -> bool
     ensures { result ≡ is_in_body low high (tree_of read.now) }

@@ -46,8 +46,8 @@ holds_kept before after longer None o h = absurd h
 holds_kept before after longer (Some m) o h = meaning_kept before after longer m o h
 
 -- states that each name of a scope is at the same position in the environment, with an object that
--- agrees with the meaning of its ordinal; all ordinals are below n, and the standard procedures have
--- ordinals below 7
+-- agrees with the meaning of its ordinal; all ordinals are below n, and those of standard
+-- procedures are below 7
 abbrev pub NamesKnown : List Shape → List (Option (Meaning TypeId)) → ℕ → Scope Name → TypeEnvironment Name → Type 0
 NamesKnown shapes declared n [] [] = Unit {0}
 NamesKnown shapes declared n [] (c ∷ env) = ⊥
