@@ -13,14 +13,11 @@ use Rattle.ob0_run_machine.specs.declared.evaluated.Evaluated.TheVariants as eva
 use Rattle.ob0_run_machine.specs.Lowered.{literal}
 use Rattle.ob0_run_machine.specs.View.{applied}
 
--- how a run ends
+-- the end of a run at an expression
 abbrev pub end_of : Ending → Halt
 end_of ending.Overflow = evaluation.Overflow
 end_of ending.Divisor = evaluation.Divisor
 end_of ending.Index = evaluation.Index
-end_of ending.InputEnd = evaluation.InputEnd
-end_of ending.CallBound = evaluation.CallBound
-end_of ending.TurnBound = evaluation.TurnBound
 
 -- the end of a run at a step that gives nothing; none where an allocation failed
 abbrev pub end_at : Stop → Option Halt
@@ -43,9 +40,6 @@ outcome_of (evaluated.Value a) = gives a
 outcome_of evaluated.Overflow = ends evaluation.Overflow
 outcome_of evaluated.Divisor = ends evaluation.Divisor
 outcome_of evaluated.Index = ends evaluation.Index
-outcome_of evaluated.InputEnd = ends evaluation.InputEnd
-outcome_of evaluated.CallBound = ends evaluation.CallBound
-outcome_of evaluated.TurnBound = ends evaluation.TurnBound
 
 -- a number that is there is given, one that isn't is past the 32 bits
 abbrev pub if_there : Option ℤ → StepResult ℤ

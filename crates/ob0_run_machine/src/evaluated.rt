@@ -19,9 +19,6 @@ pub(crate) enum Evaluated<T> {
     Overflow,
     Divisor,
     Index,
-    InputEnd,
-    CallBound,
-    TurnBound,
 }
 
 /// A result in one tag.
@@ -35,9 +32,6 @@ pub(crate) fn flat<T: Copy>(given: Result<T, Ending>) -> Evaluated<T>
             Ending::Overflow => Evaluated::Overflow,
             Ending::Divisor => Evaluated::Divisor,
             Ending::Index => Evaluated::Index,
-            Ending::InputEnd => Evaluated::InputEnd,
-            Ending::CallBound => Evaluated::CallBound,
-            Ending::TurnBound => Evaluated::TurnBound,
         },
     }
 }
@@ -52,8 +46,5 @@ pub(crate) fn into_result<T: Copy>(given: Evaluated<T>) -> Result<T, Ending>
         Evaluated::Overflow => Err(Ending::Overflow),
         Evaluated::Divisor => Err(Ending::Divisor),
         Evaluated::Index => Err(Ending::Index),
-        Evaluated::InputEnd => Err(Ending::InputEnd),
-        Evaluated::CallBound => Err(Ending::CallBound),
-        Evaluated::TurnBound => Err(Ending::TurnBound),
     }
 }

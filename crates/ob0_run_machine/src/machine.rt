@@ -2,11 +2,11 @@
 
 ghost use Rattle.std.specs.Prelude.{◌≡◌, ◌≤◌, OnErr, OnOk, length, slice_set, true, vec_capacity, vec_len};
 ghost use Rattle.ob0_run_machine.specs.Execution.{copied, append_output, read_number};
-ghost use Rattle.ob0_run_machine.specs.Machines.{item_of, after_step, state_of};
+ghost use Rattle.ob0_run_machine.specs.Machines.{MachineSteps, item_of, state_of};
 ghost use Rattle.ob0_run_machine.specs.Allocations.{has_failed};
 
 use crate::copying::copy_cells;
-use crate::ending::Ending;
+use crate::ending::Stop;
 use crate::memory::Memory;
 use std::alloc::AllocError;
 
@@ -63,13 +63,13 @@ impl<'i> Machine<'i> {
         self.cells.len()
     }
 
-    /// Takes the next number of the input.
-    pub(crate) fn read_number(&mut self, address: usize) -> Result<(), Ending>
-        ensures { after_step result self.new
-            ≡ read_number (state_of self.old) address (state_of self.old).input }
+    /// Moves the next number of the input to a cell. Ends the run if no input is left.
+    pub(crate) fn read_number(&mut self, address: usize) -> Result<(), Stop>
+        ensures { MachineSteps result self.new
+            (read_number (state_of self.old) address (state_of self.old).input) }
     {
         match self.input {
-            [] => Err(Ending::InputEnd),
+            [] => Err(Stop::InputEnd),
             [first, rest @ ..] => {
                 store(&mut self.cells, address, *first);
                 self.input = rest;

@@ -178,11 +178,10 @@ fn copy_block(
 }
 
 #[tactic(auto, unfolding(crate::specs::Execution::execute))]
-fn read(place: &Place, level: &Level<'_>, machine: &mut Machine<'_>) -> Result<(), Ending>
+fn read(place: &Place, level: &Level<'_>, machine: &mut Machine<'_>) -> Result<(), Stop>
     ensures { (enters : CallEffect) (t : ℕ)
-        → after_step result machine.new
-        ≡ execute enters t (levels_of level.now) (lowered.reads (place_of place.now))
-        (state_of machine.old) }
+        → MachineSteps result machine.new (execute enters t (levels_of level.now)
+        (lowered.reads (place_of place.now)) (state_of machine.old)) }
 {
     let a = locate(place, level, machine.cells.as_slice())?;
     machine.read_number(a)
@@ -298,7 +297,7 @@ fn statement<F: Fn(&mut Machine<'_>, usize, &Level<'_>) -> Result<(), Stop>>(
         Instruction::StoreTruth(place, t) => Ok(store_truth(place, t, level, machine)?),
         Instruction::StoreConstant(r, b) => Ok(store_constant(r, *b, level, machine)?),
         Instruction::Copy(to, from, count) => Ok(copy_block(to, from, *count, level, machine)?),
-        Instruction::Read(place) => Ok(read(place, level, machine)?),
+        Instruction::Read(place) => read(place, level, machine),
         Instruction::Write(n) => write(n, level, machine),
         Instruction::WriteLine => write_line(level, machine),
         Instruction::If(i) => branches(i, level, turns, machine, enter),
