@@ -7,14 +7,12 @@ use Rattle.ob0_language_runs.specs.Runs.{run}
 use Rattle.ob0_run_machine.specs.Execution as machine
 use Rattle.ob0_run_machine.specs.View.{program_of}
 use Rattle.ob0_run_cells.specs.ActivationLaws.{run_of}
-use Rattle.ob0_run_cells.specs.LoweredStatements.{HaveNumbers}
 use Rattle.ob0_run_lowering.specs.declared.programs.Program.{Program}
 
--- a program runs as a module does: on each input of numbers of 32 bits, with c open calls and t
--- iterations of a loop, where the cells of the module and of all open calls have addresses
+-- a program runs as a module does: on each input, with c open calls and t iterations of a loop,
+-- where the cells of the module and of all open calls have addresses
 abbrev pub RunsAs : Tree Name module_text → Program → Type 0
 RunsAs m p =
     (input : List ℤ) (c t : ℕ)
-    → HaveNumbers input
     → suc c * p.most_cells < 2 ^ 64
     → run_of (machine.run (program_of p.code) input c t) ≡ run m input c t

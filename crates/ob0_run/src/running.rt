@@ -6,9 +6,7 @@
 //!
 //! The law requires addresses for the cells of all activations that may be open: `execute` runs a program with as many
 //! open calls as have them (`calls_with_addresses`), and returns what that came to unless it ended at that bound
-//! (`of_fewer_calls`): it is the run with all calls then (`proofs/MoreCalls.antt`). The law requires that the input has
-//! numbers of 32 bits. A slice of `i32` has no such fact by itself: `have_numbers` reads each number once, and each
-//! value that is read has its range (`let f : SFits w32 .. = search rules`).
+//! (`of_fewer_calls`): it is the run with all calls then (`proofs/MoreCalls.antt`).
 
 ghost use Rattle.std.specs.Prelude.{◌≡◌, ◌≢◌, ◌⊎◌, ◌+◌, ◌*◌, ◌^◌, ◌<◌, ◌≤◌, IfErr, IfOk, suc};
 ghost use Rattle.ob0_tree.specs.Parsed.{named_tree_of};
@@ -17,7 +15,6 @@ ghost use Rattle.ob0_language_names.specs.Names.{Name};
 ghost use Rattle.ob0_language_values.specs.Values as values;
 ghost use Rattle.ob0_language_runs.specs.Runs.{run};
 ghost use Rattle.ob0_run_machine.specs.View.{program_of};
-ghost use Rattle.ob0_run_cells.specs.LoweredStatements.{HaveNumbers};
 ghost use Rattle.ob0_run_lowering.specs.LoweredModules.{MeansModule};
 ghost use Rattle.ob0_run.specs.Outcomes.{end_in, run_of};
 ghost use Rattle.ob0_run.specs.Programs.{RunsAs};
@@ -27,17 +24,6 @@ use ob0_run_lowering::Program;
 use ob0_run_machine::{End, Outcome};
 use ob0_types::WellTyped;
 use std::alloc::{AllocError, Global};
-
-/// An input is of numbers of 32 bits, as the law of lowered runs requires. The loop is for the proof alone: that an `i32`
-/// has 32 bits is known of each that is read, not of all at once, so each is read, once for a run.
-fn have_numbers(input: &[i32])
-    ensures { HaveNumbers input.now }
-{
-    for n in input {
-        // For the proof: what is known of this value.
-        let _number = *n;
-    }
-}
 
 /// The number of open calls, up to `calls`, whose cells with those of the module have addresses, where none has more than
 /// `most_cells`.
@@ -99,7 +85,6 @@ pub fn execute(
         → RunsAs m program.now
         → IfOk result (λ o. run_of o ≡ run m input.now calls turns) }
 {
-    have_numbers(input);
     let bound = calls_with_addresses(program.most_cells, calls);
     let outcome = ob0_run_machine::run(alloc, &program.code, input, bound, turns)?;
     if bound < calls {

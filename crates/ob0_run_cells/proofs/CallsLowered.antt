@@ -19,17 +19,12 @@ use Rattle.ob0_run_machine.specs.Execution as execution
 use Rattle.ob0_run_machine.specs.Lowered as lowered
 use Rattle.ob0_run_cells.specs.Activations.{RoutineTable, BodyMeans, IsPlaced, Placed, Placing, PlacingFits, ProcedureMeans, Whereabouts, at_target, entered_placing, first_target, from_name, inward, own_target, target_of, targets_in}
 use Rattle.ob0_run_cells.specs.Cells.{all_cells, sizes}
-use Rattle.ob0_run_cells.specs.LoweredStatements.{Body, CallsRepresent, HaveNumbers, ProgressRepresents, Represents, Target, argument_addresses, argument_cells}
+use Rattle.ob0_run_cells.specs.LoweredStatements.{Body, CallsRepresent, ProgressRepresents, Represents, Target, argument_addresses, argument_cells}
 use Rattle.ob0_run_cells.specs.Lowering.{held}
 use Rattle.ob0_run_cells.proofs.PlacedDeclarations.{FramePlaced, block-placed, parameters-placed}
 use Rattle.ob0_run_cells.proofs.PlacedEnvironments.{from-placed, inward-fits, slots-fit}
 use Rattle.ob0_run_cells.proofs.Places.{store-size}
-use Rattle.ob0_run_cells.proofs.Represented.{numbers-append, numbers-take}
 use Rattle.ob0_run_cells.proofs.Variables.{variables_are_dropped}
-
-pub numbers-zero : (n : ℕ) → HaveNumbers (replicate n (pos 0))
-numbers-zero (suc n) (suc i) = numbers-zero n i
-numbers-zero _ _ = refl
 
 -- what a call has of its own is dropped in both
 pub drop_variables-represents : (typing now others : StoreTyping) (old : Store) (base : ℕ) (p : execution.MachineProgress) (q : Progress) → now ≡ typing ++ others → StoreFits typing old → base ≡ length (all_cells old) → ProgressRepresents now p q → ProgressRepresents typing (execution.drop_variables base p) (drop_variables (length old) q)
@@ -40,8 +35,6 @@ drop_variables-represents typing now others old base (execution.running low) (ru
       same_cells = (λ i. take (is i) (h.same_cells i)) ∙ sym cells;
       same_input = h.same_input;
       same_output = h.same_output;
-      cells_have_numbers = numbers-take base low.cells h.cells_have_numbers;
-      input_has_numbers = h.input_has_numbers;
     }
 drop_variables-represents typing now others old base (execution.stopped x out) (stopped y written) e fits is h = h
 drop_variables-represents typing now others old base _ _ e fits is h = absurd h
@@ -71,12 +64,12 @@ module _ {N : Type 0} (table : RoutineTable N) where
 
   pub activate-represents : (c t : ℕ) → CallsKnown c t → (typing : StoreTyping) (ls : Levels) (checked : TypeEnvironment N) (placing : Placing N) (active : Activation N) (signature : Signature) (args : List Argument) (low : execution.MachineState) (s : State) (p : execution.Passed)
       → EnvironmentsFit table.naming typing checked active → PlacingFits table typing ls checked placing active → sizes typing + suc c * table.most < 2 ^ 64 → newest checked ≡ Some (a_procedure signature) → Represents typing low s → ArgumentsFit typing signature args
-      → p.cells ≡ low.cells ++ argument_cells args → p.addresses ≡ argument_addresses typing args → HaveNumbers p.cells
+      → p.cells ≡ low.cells ++ argument_cells args → p.addresses ≡ argument_addresses typing args
       → ProgressRepresents typing (execution.call table.routines (suc c) t (first_target placing).procedure (execution.entered ls (length low.cells) (first_target placing).up p) record low { cells = p.cells }) (drop_variables (length s.store) (activate table.naming (call_freeing table.naming c t) t active args s))
   unfolding execution.call activate block_fits
-  activate-represents c t known typing ls [] placing active signature args low s p env placed few e h fit cells there numbers = absurd (cc)
-  activate-represents c t known typing ls (b ∷ checked) [] (d ∷ active) signature args low s p env placed few e h fit cells there numbers = absurd placed
-  activate-represents c t known typing ls ((x, o) ∷ checked) ((z, w) ∷ placing) ((y, r) ∷ active) signature args low s p env placed few e h fit cells there numbers = of_objects o w r env.1 placed.here (some_inverse {a = o} {b = a_procedure signature} e)
+  activate-represents c t known typing ls [] placing active signature args low s p env placed few e h fit cells there = absurd (cc)
+  activate-represents c t known typing ls (b ∷ checked) [] (d ∷ active) signature args low s p env placed few e h fit cells there = absurd placed
+  activate-represents c t known typing ls ((x, o) ∷ checked) ((z, w) ∷ placing) ((y, r) ∷ active) signature args low s p env placed few e h fit cells there = of_objects o w r env.1 placed.here (some_inverse {a = o} {b = a_procedure signature} e)
     where
       of_text : (tg : Target) (outer : Placing N) (entry : lowered.Routine) (j : ℕ) (text : Tree N (item procedure)) (ps : List (TypedParameter N)) → PlacingFits table typing (drop tg.up ls) checked outer active → typed_parameters table.naming checked j (procedure_formals text) ≡ Some ps
           → slice_get table.routines tg.procedure ≡ Some entry → signature ≡ map (λ p. p.formal) ps → procedure_fits table.naming (bind_typed ps (heading x ps checked)) j text ≡ true
@@ -106,8 +99,6 @@ module _ {N : Type 0} (table : RoutineTable N) where
             same_cells = ap (λ l. l ++ execution.zeros entry.cells) (cells ∙ (ap (λ l. l ++ argument_cells args) h.same_cells ∙ sym part.cells_added)) ∙ sym rest.cells_added;
             same_input = h.same_input;
             same_output = h.same_output;
-            cells_have_numbers = numbers-append p.cells (execution.zeros entry.cells) numbers (numbers-zero entry.cells);
-            input_has_numbers = h.input_has_numbers;
           } in
           let does = body-represents c t known rest.typing_now (l ∷ seen) after q₂.placing k.env rest.frame.environment_fits rest.frame.placing_fits room entry.body (block_statements b) body_means low₂ s₂ represents in
           let grown : rest.typing_now ≡ typing ++ (part.others ++ rest.others) = rest.is_grown ∙ (ap (λ l. l ++ rest.others) part.is_grown ∙ append_assoc typing part.others rest.others) in
@@ -127,10 +118,10 @@ module _ {N : Type 0} (table : RoutineTable N) where
           of_text tg outer found.routine code.first_constructor code.text qs inside found.are_typed found.in_table signed (subst (λ ps. procedure_fits table.naming (bind_typed ps (heading x ps checked)) code.first_constructor code.text ≡ true) same fits) found.means
       of_objects (a_procedure q) _ _ bound at e = absurd at
       of_objects _ w r bound at e = absurd (cc)
-  activate-represents c t known typing ls (b ∷ checked) _ [] signature args low s p env placed few e h fit cells there numbers = absurd env
+  activate-represents c t known typing ls (b ∷ checked) _ [] signature args low s p env placed few e h fit cells there = absurd env
 
   pub calls-known : (c t : ℕ) → CallsKnown c t
   unfolding call_freeing execution.call
-  calls-known zero t typing ls checked placing active env placed few x signature e args low s p h fit cells there numbers = (refl, h.same_output)
-  calls-known (suc c) t typing ls checked placing active env placed few x signature e args low s p h fit cells there numbers =
-      activate-represents c t (calls-known c t) typing ls (from_binding table.naming checked x) (from_name table.naming placing x) (from_binding table.naming active x) signature args low s p (from-fit table.naming typing checked active x env) (from-placed table typing ls checked placing active x placed) few e h fit cells there numbers
+  calls-known zero t typing ls checked placing active env placed few x signature e args low s p h fit cells there = (refl, h.same_output)
+  calls-known (suc c) t typing ls checked placing active env placed few x signature e args low s p h fit cells there =
+      activate-represents c t (calls-known c t) typing ls (from_binding table.naming checked x) (from_name table.naming placing x) (from_binding table.naming active x) signature args low s p (from-fit table.naming typing checked active x env) (from-placed table typing ls checked placing active x placed) few e h fit cells there

@@ -17,9 +17,9 @@ use Rattle.ob0_run_machine.specs.Lowered as lowered
 use Rattle.ob0_run_cells.specs.ActivationLaws.{RunsLowered, run_of}
 use Rattle.ob0_run_cells.specs.Activations.{FitsFirst, Placed, ProgramMeans, RoutineTable, outermost_placing}
 use Rattle.ob0_run_cells.specs.Cells.{sizes}
-use Rattle.ob0_run_cells.specs.LoweredStatements.{HaveNumbers, ProgressRepresents, Represents}
+use Rattle.ob0_run_cells.specs.LoweredStatements.{ProgressRepresents, Represents}
 use Rattle.ob0_run_cells.specs.Lowering.{of_module}
-use Rattle.ob0_run_cells.proofs.CallsLowered.{body-represents, calls-known, numbers-zero}
+use Rattle.ob0_run_cells.proofs.CallsLowered.{body-represents, calls-known}
 use Rattle.ob0_run_cells.proofs.PlacedDeclarations.{FramePlaced, block-placed}
 
 -- a predeclared name is nowhere
@@ -31,10 +31,10 @@ finished-same typing (execution.running low) (running s) h = ap (λ out. record 
 finished-same typing (execution.stopped x out) (stopped y written) h = λ i. record { output = h.1 i; ending = h.0 i }
 finished-same typing _ _ h = absurd h
 
-run-freed : {N : Type 0} (naming : Naming N) (m : Tree N module_text) (program : lowered.LoweredCode) (most c t : ℕ) (input : List ℤ) → fits_over naming m ≡ true → ProgramMeans most naming m program → suc c * most < 2 ^ 64 → HaveNumbers input
+run-freed : {N : Type 0} (naming : Naming N) (m : Tree N module_text) (program : lowered.LoweredCode) (most c t : ℕ) (input : List ℤ) → fits_over naming m ≡ true → ProgramMeans most naming m program → suc c * most < 2 ^ 64
     → run_of (execution.run program input c t) ≡ run_freeing naming m input c t
 unfolding execution.run run_freeing fits_over
-run-freed {N} naming (is_module x b closing) program most c t input fits means few numbers =
+run-freed {N} naming (is_module x b closing) program most c t input fits means few =
     let start : State = record { store = []; input = input; output = [] } in
     let low : execution.MachineState = record { cells = execution.zeros program.cells; input = input; output = [] } in
     let p : Placed N = record { placing = outermost_placing naming; cells = 0; reference_places = 0 } in
@@ -54,19 +54,17 @@ run-freed {N} naming (is_module x b closing) program most c t input fits means f
       same_cells = sym part.cells_added;
       same_input = refl;
       same_output = refl;
-      cells_have_numbers = numbers-zero program.cells;
-      input_has_numbers = numbers;
     } in
     subst (λ o. run_of (execution.run program input c t) ≡ finished (in_frame start o (λ f. execute_body naming f.env (call_freeing naming c t f.env) t (block_statements b)))) (sym eg)
     (finished-same part.typing_now (execution.execute_all (execution.call program.procedures c t) t execution.outermost program.body low) (execute_body naming g.env (call_freeing naming c t g.env) t (block_statements b) record start { store = g.store })
     (body-represents table c t (calls-known table c t) part.typing_now execution.outermost after q.placing g.env part.frame.environment_fits part.frame.placing_fits room program.body (block_statements b) body_means low record start { store = g.store } represents))
 
 -- of the store that keeps every variable too: no run reads again what a call failed
-pub run-lowered : {N : Type 0} (naming : Naming N) (m : Tree N module_text) (program : lowered.LoweredCode) (most c t : ℕ) (input : List ℤ) → fits_over naming m ≡ true → ProgramMeans most naming m program → suc c * most < 2 ^ 64 → HaveNumbers input
+pub run-lowered : {N : Type 0} (naming : Naming N) (m : Tree N module_text) (program : lowered.LoweredCode) (most c t : ℕ) (input : List ℤ) → fits_over naming m ≡ true → ProgramMeans most naming m program → suc c * most < 2 ^ 64
     → run_of (execution.run program input c t) ≡ run_over naming m input c t
-run-lowered naming m program most c t input fits means few numbers = run-freed naming m program most c t input fits means few numbers ∙ freeing-keeps naming m input c t
+run-lowered naming m program most c t input fits means few = run-freed naming m program most c t input fits means few ∙ freeing-keeps naming m input c t
 
 pub runs_lowered-holds : RunsLowered
 unfolding WellTyped run_numbered
-runs_lowered-holds m program most c t input well means few numbers =
-    run-lowered as_labels (numbered m) program most c t input (sym (fits_by_ordinal-holds m) ∙ well.1) means few numbers ∙ sym (runs_by_ordinal-holds m input c t)
+runs_lowered-holds m program most c t input well means few =
+    run-lowered as_labels (numbered m) program most c t input (sym (fits_by_ordinal-holds m) ∙ well.1) means few ∙ sym (runs_by_ordinal-holds m input c t)

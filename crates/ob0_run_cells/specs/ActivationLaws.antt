@@ -15,7 +15,7 @@ use Rattle.ob0_language_runs.specs.Runs.{Run, run}
 use Rattle.ob0_run_machine.specs.Execution as execution
 use Rattle.ob0_run_machine.specs.Lowered as lowered
 use Rattle.ob0_run_cells.specs.Activations.{ProgramMeans}
-use Rattle.ob0_run_cells.specs.LoweredStatements.{HaveNumbers, written_of}
+use Rattle.ob0_run_cells.specs.LoweredStatements.{written_of}
 use Rattle.ob0_run_cells.specs.Lowering.{end_of}
 
 -- a run of lowered code as one of the module
@@ -23,13 +23,11 @@ abbrev pub run_of : execution.MachineRun → Run
 run_of r = record { output = map written_of r.output; ending = end_of r.ending }
 
 -- the run of a program that is lowered from a well-typed module is the module's run, for each input
--- of numbers of 32 bits and all bounds under which the cells of the module and of all calls
--- that are open have addresses
+-- and all bounds under which the cells of the module and of all calls that are open have addresses
 abbrev pub RunsLowered : Type 0
 RunsLowered =
     (m : Tree Name module_text) (program : lowered.LoweredCode) (most c t : ℕ) (input : List ℤ)
     → WellTyped m
     → ProgramMeans most as_labels (numbered m) program
     → suc c * most < 2 ^ 64
-    → HaveNumbers input
     → run_of (execution.run program input c t) ≡ run m input c t

@@ -21,10 +21,6 @@ abbrev pub written_of : execution.OutputItem → Written
 written_of (execution.number_out n) = number_out n
 written_of execution.line_out = line_out
 
--- all are numbers of 32 bits
-abbrev pub HaveNumbers : List ℤ → Type 0
-HaveNumbers cells = (a : ℕ) → machine.fits (machine.cell_at cells a) ≡ true
-
 -- a state of lowered code with the cells of a store of given types, and the same input and output
 pub record Represents (typing : StoreTyping) (low : execution.MachineState) (s : State)
     : Type 0 where
@@ -32,8 +28,6 @@ pub record Represents (typing : StoreTyping) (low : execution.MachineState) (s :
   pub same_cells : low.cells ≡ all_cells s.store
   pub same_input : low.input ≡ s.input
   pub same_output : map written_of low.output ≡ s.output
-  pub cells_have_numbers : HaveNumbers low.cells
-  pub input_has_numbers : HaveNumbers low.input
 
 -- both go on, or both have ended alike
 abbrev pub ProgressRepresents : StoreTyping → execution.MachineProgress → Progress → Type 0
@@ -79,7 +73,6 @@ CallsRepresent {N} checked targets b =
     → ArgumentsFit b.typing signature args
     → p.cells ≡ low.cells ++ argument_cells args
     → p.addresses ≡ argument_addresses b.typing args
-    → HaveNumbers p.cells
     → ProgressRepresents b.typing (b.lowered_enters (targets x).procedure
     (execution.entered b.levels (length low.cells) (targets x).up p) record low
     { cells = p.cells }) (b.enters x args s)

@@ -4,8 +4,8 @@
 -- since what a number means is a number. Types are required of places alone, and of variables. An array or a record is
 -- `ValueAt` a place: its expression evaluates to what the place holds, in parentheses or not; only a VAR argument has
 -- to be a designator alone (`IsAt`). While arguments are passed, cells follow those of the store: `passed` in a moment,
--- so that what means something means it there too. A sign `+` leaves a number as it is, since numbers of lowered code
--- have 32 bits at every moment (`Has32Bits`): literals by a premise, cells by `has_numbers`, operations by themselves.
+-- so that what means something means it there too. A sign `+` is lowered to a sum with 0, which is in range exactly if
+-- the number is.
 -- Rule: none; for contracts of lowering, against docs/LANGUAGE.md, Runs 2 to 4.
 use Rattle.std.specs.Prelude.{◌≡◌, ℕ, zero, suc, ◌+◌, ◌^◌, ◌<◌, true, List, ◌++◌, ℤ, slice_index_or, Some}
 use Rattle.ob0_tree.specs.declared.tree.Relation.{Relation}
@@ -62,8 +62,8 @@ pub record Moment (N : Type 0) : Type 0 where
 abbrev pub cells_in : {N : Type 0} → Moment N → List ℤ
 cells_in m = all_cells m.store ++ m.passed
 
--- a moment of a module that is checked, whose variables are in their slots:
--- cells are numbers of 32 bits, fewer than addresses
+-- a moment of a module that is checked: its variables are in their slots,
+-- and there are fewer cells than addresses
 pub record Shows {N : Type 0} (checked : Typed N) (slots : N → Slot) (m : Moment N) : Type 0 where
   pub store_fits : StoreFits m.typing m.store
   pub names_fit : MeaningsFit m.typing checked m.active
@@ -71,7 +71,6 @@ pub record Shows {N : Type 0} (checked : Typed N) (slots : N → Slot) (m : Mome
       → m.active.object_for x ≡ Some (a_variable p)
       → slot_address m.levels (slots x) ≡ address m.typing p
   pub has_addresses : sizes m.typing < 2 ^ 64
-  pub has_numbers : (a : ℕ) → machine.fits (machine.cell_at (cells_in m) a) ≡ true
 
 -- how a run ends, by how the lowered one does
 abbrev pub end_of : machine.Halt → End
@@ -92,12 +91,7 @@ outcome_of f (machine.ends e) = ends (end_of e)
 abbrev pub Evaluated : Type 0 → Type 0 → Type 0
 Evaluated N A = Moment N → Outcome A
 
--- what a number evaluates to has 32 bits
-abbrev pub Has32Bits : machine.StepResult ℤ → Type 0
-Has32Bits (machine.gives n) = machine.fits n ≡ true
-Has32Bits (machine.ends e) = Unit {0}
-
--- a number of lowered code that evaluates to what is evaluated, and one of 32 bits
+-- a number of lowered code that evaluates to what is evaluated, at every moment
 abbrev pub NumberMeans : {N : Type 0}
     → Typed N
     → (N → Slot)
@@ -107,8 +101,7 @@ abbrev pub NumberMeans : {N : Type 0}
 NumberMeans {N} checked slots n value =
     (m : Moment N)
     → Shows checked slots m
-    → (outcome_of number (machine.number m.levels (cells_in m) n) ≡ value m)
-    × Has32Bits (machine.number m.levels (cells_in m) n)
+    → outcome_of number (machine.number m.levels (cells_in m) n) ≡ value m
 
 -- a lowered truth value is what is evaluated, at every moment
 abbrev pub TruthMeans : {N : Type 0}

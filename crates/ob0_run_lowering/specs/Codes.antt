@@ -92,10 +92,11 @@ multiplied multiply_operator.Divide = operated lowered.quotient
 multiplied multiply_operator.Modulo = operated lowered.remainder
 multiplied multiply_operator.And = combined lowered.both
 
--- the code of a term with its sign
+-- the code of a term with its sign: `+x` is `x + 0`, so it has the value of `x` if that is in range
 abbrev pub signed : Option Sign → ExpressionCode → ExpressionCode
 signed None c = c
-signed (Some sign.Plus) (a_number n) = a_number n
+signed (Some sign.Plus) (a_number n) =
+    a_number (lowered.operation lowered.sum n (lowered.literal (pos 0)))
 signed (Some sign.Minus) (a_number n) = a_number (lowered.negative n)
 signed _ _ = no_code
 

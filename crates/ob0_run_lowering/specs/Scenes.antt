@@ -1,14 +1,12 @@
 -- What lowering knows where it is: what declarations are, where each of them is,
 -- and how deep the running activation is.
 -- Rule: none; for contracts of lowering.
-use Rattle.std.specs.Prelude.{◌≡◌, ℕ, ◌-◌, List, slice_index_or, Some, None, Option, true, ℤ, pos}
-use Rattle.ob0_tree.specs.Places.{value_at}
-use Rattle.ob0_run_machine.specs.Evaluation as machine
+use Rattle.std.specs.Prelude.{◌≡◌, ℕ, ◌-◌, List, slice_index_or, Some, None, Option}
 use Rattle.ob0_language_names.specs.Names.{Label, as_written, declared, label_text}
 use Rattle.ob0_types_table.specs.KnownTables.{Tables, declared_in}
-use Rattle.ob0_language_types.specs.Expressions.{Object, a_constant, a_procedure, a_variable}
+use Rattle.ob0_language_types.specs.Expressions.{Object, a_procedure, a_variable}
 use Rattle.ob0_language_types.specs.WellTyped.{Signature, Typed}
-use Rattle.ob0_language_values.specs.Values.{Shape, number}
+use Rattle.ob0_language_values.specs.Values.{Shape}
 use Rattle.ob0_run_cells.specs.Activations.{Whereabouts, at_target, in_slot, nowhere, slot_of, target_of}
 use Rattle.ob0_run_cells.specs.LoweredStatements.{Target}
 use Rattle.ob0_run_cells.specs.Lowering.{Slot, held, by_reference, of_module}
@@ -46,14 +44,6 @@ target_at scene x = target_of (whereabouts scene x)
 abbrev pub object_at : Tables → Label → Option (Object Shape Signature)
 object_at t (declared k) = declared_in t k
 object_at t (as_written x) = None
-
--- the numbers of the text and the constants of the module have 32 bits
-pub record HasSmall (scene : Scene) : Type 0 where
-  pub numbers : (token : ℕ)
-      → machine.fits (pos (value_at scene.resolved.now.module_read.source token)) ≡ true
-  pub constants : (x : Label) (n : ℤ)
-      → object_at scene.types.now x ≡ Some (a_constant (number n))
-      → machine.fits n ≡ true
 
 -- A scene is right for what names mean in a body, for the slots of its variables and the targets of
 -- its procedures: what is bound there is what its declaration is, and is where the scene has it.

@@ -7,7 +7,6 @@ ghost use Rattle.ob0_language_types.specs.Selected.{selectors_in};
 ghost use Rattle.ob0_run_lowering.specs.Means.{Locates, LocatesAlone, Lowers, LowersArgument, LowersNumber, LowersTruth};
 ghost use Rattle.ob0_run_lowering.specs.Parts.{IsNumberOf, IsTypedPlaceOf, IsTruthOf, IsValueOf};
 ghost use Rattle.ob0_run_lowering.specs.Rows.{IsFlat};
-ghost use Rattle.ob0_run_lowering.specs.Scenes.{HasSmall};
 ghost use Rattle.ob0_run_lowering.specs.declared.lowered.Lowered.TheVariants as code;
 
 use crate::lowered::{Lowered, TypedPlace};
@@ -82,17 +81,7 @@ impl<'s, 'k, 't> Scene<'s, 'k, 't> {
         ensures lowers { IfOk result (Lowers self.now (expression_of e.now)) }
         ensures flat { IfOk result IsFlat }
     {
-        self.has_small();
         self.lower_expression(alloc, e)
-    }
-
-    /// The numbers of the text and the constants of the module have 32 bits.
-    fn has_small(&self)
-        ensures { HasSmall self.now }
-    {
-        // For the proof: what the contracts of these calls say.
-        let _known = self.types.declarations();
-        let _text = self.resolved.tokens().text();
     }
 
     /// The code of an expression that evaluates to a number.
@@ -116,7 +105,6 @@ impl<'s, 'k, 't> Scene<'s, 'k, 't> {
     pub fn place(&self, alloc: Global, d: &Designator) -> Result<TypedPlace, AllocError>
         ensures { IfOk result (Locates self.now (out-Designator d.now).name (selectors_in d.now)) }
     {
-        self.has_small();
         let found = self.locate(alloc, d)?;
         Ok(place_of(found))
     }

@@ -142,19 +142,21 @@ fn lower_minus(alloc: Global, operand: Lowered) -> Result<Lowered, AllocError>
     }
 }
 
-fn lower_plus(operand: Lowered) -> Lowered
-    ensures code { code_of result ≡ codes.signed (Some signs.Plus) (code_of operand) }
-    ensures flat { GoesOnFlat operand result }
+/// The sum of a number and 0.
+fn lower_plus(alloc: Global, operand: Lowered) -> Result<Lowered, AllocError>
+    ensures code { IfOk result
+        (λ l. code_of l ≡ codes.signed (Some signs.Plus) (code_of operand)) }
+    ensures flat { IfOk result (GoesOnFlat operand) }
 {
-    match operand {
-        Lowered::Number(number) => Lowered::Number(number),
-        Lowered::Truth(_) => Lowered::Nothing,
-        Lowered::Block(_, _) => Lowered::Nothing,
-        Lowered::Nothing => Lowered::Nothing,
-    }
+    lower_operation(
+        alloc,
+        Operator::Sum,
+        operand,
+        Lowered::Number(Number::Literal(0)),
+    )
 }
 
-/// A term with its sign. `+` leaves a number as it is.
+/// A term with its sign.
 pub(crate) fn lower_sign(
     alloc: Global,
     sign: Option<Sign>,
@@ -166,7 +168,7 @@ pub(crate) fn lower_sign(
     match sign {
         None => Ok(operand),
         Some(sign) => match sign {
-            Sign::Plus => Ok(lower_plus(operand)),
+            Sign::Plus => lower_plus(alloc, operand),
             Sign::Minus => lower_minus(alloc, operand),
         },
     }

@@ -1,23 +1,17 @@
 //! The types of a module, with how many cells they have.
 //!
 //! Sizes are found once, for each entry of the checker's table over those before it (`LayOut` goes along
-//! `shapes_from`), with the offsets of a record's fields. So an offset is a look-up, by the field's place. `HasSmall`:
-//! numbers of the text and constants have 32 bits. Of the text that is in the scan's promise; of constants it is
-//! learned by reading each once (`constants_are_small`), since a number that is in a table has no range before it is
-//! read.
+//! `shapes_from`), with the offsets of a record's fields. So an offset is a look-up, by the field's place.
 
-ghost use Rattle.std.specs.Prelude.{◌≡◌, ◌≤◌, ◌+◌, ◌*◌, ◌^◌, ℕ, ℤ, Some, true, IfOk, List, MatchResult, slice_index_or};
+ghost use Rattle.std.specs.Prelude.{◌≡◌, ◌≤◌, ◌+◌, ◌*◌, ◌^◌, ℕ, IfOk, List, MatchResult, slice_index_or};
 ghost use Rattle.ob0_run_cells.specs.Cells.{field_offset, size, step_offset};
-ghost use Rattle.ob0_run_machine.specs.Evaluation as machine;
 ghost use Rattle.ob0_language_names.specs.Names.{Name};
 ghost use Rattle.ob0_types_table.specs.FieldPlaces.{field_selected};
-ghost use Rattle.ob0_types_table.specs.KnownTables.{declared_in, shapes_of};
+ghost use Rattle.ob0_types_table.specs.KnownTables.{shapes_of};
 ghost use Rattle.ob0_types_table.specs.Tables.{fields_shape, made_shape, no_shape, only_array, only_record, type_shape};
-ghost use Rattle.ob0_language_types.specs.Expressions.{a_constant};
 ghost use Rattle.ob0_language_values.specs.Values as values;
 ghost use Rattle.ob0_run_lowering.specs.Layouts.{AreLaidOut, LayOut, HasLayout, RecordAt};
 
-use ob0_language_values::Scalar;
 use ob0_types_table::{DeclarationTable, Field, FieldOf, TypeEntry, TypeId};
 use std::alloc::{AllocError, Global};
 use std::marker::Model;
@@ -156,48 +150,15 @@ fn entry(alloc: Global, layouts: &[Layout], shape: &TypeEntry) -> Result<Layout,
     }
 }
 
-/// The constant of an ordinal has 32 bits.
-fn constant_is_small(known: &DeclarationTable, ordinal: usize)
-    ensures { (n : ℤ)
-        → declared_in known.now ordinal ≡ Some (a_constant (values.number n))
-        → machine.fits n ≡ true }
-{
-    match known.constant(ordinal) {
-        None => {}
-        Some(value) => match value {
-            Scalar::Number(_number) => {}
-            Scalar::Truth(_truth) => {}
-        },
-    }
-}
-
-/// The constants of a module have 32 bits. The loop is for the proof alone: that a constant has 32 bits is known of each
-/// that is looked up, not of all at once, so each is looked up, once for a module.
-fn constants_are_small(known: &DeclarationTable)
-    ensures { (k : ℕ) (n : ℤ)
-        → declared_in known.now k ≡ Some (a_constant (values.number n))
-        → machine.fits n ≡ true }
-{
-    for ordinal in 0..known.count() {
-        constant_is_small(known, ordinal);
-    }
-}
-
 impl<'k> Model for Types<'k> {
-    ghost use Rattle.std.specs.Prelude.{◌≡◌, ℕ, ℤ, Some, true};
-    ghost use Rattle.ob0_run_machine.specs.Evaluation as machine;
-    ghost use Rattle.ob0_types_table.specs.KnownTables.{Tables, declared_in, shapes_of};
-    ghost use Rattle.ob0_language_types.specs.Expressions.{a_constant};
-    ghost use Rattle.ob0_language_values.specs.Values.{number};
+    ghost use Rattle.ob0_types_table.specs.KnownTables.{Tables, shapes_of};
     ghost use Rattle.ob0_run_lowering.specs.Layouts.{LayOut};
 
     ghost Value = { Tables };
 
     ghost view = { λ t. t.known.now };
 
-    ghost invariant = { λ t. LayOut (shapes_of t.known.now) t.layouts.items
-        × ((k : ℕ) (n : ℤ) → declared_in t.known.now k ≡ Some (a_constant (number n))
-        → machine.fits n ≡ true) };
+    ghost invariant = { λ t. LayOut (shapes_of t.known.now) t.layouts.items };
 }
 
 impl<'k> Types<'k> {
@@ -212,17 +173,13 @@ impl<'k> Types<'k> {
     pub fn new(alloc: Global, known: &'k DeclarationTable) -> Result<Types<'k>, AllocError>
         ensures { IfOk result (λ t. t ≡ known.now) }
     {
-        constants_are_small(known);
         let layouts = lay_out_all(alloc, known)?;
         Ok(Types { known, layouts })
     }
 
-    /// What is known of the module. Its constants have 32 bits.
+    /// The table of the module's declarations.
     pub fn declarations(&self) -> &'k DeclarationTable
-        ensures value { result.now ≡ self.now }
-        ensures small { (k : ℕ) (n : ℤ)
-            → declared_in self.now k ≡ Some (a_constant (values.number n))
-            → machine.fits n ≡ true }
+        ensures { result.now ≡ self.now }
     {
         self.known
     }

@@ -23,6 +23,6 @@ returns c =
     λ made means. subst (λ (z : Resolution). Means z made) c.resolved.ensures.value means well c.declarations.ensures in
     record {
       runs = IfOk-weaker c.lower.result (Means c.resolved.result.now) (RunsAs m)
-          (λ made means input calls turns numbers room. c.runs_lowered.ensures m (program_of made.code) made.most_cells calls turns input well (of_module made means).means room numbers) c.lower.ensures;
+          (λ made means input calls turns room. c.runs_lowered.ensures m (program_of made.code) made.most_cells calls turns input well (of_module made means).means room) c.lower.ensures;
       means = IfOk-weaker c.lower.result (Means c.resolved.result.now) (λ made. MeansModule made.most_cells m (program_of made.code)) of_module c.lower.ensures;
     }
