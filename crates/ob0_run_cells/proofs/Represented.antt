@@ -40,6 +40,7 @@ abbrev pub Follows : StoreTyping → (execution.MachineState → execution.Machi
 Follows typing k j = (low : execution.MachineState) (s : State) → Represents typing low s → ProgressRepresents typing (k low) (j s)
 
 pub going-on : (typing : StoreTyping) (p : execution.MachineProgress) (q : Progress) (k : execution.MachineState → execution.MachineProgress) (j : State → Progress) → ProgressRepresents typing p q → Follows typing k j → ProgressRepresents typing (execution.continue_with p k) (continue_with q j)
+going-on typing execution.no_room q k j h follows = tt
 going-on typing (execution.running low) (running s) k j h follows = follows low s h
 going-on typing (execution.stopped e out) (stopped f written) k j h follows = h
 going-on typing _ _ k j h follows = absurd h

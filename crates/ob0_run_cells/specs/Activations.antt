@@ -4,7 +4,7 @@
 -- means is the record `BlockIsPlaced`, a procedure `HasRoutine`; the recursive part of each is a parameter. A
 -- procedure's binding keeps the placing of what is after it as it was at the declaration (`IsPlaced`), and
 -- `PlacingFits` recurses on the activation's bindings with that in place of its own. So nothing is turned back from
--- further in to further out. Of the code that lowers it is required that what it makes meets `ProgramMeans most
+-- further in to further out. Of the code that lowers it is required that what it makes meets `ProgramMeans
 -- as_labels (numbered m) program`, by the laws of productions and by the recursion of `BlockMeans` over declarations.
 -- Indexes of procedures are free: any entry of the table whose code means the procedure's block. Variables of the
 -- module are `of_module` at offsets that begin with 0, those of a procedure `held 0` after its parameters by value; VAR
@@ -161,16 +161,14 @@ BodyMeans naming checked placing code (one (begins statements)) =
     SequenceMeans (meanings naming checked) (slots_in naming placing) (targets_in naming placing)
     code statements
 
--- code that procedures are lowered to, the most cells that an activation may have, and how the names
--- of the module are told apart
+-- code that procedures are lowered to, and how the names of the module are told apart
 pub record RoutineTable (N : Type 0) : Type 0 where
   pub routines : List lowered.Routine
-  pub most : ℕ
   pub naming : Naming N
 
 -- a table for a module whose names are labels
-abbrev pub label_table : List lowered.Routine → ℕ → RoutineTable Label
-label_table routines most = record { routines = routines; most = most; naming = as_labels }
+abbrev pub label_table : List lowered.Routine → RoutineTable Label
+label_table routines = record { routines = routines; naming = as_labels }
 
 -- Runs 6: the table has code at an index that means a procedure, which is declared among the names
 -- of `checked`, placed by `placing`
@@ -185,8 +183,8 @@ pub record HasRoutine {N : Type 0} (table : RoutineTable N) (checked : TypeEnvir
   pub means : Means (bind_typed parameters (heading x parameters checked))
       (entered_placing parameters ((x, own_target index) ∷ placing)) routine
 
--- Runs 1 and 6: a block has its own variables after what p has, in `cells` cells, and an activation
--- of it has no more than may be; `Inside` says what its procedures and statements mean
+-- Runs 1 and 6: a block has its own variables after what p has, in `cells` cells;
+-- `Inside` says what its procedures and statements mean
 pub record BlockIsPlaced {N : Type 0} (table : RoutineTable N) (at : ℕ → Slot)
     (checked : TypeEnvironment N) (p : Placed N) (k cells : ℕ) (b : Tree N block)
     (Inside : TypeEnvironment N → Placing N → Type 0) : Type 0 where
@@ -204,7 +202,6 @@ pub record BlockIsPlaced {N : Type 0} (table : RoutineTable N) (at : ℕ → Slo
       }
       ≡ Some placed
   pub cells_counted : p.cells + cells ≡ placed.cells
-  pub within_most : placed.cells ≤ table.most
   pub inside : Inside inner placed.placing
 
 -- a table has the code of the procedures of a block, and of those in them; `cells` are those of the
@@ -326,16 +323,14 @@ outermost_placing naming =
     ∷ (naming.predeclared 0, nowhere)
     ∷ []
 
--- a program is lowered from a module, and no activation, the module's among them,
--- has more than `most` cells
+-- a program is lowered from a module
 abbrev pub ProgramMeans : {N : Type 0}
-    → ℕ
     → Naming N
     → Tree N module_text
     → lowered.LoweredCode
     → Type 0
-ProgramMeans most naming m program =
-    BlockMeans record { routines = program.procedures; most = most; naming = naming } of_module
+ProgramMeans naming m program =
+    BlockMeans record { routines = program.procedures; naming = naming } of_module
     (outermost naming) record
     { placing = outermost_placing naming; cells = 0; reference_places = 0 } 0 program.cells
     program.body (module_block m)

@@ -29,8 +29,9 @@ pub record Represents (typing : StoreTyping) (low : execution.MachineState) (s :
   pub same_input : low.input ≡ s.input
   pub same_output : map written_of low.output ≡ s.output
 
--- both go on, or both have ended alike
+-- both go on, or both have ended alike; nothing is said of a run of lowered code without room
 abbrev pub ProgressRepresents : StoreTyping → execution.MachineProgress → Progress → Type 0
+ProgressRepresents typing execution.no_room q = Unit {0}
 ProgressRepresents typing (execution.running low) (running s) = Represents typing low s
 ProgressRepresents typing (execution.stopped e out) (stopped f written) =
     (end_of e ≡ f) × (map written_of out ≡ written)

@@ -2,9 +2,7 @@
 -- A procedure's index is given at its heading, with a placeholder in the table of procedures; its code is kept there at
 -- its end. Clauses speak of any later table that has the code from an index on (`Later`), so that what was lowered
 -- first still means what it does: no clause names the last table. `Goes` is over any statements and any procedures
--- after: a procedure's clause is one for each rest, and the loop of a block composes them (`goes_then`). The most cells
--- of an activation so far are kept as soon as a block's variables are placed; clauses speak of any number that is as
--- large or larger.
+-- after: a procedure's clause is one for each rest, and the loop of a block composes them (`goes_then`).
 -- Rule: none; for contracts of lowering.
 use Rattle.std.specs.Prelude.{◌≡◌, ℕ, ◌≤◌, true, List, length, Some, slice_get}
 use Rattle.ob0_tree.specs.Tree.{Tree, block, body, items, maybe, procedure}
@@ -52,34 +50,24 @@ pub record Ready (t : Tables) (sites : List Site) (depth : ℕ) (s : BlockState)
 
 -- procedures from here on mean their blocks, by the table of procedures
 abbrev pub AllMean : List lowered.Routine
-    → ℕ
     → BlockState
     → lowered.Instructions
     → Tree Label (maybe body)
     → Tree Label (items procedure)
     → Type 0
-AllMean table most s code statements ps =
-    ProceduresMean (label_table table most) s.env s.placing s.next code statements ps
+AllMean table s code statements ps =
+    ProceduresMean (label_table table) s.env s.placing s.next code statements ps
 
--- procedures are lowered from a state of their block, of which some are left: where what is left
--- means what is there, all do, and no activation has more cells than is known of then; and that
--- many are needed, wherever the procedures are placed
+-- procedures are lowered from a state of their block, of which some are left: if what is left
+-- means what is there, all do
 pub record Reaches (t : Tables) (w v : Lowering) (depth : ℕ) (s : BlockState)
     (statements : Tree Label (maybe body)) (ps left : Tree Label (items procedure)) : Type 0 where
   pub now : BlockState
   pub ready : Ready t v.visible.sites.items depth now statements left
-  pub mean : (table : List lowered.Routine) (most : ℕ) (code : lowered.Instructions)
-      → v.most ≤ most
+  pub mean : (table : List lowered.Routine) (code : lowered.Instructions)
       → Later table (length w.procedures.items) v.procedures.items
-      → AllMean table most now code statements left
-      → AllMean table most s code statements ps
-  pub least : (table : List lowered.Routine) (n : ℕ) (code : lowered.Instructions)
-      (placing : Placing Label)
-      → w.most ≤ n
-      → AllMean table n record s { placing = placing } code statements ps
-      → (v.most ≤ n)
-      × (further : Placing Label)
-      × AllMean table n record now { placing = further } code statements left
+      → AllMean table now code statements left
+      → AllMean table s code statements ps
 
 -- procedures are lowered, of which some are left
 pub record Goes (t : Tables) (w v : Lowering) (depth : ℕ) (ps left : Tree Label (items procedure))
@@ -87,26 +75,17 @@ pub record Goes (t : Tables) (w v : Lowering) (depth : ℕ) (ps left : Tree Labe
   pub on : (s : BlockState) (statements : Tree Label (maybe body))
       → Ready t w.visible.sites.items depth s statements ps
       → Reaches t w v depth s statements ps left
-  pub most_grows : w.most ≤ v.most
   pub follows : Follows w.visible v.visible
   pub longer : length w.procedures.items ≤ length v.procedures.items
   pub grown : Grown w.procedures.items v.procedures.items
 
--- the code of a block means it, where no activation has more cells than is known of then; and that
--- many are needed, whatever code means the block, and wherever it is placed
+-- the code of a block means it
 pub record MeansBlock (w v : Lowering) (f : Frame) (b : Tree Label block) (entry : Routine)
     (env : TypeEnvironment Label) (p : Placed Label) (k : ℕ) : Type 0 where
-  pub means : (table : List lowered.Routine) (most : ℕ)
-      → v.most ≤ most
+  pub means : (table : List lowered.Routine)
       → Later table (length w.procedures.items) v.procedures.items
-      → BlockMeans (label_table table most) (slots_at f.depth) env p k entry.cells
+      → BlockMeans (label_table table) (slots_at f.depth) env p k entry.cells
       (sequence_of entry.body.items) b
-  pub least : (table : List lowered.Routine) (n : ℕ) (at : ℕ → Slot) (other : Placed Label)
-      (cells : ℕ) (code : lowered.Instructions)
-      → other.cells ≡ p.cells
-      → w.most ≤ n
-      → BlockMeans (label_table table n) at env other k cells code b
-      → v.most ≤ n
 
 -- a block is lowered to its cells and its statements
 pub record LowersBlock (t : Tables) (w v : Lowering) (f : Frame) (b : Tree Label block)
@@ -117,7 +96,6 @@ pub record LowersBlock (t : Tables) (w v : Lowering) (f : Frame) (b : Tree Label
       → block_fits as_labels env k b ≡ true
       → BlockDeclared (declared_in t) env k b
       → MeansBlock w v f b entry env p k
-  pub most_grows : w.most ≤ v.most
   pub follows : Follows w.visible v.visible
   pub longer : length w.procedures.items ≤ length v.procedures.items
   pub grown : Grown w.procedures.items v.procedures.items

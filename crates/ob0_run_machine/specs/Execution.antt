@@ -3,7 +3,7 @@
 -- and bounds c on open calls and t on the iterations of a loop.
 -- Rule: none; for contracts of the machine: what lowered statements mean,
 -- by the rules of docs/LANGUAGE.md, Runs 5 to 10.
-use Rattle.std.specs.Prelude.{ℕ, zero, suc, ◌+◌, ◌-◌, Bool, true, false, ◌&&◌, List, [], ◌∷◌, ◌++◌, length, take, drop, replicate, ℤ, pos, Some, None, Option, if◌then◌else◌, nat_le, slice_get, slice_set}
+use Rattle.std.specs.Prelude.{ℕ, zero, suc, ◌+◌, ◌-◌, ◌^◌, Bool, true, false, ◌&&◌, List, [], ◌∷◌, ◌++◌, length, take, drop, replicate, ℤ, pos, Some, None, Option, if◌then◌else◌, nat_le, nat_lt, slice_get, slice_set}
 use Rattle.ob0_run_machine.specs.Lowered.{LoweredArgument, by_place, by_number, by_truth, by_block, Instruction, stores_number, stores_truth, copies, reads, writes, writes_line, chooses, while_loop, repeat_loop, calls, Instructions, no_statement, before, Branches, no_branch, branch, Routine, LoweredCode}
 use Rattle.ob0_run_machine.specs.Evaluation.{CallBound, Done, Halt, InputEnd, StepResult, Levels, TurnBound, address, as_cell, ends, gives, innermost, number, truth, ◌>>=◌}
 
@@ -18,10 +18,12 @@ pub record MachineState : Type 0 where
   pub input : List ℤ
   pub output : List OutputItem
 
--- a run goes on, or it has ended; what was output before remains
+-- a run goes on, or it has ended; what was output before remains.
+-- There is no room if there are no addresses for the cells of an activation
 pub data MachineProgress : Type 0 where
   running : MachineState → MachineProgress
   stopped : Halt → List OutputItem → MachineProgress
+  no_room : MachineProgress
 
 -- what an evaluation gives, used in a state
 abbrev pub use_in : {A : Type 0} → MachineState → StepResult A → (A → MachineProgress)
@@ -33,6 +35,7 @@ use_in s (ends e) next = stopped e s.output
 abbrev pub continue_with : MachineProgress → (MachineState → MachineProgress) → MachineProgress
 continue_with (running s) next = next s
 continue_with (stopped e out) next = stopped e out
+continue_with no_room next = no_room
 
 -- one of two ways, by a condition
 abbrev pub choose : MachineState → StepResult Bool
@@ -178,14 +181,21 @@ unfoldable mutual
 abbrev pub drop_variables : ℕ → MachineProgress → MachineProgress
 drop_variables n (running s) = running record s { cells = take n s.cells }
 drop_variables n (stopped e out) = stopped e out
+drop_variables n no_room = no_room
+
+-- an activation has n new cells after those that are there, if all of them have addresses of 64 bits
+abbrev pub with_cells : ℕ → (MachineState → MachineProgress) → MachineState → MachineProgress
+with_cells n next s =
+    if nat_lt (length s.cells + n) (2 ^ 64)
+    then next record s { cells = s.cells ++ zeros n }
+    else no_room
 
 -- the body of a procedure runs with its own cells after its arguments;
 -- what isn't there does nothing
 unfoldable pub activate : CallEffect → ℕ → Levels → Option Routine → MachineState → MachineProgress
 unfolding execute_all
 activate enter t ls None s = running s
-activate enter t ls (Some p) s =
-    execute_all enter t ls p.body record s { cells = s.cells ++ zeros p.cells }
+activate enter t ls (Some p) s = with_cells p.cells (execute_all enter t ls p.body) s
 
 -- calls, of which c more may be open
 unfoldable pub call : List Routine → ℕ → ℕ → CallEffect
@@ -200,18 +210,20 @@ pub record MachineRun : Type 0 where
   pub output : List OutputItem
   pub ending : Halt
 
--- a run that reaches the end of the program ends with Done
-abbrev pub finished : MachineProgress → MachineRun
-finished (running s) = record { output = s.output; ending = Done }
-finished (stopped e out) = record { output = out; ending = e }
+-- a run that reaches the end of the program ends with Done; one without room comes to nothing
+abbrev pub finished : MachineProgress → Option MachineRun
+finished (running s) = Some (record { output = s.output; ending = Done })
+finished (stopped e out) = Some (record { output = out; ending = e })
+finished no_room = None
 
 -- the module's own activation is the outermost one
 abbrev pub outermost : Levels
 outermost = record { base = 0; addresses = [] } ∷ []
 
--- the run of a program on an input
-unfoldable pub run : LoweredCode → List ℤ → ℕ → ℕ → MachineRun
+-- the run of a program on an input, if there is room for it
+unfoldable pub run : LoweredCode → List ℤ → ℕ → ℕ → Option MachineRun
 unfolding execute_all call
 run program input c t =
-    finished (execute_all (call program.procedures c t) t outermost program.body record
-    { cells = zeros program.cells; input = input; output = [] })
+    finished (with_cells program.cells
+    (execute_all (call program.procedures c t) t outermost program.body) record
+    { cells = []; input = input; output = [] })

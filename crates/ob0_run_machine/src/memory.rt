@@ -5,7 +5,7 @@
 //! list fails only if the list had too little capacity (`full`). More cells than there are addresses count as a failed
 //! allocation.
 
-ghost use Rattle.std.specs.Prelude.{◌≡◌, ◌+◌, ◌++◌, ◌∷◌, ◌<◌, ◌≤◌, [], OnErr, OnOk, false, true, vec_capacity, vec_len};
+ghost use Rattle.std.specs.Prelude.{◌≡◌, ◌+◌, ◌++◌, ◌∷◌, ◌<◌, ◌≤◌, ◌^◌, [], OnErr, OnOk, false, length, true, vec_capacity, vec_len};
 ghost use Rattle.ob0_run_machine.specs.Execution.{block_at, zeros};
 ghost use Rattle.ob0_run_machine.specs.Allocations.{has_failed};
 
@@ -64,6 +64,7 @@ impl Memory {
         ensures items { OnOk result (cells.new.items ≡ cells.old.items ++ zeros count) }
         ensures failed { OnErr result (has_failed self.new ≡ true) }
         ensures full { OnErr result (vec_capacity cells.old < vec_len cells.old + count) }
+        ensures room { OnOk result (length cells.new.items < 2 ^ 64) }
     {
         if count > FEW_CELLS {
             return self.push_row_of_zeros(cells, count);
@@ -71,6 +72,8 @@ impl Memory {
         for _cell in 0..count {
             self.push(cells, 0)?;
         }
+        // For the proof: a list's length has 64 bits.
+        let _length = cells.len();
         Ok(())
     }
 
@@ -79,6 +82,7 @@ impl Memory {
         ensures items { OnOk result (cells.new.items ≡ cells.old.items ++ zeros count) }
         ensures failed { OnErr result (has_failed self.new ≡ true) }
         ensures full { OnErr result (vec_capacity cells.old < vec_len cells.old + count) }
+        ensures room { OnOk result (length cells.new.items < 2 ^ 64) }
     {
         match cells.len().checked_add(count) {
             None => Err(self.fail()),

@@ -1,6 +1,6 @@
 //! Runs of programs.
 
-ghost use Rattle.std.specs.Prelude.{◌≡◌, IfOk};
+ghost use Rattle.std.specs.Prelude.{◌≡◌, IfOk, Some};
 ghost use Rattle.ob0_run_machine.specs.Execution.{run};
 ghost use Rattle.ob0_run_machine.specs.Outcomes.{IsEndOf, block_run, run_of};
 ghost use Rattle.ob0_run_machine.specs.Machines.{MachineSteps, state_of};
@@ -93,7 +93,8 @@ pub fn run(
     calls: u32,
     turns: u32,
 ) -> Result<Outcome, AllocError>
-    ensures { IfOk result (λ o. run_of o ≡ run (program_of program.now) input.now calls turns) }
+    ensures { IfOk result
+        (λ o. run (program_of program.now) input.now calls turns ≡ Some (run_of o)) }
 {
     let mut memory = Memory::new(alloc);
     let mut cells = Vec::new(alloc);
