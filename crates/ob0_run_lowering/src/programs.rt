@@ -57,7 +57,7 @@ impl Lowering {
         }
     }
 
-    /// A procedure's place in the program, which its name has from its heading on. Its code comes later.
+    /// Gives a procedure an index in the program, which its name refers to after the heading. Its code is kept later.
     fn announce(
         &mut self,
         context: &LoweringContext<'_, '_, '_>,
@@ -84,8 +84,8 @@ impl Lowering {
         Ok(index)
     }
 
-    /// A procedure is in scope after its heading, and so in its own body; its parameters and what it declares are in
-    /// scope up to its end.
+    /// Lowers a procedure. It is in scope after its heading, and so in its own body. Its parameters and declarations are
+    /// in scope up to its end.
     #[cycle(blocks)]
     fn procedure(
         &mut self,
@@ -114,7 +114,7 @@ impl Lowering {
         Ok(())
     }
 
-    /// A block: its variables, its procedures, and then its statements.
+    /// Lowers a block: its variables, its procedures, and then its statements.
     #[cycle(blocks)]
     fn block(
         &mut self,
@@ -143,11 +143,11 @@ impl Lowering {
     }
 }
 
-/// The program of a module, by what is known of its declarations.
+/// Returns the program of a module, by the table of its declarations.
 ///
 /// # Errors
 ///
-/// Out of memory.
+/// An allocation failed, or a number of cells has more than 64 bits.
 pub fn lower<'t>(
     alloc: Global,
     resolved: &Resolved<'t>,

@@ -2,6 +2,7 @@
 
 ghost use Rattle.std.specs.Prelude.{⊤};
 
+use crate::code::push_code;
 use crate::declarations::{push_bound, push_capture, push_type};
 use crate::edits::{push_edited, rename_or_faults};
 use crate::names::{push_all_shown, push_name};
@@ -29,6 +30,8 @@ pub enum Asked {
     Shown,
     /// What a run on an input outputs, and how it ends: with how many open calls, and turns of a loop.
     Run(&'static [i32], u32, u32),
+    /// Which nodes its statements are lowered to.
+    Code,
     /// The text with another name for what is at a place, or why it has none. So are the edits that follow.
     Rename(u64, u64, &'static str),
     InlineHere(u64, u64),
@@ -98,6 +101,7 @@ fn push_answer(
         Asked::Bound(declaration, new) => push_bound(alloc, out, module, declaration, new),
         Asked::NameAt(offset) => push_name(alloc, out, module, offset),
         Asked::Shown => push_all_shown(alloc, out, module),
+        Asked::Code => push_code(alloc, out, module),
         Asked::Run(input, calls, turns) => push_run(alloc, out, module, input, calls, turns),
         edit => push_edited(alloc, out, module, edit),
     }
