@@ -56,7 +56,7 @@ module _ {N : Type 0} (table : RoutineTable N) where
   -- what is known of calls of which c more may be open
   abbrev pub CallsKnown : ℕ → ℕ → Type 0
   CallsKnown c t =
-      (typing : StoreTyping) (ls : Levels) (checked : TypeEnvironment N) (placing : Placing N) (active : Activation N) → EnvironmentsFit table.naming typing checked active → PlacingFits table typing ls checked placing active → sizes typing < 2 ^ 64
+      (typing : StoreTyping) (ls : Levels) (checked : TypeEnvironment N) (placing : Placing N) (active : Activation N) → EnvironmentsFit table.naming typing checked active → PlacingFits table typing ls checked placing active
       → CallsRepresent (meanings table.naming checked) (targets_in table.naming placing) (body_of c t typing ls active)
 
   pub body-represents : (c t : ℕ) → CallsKnown c t → (typing : StoreTyping) (ls : Levels) (checked : TypeEnvironment N) (placing : Placing N) (active : Activation N) → EnvironmentsFit table.naming typing checked active → PlacingFits table typing ls checked placing active → sizes typing < 2 ^ 64
@@ -69,17 +69,17 @@ module _ {N : Type 0} (table : RoutineTable N) where
         names_fit = (names-fit table.naming typing checked active env, λ x. refl);
         variables_in_slots = λ x p e. slots-fit table typing ls (from_binding table.naming checked x) (from_name table.naming placing x) (from_binding table.naming active x) (from-placed table typing ls checked placing active x placed) p e;
         has_addresses = few;
-        calls_represent = known typing ls checked placing active env placed few;
+        calls_represent = known typing ls checked placing active env placed;
       } t low s h
 
   pub activate-represents : (c t : ℕ) → CallsKnown c t → (typing : StoreTyping) (ls : Levels) (checked : TypeEnvironment N) (placing : Placing N) (active : Activation N) (signature : Signature) (args : List Argument) (low : execution.MachineState) (s : State) (p : execution.Passed)
-      → EnvironmentsFit table.naming typing checked active → PlacingFits table typing ls checked placing active → sizes typing < 2 ^ 64 → newest checked ≡ Some (a_procedure signature) → Represents typing low s → ArgumentsFit typing signature args
+      → EnvironmentsFit table.naming typing checked active → PlacingFits table typing ls checked placing active → newest checked ≡ Some (a_procedure signature) → Represents typing low s → ArgumentsFit typing signature args
       → p.cells ≡ low.cells ++ argument_cells args → p.addresses ≡ argument_addresses typing args
       → ProgressRepresents typing (execution.call table.routines (suc c) t (first_target placing).procedure (execution.entered ls (length low.cells) (first_target placing).up p) record low { cells = p.cells }) (drop_variables (length s.store) (activate table.naming (call_freeing table.naming c t) t active args s))
   unfolding execution.call activate block_fits
-  activate-represents c t known typing ls [] placing active signature args low s p env placed few e h fit cells there = absurd (cc)
-  activate-represents c t known typing ls (b ∷ checked) [] (d ∷ active) signature args low s p env placed few e h fit cells there = absurd placed
-  activate-represents c t known typing ls ((x, o) ∷ checked) ((z, w) ∷ placing) ((y, r) ∷ active) signature args low s p env placed few e h fit cells there = of_objects o w r env.1 placed.here (some_inverse {a = o} {b = a_procedure signature} e)
+  activate-represents c t known typing ls [] placing active signature args low s p env placed e h fit cells there = absurd (cc)
+  activate-represents c t known typing ls (b ∷ checked) [] (d ∷ active) signature args low s p env placed e h fit cells there = absurd placed
+  activate-represents c t known typing ls ((x, o) ∷ checked) ((z, w) ∷ placing) ((y, r) ∷ active) signature args low s p env placed e h fit cells there = of_objects o w r env.1 placed.here (some_inverse {a = o} {b = a_procedure signature} e)
     where
       of_text : (tg : Target) (outer : Placing N) (entry : lowered.Routine) (j : ℕ) (text : Tree N (item procedure)) (ps : List (TypedParameter N)) → PlacingFits table typing (drop tg.up ls) checked outer active → typed_parameters table.naming checked j (procedure_formals text) ≡ Some ps
           → slice_get table.routines tg.procedure ≡ Some entry → signature ≡ map (λ p. p.formal) ps → procedure_fits table.naming (bind_typed ps (heading x ps checked)) j text ≡ true
@@ -131,10 +131,10 @@ module _ {N : Type 0} (table : RoutineTable N) where
           of_text tg outer found.routine code.first_constructor code.text qs inside found.are_typed found.in_table signed (subst (λ ps. procedure_fits table.naming (bind_typed ps (heading x ps checked)) code.first_constructor code.text ≡ true) same fits) found.means
       of_objects (a_procedure q) _ _ bound at e = absurd at
       of_objects _ w r bound at e = absurd (cc)
-  activate-represents c t known typing ls (b ∷ checked) _ [] signature args low s p env placed few e h fit cells there = absurd env
+  activate-represents c t known typing ls (b ∷ checked) _ [] signature args low s p env placed e h fit cells there = absurd env
 
   pub calls-known : (c t : ℕ) → CallsKnown c t
   unfolding call_freeing execution.call
-  calls-known zero t typing ls checked placing active env placed few x signature e args low s p h fit cells there = (refl, h.same_output)
-  calls-known (suc c) t typing ls checked placing active env placed few x signature e args low s p h fit cells there =
-      activate-represents c t (calls-known c t) typing ls (from_binding table.naming checked x) (from_name table.naming placing x) (from_binding table.naming active x) signature args low s p (from-fit table.naming typing checked active x env) (from-placed table typing ls checked placing active x placed) few e h fit cells there
+  calls-known zero t typing ls checked placing active env placed x signature e args low s p h fit cells there = (refl, h.same_output)
+  calls-known (suc c) t typing ls checked placing active env placed x signature e args low s p h fit cells there =
+      activate-represents c t (calls-known c t) typing ls (from_binding table.naming checked x) (from_name table.naming placing x) (from_binding table.naming active x) signature args low s p (from-fit table.naming typing checked active x env) (from-placed table typing ls checked placing active x placed) e h fit cells there

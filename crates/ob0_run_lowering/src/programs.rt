@@ -23,7 +23,7 @@ use ob0_tree::{Block, Procedure};
 use ob0_types_table::DeclarationTable;
 use std::alloc::{AllocError, Global};
 
-/// A module on its way to a program: where the names in scope are, and the procedures so far.
+/// The lowering of a module so far: the sites of the names in scope, and the procedures.
 #[derive(Drop)]
 pub(crate) struct Lowering {
     pub(crate) visible: VisibleSites,
