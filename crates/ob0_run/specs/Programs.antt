@@ -1,4 +1,4 @@
--- What a lowered program does.
+-- The run of a lowered program.
 -- Rule: none; for contracts: what a lowered program means.
 use Rattle.std.specs.Prelude.{◌≡◌, ℕ, IfSome, List, ℤ}
 use Rattle.ob0_tree.specs.Tree.{Tree, module_text}
@@ -9,8 +9,8 @@ use Rattle.ob0_run_machine.specs.View.{program_of}
 use Rattle.ob0_run_cells.specs.ActivationLaws.{run_of}
 use Rattle.ob0_run_lowering.specs.declared.programs.Program.{Program}
 
--- a program runs as a module does, if there is room for the run: on each input, with c open calls
--- and t iterations of a loop
+-- states that a program runs as a module does if there is room for the run: on each input,
+-- with c open calls and t iterations of a loop
 abbrev pub RunsAs : Tree Name module_text → Program → Type 0
 RunsAs m p =
     (input : List ℤ) (c t : ℕ)

@@ -1,8 +1,8 @@
 //! Runs of well-typed modules.
 //!
 //! `lower` puts two facts together: the program means the module (`ProgramMeans`), and the run of a program that means
-//! a well-typed module is the module's run if there is room for it (`runs_lowered`). What is promised of a program is
-//! `RunsAs`, which `execute` uses for any module; `run` is both.
+//! a well-typed module is the module's run if there is room for it (`runs_lowered`). Its promise about a program is
+//! `RunsAs`, which `execute` uses for any module; `run` does both.
 
 ghost use Rattle.std.specs.Prelude.{◌≡◌, IfOk};
 ghost use Rattle.ob0_tree.specs.Parsed.{named_tree_of};
@@ -25,7 +25,7 @@ use std::alloc::{AllocError, Global};
 ///
 /// # Errors
 ///
-/// Out of memory.
+/// An allocation failed, or a count, as of cells, has more than 64 bits.
 pub fn lower(alloc: Global, checked: &WellTyped<'_>) -> Result<Program, AllocError>
     ensures runs { IfOk result (RunsAs (named_tree_of checked.now.module_read)) }
     ensures means { IfOk result (λ made. ProgramMeans as_labels
@@ -40,7 +40,7 @@ pub fn lower(alloc: Global, checked: &WellTyped<'_>) -> Result<Program, AllocErr
 ///
 /// # Errors
 ///
-/// Out of memory.
+/// An allocation failed.
 pub fn execute(
     alloc: Global,
     program: &Program,
@@ -59,7 +59,7 @@ pub fn execute(
 ///
 /// # Errors
 ///
-/// Those of both.
+/// The errors of both.
 pub fn run(
     alloc: Global,
     checked: &WellTyped<'_>,
