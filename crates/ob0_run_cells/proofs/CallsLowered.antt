@@ -108,8 +108,10 @@ module _ {N : Type 0} (table : RoutineTable N) where
             same_input = h.same_input;
             same_output = h.same_output;
           } in
-          let counted : length p.cells + entry.cells ≡ sizes rest.typing_now =
-          sym (length-append p.cells (execution.zeros entry.cells) ∙ ap (λ n. length p.cells + n) (length-replicate entry.cells (pos 0))) ∙ ap length represents.same_cells ∙ store-size rest.typing_now k.store rest.frame.store_fits in
+          let longer : length (p.cells ++ execution.zeros entry.cells) ≡ length p.cells + length (execution.zeros entry.cells) = length-append p.cells (execution.zeros entry.cells) in
+          let zeros : length (execution.zeros entry.cells) ≡ entry.cells = length-replicate entry.cells (pos 0) in
+          let all : length (p.cells ++ execution.zeros entry.cells) ≡ sizes rest.typing_now = ap length represents.same_cells ∙ store-size rest.typing_now k.store rest.frame.store_fits in
+          let counted : length p.cells + entry.cells ≡ sizes rest.typing_now = omega (arith, longer, zeros, all) in
           let grown : rest.typing_now ≡ typing ++ (part.others ++ rest.others) = rest.is_grown ∙ (ap (λ l. l ++ rest.others) part.is_grown ∙ append_assoc typing part.others rest.others) in
           let statements = execute_body table.naming k.env (call_freeing table.naming c t k.env) t (block_statements b) s₂ in
           let runs_body = execution.execute_all (execution.call table.routines c t) t (l ∷ seen) entry.body in
