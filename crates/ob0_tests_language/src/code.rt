@@ -94,7 +94,8 @@ fn name_of_truth(t: &Truth) -> &'static str {
 const LOOPS: &str = "MODULE M;\nVAR i, j, m: INTEGER;\n\
     BEGIN WHILE j < 9 DO j := j + 1 END; WHILE i <= m DO j := 0; i := i + 2 END; WHILE j # 9 DO i := i + 1 END END M.";
 
-const ELEMENTS: &str = "MODULE M;\nVAR a: ARRAY 9 OF INTEGER; on: ARRAY 9 OF BOOLEAN; i, m: INTEGER;\n\
+const ELEMENTS: &str =
+    "MODULE M;\nVAR a: ARRAY 9 OF INTEGER; on: ARRAY 9 OF BOOLEAN; i, m: INTEGER;\n\
     BEGIN on[i] := TRUE; IF a[i] < m THEN m := a[i] END; IF ~on[i] THEN a[i] := m END END M.";
 
 const FIELDS: &str = "MODULE M;\nVAR r: RECORD f, g: INTEGER END;\n\
