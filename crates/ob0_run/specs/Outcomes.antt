@@ -1,4 +1,4 @@
--- What an outcome says of a run.
+-- The run of an outcome.
 -- Rule: none; for contracts: what values of the code mean.
 use Rattle.std.specs.Prelude.{List, map}
 use Rattle.ob0_language_runs.specs.Runs.{Run, Written}

@@ -1,20 +1,17 @@
--- What a lowered program does.
+-- The run of a lowered program.
 -- Rule: none; for contracts: what a lowered program means.
-use Rattle.std.specs.Prelude.{◌≡◌, ℕ, suc, ◌*◌, ◌<◌, ◌^◌, List, ℤ}
+use Rattle.std.specs.Prelude.{◌≡◌, ℕ, IfSome, List, ℤ}
 use Rattle.ob0_tree.specs.Tree.{Tree, module_text}
 use Rattle.ob0_language_names.specs.Names.{Name}
 use Rattle.ob0_language_runs.specs.Runs.{run}
 use Rattle.ob0_run_machine.specs.Execution as machine
 use Rattle.ob0_run_machine.specs.View.{program_of}
 use Rattle.ob0_run_cells.specs.ActivationLaws.{run_of}
-use Rattle.ob0_run_cells.specs.LoweredStatements.{HaveNumbers}
 use Rattle.ob0_run_lowering.specs.declared.programs.Program.{Program}
 
--- a program runs as a module does: on each input of numbers of 32 bits, with c open calls and t
--- iterations of a loop, where the cells of the module and of all open calls have addresses
+-- states that a program runs as a module does if there is room for the run: on each input,
+-- with c open calls and t iterations of a loop
 abbrev pub RunsAs : Tree Name module_text → Program → Type 0
 RunsAs m p =
     (input : List ℤ) (c t : ℕ)
-    → HaveNumbers input
-    → suc c * p.most_cells < 2 ^ 64
-    → run_of (machine.run (program_of p.code) input c t) ≡ run m input c t
+    → IfSome (machine.run (program_of p.code) input c t) (λ r. run_of r ≡ run m input c t)

@@ -1,7 +1,9 @@
 -- Calls of lowered procedures do what calls of the module's do, by induction on how many may be open.
 -- What `SoundCalls` of `ob0_language_runs` gives by its `.. -run` lemmas hides the environments in between; where a
 -- relation names them, take the equations from it and use the lemmas of constants, types and environments alone.
-use Rattle.std.proofs.Common.{◌≡◌, ℕ, zero, suc, ◌+◌, ◌*◌, ◌^◌, ◌<◌, true, List, [], ◌∷◌, ◌++◌, drop, length, map, replicate, take, pos, slice_get, Some, option_and_then, unwrap_or, sym, refl, ap, ◌∙◌, subst, arith, append_assoc}
+use Rattle.std.proofs.lemmas.Bool.{ltb-true}
+use Rattle.std.proofs.lemmas.List.{length-replicate}
+use Rattle.std.proofs.Common.{◌≡◌, ℕ, zero, suc, ◌+◌, ◌^◌, ◌<◌, true, false, if◌then◌else◌, nat_lt, length-append, List, [], ◌∷◌, ◌++◌, drop, length, map, replicate, take, pos, slice_get, Some, option_and_then, unwrap_or, sym, refl, ap, ◌∙◌, subst, arith, append_assoc}
 use Rattle.ob0_tree.specs.Tree.{Tree, begins, body, declares_procedure, item, maybe, none, one, procedure}
 use Rattle.ob0_language_names.specs.Parts.{block_statements, formal_sections, procedure_formals}
 use Rattle.ob0_language_types.specs.Declarations.{formals_constructors}
@@ -19,20 +21,23 @@ use Rattle.ob0_run_machine.specs.Execution as execution
 use Rattle.ob0_run_machine.specs.Lowered as lowered
 use Rattle.ob0_run_cells.specs.Activations.{RoutineTable, BodyMeans, IsPlaced, Placed, Placing, PlacingFits, ProcedureMeans, Whereabouts, at_target, entered_placing, first_target, from_name, inward, own_target, target_of, targets_in}
 use Rattle.ob0_run_cells.specs.Cells.{all_cells, sizes}
-use Rattle.ob0_run_cells.specs.LoweredStatements.{Body, CallsRepresent, HaveNumbers, ProgressRepresents, Represents, Target, argument_addresses, argument_cells}
+use Rattle.ob0_run_cells.specs.LoweredStatements.{Body, CallsRepresent, ProgressRepresents, Represents, Target, argument_addresses, argument_cells}
 use Rattle.ob0_run_cells.specs.Lowering.{held}
 use Rattle.ob0_run_cells.proofs.PlacedDeclarations.{FramePlaced, block-placed, parameters-placed}
 use Rattle.ob0_run_cells.proofs.PlacedEnvironments.{from-placed, inward-fits, slots-fit}
 use Rattle.ob0_run_cells.proofs.Places.{store-size}
-use Rattle.ob0_run_cells.proofs.Represented.{numbers-append, numbers-take}
 use Rattle.ob0_run_cells.proofs.Variables.{variables_are_dropped}
 
-pub numbers-zero : (n : ℕ) → HaveNumbers (replicate n (pos 0))
-numbers-zero (suc n) (suc i) = numbers-zero n i
-numbers-zero _ _ = refl
+-- what holds without room, and of what is done with room, holds of an activation
+pub with-cells : (P : execution.MachineProgress → Type 0) (n : ℕ) (next : execution.MachineState → execution.MachineProgress) (s : execution.MachineState) → P execution.no_room → (length s.cells + n < 2 ^ 64 → P (next record s { cells = s.cells ++ execution.zeros n }))
+    → P (execution.with_cells n next s)
+with-cells P n next s without each =
+    (elim (nat_lt (length s.cells + n) (2 ^ 64)) as (λ b. nat_lt (length s.cells + n) (2 ^ 64) ≡ b → P (if b then next record s { cells = s.cells ++ execution.zeros n } else execution.no_room))
+    [ true ↦ λ e. each (ltb-true (length s.cells + n) (2 ^ 64) e) | false ↦ λ e. without ]) refl
 
 -- what a call has of its own is dropped in both
 pub drop_variables-represents : (typing now others : StoreTyping) (old : Store) (base : ℕ) (p : execution.MachineProgress) (q : Progress) → now ≡ typing ++ others → StoreFits typing old → base ≡ length (all_cells old) → ProgressRepresents now p q → ProgressRepresents typing (execution.drop_variables base p) (drop_variables (length old) q)
+drop_variables-represents typing now others old base execution.no_room q e fits is h = tt
 drop_variables-represents typing now others old base (execution.running low) (running s) e fits is h =
     let (kept, cells) = variables_are_dropped typing others old s.store fits (subst (λ all. StoreFits all s.store) e h.store_fits) in
     record {
@@ -40,8 +45,6 @@ drop_variables-represents typing now others old base (execution.running low) (ru
       same_cells = (λ i. take (is i) (h.same_cells i)) ∙ sym cells;
       same_input = h.same_input;
       same_output = h.same_output;
-      cells_have_numbers = numbers-take base low.cells h.cells_have_numbers;
-      input_has_numbers = h.input_has_numbers;
     }
 drop_variables-represents typing now others old base (execution.stopped x out) (stopped y written) e fits is h = h
 drop_variables-represents typing now others old base _ _ e fits is h = absurd h
@@ -53,10 +56,10 @@ module _ {N : Type 0} (table : RoutineTable N) where
   -- what is known of calls of which c more may be open
   abbrev pub CallsKnown : ℕ → ℕ → Type 0
   CallsKnown c t =
-      (typing : StoreTyping) (ls : Levels) (checked : TypeEnvironment N) (placing : Placing N) (active : Activation N) → EnvironmentsFit table.naming typing checked active → PlacingFits table typing ls checked placing active → sizes typing + c * table.most < 2 ^ 64
+      (typing : StoreTyping) (ls : Levels) (checked : TypeEnvironment N) (placing : Placing N) (active : Activation N) → EnvironmentsFit table.naming typing checked active → PlacingFits table typing ls checked placing active
       → CallsRepresent (meanings table.naming checked) (targets_in table.naming placing) (body_of c t typing ls active)
 
-  pub body-represents : (c t : ℕ) → CallsKnown c t → (typing : StoreTyping) (ls : Levels) (checked : TypeEnvironment N) (placing : Placing N) (active : Activation N) → EnvironmentsFit table.naming typing checked active → PlacingFits table typing ls checked placing active → sizes typing + c * table.most < 2 ^ 64
+  pub body-represents : (c t : ℕ) → CallsKnown c t → (typing : StoreTyping) (ls : Levels) (checked : TypeEnvironment N) (placing : Placing N) (active : Activation N) → EnvironmentsFit table.naming typing checked active → PlacingFits table typing ls checked placing active → sizes typing < 2 ^ 64
       → (code : lowered.Instructions) (statements : Tree N (maybe body)) → BodyMeans table.naming checked placing code statements → (low : execution.MachineState) (s : State) → Represents typing low s
       → ProgressRepresents typing (execution.execute_all (execution.call table.routines c t) t ls code low) (execute_body table.naming active (call_freeing table.naming c t active) t statements s)
   unfolding execution.execute execute_body
@@ -65,18 +68,18 @@ module _ {N : Type 0} (table : RoutineTable N) where
       means (body_of c t typing ls active) record {
         names_fit = (names-fit table.naming typing checked active env, λ x. refl);
         variables_in_slots = λ x p e. slots-fit table typing ls (from_binding table.naming checked x) (from_name table.naming placing x) (from_binding table.naming active x) (from-placed table typing ls checked placing active x placed) p e;
-        has_addresses = omega (arith, few);
-        calls_represent = known typing ls checked placing active env placed few;
+        has_addresses = few;
+        calls_represent = known typing ls checked placing active env placed;
       } t low s h
 
   pub activate-represents : (c t : ℕ) → CallsKnown c t → (typing : StoreTyping) (ls : Levels) (checked : TypeEnvironment N) (placing : Placing N) (active : Activation N) (signature : Signature) (args : List Argument) (low : execution.MachineState) (s : State) (p : execution.Passed)
-      → EnvironmentsFit table.naming typing checked active → PlacingFits table typing ls checked placing active → sizes typing + suc c * table.most < 2 ^ 64 → newest checked ≡ Some (a_procedure signature) → Represents typing low s → ArgumentsFit typing signature args
-      → p.cells ≡ low.cells ++ argument_cells args → p.addresses ≡ argument_addresses typing args → HaveNumbers p.cells
+      → EnvironmentsFit table.naming typing checked active → PlacingFits table typing ls checked placing active → newest checked ≡ Some (a_procedure signature) → Represents typing low s → ArgumentsFit typing signature args
+      → p.cells ≡ low.cells ++ argument_cells args → p.addresses ≡ argument_addresses typing args
       → ProgressRepresents typing (execution.call table.routines (suc c) t (first_target placing).procedure (execution.entered ls (length low.cells) (first_target placing).up p) record low { cells = p.cells }) (drop_variables (length s.store) (activate table.naming (call_freeing table.naming c t) t active args s))
   unfolding execution.call activate block_fits
-  activate-represents c t known typing ls [] placing active signature args low s p env placed few e h fit cells there numbers = absurd (cc)
-  activate-represents c t known typing ls (b ∷ checked) [] (d ∷ active) signature args low s p env placed few e h fit cells there numbers = absurd placed
-  activate-represents c t known typing ls ((x, o) ∷ checked) ((z, w) ∷ placing) ((y, r) ∷ active) signature args low s p env placed few e h fit cells there numbers = of_objects o w r env.1 placed.here (some_inverse {a = o} {b = a_procedure signature} e)
+  activate-represents c t known typing ls [] placing active signature args low s p env placed e h fit cells there = absurd (cc)
+  activate-represents c t known typing ls (b ∷ checked) [] (d ∷ active) signature args low s p env placed e h fit cells there = absurd placed
+  activate-represents c t known typing ls ((x, o) ∷ checked) ((z, w) ∷ placing) ((y, r) ∷ active) signature args low s p env placed e h fit cells there = of_objects o w r env.1 placed.here (some_inverse {a = o} {b = a_procedure signature} e)
     where
       of_text : (tg : Target) (outer : Placing N) (entry : lowered.Routine) (j : ℕ) (text : Tree N (item procedure)) (ps : List (TypedParameter N)) → PlacingFits table typing (drop tg.up ls) checked outer active → typed_parameters table.naming checked j (procedure_formals text) ≡ Some ps
           → slice_get table.routines tg.procedure ≡ Some entry → signature ≡ map (λ p. p.formal) ps → procedure_fits table.naming (bind_typed ps (heading x ps checked)) j text ≡ true
@@ -96,9 +99,7 @@ module _ {N : Type 0} (table : RoutineTable N) where
             cells_counted = omega (arith, sized);
           } in
           let (g, eg, part) = parameters-placed table typing l seen ps args (heading x ps checked) p₀ f start (subst (λ fs. ArgumentsFit typing fs args) sig fit) there in
-          let (k, after, q₂, ek, total, bounded, body_means, rest) = block-placed table part.typing_now (l ∷ seen) l.base (held 0) (λ c. refl) (j + formals_constructors (formal_sections fs)) entry.cells entry.body b (bind_typed ps (heading x ps checked)) (entered_placing ps ((x, own_target tg.procedure) ∷ outer)) g part.frame fits means in
-          let counted : l.base + q₂.cells ≡ sizes rest.typing_now = rest.frame.cells_counted in
-          let room : sizes rest.typing_now + c * table.most < 2 ^ 64 = omega (arith, counted, bounded, sized, few) in
+          let (k, after, q₂, ek, total, body_means, rest) = block-placed table part.typing_now (l ∷ seen) l.base (held 0) (λ c. refl) (j + formals_constructors (formal_sections fs)) entry.cells entry.body b (bind_typed ps (heading x ps checked)) (entered_placing ps ((x, own_target tg.procedure) ∷ outer)) g part.frame fits means in
           let low₂ : execution.MachineState = record low { cells = p.cells ++ execution.zeros entry.cells } in
           let s₂ : State = record s { store = k.store } in
           let represents : Represents rest.typing_now low₂ s₂ = record {
@@ -106,15 +107,20 @@ module _ {N : Type 0} (table : RoutineTable N) where
             same_cells = ap (λ l. l ++ execution.zeros entry.cells) (cells ∙ (ap (λ l. l ++ argument_cells args) h.same_cells ∙ sym part.cells_added)) ∙ sym rest.cells_added;
             same_input = h.same_input;
             same_output = h.same_output;
-            cells_have_numbers = numbers-append p.cells (execution.zeros entry.cells) numbers (numbers-zero entry.cells);
-            input_has_numbers = h.input_has_numbers;
           } in
-          let does = body-represents c t known rest.typing_now (l ∷ seen) after q₂.placing k.env rest.frame.environment_fits rest.frame.placing_fits room entry.body (block_statements b) body_means low₂ s₂ represents in
+          let longer : length (p.cells ++ execution.zeros entry.cells) ≡ length p.cells + length (execution.zeros entry.cells) = length-append p.cells (execution.zeros entry.cells) in
+          let zeros : length (execution.zeros entry.cells) ≡ entry.cells = length-replicate entry.cells (pos 0) in
+          let all : length (p.cells ++ execution.zeros entry.cells) ≡ sizes rest.typing_now = ap length represents.same_cells ∙ store-size rest.typing_now k.store rest.frame.store_fits in
+          let counted : length p.cells + entry.cells ≡ sizes rest.typing_now = omega (arith, longer, zeros, all) in
           let grown : rest.typing_now ≡ typing ++ (part.others ++ rest.others) = rest.is_grown ∙ (ap (λ l. l ++ rest.others) part.is_grown ∙ append_assoc typing part.others rest.others) in
-          let drops = drop_variables-represents typing rest.typing_now (part.others ++ rest.others) s.store l.base (execution.execute_all (execution.call table.routines c t) t (l ∷ seen) entry.body low₂) (execute_body table.naming k.env (call_freeing table.naming c t k.env) t (block_statements b) s₂) grown h.store_fits (ap length h.same_cells) does in
+          let statements = execute_body table.naming k.env (call_freeing table.naming c t k.env) t (block_statements b) s₂ in
+          let runs_body = execution.execute_all (execution.call table.routines c t) t (l ∷ seen) entry.body in
+          let drops = with-cells (λ q. ProgressRepresents typing (execution.drop_variables l.base q) (drop_variables (length s.store) statements)) entry.cells runs_body (record low { cells = p.cells }) tt
+          (λ room. drop_variables-represents typing rest.typing_now (part.others ++ rest.others) s.store l.base (runs_body low₂) statements grown h.store_fits (ap length h.same_cells)
+          (body-represents c t known rest.typing_now (l ∷ seen) after q₂.placing k.env rest.frame.environment_fits rest.frame.placing_fits (omega (arith, counted, room)) entry.body (block_statements b) body_means low₂ s₂ represents)) in
           let frames = ap (λ l. option_and_then (declare_block table.naming (j + formals_constructors (formal_sections fs)) b) (bind_parameters l args f)) (parameters-of_typed table.naming checked j (formal_sections fs) ps eps) ∙ (ap (option_and_then (declare_block table.naming (j + formals_constructors (formal_sections fs)) b)) eg ∙ ek) in
           subst (λ o. ProgressRepresents typing (execution.drop_variables l.base (execution.activate (execution.call table.routines c t) t (l ∷ seen) o record low { cells = p.cells })) (drop_variables (length s.store) (activate table.naming (call_freeing table.naming c t) t ((y, a_procedure record { first_constructor = j; text = text }) ∷ active) args s))) (sym et)
-          (subst (λ frame. ProgressRepresents typing (execution.drop_variables l.base (execution.execute_all (execution.call table.routines c t) t (l ∷ seen) entry.body low₂)) (drop_variables (length s.store) (in_frame s frame (λ f. execute_body table.naming f.env (call_freeing table.naming c t f.env) t (block_statements b))))) (sym frames) drops)
+          (subst (λ frame. ProgressRepresents typing (execution.drop_variables l.base (execution.with_cells entry.cells runs_body record low { cells = p.cells })) (drop_variables (length s.store) (in_frame s frame (λ f. execute_body table.naming f.env (call_freeing table.naming c t f.env) t (block_statements b))))) (sym frames) drops)
 
       of_objects : (o : Object Shape Signature) (w : Whereabouts) (r : Object Place (ProcedureText N)) → BindingFits table.naming typing checked x o r → IsPlaced table typing ls checked (λ ls placing. PlacingFits table typing ls checked placing active) x o w r → o ≡ a_procedure signature
           → ProgressRepresents typing (execution.call table.routines (suc c) t (target_of w).procedure (execution.entered ls (length low.cells) (target_of w).up p) record low { cells = p.cells }) (drop_variables (length s.store) (activate table.naming (call_freeing table.naming c t) t ((y, r) ∷ active) args s))
@@ -127,10 +133,10 @@ module _ {N : Type 0} (table : RoutineTable N) where
           of_text tg outer found.routine code.first_constructor code.text qs inside found.are_typed found.in_table signed (subst (λ ps. procedure_fits table.naming (bind_typed ps (heading x ps checked)) code.first_constructor code.text ≡ true) same fits) found.means
       of_objects (a_procedure q) _ _ bound at e = absurd at
       of_objects _ w r bound at e = absurd (cc)
-  activate-represents c t known typing ls (b ∷ checked) _ [] signature args low s p env placed few e h fit cells there numbers = absurd env
+  activate-represents c t known typing ls (b ∷ checked) _ [] signature args low s p env placed e h fit cells there = absurd env
 
   pub calls-known : (c t : ℕ) → CallsKnown c t
   unfolding call_freeing execution.call
-  calls-known zero t typing ls checked placing active env placed few x signature e args low s p h fit cells there numbers = (refl, h.same_output)
-  calls-known (suc c) t typing ls checked placing active env placed few x signature e args low s p h fit cells there numbers =
-      activate-represents c t (calls-known c t) typing ls (from_binding table.naming checked x) (from_name table.naming placing x) (from_binding table.naming active x) signature args low s p (from-fit table.naming typing checked active x env) (from-placed table typing ls checked placing active x placed) few e h fit cells there numbers
+  calls-known zero t typing ls checked placing active env placed x signature e args low s p h fit cells there = (refl, h.same_output)
+  calls-known (suc c) t typing ls checked placing active env placed x signature e args low s p h fit cells there =
+      activate-represents c t (calls-known c t) typing ls (from_binding table.naming checked x) (from_name table.naming placing x) (from_binding table.naming active x) signature args low s p (from-fit table.naming typing checked active x env) (from-placed table typing ls checked placing active x placed) e h fit cells there

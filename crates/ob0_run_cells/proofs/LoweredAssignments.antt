@@ -12,11 +12,11 @@ use Rattle.ob0_run_machine.specs.Evaluation as machine
 use Rattle.ob0_run_machine.specs.Execution as execution
 use Rattle.ob0_run_machine.specs.Lowered as lowered
 use Rattle.ob0_run_cells.specs.Cells.{address, all_cells, cells_of, cells_with, size, sizes}
-use Rattle.ob0_run_cells.specs.LoweredStatements.{HaveNumbers, IsAt, ProgressRepresents, Represents, StatementMeans, Target}
-use Rattle.ob0_run_cells.specs.Lowering.{Has32Bits, NumberMeans, PlaceMeans, Slot, TruthMeans, ValueAt, place_of_designator, value_of_expression}
+use Rattle.ob0_run_cells.specs.LoweredStatements.{IsAt, ProgressRepresents, Represents, StatementMeans, Target}
+use Rattle.ob0_run_cells.specs.Lowering.{NumberMeans, PlaceMeans, Slot, TruthMeans, ValueAt, place_of_designator, value_of_expression}
 use Rattle.ob0_run_cells.proofs.Parts.{cells-size}
 use Rattle.ob0_run_cells.proofs.Places.{HoldsSlice, WritesPlace, places_are_slices, store-size, writing_places_writes_slices}
-use Rattle.ob0_run_cells.proofs.Represented.{alone-cells, moment, moment-shown, number-in, number-read, number-stored, numbers-append, numbers-drop, numbers-take, place-in, put-represents, truth-in, truth-stored, use-place, use-represents}
+use Rattle.ob0_run_cells.proofs.Represented.{alone-cells, moment, moment-shown, number-in, number-read, number-stored, place-in, put-represents, truth-in, truth-stored, use-place, use-represents}
 
 pub standard-is : (typing : StoreTyping) (q : Standard) (a : Option (Object Place (List Mode))) → ObjectFits typing (Some (a_standard q)) a → a ≡ Some (a_standard q)
 standard-is typing q (Some (a_standard p)) h = ap (λ q. Some (a_standard q)) (sym h)
@@ -45,18 +45,12 @@ cells-copied typing low s p q shape h fit_p fit_q =
     let same : execution.copied low.cells (address typing p) (address typing q) (size shape) ≡ all_cells done.after =
     ap (λ l. execution.copied l (address typing p) (address typing q) (size shape)) h.same_cells
     ∙ (copy ∙ ((λ i. take (address typing p) (all_cells s.store) ++ (sym at_q.same_cells i ++ drop (address typing p + sym n i) (all_cells s.store))) ∙ sym done.same_cells)) in
-    let numbers = subst HaveNumbers h.same_cells h.cells_have_numbers in
     subst (λ o. ProgressRepresents typing (execution.running record low { cells = execution.copied low.cells (address typing p) (address typing q) (size shape) }) (use_in s (or_stuck o) (store_at s p))) (sym at_q.is_read)
     (subst (λ o. ProgressRepresents typing (execution.running record low { cells = execution.copied low.cells (address typing p) (address typing q) (size shape) }) (use_in s (or_stuck o) (λ store. running record s { store = store }))) (sym done.is_written) record {
       store_fits = done.store_fits;
       same_cells = same;
       same_input = h.same_input;
       same_output = h.same_output;
-      cells_have_numbers = subst HaveNumbers (sym (ap (λ l. execution.copied l (address typing p) (address typing q) (size shape)) h.same_cells ∙ copy))
-          (numbers-append (take (address typing p) (all_cells s.store)) (take (size shape) (drop (address typing q) (all_cells s.store)) ++ drop (address typing p + size shape) (all_cells s.store)) (numbers-take (address typing p) (all_cells s.store) numbers)
-          (numbers-append (take (size shape) (drop (address typing q) (all_cells s.store))) (drop (address typing p + size shape) (all_cells s.store)) (numbers-take (size shape) (drop (address typing q) (all_cells s.store)) (numbers-drop (address typing q) (all_cells s.store) numbers))
-          (numbers-drop (address typing p + size shape) (all_cells s.store) numbers)));
-      input_has_numbers = h.input_has_numbers;
     })
 
 -- uses of what is evaluated in steps
@@ -77,11 +71,11 @@ module _ {N : Type 0} (checked : Typed N) (slots : N → Slot) (targets : N → 
   pub number-assigned : (x : N) (path : Tree N (items selector)) (e : Tree N expression) (q : lowered.Place) (n : lowered.Number) → PlaceMeans checked slots q integer_shape (place_of_designator x path) → NumberMeans checked slots n (value_of_expression e) → StatementMeans checked slots targets (lowered.stores_number q n) (assigns x path e)
   unfolding execution.execute execute
   number-assigned x path e q n hq hn b shown t low s h =
-      let (same, bits) = number-in checked slots targets b shown n (value_of_expression e) hn low s h in
+      let same = number-in checked slots targets b shown n (value_of_expression e) hn low s h in
       use-place b.typing integer_shape low s (machine.address b.levels low.cells q) (designate b.active s.store x path) (λ a. execution.use_in low (machine.number b.levels low.cells n) (λ v. execution.running (execution.store_at low a v))) (λ p. use_in s (evaluate b.active s.store e) (store_at s p)) h
       (place-in checked slots targets b shown q integer_shape (place_of_designator x path) hq low s h)
       (λ p fit. use-represents b.typing number low s (machine.number b.levels low.cells n) (evaluate b.active s.store e) (λ v. execution.running (execution.store_at low (address b.typing p) v)) (store_at s p) h same
-      (λ v is. number-stored b.typing low s p v h fit (subst Has32Bits is bits)))
+      (λ v is. number-stored b.typing low s p v h fit))
 
   pub truth-assigned : (x : N) (path : Tree N (items selector)) (e : Tree N expression) (q : lowered.Place) (u : lowered.Truth) → PlaceMeans checked slots q boolean_shape (place_of_designator x path) → TruthMeans checked slots u (value_of_expression e) → StatementMeans checked slots targets (lowered.stores_truth q u) (assigns x path e)
   unfolding execution.execute execute
@@ -96,7 +90,7 @@ module _ {N : Type 0} (checked : Typed N) (slots : N → Slot) (targets : N → 
   block-assigned x path e q r shape hq hr b shown t low s h =
       let (w, hw, same) = hr in
       let here = moment b s.store [] in
-      let value : evaluate b.active s.store e ≡ (w here >>= (λ p. or_stuck (read_place s.store p))) = same here (moment-shown checked slots targets b shown s.store [] low.cells h.store_fits (alone-cells checked slots targets b shown low s h) h.cells_have_numbers) in
+      let value : evaluate b.active s.store e ≡ (w here >>= (λ p. or_stuck (read_place s.store p))) = same here (moment-shown checked slots targets b shown s.store [] h.store_fits) in
       use-place b.typing shape low s (machine.address b.levels low.cells q) (designate b.active s.store x path) (λ to. execution.use_in low (machine.address b.levels low.cells r) (λ from. execution.running record low { cells = execution.copied low.cells to from (size shape) })) (λ p. use_in s (evaluate b.active s.store e) (store_at s p)) h
       (place-in checked slots targets b shown q shape (place_of_designator x path) hq low s h)
       (λ p fit. subst (λ w. ProgressRepresents b.typing (execution.use_in low (machine.address b.levels low.cells r) (λ from. execution.running record low { cells = execution.copied low.cells (address b.typing p) from (size shape) })) w)
@@ -116,7 +110,7 @@ module _ {N : Type 0} (checked : Typed N) (slots : N → Slot) (targets : N → 
       (subst (λ o. ProgressRepresents b.typing (execution.use_in low (machine.address b.levels low.cells q) (λ a. execution.read_number low a low.input)) (use_in s ((or_stuck o >>= (λ d. designate b.active s.store d.0 d.1 >>= (λ p. gives (place_argument p)))) >>= (λ a. gives (a ∷ []))) (λ args. perform (Some (a_standard reads)) (b.enters x) args s))) (sym hq.is_designator)
       (subst (λ w. ProgressRepresents b.typing (execution.use_in low (machine.address b.levels low.cells q) (λ a. execution.read_number low a low.input)) w) (sym (use-place-argument s (designate b.active s.store y others) (λ args. perform (Some (a_standard reads)) (b.enters x) args s)))
       (use-place b.typing integer_shape low s (machine.address b.levels low.cells q) (designate b.active s.store y others) (λ a. execution.read_number low a low.input) (λ p. read_number s p s.input) h (place-in checked slots targets b shown q integer_shape (place_of_designator y others) hq.place_means low s h)
-      (λ p fit. subst (λ input. ProgressRepresents b.typing (execution.read_number low (address b.typing p) low.input) (read_number s p input)) h.same_input (number-read b.typing low s p low.input h fit h.input_has_numbers))))))
+      (λ p fit. subst (λ input. ProgressRepresents b.typing (execution.read_number low (address b.typing p) low.input) (read_number s p input)) h.same_input (number-read b.typing low s p low.input h fit))))))
 
   pub writes-mean : (x : N) (es : Tree N (maybe arguments)) (e : Tree N expression) (n : lowered.Number) → checked.object_for x ≡ Some (a_standard writes) → arguments_listed es ≡ e ∷ [] → NumberMeans checked slots n (value_of_expression e) → StatementMeans checked slots targets (lowered.writes n) (calls x es)
   unfolding execution.execute execute evaluate_arguments
@@ -126,7 +120,7 @@ module _ {N : Type 0} (checked : Typed N) (slots : N → Slot) (targets : N → 
       (subst (λ l. ProgressRepresents b.typing (execution.use_in low (machine.number b.levels low.cells n) (λ v. execution.running (execution.append_output low (execution.number_out v)))) (use_in s (evaluate_arguments b.active s.store (by_value ∷ []) l) (λ args. perform (Some (a_standard writes)) (b.enters x) args s))) (sym one)
       (subst (λ w. ProgressRepresents b.typing (execution.use_in low (machine.number b.levels low.cells n) (λ v. execution.running (execution.append_output low (execution.number_out v)))) w) (sym (use-value-argument s (evaluate b.active s.store e) (λ args. perform (Some (a_standard writes)) (b.enters x) args s)))
       (use-represents b.typing number low s (machine.number b.levels low.cells n) (evaluate b.active s.store e) (λ v. execution.running (execution.append_output low (execution.number_out v))) (λ v. perform (Some (a_standard writes)) (b.enters x) (value_argument v ∷ []) s) h
-      (number-in checked slots targets b shown n (value_of_expression e) hn low s h).0 (λ v is. put-represents b.typing low s (execution.number_out v) h))))
+      (number-in checked slots targets b shown n (value_of_expression e) hn low s h) (λ v is. put-represents b.typing low s (execution.number_out v) h))))
 
   pub line-means : (x : N) (es : Tree N (maybe arguments)) → checked.object_for x ≡ Some (a_standard writes_line) → arguments_listed es ≡ [] → StatementMeans checked slots targets lowered.writes_line (calls x es)
   unfolding execution.execute execute evaluate_arguments

@@ -10,7 +10,7 @@ use Rattle.ob0_language_values.specs.Values.{Outcome, Value, add, add_is_settled
 use Rattle.ob0_run_machine.specs.Evaluation as machine
 use Rattle.ob0_run_machine.specs.Lowered as lowered
 use Rattle.ob0_run_cells.specs.Lowering.{Evaluated, Moment, NumberLeads, NumberMeans, RestOfChain, Slot, addends_left, cells_in, multipliers_left, value_of_factor, value_of_simple, value_of_term}
-use Rattle.ob0_run_cells.proofs.LoweredOutcomes.{Operates, bits-then, gives-then, grouped-then, in_range-bits, in_range-same, operate-bits, outcome-then, plus-same, followed_by}
+use Rattle.ob0_run_cells.proofs.LoweredOutcomes.{Operates, gives-then, grouped-then, in_range-same, outcome-then, plus-same, followed_by}
 
 pub each-then : {A B : Type 0} (o : Outcome A) (f g : A → Outcome B) → ((a : A) → f a ≡ g a) → (o >>= f) ≡ (o >>= g)
 each-then (gives a) f g each = each a
@@ -25,24 +25,22 @@ unsettled o is_settled step next never =
 module _ {N : Type 0} (checked : Typed N) (slots : N → Slot) where
   pub operation-means : (o : lowered.Operator) (op : Value → Value → Outcome Value) → Operates o op → (m n : lowered.Number) (v w : Evaluated N Value) → NumberMeans checked slots m v → NumberMeans checked slots n w
       → NumberMeans checked slots (lowered.operation o m n) (λ z. v z >>= (λ x. w z >>= op x))
-  operation-means o op operates m n v w hm hn z shown = (
-    outcome-then number number (machine.number z.levels (cells_in z) m) (v z) (λ a. followed_by (machine.number z.levels (cells_in z) n) (machine.operate o a)) (λ x. w z >>= op x) (hm z shown).0
-        (λ a. outcome-then number number (machine.number z.levels (cells_in z) n) (w z) (machine.operate o a) (op (number a)) (hn z shown).0 (operates a)),
-    bits-then (machine.number z.levels (cells_in z) m) (λ a. followed_by (machine.number z.levels (cells_in z) n) (machine.operate o a)) (λ a. bits-then (machine.number z.levels (cells_in z) n) (machine.operate o a) (operate-bits o a)),
-  )
+  operation-means o op operates m n v w hm hn z shown =
+      outcome-then number number (machine.number z.levels (cells_in z) m) (v z) (λ a. followed_by (machine.number z.levels (cells_in z) n) (machine.operate o a)) (λ x. w z >>= op x) (hm z shown)
+      (λ a. outcome-then number number (machine.number z.levels (cells_in z) n) (w z) (machine.operate o a) (op (number a)) (hn z shown) (operates a))
+
+  pub plus-means : (n : lowered.Number) (v : Evaluated N Value) → NumberMeans checked slots n v → NumberMeans checked slots (lowered.operation lowered.sum n (lowered.literal (pos 0))) (λ z. v z >>= apply_sign (Some sign.Plus))
+  plus-means n v hn z shown = outcome-then number number (machine.number z.levels (cells_in z) n) (v z) (λ a. machine.operate lowered.sum a (pos 0)) (apply_sign (Some sign.Plus)) (hn z shown) plus-same
 
   pub negative-means : (n : lowered.Number) (v : Evaluated N Value) → NumberMeans checked slots n v → NumberMeans checked slots (lowered.negative n) (λ z. v z >>= apply_sign (Some sign.Minus))
-  negative-means n v hn z shown = (
-    outcome-then number number (machine.number z.levels (cells_in z) n) (v z) (λ a. machine.in_range (neg_ℤ a)) (apply_sign (Some sign.Minus)) (hn z shown).0 (λ a. in_range-same (neg_ℤ a)),
-    bits-then (machine.number z.levels (cells_in z) n) (λ a. machine.in_range (neg_ℤ a)) (λ a. in_range-bits (neg_ℤ a)),
-  )
+  negative-means n v hn z shown = outcome-then number number (machine.number z.levels (cells_in z) n) (v z) (λ a. machine.in_range (neg_ℤ a)) (apply_sign (Some sign.Minus)) (hn z shown) (λ a. in_range-same (neg_ℤ a))
 
   -- where nothing is left
   pub number-whole : (n : lowered.Number) (rest : RestOfChain N Value) (whole : Evaluated N Value) → ((z : Moment N) (v : Value) → rest z v ≡ gives v) → NumberLeads checked slots n rest whole → NumberMeans checked slots n whole
   number-whole n rest whole ends_here h z shown =
       let (v, hv, ev) = h in
       let same : v z ≡ whole z = sym (gives-then (v z)) ∙ (each-then (v z) gives (rest z) (λ x. sym (ends_here z x)) ∙ ev z shown) in
-      ((hv z shown).0 ∙ same, (hv z shown).1)
+      hv z shown ∙ same
 
   pub addend-leads : (o : AddOperator) (op : lowered.Operator) → Operates op (add o) → ((x : Value) → add_is_settled o x ≡ false) → (m n : lowered.Number) (e : Tree N term) (rest : Tree N (items addend)) (whole : Evaluated N Value)
       → NumberMeans checked slots n (value_of_term e) → NumberLeads checked slots m (addends_left (more (adds o e) rest)) whole → NumberLeads checked slots (lowered.operation op m n) (addends_left rest) whole
@@ -72,12 +70,13 @@ module _ {N : Type 0} (checked : Typed N) (slots : N → Slot) where
   unfolding evaluate
   sum-begins e rest n hn = (value_of_term e, hn, λ z shown. refl)
 
-  pub plus-begins : (e : Tree N term) (rest : Tree N (items addend)) (n : lowered.Number) → NumberMeans checked slots n (value_of_term e) → NumberLeads checked slots n (addends_left rest) (value_of_simple (sum (Some sign.Plus) e rest))
+  pub plus-begins : (e : Tree N term) (rest : Tree N (items addend)) (n : lowered.Number) → NumberMeans checked slots n (value_of_term e)
+      → NumberLeads checked slots (lowered.operation lowered.sum n (lowered.literal (pos 0))) (addends_left rest) (value_of_simple (sum (Some sign.Plus) e rest))
   unfolding evaluate
   plus-begins e rest n hn = (
-    value_of_term e,
-    hn,
-    λ z shown. ap (λ w. w >>= addends_left rest z) (plus-same (machine.number z.levels (cells_in z) n) (value_of_term e z) (hn z shown).0 (hn z shown).1) ∙ grouped-then (value_of_term e z) (apply_sign (Some sign.Plus)) (addends_left rest z),
+    (λ z. value_of_term e z >>= apply_sign (Some sign.Plus)),
+    plus-means n (value_of_term e) hn,
+    λ z shown. grouped-then (value_of_term e z) (apply_sign (Some sign.Plus)) (addends_left rest z),
   )
 
   pub minus-begins : (e : Tree N term) (rest : Tree N (items addend)) (n : lowered.Number) → NumberMeans checked slots n (value_of_term e) → NumberLeads checked slots (lowered.negative n) (addends_left rest) (value_of_simple (sum (Some sign.Minus) e rest))
@@ -88,6 +87,6 @@ module _ {N : Type 0} (checked : Typed N) (slots : N → Slot) where
     λ z shown. grouped-then (value_of_term e z) (apply_sign (Some sign.Minus)) (addends_left rest z),
   )
 
-  pub integer-means : (n : ℕ) → machine.fits (pos n) ≡ true → NumberMeans checked slots (lowered.literal (pos n)) (value_of_factor (integer n))
+  pub integer-means : (n : ℕ) → NumberMeans checked slots (lowered.literal (pos n)) (value_of_factor (integer n))
   unfolding evaluate
-  integer-means n e z shown = (refl, e)
+  integer-means n z shown = refl

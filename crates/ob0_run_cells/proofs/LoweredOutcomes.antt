@@ -1,5 +1,6 @@
 -- Steps of lowered code and of the definition, one after the other.
-use Rattle.std.proofs.Common.{◌≡◌, ℕ, ◌<◌, ◌+◌, ◌-ℤ◌, ◌+ℤ◌, ◌*ℤ◌, ◌^◌, Bool, true, false, ℤ, if◌then◌else◌, Some, None, Option, option_and_then, sym, refl, ap, ◌∙◌, subst}
+use Rattle.std.proofs.Common.{◌≡◌, ℕ, ◌<◌, ◌+◌, ◌-ℤ◌, ◌+ℤ◌, ◌*ℤ◌, ◌^◌, Bool, true, false, ℤ, pos, if◌then◌else◌, Some, None, Option, option_and_then, sym, refl, ap, ◌∙◌, subst, arith}
+use Rattle.std.proofs.lemmas.Int.{ints}
 use Rattle.std.proofs.Math.Nat.{mod-eq_of_lt}
 use Rattle.ob0_tree.specs.declared.tree.Relation.{Relation}
 use Rattle.ob0_tree.specs.declared.tree.Relation.TheVariants as relation
@@ -11,7 +12,7 @@ use Rattle.ob0_language_runs.specs.Fitting.{PlaceFits, StoreTyping}
 use Rattle.ob0_run_machine.specs.Evaluation as machine
 use Rattle.ob0_run_machine.specs.Lowered as lowered
 use Rattle.ob0_run_cells.specs.Cells.{address}
-use Rattle.ob0_run_cells.specs.Lowering.{GivesPlace, Has32Bits, outcome_of, relation_of}
+use Rattle.ob0_run_cells.specs.Lowering.{GivesPlace, outcome_of, relation_of}
 
 abbrev pub followed_by : {A B : Type 0} → machine.StepResult A → (A → machine.StepResult B) → machine.StepResult B
 followed_by = machine.◌>>=◌
@@ -34,10 +35,6 @@ pub outcome-then : {A B X Y : Type 0} (f : A → X) (g : B → Y) (o : machine.S
 outcome-then f g (machine.gives a) w k j e each = each a ∙ ap (λ w. w >>= j) e
 outcome-then f g (machine.ends x) w k j e each = ap (λ w. w >>= j) e
 
-pub bits-then : {A : Type 0} (o : machine.StepResult A) (k : A → machine.StepResult ℤ) → ((a : A) → Has32Bits (k a)) → Has32Bits (followed_by o k)
-bits-then (machine.gives a) k each = each a
-bits-then (machine.ends e) k each = tt
-
 -- numbers of 32 bits
 
 range-same : (n : ℤ) (b : Bool) → outcome_of number (if b then machine.gives n else machine.ends machine.Overflow) ≡ (if b then gives (number n) else ends Overflow)
@@ -47,23 +44,9 @@ range-same n false = refl
 pub in_range-same : (n : ℤ) → outcome_of number (machine.in_range n) ≡ in_range n
 in_range-same n = range-same n (fits n)
 
-pub in_range-bits : (n : ℤ) → Has32Bits (machine.in_range n)
-in_range-bits n = (elim (fits n) as (λ b. fits n ≡ b → Has32Bits (if b then machine.gives n else machine.ends machine.Overflow)) [ true ↦ λ e. e | false ↦ λ e. tt ]) refl
-
 pub divided-same : (result : Option ℤ) → outcome_of number (machine.divided_by result) ≡ divided_by result
 divided-same None = refl
 divided-same (Some n) = in_range-same n
-
-pub divided-bits : (result : Option ℤ) → Has32Bits (machine.divided_by result)
-divided-bits None = tt
-divided-bits (Some n) = in_range-bits n
-
-pub operate-bits : (o : lowered.Operator) (a b : ℤ) → Has32Bits (machine.operate o a b)
-operate-bits lowered.sum a b = in_range-bits (a +ℤ b)
-operate-bits lowered.difference a b = in_range-bits (a -ℤ b)
-operate-bits lowered.product a b = in_range-bits (a *ℤ b)
-operate-bits lowered.quotient a b = divided-bits (divided quotient a b)
-operate-bits lowered.remainder a b = divided-bits (divided remainder a b)
 
 -- operators between values, by those of lowered code
 abbrev pub Operates : lowered.Operator → (Value → Value → Outcome Value) → Type 0
@@ -84,15 +67,13 @@ quotient-operates a b = divided-same (divided quotient a b)
 pub remainder-operates : Operates lowered.remainder (multiply multiply_operator.Modulo)
 remainder-operates a b = divided-same (divided remainder a b)
 
+-- a sign `+`, as the sum with 0
+pub plus-same : (a : ℤ) → outcome_of number (machine.operate lowered.sum a (pos 0)) ≡ apply_sign (Some sign.Plus) (number a)
+plus-same a = let same : a +ℤ pos 0 ≡ a = omega (arith, ints) in in_range-same (a +ℤ pos 0) ∙ ap in_range same
+
 pub compare-same : (r : Relation) (a b : ℤ) → gives (truth (machine.compare (relation_of r) a b)) ≡ relate r (number a) (number b)
 compare-same relation.Equal a b = refl
 compare-same _ a b = refl
-
--- a sign before a number of 32 bits
-pub plus-same : (o : machine.StepResult ℤ) (w : Outcome Value) → outcome_of number o ≡ w → Has32Bits o → w ≡ (w >>= apply_sign (Some sign.Plus))
-plus-same (machine.gives n) w e h =
-    subst (λ w. w ≡ (w >>= apply_sign (Some sign.Plus))) e (sym (ap (λ b. if b then gives (number n) else ends Overflow) h))
-plus-same (machine.ends x) w e h = subst (λ w. w ≡ (w >>= apply_sign (Some sign.Plus))) e refl
 
 -- addresses
 

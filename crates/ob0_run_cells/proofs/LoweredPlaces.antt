@@ -14,7 +14,7 @@ use Rattle.ob0_run_machine.specs.Evaluation as machine
 use Rattle.ob0_run_machine.specs.Evaluation.{Levels}
 use Rattle.ob0_run_machine.specs.Lowered as lowered
 use Rattle.ob0_run_cells.specs.Cells.{address, all_cells, field_offset, offset, size, sizes, step_offset, truth_cell}
-use Rattle.ob0_run_cells.specs.Lowering.{Evaluated, GivesPlace, Has32Bits, Moment, NumberMeans, PlaceLeads, PlaceMeans, Shows, Slot, TruthMeans, ValueAt, cells_in, further, held, by_reference, of_module, outcome_of, part_at, place_of_designator, selectors_left, slot_address, slot_place, value_of_expression, value_of_factor}
+use Rattle.ob0_run_cells.specs.Lowering.{Evaluated, GivesPlace, Moment, NumberMeans, PlaceLeads, PlaceMeans, Shows, Slot, TruthMeans, ValueAt, cells_in, further, held, by_reference, of_module, outcome_of, part_at, place_of_designator, selectors_left, slot_address, slot_place, value_of_expression, value_of_factor}
 use Rattle.ob0_run_cells.proofs.LoweredNumbers.{each-then}
 use Rattle.ob0_run_cells.proofs.LoweredOutcomes.{Led, addresses, forward-same, given-same, gives-then, grouped-then, led-then, same, stuck-then, followed_by}
 use Rattle.ob0_run_cells.proofs.Places.{numbers_are_cells, parts_have_addresses, place-lies, places_are_slices, truths_are_cells}
@@ -195,10 +195,6 @@ truth-there typing store passed fits (machine.gives a) (gives p) h =
 truth-there typing store passed fits (machine.ends x) (ends y) h = ap (λ w. w >>= (λ a. ends y)) (h.is_same)
 truth-there typing store passed fits _ _ h = let e = h.is_same in absurd (cc)
 
-pub bits-at : (o : machine.StepResult ℕ) (cells : List ℤ) → ((a : ℕ) → machine.fits (machine.cell_at cells a) ≡ true) → Has32Bits (followed_by o (λ a. machine.gives (machine.cell_at cells a)))
-bits-at (machine.gives a) cells each = each a
-bits-at (machine.ends x) cells each = tt
-
 -- an index and the selectors after it, from a place that holds something
 pub index-left : {N : Type 0} (z : Moment N) (p : Place) (e : Tree N expression) (rest : Tree N (items selector)) (u : Value) → read_place z.store p ≡ Some u
     → ((value_of_expression e z >>= (λ x. or_stuck (read_place z.store p) >>= (λ u. element_step u x >>= (λ s. gives (further p (s ∷ [])))))) >>= selectors_left rest z) ≡ selectors_left (more (index e) rest) z p
@@ -257,7 +253,7 @@ module _ {N : Type 0} (checked : Typed N) (slots : N → Slot) where
       let (v, hv, ev) = h in (
         (λ z. v z >>= (λ p. value_of_expression e z >>= (λ x. or_stuck (read_place z.store p) >>= (λ u. element_step u x >>= (λ s. gives (further p (s ∷ []))))))),
         (λ z shown. let l = led-then z.typing (array_shape k n t) t (machine.address z.levels (cells_in z) q) (v z) (λ a. followed_by (machine.number z.levels (cells_in z) i) (machine.element_at a n (size t))) (λ p. value_of_expression e z >>= (λ x. or_stuck (read_place z.store p) >>= (λ u. element_step u x >>= (λ s. gives (further p (s ∷ []))))))
-            (led-at q (array_shape k n t) v hv z shown) (λ p fit. index-led z.typing z.store shown.store_fits shown.has_addresses p k n t fit (machine.number z.levels (cells_in z) i) (value_of_expression e z) (hi z shown).0) in
+            (led-at q (array_shape k n t) v hv z shown) (λ p fit. index-led z.typing z.store shown.store_fits shown.has_addresses p k n t fit (machine.number z.levels (cells_in z) i) (value_of_expression e z) (hi z shown)) in
             (ap (outcome_of same) (element-address z.levels (cells_in z) q i n (size t)) ∙ l.is_same, l.is_place)),
         λ z shown. grouped-then (v z) (λ p. value_of_expression e z >>= (λ x. or_stuck (read_place z.store p) >>= (λ u. element_step u x >>= (λ s. gives (further p (s ∷ [])))))) (selectors_left rest z)
             ∙ (each-place z.typing (array_shape k n t) (v z) (λ p. (value_of_expression e z >>= (λ x. or_stuck (read_place z.store p) >>= (λ u. element_step u x >>= (λ s. gives (further p (s ∷ [])))))) >>= selectors_left rest z) (selectors_left (more (index e) rest) z) (hv z shown).1
@@ -278,10 +274,8 @@ module _ {N : Type 0} (checked : Typed N) (slots : N → Slot) where
   pub cell-means : (x : N) (s : Shape) (path : Tree N (items selector)) (q : lowered.Place) → checked.object_for x ≡ Some (a_variable s) → PlaceMeans checked slots q integer_shape (place_of_designator x path) → NumberMeans checked slots (lowered.cell q) (value_of_factor (designator x path))
   unfolding evaluate designate
   cell-means x s path q e h z shown =
-      let (p, ep, fit) = variable-is z.typing s (z.active.object_for x) (subst (λ o. ObjectFits z.typing o (z.active.object_for x)) e (shown.names_fit.0 x)) in (
-        number-there z.typing z.store z.passed shown.store_fits (machine.address z.levels (cells_in z) q) (place_of_designator x path z) (led-at q integer_shape (place_of_designator x path) h z shown) ∙ sym (value-there z.active z.store x path p ep),
-        bits-at (machine.address z.levels (cells_in z) q) (cells_in z) shown.has_numbers,
-      )
+      let (p, ep, fit) = variable-is z.typing s (z.active.object_for x) (subst (λ o. ObjectFits z.typing o (z.active.object_for x)) e (shown.names_fit.0 x)) in
+      number-there z.typing z.store z.passed shown.store_fits (machine.address z.levels (cells_in z) q) (place_of_designator x path z) (led-at q integer_shape (place_of_designator x path) h z shown) ∙ sym (value-there z.active z.store x path p ep)
 
   pub flag-means : (x : N) (s : Shape) (path : Tree N (items selector)) (q : lowered.Place) → checked.object_for x ≡ Some (a_variable s) → PlaceMeans checked slots q boolean_shape (place_of_designator x path) → TruthMeans checked slots (lowered.flag q) (value_of_factor (designator x path))
   unfolding evaluate designate
@@ -289,11 +283,11 @@ module _ {N : Type 0} (checked : Typed N) (slots : N → Slot) where
       let (p, ep, fit) = variable-is z.typing s (z.active.object_for x) (subst (λ o. ObjectFits z.typing o (z.active.object_for x)) e (shown.names_fit.0 x)) in
       truth-there z.typing z.store z.passed shown.store_fits (machine.address z.levels (cells_in z) q) (place_of_designator x path z) (led-at q boolean_shape (place_of_designator x path) h z shown) ∙ sym (value-there z.active z.store x path p ep)
 
-  pub number-constant : (x : N) (n : ℤ) → checked.object_for x ≡ Some (a_constant (number n)) → machine.fits n ≡ true → NumberMeans checked slots (lowered.literal n) (value_of_factor (designator x end))
+  pub number-constant : (x : N) (n : ℤ) → checked.object_for x ≡ Some (a_constant (number n)) → NumberMeans checked slots (lowered.literal n) (value_of_factor (designator x end))
   unfolding evaluate
-  number-constant x n e fits z shown =
+  number-constant x n e z shown =
       let is_bound : z.active.object_for x ≡ Some (a_constant (number n)) = constant-is z.typing (number n) (z.active.object_for x) (subst (λ o. ObjectFits z.typing o (z.active.object_for x)) e (shown.names_fit.0 x)) in
-      (sym (ap (λ o. object_value {P = List Mode} z.store o >>= (λ v. gives [] >>= (λ steps. or_stuck (at_path steps v)))) is_bound), fits)
+      sym (ap (λ o. object_value {P = List Mode} z.store o >>= (λ v. gives [] >>= (λ steps. or_stuck (at_path steps v)))) is_bound)
 
   pub truth-constant : (x : N) (b : Bool) → checked.object_for x ≡ Some (a_constant (truth b)) → TruthMeans checked slots (lowered.constant b) (value_of_factor (designator x end))
   unfolding evaluate

@@ -78,8 +78,8 @@ module _ {N : Type 0} (checked : Typed N) (slots : N → Slot) where
       → TruthMeans checked slots (lowered.related (relation_of r) m n) (value_of_expression (compares d (one (relates r e))))
   unfolding evaluate
   related-means d e r m n hm hn z shown =
-      outcome-then number truth (machine.number z.levels (cells_in z) m) (value_of_simple d z) (λ a. followed_by (machine.number z.levels (cells_in z) n) (λ b. machine.gives (machine.compare (relation_of r) a b))) (λ x. value_of_simple e z >>= relate r x) (hm z shown).0
-      (λ a. outcome-then number truth (machine.number z.levels (cells_in z) n) (value_of_simple e z) (λ b. machine.gives (machine.compare (relation_of r) a b)) (relate r (number a)) (hn z shown).0 (compare-same r a))
+      outcome-then number truth (machine.number z.levels (cells_in z) m) (value_of_simple d z) (λ a. followed_by (machine.number z.levels (cells_in z) n) (λ b. machine.gives (machine.compare (relation_of r) a b))) (λ x. value_of_simple e z >>= relate r x) (hm z shown)
+      (λ a. outcome-then number truth (machine.number z.levels (cells_in z) n) (value_of_simple e z) (λ b. machine.gives (machine.compare (relation_of r) a b)) (relate r (number a)) (hn z shown) (compare-same r a))
 
   pub same-means : (d e : Tree N simple) (t u : lowered.Truth) → TruthMeans checked slots t (value_of_simple d) → TruthMeans checked slots u (value_of_simple e)
       → TruthMeans checked slots (lowered.same t u) (value_of_expression (compares d (one (relates relation.Equal e))))

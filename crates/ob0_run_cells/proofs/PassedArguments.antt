@@ -15,11 +15,11 @@ use Rattle.ob0_run_machine.specs.Evaluation as machine
 use Rattle.ob0_run_machine.specs.Execution as execution
 use Rattle.ob0_run_machine.specs.Lowered as lowered
 use Rattle.ob0_run_cells.specs.Cells.{address, all_cells, cells_of, size, sizes}
-use Rattle.ob0_run_cells.specs.LoweredStatements.{ArgumentMeans, ArgumentsMean, Body, HaveNumbers, ProgressRepresents, Represents, ShowsBody, StatementMeans, Target, argument_addresses, argument_cells}
-use Rattle.ob0_run_cells.specs.Lowering.{Has32Bits, Slot, end_of, outcome_of, place_of_designator, value_of_expression}
+use Rattle.ob0_run_cells.specs.LoweredStatements.{ArgumentMeans, ArgumentsMean, Body, ProgressRepresents, Represents, ShowsBody, StatementMeans, Target, argument_addresses, argument_cells}
+use Rattle.ob0_run_cells.specs.Lowering.{Slot, end_of, outcome_of, place_of_designator, value_of_expression}
 use Rattle.ob0_run_cells.proofs.LoweredOutcomes.{Led, ended-same, given-same, grouped-then}
 use Rattle.ob0_run_cells.proofs.Places.{HoldsSlice, places_are_slices, store-size}
-use Rattle.ob0_run_cells.proofs.Represented.{alone-cells, as_cell-same, moment, moment-shown, number-at, numbers-append, numbers-drop, numbers-take, place-at, truth-at, truth-number}
+use Rattle.ob0_run_cells.proofs.Represented.{alone-cells, as_cell-same, moment, moment-shown, number-at, place-at, truth-at}
 
 -- both give what is related, or both end alike
 abbrev pub Both : {A B : Type 0} → (A → B → Type 0) → machine.StepResult A → Outcome B → Type 0
@@ -42,9 +42,9 @@ both-led typing shape (machine.gives a) (gives p) h = (given-same a (address typ
 both-led typing shape (machine.ends x) (ends y) h = ended-same (end_of x) y h.is_same
 both-led typing shape _ _ h = let e = h.is_same in absurd (cc)
 
-pub both-number : (o : machine.StepResult ℤ) (w : Outcome Value) → outcome_of number o ≡ w → Has32Bits o → Both (λ n v. (number n ≡ v) × (machine.fits n ≡ true)) o w
-both-number (machine.gives n) w e h = subst (λ w. Both (λ n v. (number n ≡ v) × (machine.fits n ≡ true)) (machine.gives n) w) e (refl, h)
-both-number (machine.ends x) w e h = subst (λ w. Both (λ n v. (number n ≡ v) × (machine.fits n ≡ true)) (machine.ends x) w) e refl
+pub both-number : (o : machine.StepResult ℤ) (w : Outcome Value) → outcome_of number o ≡ w → Both (λ n v. number n ≡ v) o w
+both-number (machine.gives n) w e = subst (λ w. Both (λ n v. number n ≡ v) (machine.gives n) w) e refl
+both-number (machine.ends x) w e = subst (λ w. Both (λ n v. number n ≡ v) (machine.ends x) w) e refl
 
 pub both-truth : (o : machine.StepResult Bool) (w : Outcome Value) → outcome_of truth o ≡ w → Both (λ b v. truth b ≡ v) o w
 both-truth (machine.gives b) w e = subst (λ w. Both (λ b v. truth b ≡ v) (machine.gives b) w) e refl
@@ -61,7 +61,6 @@ pub record Passes (typing : StoreTyping) (fs : Signature) (done p : execution.Pa
   pub arguments_fit : ArgumentsFit typing fs args
   pub cells_passed : p.cells ≡ done.cells ++ argument_cells args
   pub addresses_passed : p.addresses ≡ done.addresses ++ argument_addresses typing args
-  pub have_numbers : HaveNumbers p.cells
 
 pub cells-joined : (a : Argument) (args : List Argument) → argument_cells (a ∷ []) ++ argument_cells args ≡ argument_cells (a ∷ args)
 cells-joined (place_argument p) args = refl
@@ -76,7 +75,6 @@ passes-on typing f fs done p q a args h k = record {
   arguments_fit = first-argument typing f fs a args h.arguments_fit k.arguments_fit;
   cells_passed = k.cells_passed ∙ (ap (λ l. l ++ argument_cells args) h.cells_passed ∙ (append_assoc done.cells (argument_cells (a ∷ [])) (argument_cells args) ∙ ap (λ l. done.cells ++ l) (cells-joined a args)));
   addresses_passed = k.addresses_passed ∙ (ap (λ l. l ++ argument_addresses typing args) h.addresses_passed ∙ (append_assoc done.addresses (argument_addresses typing (a ∷ [])) (argument_addresses typing args) ∙ ap (λ l. done.addresses ++ l) (addresses-joined typing a args)));
-  have_numbers = k.have_numbers;
 }
 
 -- a block of cells of a store, with others after them
@@ -90,62 +88,50 @@ block-there cells others from n h =
     ap (λ b. if b then take n (drop from (cells ++ others)) else execution.zeros n) (le-leb (from + n) (length (cells ++ others)) within)
     ∙ (ap (take n) (drop-append-le from cells others start) ∙ take-append-le n (drop from cells) others left)
 
-pub one-number : (n : ℤ) → machine.fits n ≡ true → HaveNumbers (n ∷ [])
-one-number n h zero = h
-one-number n h (suc i) = refl
-
-pub numbers-before : (xs ys : List ℤ) → HaveNumbers (xs ++ ys) → HaveNumbers xs
-numbers-before [] ys h i = refl
-numbers-before (x ∷ xs) ys h zero = h zero
-numbers-before (x ∷ xs) ys h (suc i) = numbers-before xs ys (λ i. h (suc i)) i
-
 module _ {N : Type 0} (checked : Typed N) (slots : N → Slot) (targets : N → Target) (b : Body N) (shown : ShowsBody checked slots targets b) (store : Store) (fits : StoreFits b.typing store) where
-  pub argument-passed : (f : Formal) (c : lowered.LoweredArgument) (e : Tree N expression) → ArgumentMeans checked slots f c e → (done : execution.Passed) (passed : List ℤ) → done.cells ≡ all_cells store ++ passed → HaveNumbers done.cells
+  pub argument-passed : (f : Formal) (c : lowered.LoweredArgument) (e : Tree N expression) → ArgumentMeans checked slots f c e → (done : execution.Passed) (passed : List ℤ) → done.cells ≡ all_cells store ++ passed
       → Both (λ p a. Passes b.typing (f ∷ []) done p (a ∷ [])) (execution.pass b.levels c done) (evaluate_argument b.active store f.mode e)
   unfolding evaluate_argument
-  argument-passed f (lowered.by_place q) e h done passed same numbers =
+  argument-passed f (lowered.by_place q) e h done passed same =
       let x : N = h.1.name in
       let path : Tree N (items selector) = h.1.path in
       subst (λ m. Both (λ p a. Passes b.typing (f ∷ []) done p (a ∷ [])) (execution.pass b.levels (lowered.by_place q) done) (evaluate_argument b.active store m e)) (sym h.0)
       (subst (λ o. Both (λ p a. Passes b.typing (f ∷ []) done p (a ∷ [])) (execution.pass b.levels (lowered.by_place q) done) (or_stuck o >>= (λ d. designate b.active store d.0 d.1 >>= (λ p. gives (place_argument p))))) (sym h.1.is_designator)
       (both-then (λ a p. (a ≡ address b.typing p) × PlaceFits b.typing p f.shape) (λ p a. Passes b.typing (f ∷ []) done p (a ∷ [])) (machine.address b.levels done.cells q) (designate b.active store x path) (λ a. machine.gives (record done { addresses = done.addresses ++ a ∷ [] })) (λ p. gives (place_argument p))
-      (both-led b.typing f.shape (machine.address b.levels done.cells q) (designate b.active store x path) (place-at checked slots targets b shown q f.shape (place_of_designator x path) h.1.place_means store passed done.cells fits same numbers))
+      (both-led b.typing f.shape (machine.address b.levels done.cells q) (designate b.active store x path) (place-at checked slots targets b shown q f.shape (place_of_designator x path) h.1.place_means store passed done.cells fits same))
       (λ a p r. record {
         arguments_fit = (h.0, r.1, tt);
         cells_passed = sym (append-nil done.cells);
         addresses_passed = ap (λ a. done.addresses ++ a ∷ []) r.0;
-        have_numbers = numbers;
       })))
-  argument-passed f (lowered.by_number n) e h done passed same numbers =
-      let (is, bits) = number-at checked slots targets b shown n (value_of_expression e) h.2 store passed done.cells fits same numbers in
+  argument-passed f (lowered.by_number n) e h done passed same =
+      let is = number-at checked slots targets b shown n (value_of_expression e) h.2 store passed done.cells fits same in
       subst (λ m. Both (λ p a. Passes b.typing (f ∷ []) done p (a ∷ [])) (execution.pass b.levels (lowered.by_number n) done) (evaluate_argument b.active store m e)) (sym h.0)
-      (both-then (λ n v. (number n ≡ v) × (machine.fits n ≡ true)) (λ p a. Passes b.typing (f ∷ []) done p (a ∷ [])) (machine.number b.levels done.cells n) (evaluate b.active store e) (λ a. machine.gives (execution.pass_cells done (a ∷ []))) (λ v. gives (value_argument v))
-      (both-number (machine.number b.levels done.cells n) (evaluate b.active store e) is bits)
+      (both-then (λ n v. number n ≡ v) (λ p a. Passes b.typing (f ∷ []) done p (a ∷ [])) (machine.number b.levels done.cells n) (evaluate b.active store e) (λ a. machine.gives (execution.pass_cells done (a ∷ []))) (λ v. gives (value_argument v))
+      (both-number (machine.number b.levels done.cells n) (evaluate b.active store e) is)
       (λ a v r. record {
-        arguments_fit = (h.0, subst (λ v. HasShape v f.shape) r.0 (subst (λ s. HasShape (number a) s) (sym h.1) tt), tt);
-        cells_passed = ap (λ v. done.cells ++ (cells_of v ++ [])) r.0;
+        arguments_fit = (h.0, subst (λ v. HasShape v f.shape) r (subst (λ s. HasShape (number a) s) (sym h.1) tt), tt);
+        cells_passed = ap (λ v. done.cells ++ (cells_of v ++ [])) r;
         addresses_passed = sym (append-nil done.addresses);
-        have_numbers = numbers-append done.cells (a ∷ []) numbers (one-number a r.1);
       }))
-  argument-passed f (lowered.by_truth t) e h done passed same numbers =
+  argument-passed f (lowered.by_truth t) e h done passed same =
       subst (λ m. Both (λ p a. Passes b.typing (f ∷ []) done p (a ∷ [])) (execution.pass b.levels (lowered.by_truth t) done) (evaluate_argument b.active store m e)) (sym h.0)
       (both-then (λ b v. truth b ≡ v) (λ p a. Passes b.typing (f ∷ []) done p (a ∷ [])) (machine.truth b.levels done.cells t) (evaluate b.active store e) (λ a. machine.gives (execution.pass_cells done (machine.as_cell a ∷ []))) (λ v. gives (value_argument v))
-      (both-truth (machine.truth b.levels done.cells t) (evaluate b.active store e) (truth-at checked slots targets b shown t (value_of_expression e) h.2 store passed done.cells fits same numbers))
+      (both-truth (machine.truth b.levels done.cells t) (evaluate b.active store e) (truth-at checked slots targets b shown t (value_of_expression e) h.2 store passed done.cells fits same))
       (λ a v r. record {
         arguments_fit = (h.0, subst (λ v. HasShape v f.shape) r (subst (λ s. HasShape (truth a) s) (sym h.1) tt), tt);
         cells_passed = ap (λ n. done.cells ++ n ∷ []) (as_cell-same a) ∙ ap (λ v. done.cells ++ (cells_of v ++ [])) r;
         addresses_passed = sym (append-nil done.addresses);
-        have_numbers = numbers-append done.cells (machine.as_cell a ∷ []) numbers (one-number (machine.as_cell a) (truth-number a));
       }))
-  argument-passed f (lowered.by_block q n) e h done passed same numbers =
+  argument-passed f (lowered.by_block q n) e h done passed same =
       let (place, hq, reads_it) = h.2 in
       let here = moment b store passed in
-      let value : evaluate b.active store e ≡ (place here >>= (λ p. or_stuck (read_place store p))) = reads_it here (moment-shown checked slots targets b shown store passed done.cells fits same numbers) in
+      let value : evaluate b.active store e ≡ (place here >>= (λ p. or_stuck (read_place store p))) = reads_it here (moment-shown checked slots targets b shown store passed fits) in
       subst (λ m. Both (λ p a. Passes b.typing (f ∷ []) done p (a ∷ [])) (execution.pass b.levels (lowered.by_block q n) done) (evaluate_argument b.active store m e)) (sym h.0)
       (subst (λ w. Both (λ p a. Passes b.typing (f ∷ []) done p (a ∷ [])) (execution.pass b.levels (lowered.by_block q n) done) (w >>= (λ v. gives (value_argument v)))) (sym value)
       (subst (λ w. Both (λ p a. Passes b.typing (f ∷ []) done p (a ∷ [])) (execution.pass b.levels (lowered.by_block q n) done) w) (sym (grouped-then (place here) (λ p. or_stuck (read_place store p)) (λ v. gives (value_argument v))))
       (both-then (λ a p. (a ≡ address b.typing p) × PlaceFits b.typing p f.shape) (λ p a. Passes b.typing (f ∷ []) done p (a ∷ [])) (machine.address b.levels done.cells q) (place here) (λ a. machine.gives (execution.pass_cells done (execution.block_at done.cells a n))) (λ p. or_stuck (read_place store p) >>= (λ v. gives (value_argument v)))
-      (both-led b.typing f.shape (machine.address b.levels done.cells q) (place here) (place-at checked slots targets b shown q f.shape place hq store passed done.cells fits same numbers))
+      (both-led b.typing f.shape (machine.address b.levels done.cells q) (place here) (place-at checked slots targets b shown q f.shape place hq store passed done.cells fits same))
       (λ a p r. let at_p : HoldsSlice b.typing store p f.shape = places_are_slices b.typing store p f.shape fits r.1 in
       let w : Value = at_p.value in
       let m : sizes b.typing ≡ length (all_cells store) = sym (store-size b.typing store fits) in
@@ -155,21 +141,19 @@ module _ {N : Type 0} (checked : Typed N) (slots : N → Slot) (targets : N → 
         arguments_fit = (h.0, at_p.has_shape, tt);
         cells_passed = ap (λ l. done.cells ++ l) (block ∙ sym (append-nil (cells_of w)));
         addresses_passed = sym (append-nil done.addresses);
-        have_numbers = numbers-append done.cells (execution.block_at done.cells a n) numbers
-            (subst HaveNumbers (sym (block ∙ at_p.same_cells)) (numbers-take (size f.shape) (drop (address b.typing p) (all_cells store)) (numbers-drop (address b.typing p) (all_cells store) (numbers-before (all_cells store) passed (subst HaveNumbers same numbers)))));
       }))))
 
-  pub arguments-passed : (fs : Signature) (cs : List lowered.LoweredArgument) (es : List (Tree N expression)) → ArgumentsMean checked slots fs cs es → (done : execution.Passed) (passed : List ℤ) → done.cells ≡ all_cells store ++ passed → HaveNumbers done.cells
+  pub arguments-passed : (fs : Signature) (cs : List lowered.LoweredArgument) (es : List (Tree N expression)) → ArgumentsMean checked slots fs cs es → (done : execution.Passed) (passed : List ℤ) → done.cells ≡ all_cells store ++ passed
       → Both (λ p args. Passes b.typing fs done p args) (execution.pass_all b.levels cs done) (evaluate_arguments b.active store (modes_in fs) es)
   unfolding evaluate_arguments
-  arguments-passed [] [] [] h done passed same numbers = record { arguments_fit = tt; cells_passed = sym (append-nil done.cells); addresses_passed = sym (append-nil done.addresses); have_numbers = numbers }
-  arguments-passed (f ∷ fs) (c ∷ cs) (e ∷ es) h done passed same numbers =
+  arguments-passed [] [] [] h done passed same = record { arguments_fit = tt; cells_passed = sym (append-nil done.cells); addresses_passed = sym (append-nil done.addresses) }
+  arguments-passed (f ∷ fs) (c ∷ cs) (e ∷ es) h done passed same =
       both-then (λ p a. Passes b.typing (f ∷ []) done p (a ∷ [])) (λ p args. Passes b.typing (f ∷ fs) done p args) (execution.pass b.levels c done) (evaluate_argument b.active store f.mode e) (execution.pass_all b.levels cs) (λ a. evaluate_arguments b.active store (modes_in fs) es >>= (λ rest. gives (a ∷ rest)))
-      (argument-passed f c e h.0 done passed same numbers)
+      (argument-passed f c e h.0 done passed same)
       (λ p a one. both-made (λ q args. Passes b.typing fs p q args) (λ q args. Passes b.typing (f ∷ fs) done q args) (execution.pass_all b.levels cs p) (evaluate_arguments b.active store (modes_in fs) es) (λ rest. a ∷ rest)
-      (arguments-passed fs cs es h.1 p (passed ++ argument_cells (a ∷ [])) (one.cells_passed ∙ (ap (λ l. l ++ argument_cells (a ∷ [])) same ∙ append_assoc (all_cells store) passed (argument_cells (a ∷ [])))) one.have_numbers)
+      (arguments-passed fs cs es h.1 p (passed ++ argument_cells (a ∷ [])) (one.cells_passed ∙ (ap (λ l. l ++ argument_cells (a ∷ [])) same ∙ append_assoc (all_cells store) passed (argument_cells (a ∷ [])))))
       (λ q args more_passed. passes-on b.typing f fs done p q a args one more_passed))
-  arguments-passed _ _ _ h done passed same numbers = absurd h
+  arguments-passed _ _ _ h done passed same = absurd h
 
 pub procedure-is : (typing : StoreTyping) (signature : Signature) (a : Option (Object Place (List Mode))) → ObjectFits typing (Some (a_procedure signature)) a → a ≡ Some (a_procedure (modes_in signature))
 procedure-is typing signature (Some (a_procedure modes)) h = ap (λ m. Some (a_procedure m)) h
@@ -184,5 +168,5 @@ call-means {N} checked slots targets x es signature cs st ha b shown t low s h =
     let start : execution.Passed = record { cells = low.cells; addresses = [] } in
     subst (λ o. ProgressRepresents b.typing (execution.use_in low (execution.pass_all b.levels cs start) enter) (use_in s (modes_of o >>= (λ modes. evaluate_arguments b.active s.store modes (arguments_listed es))) (λ args. perform o (b.enters x) args s))) (sym is_bound)
     (use-both b.typing (λ p args. Passes b.typing signature start p args) low s (execution.pass_all b.levels cs start) (evaluate_arguments b.active s.store (modes_in signature) (arguments_listed es)) enter (λ args. b.enters x args s) h
-    (arguments-passed checked slots targets b shown s.store h.store_fits signature cs (arguments_listed es) ha start [] (alone-cells checked slots targets b shown low s h) h.cells_have_numbers)
-    (λ p args r. shown.calls_represent x signature st args low s p h r.arguments_fit r.cells_passed r.addresses_passed r.have_numbers))
+    (arguments-passed checked slots targets b shown s.store h.store_fits signature cs (arguments_listed es) ha start [] (alone-cells checked slots targets b shown low s h))
+    (λ p args r. shown.calls_represent x signature st args low s p h r.arguments_fit r.cells_passed r.addresses_passed))

@@ -156,7 +156,7 @@ module _ {N : Type 0} (table : RoutineTable N) where
 
   pub block-placed : (typing : StoreTyping) (ls : Levels) (base : ℕ) (at : ℕ → Slot) → ((c : ℕ) → slot_address ls (at c) ≡ base + c) → (k cells : ℕ) (code : lowered.Instructions) (b : Tree N block) (checked : TypeEnvironment N) (p : Placed N) (f : Frame N) → FramePlaced table typing ls base checked p f
       → block_fits table.naming checked k b ≡ true → BlockMeans table at checked p k cells code b
-      → (g : Frame N) × (after : TypeEnvironment N) × (q : Placed N) × (declare_block table.naming k b f ≡ Some g) × (p.cells + cells ≡ q.cells) × (q.cells ≤ table.most) × BodyMeans table.naming after q.placing code (block_statements b) × Extends table typing ls base after q f.store (replicate cells (pos 0)) g
+      → (g : Frame N) × (after : TypeEnvironment N) × (q : Placed N) × (declare_block table.naming k b f ≡ Some g) × (p.cells + cells ≡ q.cells) × BodyMeans table.naming after q.placing code (block_statements b) × Extends table typing ls base after q f.store (replicate cells (pos 0)) g
   unfolding block_fits declare_block
   block-placed typing ls base at is k cells code (has_body (declares cs ts vs ps) statements) checked p f h e means =
       let b : Tree N block = has_body (declares cs ts vs ps) statements in
@@ -181,7 +181,6 @@ module _ {N : Type 0} (table : RoutineTable N) where
         record q { placing = placed },
         ap (option_and_then (λ env. option_map (with_procedures (after_variables k b) ps) (declare_variables table.naming (after_types k b) (section_variables vs) record { env = env; store = f.store }))) (ap (option_and_then (λ env. declare_types table.naming env k (section_types ts))) ed₁ ∙ ed₂) ∙ ap (option_map (with_procedures (after_variables k b) ps)) eg,
         total,
-        means.within_most,
         body_means,
         record {
           typing_now = part.typing_now;

@@ -9,8 +9,8 @@ use Rattle.ob0_run_machine.specs.Evaluation as machine
 use Rattle.ob0_run_machine.specs.Execution as execution
 use Rattle.ob0_run_machine.specs.Lowered as lowered
 use Rattle.ob0_run_cells.specs.Cells.{address, all_cells, truth_cell}
-use Rattle.ob0_run_cells.specs.LoweredStatements.{Body, HaveNumbers, ProgressRepresents, Represents, ShowsBody, Target, written_of}
-use Rattle.ob0_run_cells.specs.Lowering.{Evaluated, Has32Bits, Moment, NumberMeans, PlaceMeans, Shows, Slot, TruthMeans, end_of, outcome_of}
+use Rattle.ob0_run_cells.specs.LoweredStatements.{Body, ProgressRepresents, Represents, ShowsBody, Target, written_of}
+use Rattle.ob0_run_cells.specs.Lowering.{Evaluated, Moment, NumberMeans, PlaceMeans, Shows, Slot, TruthMeans, end_of, outcome_of}
 use Rattle.ob0_run_cells.proofs.LoweredOutcomes.{Led, ended-same, given-same}
 use Rattle.ob0_run_cells.proofs.Places.{numbers_are_cells, truths_are_cells}
 
@@ -40,6 +40,7 @@ abbrev pub Follows : StoreTyping → (execution.MachineState → execution.Machi
 Follows typing k j = (low : execution.MachineState) (s : State) → Represents typing low s → ProgressRepresents typing (k low) (j s)
 
 pub going-on : (typing : StoreTyping) (p : execution.MachineProgress) (q : Progress) (k : execution.MachineState → execution.MachineProgress) (j : State → Progress) → ProgressRepresents typing p q → Follows typing k j → ProgressRepresents typing (execution.continue_with p k) (continue_with q j)
+going-on typing execution.no_room q k j h follows = tt
 going-on typing (execution.running low) (running s) k j h follows = follows low s h
 going-on typing (execution.stopped e out) (stopped f written) k j h follows = h
 going-on typing _ _ k j h follows = absurd h
@@ -65,43 +66,15 @@ turns_until-represent (suc t) typing c d k j same follows low s h =
     going-on typing (k low) (j s) (λ s'. execution.choose s' (c s') execution.running (execution.turns_until t c k)) (λ s'. use_in s' (d s') (λ v. choose s' v running (turns_until t d j))) (follows low s h)
     (λ low s h. choice-represents typing low s (c low) (d s) execution.running (execution.turns_until t c k) running (turns_until t d j) h (same low s h) h (turns_until-represent t typing c d k j same follows low s h))
 
--- numbers of 32 bits
-
-pub numbers-set : (cells : List ℤ) (a : ℕ) (n : ℤ) → HaveNumbers cells → machine.fits n ≡ true → HaveNumbers (slice_set cells a n)
-numbers-set [] a n h e i = h i
-numbers-set (c ∷ cells) zero n h e zero = e
-numbers-set (c ∷ cells) zero n h e (suc i) = h (suc i)
-numbers-set (c ∷ cells) (suc a) n h e zero = h zero
-numbers-set (c ∷ cells) (suc a) n h e (suc i) = numbers-set cells a n (λ i. h (suc i)) e i
-
-pub numbers-append : (xs ys : List ℤ) → HaveNumbers xs → HaveNumbers ys → HaveNumbers (xs ++ ys)
-numbers-append [] ys h k i = k i
-numbers-append (x ∷ xs) ys h k zero = h zero
-numbers-append (x ∷ xs) ys h k (suc i) = numbers-append xs ys (λ i. h (suc i)) k i
-
-pub numbers-take : (n : ℕ) (xs : List ℤ) → HaveNumbers xs → HaveNumbers (take n xs)
-numbers-take zero xs h i = refl
-numbers-take (suc n) [] h i = h i
-numbers-take (suc n) (x ∷ xs) h zero = h zero
-numbers-take (suc n) (x ∷ xs) h (suc i) = numbers-take n xs (λ i. h (suc i)) i
-
-pub numbers-drop : (n : ℕ) (xs : List ℤ) → HaveNumbers xs → HaveNumbers (drop n xs)
-numbers-drop (suc n) (x ∷ xs) h i = numbers-drop n xs (λ i. h (suc i)) i
-numbers-drop _ _ h i = h i
-
-pub truth-number : (b : Bool) → machine.fits (machine.as_cell b) ≡ true
-truth-number true = refl
-truth-number false = refl
-
 pub as_cell-same : (b : Bool) → machine.as_cell b ≡ truth_cell b
 as_cell-same true = refl
 as_cell-same false = refl
 
 -- what is stored
 
-pub number-stored : (typing : StoreTyping) (low : execution.MachineState) (s : State) (p : Place) (n : ℤ) → Represents typing low s → PlaceFits typing p integer_shape → machine.fits n ≡ true
+pub number-stored : (typing : StoreTyping) (low : execution.MachineState) (s : State) (p : Place) (n : ℤ) → Represents typing low s → PlaceFits typing p integer_shape
     → ProgressRepresents typing (execution.running (execution.store_at low (address typing p) n)) (store_at s p (number n))
-number-stored typing low s p n h fit e =
+number-stored typing low s p n h fit =
     let (found, writes) = numbers_are_cells typing s.store p h.store_fits fit in
     let done = writes n in
     subst (λ o. ProgressRepresents typing (execution.running (execution.store_at low (address typing p) n)) (use_in s (or_stuck o) (λ store. running record s { store = store }))) (sym done.is_written) record {
@@ -109,8 +82,6 @@ number-stored typing low s p n h fit e =
       same_cells = ap (λ l. slice_set l (address typing p) n) h.same_cells ∙ sym done.same_cells;
       same_input = h.same_input;
       same_output = h.same_output;
-      cells_have_numbers = numbers-set low.cells (address typing p) n h.cells_have_numbers e;
-      input_has_numbers = h.input_has_numbers;
     }
 
 pub truth-stored : (typing : StoreTyping) (low : execution.MachineState) (s : State) (p : Place) (b : Bool) → Represents typing low s → PlaceFits typing p boolean_shape
@@ -123,16 +94,14 @@ truth-stored typing low s p b h fit =
       same_cells = ap (λ l. slice_set l (address typing p) (machine.as_cell b)) h.same_cells ∙ (ap (slice_set (all_cells s.store) (address typing p)) (as_cell-same b) ∙ sym done.same_cells);
       same_input = h.same_input;
       same_output = h.same_output;
-      cells_have_numbers = numbers-set low.cells (address typing p) (machine.as_cell b) h.cells_have_numbers (truth-number b);
-      input_has_numbers = h.input_has_numbers;
     }
 
-pub number-read : (typing : StoreTyping) (low : execution.MachineState) (s : State) (p : Place) (input : List ℤ) → Represents typing low s → PlaceFits typing p integer_shape → HaveNumbers input
+pub number-read : (typing : StoreTyping) (low : execution.MachineState) (s : State) (p : Place) (input : List ℤ) → Represents typing low s → PlaceFits typing p integer_shape
     → ProgressRepresents typing (execution.read_number low (address typing p) input) (read_number s p input)
-number-read typing low s p [] h fit k = (refl, h.same_output)
-number-read typing low s p (n ∷ rest) h fit k =
+number-read typing low s p [] h fit = (refl, h.same_output)
+number-read typing low s p (n ∷ rest) h fit =
     number-stored typing (record low { input = rest }) (record s { input = rest }) p n
-    record { store_fits = h.store_fits; same_cells = h.same_cells; same_input = refl; same_output = h.same_output; cells_have_numbers = h.cells_have_numbers; input_has_numbers = λ i. k (suc i) } fit (k zero)
+    record { store_fits = h.store_fits; same_cells = h.same_cells; same_input = refl; same_output = h.same_output } fit
 
 pub put-represents : (typing : StoreTyping) (low : execution.MachineState) (s : State) (i : execution.OutputItem) → Represents typing low s → ProgressRepresents typing (execution.running (execution.append_output low i)) (running (append_output s (written_of i)))
 put-represents typing low s i h = record {
@@ -140,8 +109,6 @@ put-represents typing low s i h = record {
   same_cells = h.same_cells;
   same_input = h.same_input;
   same_output = map-append written_of low.output (i ∷ []) ∙ ap (λ l. l ++ written_of i ∷ []) h.same_output;
-  cells_have_numbers = h.cells_have_numbers;
-  input_has_numbers = h.input_has_numbers;
 }
 
 -- moments of a body
@@ -150,29 +117,28 @@ abbrev pub moment : {N : Type 0} → Body N → Store → List ℤ → Moment N
 moment b store passed = record { typing = b.typing; store = store; passed = passed; active = b.active; levels = b.levels }
 
 module _ {N : Type 0} (checked : Typed N) (slots : N → Slot) (targets : N → Target) (b : Body N) (shown : ShowsBody checked slots targets b) where
-  pub moment-shown : (store : Store) (passed cells : List ℤ) → StoreFits b.typing store → cells ≡ all_cells store ++ passed → HaveNumbers cells → Shows checked slots (moment b store passed)
-  moment-shown store passed cells fits e h = record {
+  pub moment-shown : (store : Store) (passed : List ℤ) → StoreFits b.typing store → Shows checked slots (moment b store passed)
+  moment-shown store passed fits = record {
     store_fits = fits;
     names_fit = shown.names_fit;
     variables_in_slots = shown.variables_in_slots;
     has_addresses = shown.has_addresses;
-    has_numbers = subst HaveNumbers e h;
   }
 
-  pub number-at : (n : lowered.Number) (w : Evaluated N Value) → NumberMeans checked slots n w → (store : Store) (passed cells : List ℤ) → StoreFits b.typing store → cells ≡ all_cells store ++ passed → HaveNumbers cells
-      → (outcome_of number (machine.number b.levels cells n) ≡ w (moment b store passed)) × Has32Bits (machine.number b.levels cells n)
-  number-at n w hn store passed cells fits e h =
-      subst (λ l. (outcome_of number (machine.number b.levels l n) ≡ w (moment b store passed)) × Has32Bits (machine.number b.levels l n)) (sym e) (hn (moment b store passed) (moment-shown store passed cells fits e h))
+  pub number-at : (n : lowered.Number) (w : Evaluated N Value) → NumberMeans checked slots n w → (store : Store) (passed cells : List ℤ) → StoreFits b.typing store → cells ≡ all_cells store ++ passed
+      → outcome_of number (machine.number b.levels cells n) ≡ w (moment b store passed)
+  number-at n w hn store passed cells fits e =
+      subst (λ l. outcome_of number (machine.number b.levels l n) ≡ w (moment b store passed)) (sym e) (hn (moment b store passed) (moment-shown store passed fits))
 
-  pub truth-at : (t : lowered.Truth) (w : Evaluated N Value) → TruthMeans checked slots t w → (store : Store) (passed cells : List ℤ) → StoreFits b.typing store → cells ≡ all_cells store ++ passed → HaveNumbers cells
+  pub truth-at : (t : lowered.Truth) (w : Evaluated N Value) → TruthMeans checked slots t w → (store : Store) (passed cells : List ℤ) → StoreFits b.typing store → cells ≡ all_cells store ++ passed
       → outcome_of truth (machine.truth b.levels cells t) ≡ w (moment b store passed)
-  truth-at t w ht store passed cells fits e h =
-      subst (λ l. outcome_of truth (machine.truth b.levels l t) ≡ w (moment b store passed)) (sym e) (ht (moment b store passed) (moment-shown store passed cells fits e h))
+  truth-at t w ht store passed cells fits e =
+      subst (λ l. outcome_of truth (machine.truth b.levels l t) ≡ w (moment b store passed)) (sym e) (ht (moment b store passed) (moment-shown store passed fits))
 
-  pub place-at : (q : lowered.Place) (shape : Shape) (w : Evaluated N Place) → PlaceMeans checked slots q shape w → (store : Store) (passed cells : List ℤ) → StoreFits b.typing store → cells ≡ all_cells store ++ passed → HaveNumbers cells
+  pub place-at : (q : lowered.Place) (shape : Shape) (w : Evaluated N Place) → PlaceMeans checked slots q shape w → (store : Store) (passed cells : List ℤ) → StoreFits b.typing store → cells ≡ all_cells store ++ passed
       → Led b.typing shape (machine.address b.levels cells q) (w (moment b store passed))
-  place-at q shape w hq store passed cells fits e h =
-      let m = hq (moment b store passed) (moment-shown store passed cells fits e h) in
+  place-at q shape w hq store passed cells fits e =
+      let m = hq (moment b store passed) (moment-shown store passed fits) in
       subst (λ l. Led b.typing shape (machine.address b.levels l q) (w (moment b store passed))) (sym e) record { is_same = m.0; is_place = m.1 }
 
   -- the same in a state, with nothing passed
@@ -181,11 +147,11 @@ module _ {N : Type 0} (checked : Typed N) (slots : N → Slot) (targets : N → 
   alone-cells low s h = h.same_cells ∙ sym (append-nil (all_cells s.store))
 
   pub number-in : (n : lowered.Number) (w : Evaluated N Value) → NumberMeans checked slots n w → (low : execution.MachineState) (s : State) → Represents b.typing low s
-      → (outcome_of number (machine.number b.levels low.cells n) ≡ w (moment b s.store [])) × Has32Bits (machine.number b.levels low.cells n)
-  number-in n w hn low s h = number-at n w hn s.store [] low.cells h.store_fits (alone-cells low s h) h.cells_have_numbers
+      → outcome_of number (machine.number b.levels low.cells n) ≡ w (moment b s.store [])
+  number-in n w hn low s h = number-at n w hn s.store [] low.cells h.store_fits (alone-cells low s h)
 
   pub truth-in : (t : lowered.Truth) (w : Evaluated N Value) → TruthMeans checked slots t w → (low : execution.MachineState) (s : State) → Represents b.typing low s → outcome_of truth (machine.truth b.levels low.cells t) ≡ w (moment b s.store [])
-  truth-in t w ht low s h = truth-at t w ht s.store [] low.cells h.store_fits (alone-cells low s h) h.cells_have_numbers
+  truth-in t w ht low s h = truth-at t w ht s.store [] low.cells h.store_fits (alone-cells low s h)
 
   pub place-in : (q : lowered.Place) (shape : Shape) (w : Evaluated N Place) → PlaceMeans checked slots q shape w → (low : execution.MachineState) (s : State) → Represents b.typing low s → Led b.typing shape (machine.address b.levels low.cells q) (w (moment b s.store []))
-  place-in q shape w hq low s h = place-at q shape w hq s.store [] low.cells h.store_fits (alone-cells low s h) h.cells_have_numbers
+  place-in q shape w hq low s h = place-at q shape w hq s.store [] low.cells h.store_fits (alone-cells low s h)

@@ -1,14 +1,13 @@
--- Where lowered code finds what names mean, and what it means that a table
--- of procedures is lowered from a module's blocks.
--- A placing says of what an environment binds where it is: a variable in a slot, a procedure at a target. What a block
--- means is the record `BlockIsPlaced`, a procedure `HasRoutine`; the recursive part of each is a parameter. A
--- procedure's binding keeps the placing of what is after it as it was at the declaration (`IsPlaced`), and
--- `PlacingFits` recurses on the activation's bindings with that in place of its own. So nothing is turned back from
--- further in to further out. Of the code that lowers it is required that what it makes meets `ProgramMeans most
--- as_labels (numbered m) program`, by the laws of productions and by the recursion of `BlockMeans` over declarations.
--- Indexes of procedures are free: any entry of the table whose code means the procedure's block. Variables of the
--- module are `of_module` at offsets that begin with 0, those of a procedure `held 0` after its parameters by value; VAR
--- parameters are `by_reference 0` by their index among these.
+-- Where lowered code finds the variables and procedures of a module, and when a table of procedures
+-- is lowered from its blocks.
+-- A placing goes with an environment: it says where each binding is, a variable in a slot, a procedure at a target. The
+-- meaning of a block is the record `BlockIsPlaced`, of a procedure `HasRoutine`; the recursive part of each is a
+-- parameter. The placing at a procedure's declaration is kept with its binding (`IsPlaced`), and `PlacingFits` recurses
+-- on the activation's bindings with that placing. So no slot has to be translated back to an outer level. Code that
+-- lowers has to meet `ProgramMeans as_labels (numbered m) program`, by the laws of productions and by the recursion of
+-- `BlockMeans` over declarations. A procedure may have any index whose entry in the table means the procedure's block.
+-- Variables of the module are `of_module` at offsets that begin with 0. Variables of a procedure are `held 0`, after its
+-- parameters by value. VAR parameters are `by_reference 0`, by their index among the VAR parameters.
 -- Rule: none; for contracts of lowering, against docs/LANGUAGE.md, Runs 6.
 use Rattle.std.specs.Prelude.{◌≡◌, ℕ, suc, ◌+◌, ◌≤◌, true, false, List, [], ◌∷◌, drop, slice_get, Some, Option, option_and_then}
 use Rattle.ob0_tree.specs.Tree.{Tree, begins, block, body, declares, declares_procedure, declares_variable, end, has_body, item, items, maybe, module_text, more, none, one, procedure, variable}
@@ -28,17 +27,17 @@ use Rattle.ob0_run_cells.specs.Cells.{address, size}
 use Rattle.ob0_run_cells.specs.LoweredStatements.{SequenceMeans, Target}
 use Rattle.ob0_run_cells.specs.Lowering.{Slot, held, by_reference, of_module, slot_address}
 
--- a variable is in a slot and a procedure at a target; anything else is nowhere in lowered code
+-- a place in lowered code: a slot for a variable, a target for a procedure, nowhere for anything else
 pub data Whereabouts : Type 0 where
   nowhere : Whereabouts
   in_slot : Slot → Whereabouts
   at_target : Target → Whereabouts
 
--- the whereabouts of what is bound, newest first, as in an environment
+-- where each bound name is, the newest first, as in an environment
 abbrev pub Placing : Type 0 → Type 0
 Placing N = List (N × Whereabouts)
 
--- what is placed from the binding of a name on
+-- the placing from the binding of a name to its end
 abbrev pub from_name : {N : Type 0} → Naming N → Placing N → N → Placing N
 from_name naming [] x = []
 from_name naming (b ∷ placing) x =
@@ -56,12 +55,12 @@ target_of nowhere = record { procedure = 0; up = 0 }
 target_of (in_slot s) = record { procedure = 0; up = 0 }
 target_of (at_target t) = t
 
--- the slot of the newest binding
+-- the slot of the first binding
 abbrev pub first_slot : {N : Type 0} → Placing N → Slot
 first_slot [] = of_module 0
 first_slot (b ∷ placing) = slot_of b.1
 
--- the target of the newest binding
+-- the target of the first binding
 abbrev pub first_target : {N : Type 0} → Placing N → Target
 first_target [] = record { procedure = 0; up = 0 }
 first_target (b ∷ placing) = target_of b.1
@@ -74,30 +73,30 @@ slots_in naming placing x = first_slot (from_name naming placing x)
 abbrev pub targets_in : {N : Type 0} → Naming N → Placing N → N → Target
 targets_in naming placing x = first_target (from_name naming placing x)
 
--- a slot as an activation one level further in sees it
+-- a slot as seen from one level further in
 abbrev pub inward_slot : Slot → Slot
 inward_slot (of_module at) = of_module at
 inward_slot (held up at) = held (suc up) at
 inward_slot (by_reference up at) = by_reference (suc up) at
 
--- where something is as an activation one level further in sees it
+-- a place in lowered code as seen from one level further in
 abbrev pub inward_whereabouts : Whereabouts → Whereabouts
 inward_whereabouts nowhere = nowhere
 inward_whereabouts (in_slot s) = in_slot (inward_slot s)
 inward_whereabouts (at_target t) = at_target record t { up = suc t.up }
 
--- a placing as an activation one level further in sees it
+-- a placing as seen from one level further in
 abbrev pub inward : {N : Type 0} → Placing N → Placing N
 inward [] = []
 inward (b ∷ placing) = (b.0, inward_whereabouts b.1) ∷ inward placing
 
--- what is placed so far in an activation: how many cells it has, and how many VAR parameters
+-- the placing of an activation so far, with its number of cells and of VAR parameters
 pub record Placed (N : Type 0) : Type 0 where
   pub placing : Placing N
   pub cells : ℕ
   pub reference_places : ℕ
 
--- a name, placed: by value in n cells of its own, as VAR by its address
+-- one more name is placed: by value in n new cells, as VAR by its address
 abbrev pub place_one : {N : Type 0} → (ℕ → Slot) → Mode → N → ℕ → Placed N → Placed N
 place_one at by_value x n p =
     record p { placing = (x, in_slot (at p.cells)) ∷ p.placing; cells = p.cells + n }
@@ -107,12 +106,12 @@ place_one at by_place x n p =
       reference_places = suc p.reference_places;
     }
 
--- names placed one by one, each with n cells
+-- names are placed one by one, each in n cells
 abbrev pub place_names : {N : Type 0} → (ℕ → Slot) → List N → ℕ → Placed N → Placed N
 place_names at [] n p = p
 place_names at (x ∷ xs) n p = place_names at xs n (place_one at by_value x n p)
 
--- the variables of a block, placed one after the other
+-- the variables of a block are placed one after the other
 unfoldable pub place_variables : {N : Type 0}
     → Naming N
     → (ℕ → Slot)
@@ -128,7 +127,7 @@ place_variables naming at checked k (more (declares_variable ns u) gs) p =
     (bind_names (names_listed ns) (a_variable s) checked) (k + constructors u) gs
     (place_names at (names_listed ns) (size s) p)) (denoted (meanings naming checked) k u)
 
--- parameters, placed one after the other
+-- parameters are placed one after the other
 abbrev pub place_parameters : {N : Type 0} → List (TypedParameter N) → Placed N → Placed N
 place_parameters [] p = p
 place_parameters (q ∷ ps) p =
@@ -139,16 +138,16 @@ abbrev pub hide_names : {N : Type 0} → List N → Placing N → Placing N
 hide_names [] placing = placing
 hide_names (x ∷ xs) placing = hide_names xs ((x, nowhere) ∷ placing)
 
--- a procedure of an index, in the activation in which it is declared
+-- the target of a procedure with an index, as seen from the activation in which it is declared
 abbrev pub own_target : ℕ → Whereabouts
 own_target i = at_target record { procedure = i; up = 0 }
 
--- where a procedure's parameters are, and what it sees around it
+-- the placing of a procedure's parameters, before the names that it sees around it
 abbrev pub entered_placing : {N : Type 0} → List (TypedParameter N) → Placing N → Placed N
 entered_placing ps placing =
     place_parameters ps record { placing = inward placing; cells = 0; reference_places = 0 }
 
--- the code of a body means it, wherever its statements are checked
+-- states that code means a body, in the environment in which its statements are checked
 abbrev pub BodyMeans : {N : Type 0}
     → Naming N
     → TypeEnvironment N
@@ -161,19 +160,17 @@ BodyMeans naming checked placing code (one (begins statements)) =
     SequenceMeans (meanings naming checked) (slots_in naming placing) (targets_in naming placing)
     code statements
 
--- code that procedures are lowered to, the most cells that an activation may have, and how the names
--- of the module are told apart
+-- the lowered procedures of a module, and the way in which its names are distinguished
 pub record RoutineTable (N : Type 0) : Type 0 where
   pub routines : List lowered.Routine
-  pub most : ℕ
   pub naming : Naming N
 
--- a table for a module whose names are labels
-abbrev pub label_table : List lowered.Routine → ℕ → RoutineTable Label
-label_table routines most = record { routines = routines; most = most; naming = as_labels }
+-- the table of a module whose names are labels
+abbrev pub label_table : List lowered.Routine → RoutineTable Label
+label_table routines = record { routines = routines; naming = as_labels }
 
--- Runs 6: the table has code at an index that means a procedure, which is declared among the names
--- of `checked`, placed by `placing`
+-- Runs 6: the code at an index of the table means a procedure,
+-- which is declared in the environment `checked` with the placing `placing`
 pub record HasRoutine {N : Type 0} (table : RoutineTable N) (checked : TypeEnvironment N)
     (placing : Placing N) (x : N) (k : ℕ) (text : Tree N (item procedure)) (index : ℕ)
     (Means : TypeEnvironment N → Placed N → lowered.Routine → Type 0) : Type 0 where
@@ -185,8 +182,8 @@ pub record HasRoutine {N : Type 0} (table : RoutineTable N) (checked : TypeEnvir
   pub means : Means (bind_typed parameters (heading x parameters checked))
       (entered_placing parameters ((x, own_target index) ∷ placing)) routine
 
--- Runs 1 and 6: a block has its own variables after what p has, in `cells` cells, and an activation
--- of it has no more than may be; `Inside` says what its procedures and statements mean
+-- Runs 1 and 6: the variables of a block are after the cells of p, in `cells` cells;
+-- `Inside` is the meaning of its procedures and statements
 pub record BlockIsPlaced {N : Type 0} (table : RoutineTable N) (at : ℕ → Slot)
     (checked : TypeEnvironment N) (p : Placed N) (k cells : ℕ) (b : Tree N block)
     (Inside : TypeEnvironment N → Placing N → Type 0) : Type 0 where
@@ -204,14 +201,13 @@ pub record BlockIsPlaced {N : Type 0} (table : RoutineTable N) (at : ℕ → Slo
       }
       ≡ Some placed
   pub cells_counted : p.cells + cells ≡ placed.cells
-  pub within_most : placed.cells ≤ table.most
   pub inside : Inside inner placed.placing
 
--- a table has the code of the procedures of a block, and of those in them; `cells` are those of the
--- block's own variables
+-- states that a table has the code of the procedures of a block and of their procedures;
+-- `cells` is the number of cells of the block's own variables
 abbrev mutual
-  -- Runs 1 and 6: a block, whose variables are placed after what p has, and whose statements `code`
-  -- means
+  -- Runs 1 and 6: the variables of a block are placed after the cells of p,
+  -- and `code` means its statements
   pub BlockMeans : {N : Type 0}
       → RoutineTable N
       → (ℕ → Slot)
@@ -260,8 +256,8 @@ abbrev mutual
       BlockMeans table (held 0) checked p (k + formals_constructors (formal_sections fs))
       routine.cells routine.body b
 
--- one binding, over those after it: a variable's slot has its place's address (Runs 1), and a
--- procedure's code means its block, where it is declared (Runs 6)
+-- states of one binding, before older ones: the slot of a variable has the address of its place
+-- (Runs 1), and the code of a procedure means its block at its declaration (Runs 6)
 abbrev pub IsPlaced : {N : Type 0}
     → RoutineTable N
     → StoreTyping
@@ -288,8 +284,8 @@ IsPlaced table typing ls checked Fits x (a_constant v) nowhere (a_constant w) = 
 IsPlaced table typing ls checked Fits x (a_standard p) nowhere (a_standard q) = Unit {0}
 IsPlaced table typing ls checked Fits x _ _ _ = ⊥
 
--- the newest binding, which has one name in an environment, a placing and an activation; `Here` says
--- where it is, and `Further` where the older ones are
+-- states that the first binding has one name in an environment, a placing and an activation;
+-- `Here` is the fact about it, and `Further` the fact about the older bindings
 pub record FitsFirst {N : Type 0} (checked placed active : N) (Here Further : Type 0)
     : Type 0 where
   pub same_active : checked ≡ active
@@ -297,7 +293,7 @@ pub record FitsFirst {N : Type 0} (checked placed active : N) (Here Further : Ty
   pub here : Here
   pub further : Further
 
--- Runs 1 and 6: a placing says where an activation's bindings are, at levels
+-- Runs 1 and 6: a placing is right for the bindings of an activation, as seen from these levels
 abbrev pub PlacingFits : {N : Type 0}
     → RoutineTable N
     → StoreTyping
@@ -326,16 +322,14 @@ outermost_placing naming =
     ∷ (naming.predeclared 0, nowhere)
     ∷ []
 
--- a program is lowered from a module, and no activation, the module's among them,
--- has more than `most` cells
+-- states that a program is lowered from a module
 abbrev pub ProgramMeans : {N : Type 0}
-    → ℕ
     → Naming N
     → Tree N module_text
     → lowered.LoweredCode
     → Type 0
-ProgramMeans most naming m program =
-    BlockMeans record { routines = program.procedures; most = most; naming = naming } of_module
+ProgramMeans naming m program =
+    BlockMeans record { routines = program.procedures; naming = naming } of_module
     (outermost naming) record
     { placing = outermost_placing naming; cells = 0; reference_places = 0 } 0 program.cells
     program.body (module_block m)

@@ -1,5 +1,5 @@
--- What lowered statements mean: they do to cells, input and output
--- what the statements of a module do.
+-- The meaning of lowered statements: they change cells, input and output
+-- as the statements of a module do.
 -- Rule: none; for contracts of lowering, against docs/LANGUAGE.md, Runs 5 to 9.
 use Rattle.std.specs.Prelude.{◌≡◌, ℕ, ◌^◌, ◌<◌, true, List, [], ◌∷◌, ◌++◌, length, map, ℤ, Some}
 use Rattle.ob0_tree.specs.Tree.{Tree, else_part, elsif_part, expression, further_statement, items, maybe, selector, sequence, statement}
@@ -21,22 +21,19 @@ abbrev pub written_of : execution.OutputItem → Written
 written_of (execution.number_out n) = number_out n
 written_of execution.line_out = line_out
 
--- all are numbers of 32 bits
-abbrev pub HaveNumbers : List ℤ → Type 0
-HaveNumbers cells = (a : ℕ) → machine.fits (machine.cell_at cells a) ≡ true
-
--- a state of lowered code with the cells of a store of given types, and the same input and output
+-- states that a state of lowered code has the cells of a store of these types,
+-- and the same input and output
 pub record Represents (typing : StoreTyping) (low : execution.MachineState) (s : State)
     : Type 0 where
   pub store_fits : StoreFits typing s.store
   pub same_cells : low.cells ≡ all_cells s.store
   pub same_input : low.input ≡ s.input
   pub same_output : map written_of low.output ≡ s.output
-  pub cells_have_numbers : HaveNumbers low.cells
-  pub input_has_numbers : HaveNumbers low.input
 
--- both go on, or both have ended alike
+-- states that both runs continue or both have ended alike;
+-- true if the lowered run has no room
 abbrev pub ProgressRepresents : StoreTyping → execution.MachineProgress → Progress → Type 0
+ProgressRepresents typing execution.no_room q = Unit {0}
 ProgressRepresents typing (execution.running low) (running s) = Represents typing low s
 ProgressRepresents typing (execution.stopped e out) (stopped f written) =
     (end_of e ≡ f) × (map written_of out ≡ written)
@@ -48,20 +45,20 @@ argument_cells [] = []
 argument_cells (place_argument p ∷ args) = argument_cells args
 argument_cells (value_argument v ∷ args) = cells_of v ++ argument_cells args
 
--- the addresses of arguments for VAR parameters
+-- the addresses of the arguments for VAR parameters
 abbrev pub argument_addresses : StoreTyping → List Argument → List ℕ
 argument_addresses typing [] = []
 argument_addresses typing (place_argument p ∷ args) =
     address typing p ∷ argument_addresses typing args
 argument_addresses typing (value_argument v ∷ args) = argument_addresses typing args
 
--- a procedure's index, and how many levels out the activation is in which it is declared
+-- the target of a call: a procedure's index, and how many levels out it is declared
 pub record Target : Type 0 where
   pub procedure : ℕ
   pub up : ℕ
 
--- what stays as it is while the statements of a body run: the types of the store, what names mean,
--- the activations that lowered code sees, and what calls do
+-- what doesn't change while the statements of a body run: the types of the store, the meanings of
+-- names, the activations that lowered code sees, and the effects of calls
 pub record Body (N : Type 0) : Type 0 where
   pub typing : StoreTyping
   pub active : Meanings N Place (List Mode)
@@ -69,7 +66,7 @@ pub record Body (N : Type 0) : Type 0 where
   pub enters : Calls N
   pub lowered_enters : execution.CallEffect
 
--- calls with the same arguments come to the same
+-- states that lowered calls do what calls with the same arguments do
 abbrev pub CallsRepresent : {N : Type 0} → Typed N → (N → Target) → Body N → Type 0
 CallsRepresent {N} checked targets b =
     (x : N) (signature : Signature)
@@ -79,13 +76,12 @@ CallsRepresent {N} checked targets b =
     → ArgumentsFit b.typing signature args
     → p.cells ≡ low.cells ++ argument_cells args
     → p.addresses ≡ argument_addresses b.typing args
-    → HaveNumbers p.cells
     → ProgressRepresents b.typing (b.lowered_enters (targets x).procedure
     (execution.entered b.levels (length low.cells) (targets x).up p) record low
     { cells = p.cells }) (b.enters x args s)
 
--- a body of a module that is checked, whose variables are in their slots
--- and whose procedures have their targets
+-- states that a body belongs to a checked module: its variables are in their slots,
+-- and its procedures have their targets
 pub record ShowsBody {N : Type 0} (checked : Typed N) (slots : N → Slot) (targets : N → Target)
     (b : Body N) : Type 0 where
   pub names_fit : MeaningsFit b.typing checked b.active
@@ -95,7 +91,8 @@ pub record ShowsBody {N : Type 0} (checked : Typed N) (slots : N → Slot) (targ
   pub has_addresses : sizes b.typing < 2 ^ 64
   pub calls_represent : CallsRepresent checked targets b
 
--- what lowered code does in a body, with t iterations of a loop left, and what the module's does
+-- states that a lowered step does what a step of the module does,
+-- in each body and with each bound t on the iterations of a loop
 abbrev pub Does : {N : Type 0}
     → Typed N
     → (N → Slot)
@@ -110,7 +107,7 @@ Does {N} checked slots targets low_step step =
     → Represents b.typing low s
     → ProgressRepresents b.typing (low_step b t low) (step b t s)
 
--- lowered code does what the statement does
+-- states that lowered code does what a statement does
 abbrev pub StatementMeans : {N : Type 0}
     → Typed N
     → (N → Slot)
@@ -122,7 +119,7 @@ StatementMeans checked slots targets c a =
     Does checked slots targets (λ b t. execution.execute b.lowered_enters t b.levels c)
     (λ b t. execute b.active b.enters t a)
 
--- lowered code does what the statements do
+-- states that lowered code does what statements do
 abbrev pub SequenceMeans : {N : Type 0}
     → Typed N
     → (N → Slot)
@@ -134,7 +131,7 @@ SequenceMeans checked slots targets cs a =
     Does checked slots targets (λ b t. execution.execute_all b.lowered_enters t b.levels cs)
     (λ b t. execute_all b.active b.enters t a)
 
--- the statements after the first
+-- the same for the statements after the first
 abbrev pub FurtherMean : {N : Type 0}
     → Typed N
     → (N → Slot)
@@ -146,7 +143,7 @@ FurtherMean checked slots targets cs rest =
     Does checked slots targets (λ b t. execution.execute_all b.lowered_enters t b.levels cs)
     (λ b t. execute_further b.active b.enters t rest)
 
--- lowered code does what the ELSE part does
+-- the same for the ELSE part
 abbrev pub ElseMeans : {N : Type 0}
     → Typed N
     → (N → Slot)
@@ -158,7 +155,7 @@ ElseMeans checked slots targets cs last =
     Does checked slots targets (λ b t. execution.execute_all b.lowered_enters t b.levels cs)
     (λ b t. execute_else b.active b.enters t last)
 
--- the ELSIF parts, and the ELSE part after them
+-- the same for the ELSIF parts, and the ELSE part after them
 abbrev pub ElsifsMean : {N : Type 0}
     → Typed N
     → (N → Slot)
@@ -173,7 +170,7 @@ ElsifsMean checked slots targets bs cs rest last =
     (execution.execute_all b.lowered_enters t b.levels cs))
     (λ b t. execute_elsifs b.active b.enters t rest (execute_else b.active b.enters t last))
 
--- an expression that is a designator alone, of a variable, which is at a place
+-- states that an expression is only a designator of a variable, which is at a place
 pub record IsAt {N : Type 0} (checked : Typed N) (slots : N → Slot) (q : lowered.Place) (s : Shape)
     (e : Tree N expression) : Type 0 where
   pub name : N
@@ -183,8 +180,8 @@ pub record IsAt {N : Type 0} (checked : Typed N) (slots : N → Slot) (q : lower
   pub is_variable : checked.object_for name ≡ Some (a_variable shape)
   pub place_means : PlaceMeans checked slots q s (place_of_designator name path)
 
--- an argument by how its parameter is passed:
--- a place, or a number, a truth or the cells of an array or a record
+-- states that a lowered argument means an argument for a parameter:
+-- a place for a VAR parameter, else a number, a truth or the cells of an array or a record
 abbrev pub ArgumentMeans : {N : Type 0}
     → Typed N
     → (N → Slot)
@@ -207,7 +204,7 @@ ArgumentMeans checked slots f (lowered.by_block q n) e =
     × (n ≡ size f.shape)
     × ValueAt checked slots q f.shape (value_of_expression e)
 
--- lowered arguments mean the arguments of a call
+-- states that lowered arguments mean the arguments of a call, one by one
 abbrev pub ArgumentsMean : {N : Type 0}
     → Typed N
     → (N → Slot)

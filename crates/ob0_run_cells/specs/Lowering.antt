@@ -1,11 +1,11 @@
--- What lowered code means: its places, numbers and truths against the designators
+-- The meaning of lowered code: its places, numbers and truths against the designators
 -- and expressions of a module, at the moments of a run.
--- Meanings are relations over functions of the moment (`Evaluated`), not over trees: operators need no typing then,
--- since what a number means is a number. Types are required of places alone, and of variables. An array or a record is
--- `ValueAt` a place: its expression evaluates to what the place holds, in parentheses or not; only a VAR argument has
--- to be a designator alone (`IsAt`). While arguments are passed, cells follow those of the store: `passed` in a moment,
--- so that what means something means it there too. A sign `+` leaves a number as it is, since numbers of lowered code
--- have 32 bits at every moment (`Has32Bits`): literals by a premise, cells by `has_numbers`, operations by themselves.
+-- A meaning is a relation between lowered code and a function of the moment (`Evaluated`), not a tree. So operators need
+-- no types: a number of lowered code means a number. Only places and variables need types. An array or a record is
+-- `ValueAt` a place: its expression evaluates to the value at the place, in parentheses or not. Only a VAR argument has
+-- to be a designator without operators (`IsAt`). While arguments are passed there are cells after those of the store
+-- (`passed` of a moment), so a meaning also holds then. A sign `+` is lowered to a sum with 0, which is in range exactly
+-- if the number is.
 -- Rule: none; for contracts of lowering, against docs/LANGUAGE.md, Runs 2 to 4.
 use Rattle.std.specs.Prelude.{◌≡◌, ℕ, zero, suc, ◌+◌, ◌^◌, ◌<◌, true, List, ◌++◌, ℤ, slice_index_or, Some}
 use Rattle.ob0_tree.specs.declared.tree.Relation.{Relation}
@@ -20,15 +20,15 @@ use Rattle.ob0_run_machine.specs.Evaluation.{Levels, level_at}
 use Rattle.ob0_run_machine.specs.Lowered as lowered
 use Rattle.ob0_run_cells.specs.Cells.{address, all_cells, sizes}
 
--- where a variable is: at an offset in the cells of the module or of the activation `up` levels
--- out, or where a VAR parameter of the activation `up` levels out leads,
--- by its index among these parameters
+-- a slot for a variable: at an offset in the cells of the module or of the activation `up` levels
+-- out, or at the address of a VAR parameter of the activation `up` levels out,
+-- by its index among the VAR parameters
 pub data Slot : Type 0 where
   of_module : (offset : ℕ) → Slot
   held : (up offset : ℕ) → Slot
   by_reference : (up index : ℕ) → Slot
 
--- the address of a slot, as the running activation sees it
+-- the address of a slot, as seen from the running activation
 abbrev pub slot_address : Levels → Slot → ℕ
 slot_address ls (of_module offset) = offset
 slot_address ls (held up offset) = (level_at ls up).base + offset
@@ -41,7 +41,7 @@ slot_place (held zero offset) = lowered.here offset
 slot_place (held (suc up) offset) = lowered.outside (suc up) offset
 slot_place (by_reference up index) = lowered.passed up index 0
 
--- a part at an offset of what is at a place: offsets are added up
+-- the place of a part at an offset: offsets are added
 abbrev pub part_at : lowered.Place → ℕ → lowered.Place
 part_at (lowered.in_module at) k = lowered.in_module (machine.forward at k)
 part_at (lowered.here at) k = lowered.here (machine.forward at k)
@@ -49,8 +49,8 @@ part_at (lowered.outside up at) k = lowered.outside up (machine.forward at k)
 part_at (lowered.passed up index at) k = lowered.passed up index (machine.forward at k)
 part_at (lowered.element q i n s at) k = lowered.element q i n s (machine.forward at k)
 
--- a moment of a run: the store and its types, the cells of the arguments that a call has been
--- passed so far, what names mean, and the activations that lowered code sees
+-- a moment of a run: the store and its types, the cells of the arguments that were passed so far
+-- for a call, the meanings of names, and the activations that lowered code sees
 pub record Moment (N : Type 0) : Type 0 where
   pub typing : StoreTyping
   pub store : Store
@@ -58,12 +58,12 @@ pub record Moment (N : Type 0) : Type 0 where
   pub active : Meanings N Place (List Mode)
   pub levels : Levels
 
--- all cells at a moment, those of passed arguments last
+-- all cells at a moment, the cells of passed arguments last
 abbrev pub cells_in : {N : Type 0} → Moment N → List ℤ
 cells_in m = all_cells m.store ++ m.passed
 
--- a moment of a module that is checked, whose variables are in their slots:
--- cells are numbers of 32 bits, fewer than addresses
+-- states that a moment belongs to a checked module: its variables are in their slots,
+-- and there are fewer cells than addresses
 pub record Shows {N : Type 0} (checked : Typed N) (slots : N → Slot) (m : Moment N) : Type 0 where
   pub store_fits : StoreFits m.typing m.store
   pub names_fit : MeaningsFit m.typing checked m.active
@@ -71,9 +71,8 @@ pub record Shows {N : Type 0} (checked : Typed N) (slots : N → Slot) (m : Mome
       → m.active.object_for x ≡ Some (a_variable p)
       → slot_address m.levels (slots x) ≡ address m.typing p
   pub has_addresses : sizes m.typing < 2 ^ 64
-  pub has_numbers : (a : ℕ) → machine.fits (machine.cell_at (cells_in m) a) ≡ true
 
--- how a run ends, by how the lowered one does
+-- the end of a run, by the end of the lowered run
 abbrev pub end_of : machine.Halt → End
 end_of machine.Done = Done
 end_of machine.Overflow = Overflow
@@ -88,16 +87,11 @@ abbrev pub outcome_of : {A B : Type 0} → (A → B) → machine.StepResult A �
 outcome_of f (machine.gives a) = gives (f a)
 outcome_of f (machine.ends e) = ends (end_of e)
 
--- what is evaluated, at each moment
+-- an evaluation: its outcome at each moment
 abbrev pub Evaluated : Type 0 → Type 0 → Type 0
 Evaluated N A = Moment N → Outcome A
 
--- what a number evaluates to has 32 bits
-abbrev pub Has32Bits : machine.StepResult ℤ → Type 0
-Has32Bits (machine.gives n) = machine.fits n ≡ true
-Has32Bits (machine.ends e) = Unit {0}
-
--- a number of lowered code that evaluates to what is evaluated, and one of 32 bits
+-- states that a number of lowered code has the outcome of an evaluation at each moment
 abbrev pub NumberMeans : {N : Type 0}
     → Typed N
     → (N → Slot)
@@ -107,10 +101,9 @@ abbrev pub NumberMeans : {N : Type 0}
 NumberMeans {N} checked slots n value =
     (m : Moment N)
     → Shows checked slots m
-    → (outcome_of number (machine.number m.levels (cells_in m) n) ≡ value m)
-    × Has32Bits (machine.number m.levels (cells_in m) n)
+    → outcome_of number (machine.number m.levels (cells_in m) n) ≡ value m
 
--- a lowered truth value is what is evaluated, at every moment
+-- states that a truth of lowered code has the outcome of an evaluation at each moment
 abbrev pub TruthMeans : {N : Type 0}
     → Typed N
     → (N → Slot)
@@ -122,12 +115,12 @@ TruthMeans {N} checked slots t value =
     → Shows checked slots m
     → outcome_of truth (machine.truth m.levels (cells_in m) t) ≡ value m
 
--- what is given is a place for values of a type
+-- states that a place that is given is one for values of a type
 abbrev pub GivesPlace : StoreTyping → Shape → Outcome Place → Type 0
 GivesPlace typing s (gives p) = PlaceFits typing p s
 GivesPlace typing s (ends e) = Unit {0}
 
--- a place of lowered code that is the address of the place that is evaluated,
+-- states that a place of lowered code has the address of an evaluated place,
 -- which is one for values of a type
 abbrev pub PlaceMeans : {N : Type 0}
     → Typed N
@@ -142,7 +135,7 @@ PlaceMeans {N} checked slots q s value =
     ≡ (value m >>= (λ p. gives (address m.typing p))))
     × GivesPlace m.typing s (value m)
 
--- the cells at a place of lowered code are those of what is evaluated, a value of a type
+-- states that the cells at a place of lowered code are the cells of an evaluated value of a type
 abbrev pub ValueAt : {N : Type 0}
     → Typed N
     → (N → Slot)
@@ -177,15 +170,15 @@ value_of_factor e m = evaluate_factor m.active m.store e
 abbrev pub place_of_designator : {N : Type 0} → N → Tree N (items selector) → Evaluated N Place
 place_of_designator x path m = designate m.active m.store x path
 
--- what comes of what was evaluated so far, with the operators or selectors that are left
+-- the rest of a chain: the outcome of the remaining operators or selectors, by the value so far
 abbrev pub RestOfChain : Type 0 → Type 0 → Type 0
 RestOfChain N A = Moment N → A → Outcome A
 
--- what the addends that are left make of a value
+-- the outcome of the remaining addends, by the value so far
 abbrev pub addends_left : {N : Type 0} → Tree N (items addend) → RestOfChain N Value
 addends_left rest m v = evaluate_addends m.active m.store v rest
 
--- what the factors that are left make of a value
+-- the outcome of the remaining factors, by the value so far
 abbrev pub multipliers_left : {N : Type 0} → Tree N (items multiplier) → RestOfChain N Value
 multipliers_left rest m v = evaluate_multipliers m.active m.store v rest
 
@@ -193,14 +186,14 @@ multipliers_left rest m v = evaluate_multipliers m.active m.store v rest
 abbrev pub further : Place → List Step → Place
 further p steps = record { variable = p.variable; path = p.path ++ steps }
 
--- what the selectors that are left make of a place
+-- the outcome of the remaining selectors, by the place so far
 abbrev pub selectors_left : {N : Type 0} → Tree N (items selector) → RestOfChain N Place
 selectors_left rest m p =
     or_stuck (read_place m.store p) >>=
     (λ v. follow m.active m.store v rest >>= (λ steps. gives (further p steps)))
 
--- a place, a number or a truth so far, and what is left:
--- together they come to what is evaluated as a whole
+-- states that a place, a number or a truth so far, followed by the rest of a chain,
+-- is the evaluation of the whole
 abbrev pub Leads : {N A : Type 0}
     → Typed N
     → (N → Slot)
@@ -213,7 +206,7 @@ Leads {N} {A} checked slots Means rest whole =
     × Means so_far
     × ((m : Moment N) → Shows checked slots m → (so_far m >>= rest m) ≡ whole m)
 
--- the place so far and the selectors left come to the whole
+-- the same for a place and the remaining selectors
 abbrev pub PlaceLeads : {N : Type 0}
     → Typed N
     → (N → Slot)
@@ -225,7 +218,7 @@ abbrev pub PlaceLeads : {N : Type 0}
 PlaceLeads checked slots q s rest =
     Leads checked slots (PlaceMeans checked slots q s) (selectors_left rest)
 
--- the number so far and what is left of the chain come to the whole
+-- the same for a number
 abbrev pub NumberLeads : {N : Type 0}
     → Typed N
     → (N → Slot)
@@ -235,7 +228,7 @@ abbrev pub NumberLeads : {N : Type 0}
     → Type 0
 NumberLeads checked slots n = Leads checked slots (NumberMeans checked slots n)
 
--- the truth value so far and what is left of the chain come to the whole
+-- the same for a truth
 abbrev pub TruthLeads : {N : Type 0}
     → Typed N
     → (N → Slot)

@@ -2,7 +2,7 @@
 
 ghost use Rattle.ob0_run_cells.specs.ActivationLaws.{RunsLowered};
 
-/// The run of a program that is lowered from a well-typed module is the module's run.
+/// States that the run of a program that is lowered from a well-typed module is the module's run, if it has room.
 pub fn runs_lowered()
     ensures { RunsLowered }
 {}

@@ -161,21 +161,3 @@ read-there xs i x d h e = read-below xs i x d (below i (length xs) h) e
 
 pub read-past : (xs : List Layout) (i : ℕ) → false ≡ nat_lt i (length xs) → slice_get xs i ≡ None
 read-past xs i h = slice_get_past xs i (beyond i (length xs) h)
-
--- the constants so far have 32 bits
-abbrev pub SmallBelow : Tables → ℕ → Type 0
-SmallBelow t n = (k : ℕ) (z : ℤ) → k < n → declared_in t k ≡ Some (a_constant (number z)) → machine.fits z ≡ true
-
-either_side : (k n : ℕ) → (k < n) ⊎ (n ≤ k)
-either_side k zero = inr (omega arith)
-either_side zero (suc n) = inl (omega arith)
-either_side (suc k) (suc n) = elim (either_side k n) [ inl h ↦ inl (omega arith) | inr h ↦ inr (omega arith) ]
-
-pub small_goes_on : (t : Tables) (n : ℕ) → SmallBelow t n → ((z : ℤ) → declared_in t n ≡ Some (a_constant (number z)) → machine.fits z ≡ true) → SmallBelow t (n + 1)
-small_goes_on t n h here k z less e = elim (either_side k n) [ inl below ↦ h k z below e | inr past ↦ let same : n ≡ k = omega arith in here z (ap (declared_in t) same ∙ e) ]
-
-none_past : (t : Tables) (k : ℕ) (z : ℤ) → length t.objects ≤ k → declared_in t k ≡ Some (a_constant (number z)) → ⊥
-none_past t k z past e = let none : None ≡ Some (a_constant (number z)) = sym (ap (option_and_then (object_in (shapes_of t))) (get_or_past t.objects k None past)) ∙ e in absurd (cc)
-
-pub small_ends : (t : Tables) (n last : ℕ) → SmallBelow t n → last ≤ n → last ≡ length t.objects → (k : ℕ) (z : ℤ) → declared_in t k ≡ Some (a_constant (number z)) → machine.fits z ≡ true
-small_ends t n last h all count k z e = elim (either_side k n) [ inl below ↦ h k z below e | inr past ↦ absurd (none_past t k z (omega (arith, count, all, past)) e) ]

@@ -32,7 +32,6 @@ use Rattle.ob0_run_machine.specs.declared.code.LoweredCode.{LoweredCode}
 use Rattle.ob0_run_cells.specs.Activations.{BlockMeans, Placed, Placing, ProceduresMean, ProgramMeans, at_target, entered_placing, hide_names, inward, label_table, outermost_placing, own_target, place_parameters, place_variables}
 use Rattle.ob0_run_cells.specs.Lowering.{held, of_module}
 use Rattle.ob0_run_lowering.specs.LoweredBodies.{BodyLowers}
-use Rattle.ob0_run_lowering.specs.LoweredModules.{MeansModule}
 use Rattle.ob0_run_lowering.specs.Scenes.{seen_from, site_at}
 use Rattle.ob0_run_lowering.specs.declared.scene.Scene.{Scene}
 use Rattle.ob0_run_lowering.specs.declared.scene.Site.TheVariants as site
@@ -43,13 +42,13 @@ use Rattle.ob0_run_lowering.specs.declared.programs.Lowering.{Lowering}
 use Rattle.ob0_run_lowering.specs.declared.visible_sites.Frame.{Frame}
 use Rattle.ob0_run_lowering.specs.declared.visible_sites.VisibleSites.{VisibleSites}
 use Rattle.ob0_run_lowering.proofs.DeclaredBlocks.{module-declared}
-use Rattle.ob0_run_lowering.proofs.Placings.{first_match, groups_cells, groups_match, groups_placed, holds_bound, holds_hidden, holds_inward, holds_same, matches_inward, parameters_cells, parameters_match, sections_placed, sees, typed_before}
+use Rattle.ob0_run_lowering.proofs.Placings.{first_match, groups_match, groups_placed, holds_bound, holds_hidden, holds_inward, holds_same, matches_inward, parameters_match, sections_placed, sees, typed_before}
 use Rattle.ob0_run_lowering.proofs.FollowingSites.{follows_back, follows_itself, follows_then}
 
 -- one after the other
 
 pub goes_itself : (t : Tables) (w : Lowering) (d : ℕ) (ps : Tree Label (items procedure)) → Goes t w w d ps ps
-goes_itself t w d ps = record { on = λ s statements ready. record { now = s; ready = ready; mean = λ table most code above later means. means; least = λ table n code placing enough means. (enough, placing, means) }; most_grows = le_refl w.most; follows = follows_itself w.visible; longer = le_refl (length w.procedures.items); grown = λ i e get. get }
+goes_itself t w d ps = record { on = λ s statements ready. record { now = s; ready = ready; mean = λ table code later means. means }; follows = follows_itself w.visible; longer = le_refl (length w.procedures.items); grown = λ i e get. get }
 
 pub goes_then : (t : Tables) (w v u : Lowering) (d : ℕ) (ps qs rest : Tree Label (items procedure)) → Goes t w v d ps qs → Goes t v u d qs rest → Goes t w u d ps rest
 goes_then t w v u d ps qs rest a b = record {
@@ -58,10 +57,8 @@ goes_then t w v u d ps qs rest a b = record {
       let second = b.on first.now statements first.ready in record {
         now = second.now;
         ready = second.ready;
-        mean = λ table most code above later means. first.mean table most code (omega (arith, above, b.most_grows)) (λ i e le get. later i e le (b.grown i e get)) (second.mean table most code above (λ i e le get. later i e (omega (arith, le, a.longer)) get) means);
-        least = λ table n code placing enough means. let (more_enough, further, others) = first.least table n code placing enough means in second.least table n code further more_enough others;
+        mean = λ table code later means. first.mean table code (λ i e le get. later i e le (b.grown i e get)) (second.mean table code (λ i e le get. later i e (omega (arith, le, a.longer)) get) means);
       };
-  most_grows = omega (arith, a.most_grows, b.most_grows);
   follows = follows_then w.visible v.visible u.visible a.follows b.follows;
   longer = omega (arith, a.longer, b.longer);
   grown = λ i e get. b.grown i e (a.grown i e get);
@@ -120,11 +117,9 @@ pub record IsProcedure (t : Tables) (w v u after : Lowering) (depth index : ℕ)
   pub announced : Follows w.visible v.visible
   pub pushed : (e : Routine) × (v.procedures.items ≡ w.procedures.items ++ e ∷ [])
   pub first_is : first ≡ record { depth = suc depth; cells = 0; references = 0 }
-  pub placed : (inside : VisibleSites) × Places v.visible inside first (place_sections (slots_at first.depth) (declared_size t) (formal_sections fs)) f × LowersBlock t (record { visible = inside; procedures = v.procedures; most = v.most }) u f b entry
+  pub placed : (inside : VisibleSites) × Places v.visible inside first (place_sections (slots_at first.depth) (declared_size t) (formal_sections fs)) f × LowersBlock t (record { visible = inside; procedures = v.procedures }) u f b entry
   pub back : IsRestored v.visible u.visible after.visible
   pub kept : after.procedures.items ≡ set u.procedures.items index entry
-  pub most_announced : v.most ≡ w.most
-  pub most_kept : after.most ≡ u.most
 
 procedure-kept : (t : Tables) (w v u after : Lowering) (depth index : ℕ) (o : Option ℕ) (name : Name) (fs : Tree Label (maybe formals)) (b : Tree Label block) (first f : Frame) (entry : Routine)
     → IsProcedure t w v u after depth index o name fs b first f entry → Kept w.procedures.items v.procedures.items u.procedures.items after.procedures.items index entry
@@ -136,7 +131,7 @@ procedure_goes t w v u after depth index o name fs b closing rest first f entry 
     let kept = procedure-kept t w v u after depth index o name fs b first f entry is in
     let x : Label = as_label as_names o name in
     let deep : first.depth ≡ suc depth = ap (λ (z : Frame). z.depth) is.first_is in
-    let inside : Lowering = record { visible = is.placed.0; procedures = v.procedures; most = v.most } in
+    let inside : Lowering = record { visible = is.placed.0; procedures = v.procedures } in
     let places = is.placed.1 in
     let block_is : LowersBlock t inside u f b entry = is.placed.2 in
     record {
@@ -172,31 +167,19 @@ procedure_goes t w v u after depth index o name fs b closing rest first f entry 
               fits = parts.rest_right;
               declared_following = known.2;
             };
-            mean = λ table most code above later means. (
+            mean = λ table code later means. (
               index,
               record {
                 parameters = ps;
                 routine = procedure_of entry;
                 are_typed = parts.typed;
                 in_table = later index entry (omega (arith, is.index_is)) (kept-entry w.procedures.items v.procedures.items u.procedures.items after.procedures.items index entry kept);
-                means = subst (λ at. BlockMeans (label_table table most) at (bind_typed ps headed) (entered_placing ps outer) (s.next + formals_constructors (formal_sections fs)) entry.cells (sequence_of entry.body.items) b) slots
-                    (lowers.means table most (omega (arith, above, is.most_kept)) (kept-later table w.procedures.items v.procedures.items u.procedures.items after.procedures.items index entry kept later));
+                means = subst (λ at. BlockMeans (label_table table) at (bind_typed ps headed) (entered_placing ps outer) (s.next + formals_constructors (formal_sections fs)) entry.cells (sequence_of entry.body.items) b) slots
+                    (lowers.means table (kept-later table w.procedures.items v.procedures.items u.procedures.items after.procedures.items index entry kept later));
               },
               means,
             );
-            least = λ table n code placing enough means.
-                let (i, here, others) = means in
-                let same : here.parameters ≡ ps = some_inverse (sym here.are_typed ∙ parts.typed) in
-                let given : BlockMeans (label_table table n) (held 0) (bind_typed ps headed) (entered_placing ps ((x, own_target i) ∷ placing)) at here.routine.cells here.routine.body b =
-                subst (λ qs. BlockMeans (label_table table n) (held 0) (bind_typed qs (heading x qs s.env)) (entered_placing qs ((x, own_target i) ∷ placing)) at here.routine.cells here.routine.body b) same here.means in
-                let few : u.most ≤ n = lowers.least table n (held 0) (entered_placing ps ((x, own_target i) ∷ placing)) here.routine.cells here.routine.body
-                (parameters_cells ps (record { placing = inward ((x, own_target i) ∷ placing); cells = 0; reference_places = 0 }) empty refl) (omega (arith, enough, is.most_announced)) given in (
-                  omega (arith, few, is.most_kept),
-                  (x, own_target i) ∷ placing,
-                  subst (λ qs. ProceduresMean (label_table table n) (heading x qs s.env) ((x, own_target i) ∷ placing) now.next code statements rest) same others,
-                );
           };
-      most_grows = omega (arith, block_is.most_grows, is.most_announced, is.most_kept);
       follows = follows_back w.visible v.visible u.visible after.visible is.announced (follows_then v.visible is.placed.0 u.visible places.follows block_is.follows) is.back;
       longer = kept-longer w.procedures.items v.procedures.items u.procedures.items after.procedures.items index entry kept;
       grown = kept-grown w.procedures.items v.procedures.items u.procedures.items after.procedures.items index entry kept;
@@ -204,21 +187,15 @@ procedure_goes t w v u after depth index o name fs b closing rest first f entry 
 
 -- blocks
 
--- the greater of two numbers
-pub record IsGreater (a b m : ℕ) : Type 0 where
-  pub left : a ≤ m
-  pub right : b ≤ m
-  pub least : (n : ℕ) → a ≤ n → b ≤ n → m ≤ n
-
 body-fits : (env : TypeEnvironment Label) (k : ℕ) (statements : Tree Label (maybe body)) → procedures_fit as_labels env k statements end ≡ true → IsTrue (body_fits as_labels env statements)
 unfolding block_fits
 body-fits env k statements h = h
 
 pub block_lowers : (t : Tables) (w v : Lowering) (inside : VisibleSites) (cs : Tree Label (maybe constants)) (ts : Tree Label (maybe type_names)) (vs : Tree Label (maybe variables)) (ps : Tree Label (items procedure)) (statements : Tree Label (maybe body)) (f own : Frame) (scene : Scene) (entry : Routine)
-    → Places w.visible inside f (place_groups (slots_at f.depth) (declared_size t) (section_variables vs)) own → (m : ℕ) → IsGreater w.most own.cells m → Goes t (record { visible = inside; procedures = w.procedures; most = m }) v own.depth ps end
+    → Places w.visible inside f (place_groups (slots_at f.depth) (declared_size t) (section_variables vs)) own → Goes t (record { visible = inside; procedures = w.procedures }) v own.depth ps end
     → scene.types.now ≡ t → scene.sites.now ≡ v.visible.sites.items → scene.depth ≡ own.depth → BodyLowers scene (sequence_of entry.body.items) statements → entry.cells ≡ own.cells - f.cells
     → LowersBlock t w v f (has_body (declares cs ts vs ps) statements) entry
-block_lowers t w v inside cs ts vs ps statements f own scene entry places m greatest goes types sites deep lowers cells = record {
+block_lowers t w v inside cs ts vs ps statements f own scene entry places goes types sites deep lowers cells = record {
   on = λ env p k matches frame fits known.
       let b : Tree Label block = has_body (declares cs ts vs ps) statements in
       let parts = block-parts env k b fits in
@@ -244,7 +221,7 @@ block_lowers t w v inside cs ts vs ps statements f own scene entry places m grea
       let last = gone.ready in
       let seen = sees scene now.env now.placing (subst (λ z. AreDeclared (declared_in z) now.env) (sym types) last.declared_there) last.matches
       (subst (λ d. LocatesAll scene.sites.now d now.placing) (sym deep) (subst (λ xs. LocatesAll xs own.depth now.placing) (sym sites) last.holds)) in record {
-        means = λ table most above later. record {
+        means = λ table later. record {
           first = first;
           inner = inner;
           placed = q;
@@ -252,21 +229,9 @@ block_lowers t w v inside cs ts vs ps statements f own scene entry places m grea
           variables_declared = declared_parts.2;
           variables_placed = groups_placed t at (section_variables vs) (after_types k b) first inner start declared_parts.2 known_parts.0;
           cells_counted = omega (arith, cells, laid.cells, frame.cells, places.more_cells);
-          within_most = omega (arith, laid.cells, greatest.right, goes.most_grows, above);
-          inside = gone.mean table most (sequence_of entry.body.items) above later (lowers now.env now.placing seen (body-fits now.env now.next statements last.fits));
+          inside = gone.mean table (sequence_of entry.body.items) later (lowers now.env now.placing seen (body-fits now.env now.next statements last.fits));
         };
-        least = λ table n other_slots other others code same few given.
-            let elsewhere : Placed Label = record other { placing = hide_names (named_types (section_types ts)) (hide_names (constant_names (section_constants cs)) other.placing) } in
-            let first_same : given.first ≡ first = some_inverse (sym given.first_declared ∙ declared_parts.1) in
-            let inner_same : given.inner ≡ inner = some_inverse (sym (subst (λ e. declare_typed as_labels (after_types k b) (section_variables vs) e ≡ Some given.inner) first_same given.variables_declared) ∙ declared_parts.2) in
-            let placed_same : given.placed ≡ place_groups other_slots (declared_size t) (section_variables vs) elsewhere =
-            some_inverse (sym (subst (λ e. place_variables as_labels other_slots e (after_types k b) (section_variables vs) elsewhere ≡ Some given.placed) first_same given.variables_placed) ∙ groups_placed t other_slots (section_variables vs) (after_types k b) first inner elsewhere declared_parts.2 known_parts.0) in
-            let count : given.placed.cells ≡ q.cells = ap (λ (z : Placed Label). z.cells) placed_same ∙ groups_cells other_slots at (declared_size t) (section_variables vs) elsewhere start same in
-            let own_few : own.cells ≤ n = omega (arith, laid.cells, count, given.within_most) in
-            (gone.least table n code given.placed.placing (greatest.least n few own_few)
-            (subst (λ e. ProceduresMean (label_table table n) e given.placed.placing (after_variables k b) code statements ps) inner_same given.inside)).0;
       };
-  most_grows = omega (arith, greatest.left, goes.most_grows);
   follows = follows_then w.visible inside v.visible places.follows goes.follows;
   longer = goes.longer;
   grown = goes.grown;
@@ -283,16 +248,15 @@ goes_on t w v u d r xs done x all a less here b =
 
 pub block_means : (t : Tables) (w v : Lowering) (inside : VisibleSites) (b : tree_block.Block) (xs : List tree.Procedure) (done : ℕ) (f own : Frame) (scene : Scene) (entry : Routine) (r : Resolution)
     → Places w.visible inside f (place_groups (slots_at f.depth) (declared_size t) (section_variables (in_labels r (variables_of (tree_block.out-Block b).variables)))) own
-    → (m : ℕ) → IsGreater w.most own.cells m
-    → Goes t (record { visible = inside; procedures = w.procedures; most = m }) v own.depth (in_labels r (items_of tree_procedure_of xs)) (in_labels r (items_of tree_procedure_of (drop done xs))) → length xs ≤ done → xs ≡ (tree_block.out-Block b).procedures.items
+    → Goes t (record { visible = inside; procedures = w.procedures }) v own.depth (in_labels r (items_of tree_procedure_of xs)) (in_labels r (items_of tree_procedure_of (drop done xs))) → length xs ≤ done → xs ≡ (tree_block.out-Block b).procedures.items
     → scene.types.now ≡ t → scene.sites.now ≡ v.visible.sites.items → scene.depth ≡ own.depth → BodyLowers scene (sequence_of entry.body.items) (in_labels r (body_of (tree_block.out-Block b).body)) → entry.cells ≡ own.cells - f.cells
     → LowersBlock t w v f (in_labels r (block_of b)) entry
-block_means t w v inside b xs done f own scene entry r places m greatest goes all same types sites deep lowers cells =
+block_means t w v inside b xs done f own scene entry r places goes all same types sites deep lowers cells =
     let o = tree_block.out-Block b in
     subst (λ z. LowersBlock t w v f (in_labels r z) entry) (sym (block_parts b))
-    (block_lowers t w v inside (in_labels r (constants_of o.constants)) (in_labels r (types_of o.types)) (in_labels r (variables_of o.variables)) (in_labels r (items_of tree_procedure_of o.procedures.items)) (in_labels r (body_of o.body)) f own scene entry places m greatest
-    (subst (λ ys. Goes t (record { visible = inside; procedures = w.procedures; most = m }) v own.depth (in_labels r (items_of tree_procedure_of ys)) end) same
-    (subst (λ ys. Goes t (record { visible = inside; procedures = w.procedures; most = m }) v own.depth (in_labels r (items_of tree_procedure_of xs)) (in_labels r (items_of tree_procedure_of ys))) (drop_all done xs all) goes))
+    (block_lowers t w v inside (in_labels r (constants_of o.constants)) (in_labels r (types_of o.types)) (in_labels r (variables_of o.variables)) (in_labels r (items_of tree_procedure_of o.procedures.items)) (in_labels r (body_of o.body)) f own scene entry places
+    (subst (λ ys. Goes t (record { visible = inside; procedures = w.procedures }) v own.depth (in_labels r (items_of tree_procedure_of ys)) end) same
+    (subst (λ ys. Goes t (record { visible = inside; procedures = w.procedures }) v own.depth (in_labels r (items_of tree_procedure_of xs)) (in_labels r (items_of tree_procedure_of ys))) (drop_all done xs all) goes))
     types sites deep lowers cells)
 
 pub procedure_means : (t : Tables) (w v u after : Lowering) (depth index : ℕ) (p : tree.Procedure) (r : Resolution) (first f : Frame) (entry : Routine) (rest : Tree Label (items procedure))
@@ -329,18 +293,11 @@ module_means t m w v b entry well known is sites lowers =
     (record { holds = subst (λ xs. LocatesAll xs 0 (outermost_placing as_labels)) (sym sites) outermost-holds; cells = refl; reference_places = refl })
     (subst (λ z. block_fits as_labels (outermost as_labels) 0 z ≡ true) is (module-fits m well)) (subst (λ z. BlockDeclared (declared_in t) (outermost as_labels) 0 z) is known_blocks)
 
--- as many cells as the code says are enough, and no number below it is
 pub program_means : (t : Tables) (m : Tree Name module_text) (w v : Lowering) (b : Tree Label block) (entry : Routine) (program : LoweredCode) → WellTyped m → ((k : ℕ) → declared_in t k ≡ declared_object m k) → module_block (numbered m) ≡ b
-    → w.visible.sites.items ≡ [] → w.most ≡ 0 → LowersBlock t w v (record { depth = 0; cells = 0; references = 0 }) b entry
-    → program_of program ≡ record { cells = entry.cells; body = sequence_of entry.body.items; procedures = map procedure_of v.procedures.items } → MeansModule v.most m (program_of program)
-program_means t m w v b entry program well known is sites none lowers made =
+    → w.visible.sites.items ≡ [] → LowersBlock t w v (record { depth = 0; cells = 0; references = 0 }) b entry
+    → program_of program ≡ record { cells = entry.cells; body = sequence_of entry.body.items; procedures = map procedure_of v.procedures.items } → ProgramMeans as_labels (numbered m) (program_of program)
+program_means t m w v b entry program well known is sites lowers made =
     let means : MeansBlock w v (record { depth = 0; cells = 0; references = 0 }) b entry (outermost as_labels) outermost_placed 0 = module_means t m w v b entry well known is sites lowers in
     let table : List lowered.Routine = map procedure_of v.procedures.items in
-    let code : lowered.LoweredCode = record { cells = entry.cells; body = sequence_of entry.body.items; procedures = table } in
-    let enough : ProgramMeans v.most as_labels (numbered m) code =
-    subst (λ z. BlockMeans (label_table table v.most) of_module (outermost as_labels) outermost_placed 0 entry.cells (sequence_of entry.body.items) z) (sym is) (means.means table v.most (le_refl v.most) (λ i e le get. all-later v.procedures.items i e (omega arith) get)) in
-    subst (MeansModule v.most m) (sym made) record {
-      means = enough;
-      least = λ n other.
-          means.least table n of_module outermost_placed entry.cells (sequence_of entry.body.items) refl (omega (arith, none)) (subst (λ z. BlockMeans (label_table table n) of_module (outermost as_labels) outermost_placed 0 entry.cells (sequence_of entry.body.items) z) is other);
-    }
+    subst (ProgramMeans as_labels (numbered m)) (sym made)
+    (subst (λ z. BlockMeans (label_table table) of_module (outermost as_labels) outermost_placed 0 entry.cells (sequence_of entry.body.items) z) (sym is) (means.means table (λ i e le get. all-later v.procedures.items i e (omega arith) get)))

@@ -31,7 +31,7 @@ use Rattle.ob0_run_cells.specs.Lowering.{NumberMeans, PlaceMeans, Slot, TruthMea
 use Rattle.ob0_run_lowering.specs.Codes.{CodeMeans, FoundPlace}
 use Rattle.ob0_run_lowering.specs.Means.{Locates, LocatesAlone, Lowers, LowersArgument, LowersNumber, LowersTruth}
 use Rattle.ob0_run_lowering.specs.Parts.{IsNumberOf, IsTypedPlaceOf, IsTruthOf, IsValueOf}
-use Rattle.ob0_run_lowering.specs.Scenes.{HasSmall, object_at}
+use Rattle.ob0_run_lowering.specs.Scenes.{object_at}
 use Rattle.ob0_run_lowering.specs.Trees.{base_found, code_of, expression_code, found_of, selected_place}
 use Rattle.ob0_run_lowering.specs.declared.lowered.TypedPlace.{TypedPlace}
 use Rattle.ob0_run_lowering.specs.declared.lowered.Lowered.{Lowered}
@@ -39,31 +39,11 @@ use Rattle.ob0_run_lowering.specs.declared.lowered.Lowered.TheVariants as code
 use Rattle.ob0_run_lowering.specs.declared.scene.Scene.{Scene}
 use Rattle.ob0_run_lowering.proofs.TreesMean.{expression-means, located-means}
 
--- numbers of 32 bits
-
-within : (tokens : List Token) → ((i : ℕ) (d : Token) → i < length tokens → value_of (get_or tokens i d).kind ≤ 2147483647) → (i : ℕ) → value_in (slice_get tokens i) ≤ 2147483647
-within [] h i = omega arith
-within (t ∷ ts) h zero = h zero t (omega arith)
-within (t ∷ ts) h (suc i) = within ts (λ j d less. h (suc j) d (omega arith)) i
-
-fits-below : (n : ℕ) → n ≤ 2147483647 → machine.fits (pos n) ≡ true
-fits-below n h = grind (arith, nat_tests)
-
-pub small-scene : (scene : Scene) (source : Scanned) → source ≡ scene.resolved.now.module_read.source → IsScan source → ((k : ℕ) (n : ℤ) → declared_in scene.types.now k ≡ Some (a_constant (number n)) → machine.fits n ≡ true) → HasSmall scene
-small-scene scene source same scan constants = record {
-  numbers = λ token. subst (λ s. machine.fits (pos (value_at s token)) ≡ true) same (fits-below (value_at source token) (within source.tokens (small_number source scan) token));
-  constants = constant;
-}
-  where
-    constant : (x : Label) (n : ℤ) → object_at scene.types.now x ≡ Some (a_constant (number n)) → machine.fits n ≡ true
-    constant (declared k) n e = constants k n e
-    constant (as_written x) n e = absurd (cc)
-
 -- expressions
 
-pub lowers-by : (scene : Scene) (e : Tree ℕ expression) (l : Lowered) → HasSmall scene → code_of l ≡ expression_code scene (in_labels scene.resolved.now e) → Lowers scene e l
-lowers-by scene e l small same checked slots targets sees s h =
-    subst (λ c. CodeMeans checked slots c s (value_of_expression (in_labels scene.resolved.now e))) (sym same) (expression-means scene checked slots targets sees small e s h)
+pub lowers-by : (scene : Scene) (e : Tree ℕ expression) (l : Lowered) → code_of l ≡ expression_code scene (in_labels scene.resolved.now e) → Lowers scene e l
+lowers-by scene e l same checked slots targets sees s h =
+    subst (λ c. CodeMeans checked slots c s (value_of_expression (in_labels scene.resolved.now e))) (sym same) (expression-means scene checked slots targets sees e s h)
 
 pub number-by : (scene : Scene) (e : Tree ℕ expression) (l : Lowered) (n : Number) → IsNumberOf l n → Lowers scene e l → LowersNumber scene e n
 number-by scene e (code.Number m) n same h checked slots targets sees typed = subst (λ n. NumberMeans checked slots (number_of n) (value_of_expression (in_labels scene.resolved.now e))) same (h checked slots targets sees integer_shape typed)
@@ -87,12 +67,12 @@ there shapes (Some m) l q s same h =
     let both : found_of shapes l ≡ record { place = q; shape = s } = ap (found_of shapes) (sym same) ∙ some_inverse h in
     (ap (λ (f : FoundPlace). f.place) both, ap (λ (f : FoundPlace). f.shape) both)
 
-pub locates-by : (scene : Scene) (x : ℕ) (path : Tree ℕ (items selector)) (found : Option TypedPlace) (l : TypedPlace) → HasSmall scene → IsTypedPlaceOf found l
+pub locates-by : (scene : Scene) (x : ℕ) (path : Tree ℕ (items selector)) (found : Option TypedPlace) (l : TypedPlace) → IsTypedPlaceOf found l
     → option_map (found_of (shapes_of scene.types.now)) found ≡ selected_place scene (base_found scene (label_in scene.resolved.now x)) (in_labels scene.resolved.now path) → Locates scene x path l
-locates-by scene x path found l small same h checked slots targets sees s typed =
+locates-by scene x path found l same h checked slots targets sees s typed =
     let y = label_in scene.resolved.now x in
     let (v, e, at) = variable-typed checked y (in_labels scene.resolved.now path) s (checked.object_for y) refl typed in
-    let (q, eq, hq) = located-means scene checked slots targets sees small y path s v e at in
+    let (q, eq, hq) = located-means scene checked slots targets sees y path s v e at in
     let (place, shape) = there (shapes_of scene.types.now) found l q s same (h ∙ eq) in
     (shape, subst (λ q. PlaceMeans checked slots q s (place_of_designator y (in_labels scene.resolved.now path))) (sym place) hq)
 

@@ -210,27 +210,6 @@ groups_match at size_of (more (declares_variable ns u) gs) k env inner p h m =
     let f = then_some (denoted (meanings as_labels env) k u) (λ s. declare_typed as_labels (k + constructors u) gs (bind_names (names_listed ns) (a_variable s) env)) inner h in
     groups_match at size_of gs (k + constructors u) (bind_names (names_listed ns) (a_variable f.0) env) inner (place_each at size_of by_value (names_listed ns) p) f.2 (names_match at size_of by_value (names_listed ns) f.0 env p m)
 
--- how many cells there are then doesn't depend on where they are
-
-one_cells : (at others : ℕ → Slot) (mode : Mode) (x : Label) (n : ℕ) (p q : Placed Label) → p.cells ≡ q.cells → (place_one at mode x n p).cells ≡ (place_one others mode x n q).cells
-one_cells at others by_value x n p q e = ap (λ m. m + n) e
-one_cells at others by_place x n p q e = e
-
-each_cells : (at others : ℕ → Slot) (size_of : Label → ℕ) (mode : Mode) (xs : List Label) (p q : Placed Label) → p.cells ≡ q.cells → (place_each at size_of mode xs p).cells ≡ (place_each others size_of mode xs q).cells
-each_cells at others size_of mode [] p q e = e
-each_cells at others size_of mode (x ∷ xs) p q e =
-    each_cells at others size_of mode xs (place_one at mode x (size_of x) p) (place_one others mode x (size_of x) q) (one_cells at others mode x (size_of x) p q e)
-
-pub groups_cells : (at others : ℕ → Slot) (size_of : Label → ℕ) (gs : Tree Label (items variable)) (p q : Placed Label) → p.cells ≡ q.cells → (place_groups at size_of gs p).cells ≡ (place_groups others size_of gs q).cells
-groups_cells at others size_of end p q e = e
-groups_cells at others size_of (more (declares_variable ns u) gs) p q e =
-    groups_cells at others size_of gs (place_each at size_of by_value (names_listed ns) p) (place_each others size_of by_value (names_listed ns) q) (each_cells at others size_of by_value (names_listed ns) p q e)
-
-pub parameters_cells : (ps : List (TypedParameter Label)) (p q : Placed Label) → p.cells ≡ q.cells → (place_parameters ps p).cells ≡ (place_parameters ps q).cells
-parameters_cells [] p q e = e
-parameters_cells (r ∷ ps) p q e =
-    parameters_cells ps (place_one (held 0) r.formal.mode r.name (size r.formal.shape) p) (place_one (held 0) r.formal.mode r.name (size r.formal.shape) q) (one_cells (held 0) (held 0) r.formal.mode r.name (size r.formal.shape) p q e)
-
 -- parameters
 
 pub typed_before : (objects : Objects) (ps : List (TypedParameter Label)) (env : TypeEnvironment Label) → AreDeclared objects (bind_typed ps env) → AreDeclared objects env

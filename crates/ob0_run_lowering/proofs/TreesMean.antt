@@ -19,7 +19,7 @@ use Rattle.ob0_run_cells.specs.Lowering as lowering
 use Rattle.ob0_run_cells.proofs.LoweredNumbers.{integer-means}
 use Rattle.ob0_run_cells.proofs.LoweredPlaces as places
 use Rattle.ob0_run_lowering.specs.Codes.{ExpressionCode, CodeMeans, FoundPlace, a_number, a_truth, added, constant_code, element_at_place, element_found, element_of, field_found, multiplied, named_code, signed, code_at_place}
-use Rattle.ob0_run_lowering.specs.Scenes.{HasSmall, Sees, object_at, slot_at}
+use Rattle.ob0_run_lowering.specs.Scenes.{Sees, object_at, slot_at}
 use Rattle.ob0_run_lowering.specs.Trees.{addends_code, base_found, expression_code, factor_code, multipliers_code, selected_place, simple_code, term_code, variable_found}
 use Rattle.ob0_run_lowering.specs.declared.scene.Scene.{Scene}
 use Rattle.ob0_run_lowering.proofs.PartsFound.{element-same, leads-from}
@@ -47,21 +47,21 @@ type-end meaning x s h = some_inverse h
 module _ (checked : Typed Label) (slots : Label → Slot) where
   -- the code of a constant
 
-  number-constant : (x : Label) (n : ℤ) (path : Tree Label (items selector)) (s : Shape) → checked.object_for x ≡ Some (a_constant (number n)) → machine.fits n ≡ true → type_at checked integer_shape path ≡ Some s
+  number-constant : (x : Label) (n : ℤ) (path : Tree Label (items selector)) (s : Shape) → checked.object_for x ≡ Some (a_constant (number n)) → type_at checked integer_shape path ≡ Some s
       → CodeMeans checked slots (a_number (lowered.literal n)) s (value_of_factor (designator x path))
-  number-constant x n end s e fit h = subst (λ s. CodeMeans checked slots (a_number (lowered.literal n)) s (value_of_factor (designator x end))) (type-end checked integer_shape s h) (places.number-constant checked slots x n e fit)
-  number-constant x n (more a rest) s e fit h = let no_type : None ≡ Some s = sym (integer-alone checked a rest) ∙ h in absurd (cc)
+  number-constant x n end s e h = subst (λ s. CodeMeans checked slots (a_number (lowered.literal n)) s (value_of_factor (designator x end))) (type-end checked integer_shape s h) (places.number-constant checked slots x n e)
+  number-constant x n (more a rest) s e h = let no_type : None ≡ Some s = sym (integer-alone checked a rest) ∙ h in absurd (cc)
 
   truth-constant : (x : Label) (b : Bool) (path : Tree Label (items selector)) (s : Shape) → checked.object_for x ≡ Some (a_constant (truth b)) → type_at checked boolean_shape path ≡ Some s
       → CodeMeans checked slots (a_truth (lowered.constant b)) s (value_of_factor (designator x path))
   truth-constant x b end s e h = subst (λ s. CodeMeans checked slots (a_truth (lowered.constant b)) s (value_of_factor (designator x end))) (type-end checked boolean_shape s h) (places.truth-constant checked slots x b e)
   truth-constant x b (more a rest) s e h = let no_type : None ≡ Some s = sym (boolean-alone checked a rest) ∙ h in absurd (cc)
 
-  constant-means : (x : Label) (v : Value) (path : Tree Label (items selector)) (s : Shape) → checked.object_for x ≡ Some (a_constant v) → ((n : ℤ) → v ≡ number n → machine.fits n ≡ true) → option_and_then (λ t. type_at checked t path) (value_type v) ≡ Some s
+  constant-means : (x : Label) (v : Value) (path : Tree Label (items selector)) (s : Shape) → checked.object_for x ≡ Some (a_constant v) → option_and_then (λ t. type_at checked t path) (value_type v) ≡ Some s
       → CodeMeans checked slots (constant_code v) s (value_of_factor (designator x path))
-  constant-means x (number n) path s e fit h = number-constant x n path s e (fit n refl) h
-  constant-means x (truth b) path s e fit h = truth-constant x b path s e h
-  constant-means x _ path s e fit h = absurd (cc)
+  constant-means x (number n) path s e h = number-constant x n path s e h
+  constant-means x (truth b) path s e h = truth-constant x b path s e h
+  constant-means x _ path s e h = absurd (cc)
 
   -- what is at the place of a designator
 
@@ -97,7 +97,7 @@ module _ (checked : Typed Label) (slots : Label → Slot) where
       )
   element-step c q _ _ t e rest whole leads h hc = absurd (cc)
 
-module _ (scene : Scene) (checked : Typed Label) (slots : Label → Slot) (targets : Label → Target) (sees : Sees scene checked slots targets) (small : HasSmall scene) where
+module _ (scene : Scene) (checked : Typed Label) (slots : Label → Slot) (targets : Label → Target) (sees : Sees scene checked slots targets) where
   -- the place at the end of a path
   abbrev Selected : Tree ℕ (items selector) → Type 0
   Selected path =
@@ -125,7 +125,7 @@ module _ (scene : Scene) (checked : Typed Label) (slots : Label → Slot) (targe
       let there = sees.bound x (a_constant v) e in
       subst (λ c. CodeMeans checked slots c s (value_of_factor (designator x (in_labels scene.resolved.now path))))
       (sym (ap (λ o. named_code (constant_of o) (selected_place scene (base_found scene x) (in_labels scene.resolved.now path))) there))
-      (constant-means checked slots x v (in_labels scene.resolved.now path) s e (λ n en. small.constants x n (there ∙ ap (λ v. Some (a_constant v)) en)) h)
+      (constant-means checked slots x v (in_labels scene.resolved.now path) s e h)
   named-means x path s _ selected e h = absurd (cc)
 
   mutual
@@ -171,7 +171,7 @@ module _ (scene : Scene) (checked : Typed Label) (slots : Label → Slot) (targe
 
     pub factor-means : (f : Tree ℕ factor) (s : Shape) → type_of_factor checked (in_labels scene.resolved.now f) ≡ Some s → CodeMeans checked slots (factor_code scene (in_labels scene.resolved.now f)) s (value_of_factor (in_labels scene.resolved.now f))
     factor-means (designator x path) s h = named-means (label_in scene.resolved.now x) path s (checked.object_for (label_in scene.resolved.now x)) (λ q z s whole. selected-means q z path s whole) refl h
-    factor-means (integer n) s h = subst (λ s. CodeMeans checked slots (a_number (lowered.literal (pos (value_at scene.resolved.now.module_read.source n)))) s (value_of_factor (integer (value_at scene.resolved.now.module_read.source n)))) (some_inverse h) (integer-means checked slots (value_at scene.resolved.now.module_read.source n) (small.numbers n))
+    factor-means (integer n) s h = subst (λ s. CodeMeans checked slots (a_number (lowered.literal (pos (value_at scene.resolved.now.module_read.source n)))) s (value_of_factor (integer (value_at scene.resolved.now.module_read.source n)))) (some_inverse h) (integer-means checked slots (value_at scene.resolved.now.module_read.source n))
     factor-means (parenthesised e) s h = parenthesised-means checked slots (expression_code scene (in_labels scene.resolved.now e)) s (in_labels scene.resolved.now e) (expression-means e s h)
     factor-means (negation f) s h =
         let (x, ex, h₁) = then_some (type_of_factor checked (in_labels scene.resolved.now f)) complement_type s h in

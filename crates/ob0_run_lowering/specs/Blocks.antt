@@ -1,10 +1,8 @@
--- What the code of procedures and blocks means, wherever they are in a well-typed module.
--- A procedure's index is given at its heading, with a placeholder in the table of procedures; its code is kept there at
--- its end. Clauses speak of any later table that has the code from an index on (`Later`), so that what was lowered
--- first still means what it does: no clause names the last table. `Goes` is over any statements and any procedures
--- after: a procedure's clause is one for each rest, and the loop of a block composes them (`goes_then`). The most cells
--- of an activation so far are kept as soon as a block's variables are placed; clauses speak of any number that is as
--- large or larger.
+-- The meaning of the code of procedures and blocks, at their places in a well-typed module.
+-- A procedure gets an index at its heading, with a placeholder in the table of procedures; its code is kept there at its
+-- end. Clauses hold for any later table that has the same code from an index to its end (`Later`), so earlier code keeps
+-- its meaning, and no clause mentions the last table. `Goes` holds for any statements and any procedures after: the
+-- clause of a procedure is one for each rest, and the loop of a block composes them (`goes_then`).
 -- Rule: none; for contracts of lowering.
 use Rattle.std.specs.Prelude.{◌≡◌, ℕ, ◌≤◌, true, List, length, Some, slice_get}
 use Rattle.ob0_tree.specs.Tree.{Tree, block, body, items, maybe, procedure}
@@ -22,7 +20,7 @@ use Rattle.ob0_run_lowering.specs.Placed.{Follows, LocatesAll, IsFrame, Matches,
 use Rattle.ob0_run_lowering.specs.declared.programs.Lowering.{Lowering}
 use Rattle.ob0_run_lowering.specs.declared.visible_sites.Frame.{Frame}
 
--- from an index on, a table has the code of procedures
+-- states that a table has the code of procedures, from an index to its end
 abbrev pub Later : List lowered.Routine → ℕ → List Routine → Type 0
 Later table n ps =
     (i : ℕ) (e : Routine)
@@ -30,18 +28,19 @@ Later table n ps =
     → slice_get ps i ≡ Some e
     → slice_get table i ≡ Some (procedure_of e)
 
--- procedures were added
+-- states that procedures were added
 abbrev pub Grown : List Routine → List Routine → Type 0
 Grown before now = (i : ℕ) (e : Routine) → slice_get before i ≡ Some e → slice_get now i ≡ Some e
 
--- before some procedures of a block: what names are bound to, where that is,
+-- the state before some procedures of a block: the bindings of names, their placing,
 -- and the ordinal of the next ARRAY or RECORD
 pub record BlockState : Type 0 where
   pub env : TypeEnvironment Label
   pub placing : Placing Label
   pub next : ℕ
 
--- the procedures and statements that are left fit there, and all that they see is known and located
+-- states that the remaining procedures and statements fit in a state,
+-- and that all names they see are declared and located
 pub record Ready (t : Tables) (sites : List Site) (depth : ℕ) (s : BlockState)
     (statements : Tree Label (maybe body)) (ps : Tree Label (items procedure)) : Type 0 where
   pub declared_there : AreDeclared (declared_in t) s.env
@@ -50,65 +49,46 @@ pub record Ready (t : Tables) (sites : List Site) (depth : ℕ) (s : BlockState)
   pub fits : procedures_fit as_labels s.env s.next statements ps ≡ true
   pub declared_following : ProceduresDeclared (declared_in t) s.env s.next ps
 
--- procedures from here on mean their blocks, by the table of procedures
+-- states that the remaining procedures mean their blocks, by the table of procedures
 abbrev pub AllMean : List lowered.Routine
-    → ℕ
     → BlockState
     → lowered.Instructions
     → Tree Label (maybe body)
     → Tree Label (items procedure)
     → Type 0
-AllMean table most s code statements ps =
-    ProceduresMean (label_table table most) s.env s.placing s.next code statements ps
+AllMean table s code statements ps =
+    ProceduresMean (label_table table) s.env s.placing s.next code statements ps
 
--- procedures are lowered from a state of their block, of which some are left: where what is left
--- means what is there, all do, and no activation has more cells than is known of then; and that
--- many are needed, wherever the procedures are placed
+-- states that procedures are lowered from a state of their block, except the remaining ones:
+-- if these mean their blocks, all do
 pub record Reaches (t : Tables) (w v : Lowering) (depth : ℕ) (s : BlockState)
     (statements : Tree Label (maybe body)) (ps left : Tree Label (items procedure)) : Type 0 where
   pub now : BlockState
   pub ready : Ready t v.visible.sites.items depth now statements left
-  pub mean : (table : List lowered.Routine) (most : ℕ) (code : lowered.Instructions)
-      → v.most ≤ most
+  pub mean : (table : List lowered.Routine) (code : lowered.Instructions)
       → Later table (length w.procedures.items) v.procedures.items
-      → AllMean table most now code statements left
-      → AllMean table most s code statements ps
-  pub least : (table : List lowered.Routine) (n : ℕ) (code : lowered.Instructions)
-      (placing : Placing Label)
-      → w.most ≤ n
-      → AllMean table n record s { placing = placing } code statements ps
-      → (v.most ≤ n)
-      × (further : Placing Label)
-      × AllMean table n record now { placing = further } code statements left
+      → AllMean table now code statements left
+      → AllMean table s code statements ps
 
--- procedures are lowered, of which some are left
+-- states that procedures are lowered from each state, except the remaining ones
 pub record Goes (t : Tables) (w v : Lowering) (depth : ℕ) (ps left : Tree Label (items procedure))
     : Type 0 where
   pub on : (s : BlockState) (statements : Tree Label (maybe body))
       → Ready t w.visible.sites.items depth s statements ps
       → Reaches t w v depth s statements ps left
-  pub most_grows : w.most ≤ v.most
   pub follows : Follows w.visible v.visible
   pub longer : length w.procedures.items ≤ length v.procedures.items
   pub grown : Grown w.procedures.items v.procedures.items
 
--- the code of a block means it, where no activation has more cells than is known of then; and that
--- many are needed, whatever code means the block, and wherever it is placed
+-- states that the code of a block means it
 pub record MeansBlock (w v : Lowering) (f : Frame) (b : Tree Label block) (entry : Routine)
     (env : TypeEnvironment Label) (p : Placed Label) (k : ℕ) : Type 0 where
-  pub means : (table : List lowered.Routine) (most : ℕ)
-      → v.most ≤ most
+  pub means : (table : List lowered.Routine)
       → Later table (length w.procedures.items) v.procedures.items
-      → BlockMeans (label_table table most) (slots_at f.depth) env p k entry.cells
+      → BlockMeans (label_table table) (slots_at f.depth) env p k entry.cells
       (sequence_of entry.body.items) b
-  pub least : (table : List lowered.Routine) (n : ℕ) (at : ℕ → Slot) (other : Placed Label)
-      (cells : ℕ) (code : lowered.Instructions)
-      → other.cells ≡ p.cells
-      → w.most ≤ n
-      → BlockMeans (label_table table n) at env other k cells code b
-      → v.most ≤ n
 
--- a block is lowered to its cells and its statements
+-- states that a block is lowered to its number of cells and the code of its statements
 pub record LowersBlock (t : Tables) (w v : Lowering) (f : Frame) (b : Tree Label block)
     (entry : Routine) : Type 0 where
   pub on : (env : TypeEnvironment Label) (p : Placed Label) (k : ℕ)
@@ -117,7 +97,6 @@ pub record LowersBlock (t : Tables) (w v : Lowering) (f : Frame) (b : Tree Label
       → block_fits as_labels env k b ≡ true
       → BlockDeclared (declared_in t) env k b
       → MeansBlock w v f b entry env p k
-  pub most_grows : w.most ≤ v.most
   pub follows : Follows w.visible v.visible
   pub longer : length w.procedures.items ≤ length v.procedures.items
   pub grown : Grown w.procedures.items v.procedures.items

@@ -1,4 +1,4 @@
--- The code of values by their types: of what is at a place, of an operation on two, of a part.
+-- The code of values by their types: of the value at a place, of an operation on two values, of a part.
 -- Rule: none; for contracts of lowering.
 use Rattle.std.specs.Prelude.{◌≡◌, ℕ, ◌*◌, ◌%◌, ◌^◌, pos, Some, None, Option, option_map, if◌then◌else◌, nat_lt}
 use Rattle.ob0_tree.specs.declared.tree.Relation.{Relation}
@@ -17,15 +17,15 @@ use Rattle.ob0_run_machine.specs.Lowered as lowered
 use Rattle.ob0_run_cells.specs.Cells.{size, step_offset}
 use Rattle.ob0_run_cells.specs.Lowering.{Evaluated, NumberMeans, Slot, TruthMeans, ValueAt, part_at, relation_of}
 
--- a number, a truth, the cells of an array or a record,
--- or nothing that an expression of a well-typed module is
+-- the code of an expression: a number, a truth, the cells of an array or a record,
+-- or no code, which no expression of a well-typed module has
 pub data ExpressionCode : Type 0 where
   a_number : lowered.Number → ExpressionCode
   a_truth : lowered.Truth → ExpressionCode
   a_block : lowered.Place → (cells : ℕ) → ExpressionCode
   no_code : ExpressionCode
 
--- the code of a value of a type
+-- states that code means a value of a type
 abbrev pub CodeMeans : Typed Label → (Label → Slot) → ExpressionCode → Shape
     → Evaluated Label Value
     → Type 0
@@ -37,19 +37,19 @@ CodeMeans checked slots (a_block q n) (record_shape k fs) value =
     (n ≡ size (record_shape k fs)) × ValueAt checked slots q (record_shape k fs) value
 CodeMeans checked slots _ _ value = ⊥
 
--- a place, and the type of what is there
+-- a place, and the type of its value
 pub record FoundPlace : Type 0 where
   pub place : lowered.Place
   pub shape : Shape
 
--- what is at a place
+-- the code of the value at a place
 abbrev pub code_at_place : lowered.Place → Shape → ExpressionCode
 code_at_place q integer_shape = a_number (lowered.cell q)
 code_at_place q boolean_shape = a_truth (lowered.flag q)
 code_at_place q (array_shape k n s) = a_block q (size (array_shape k n s))
 code_at_place q (record_shape k fs) = a_block q (size (record_shape k fs))
 
--- the code of what was found at a place
+-- the code of the value at a place, if one was found
 abbrev pub code_at : Option FoundPlace → ExpressionCode
 code_at None = no_code
 code_at (Some f) = code_at_place f.place f.shape
@@ -61,7 +61,7 @@ constant_code (truth b) = a_truth (lowered.constant b)
 constant_code (elements vs) = no_code
 constant_code (members k ms) = no_code
 
--- a constant is its value, a variable what is at its place
+-- the code of a name: of a constant's value, or of the value at a place
 abbrev pub named_code : Option Value → Option FoundPlace → ExpressionCode
 named_code (Some v) found = constant_code v
 named_code None found = code_at found
@@ -92,10 +92,11 @@ multiplied multiply_operator.Divide = operated lowered.quotient
 multiplied multiply_operator.Modulo = operated lowered.remainder
 multiplied multiply_operator.And = combined lowered.both
 
--- the code of a term with its sign
+-- the code of a term with its sign: `+x` is `x + 0`, so it has the value of `x` if that is in range
 abbrev pub signed : Option Sign → ExpressionCode → ExpressionCode
 signed None c = c
-signed (Some sign.Plus) (a_number n) = a_number n
+signed (Some sign.Plus) (a_number n) =
+    a_number (lowered.operation lowered.sum n (lowered.literal (pos 0)))
 signed (Some sign.Minus) (a_number n) = a_number (lowered.negative n)
 signed _ _ = no_code
 
@@ -111,7 +112,7 @@ related relation.Equal (a_truth t) (a_truth u) = a_truth (lowered.same t u)
 related relation.NotEqual (a_truth t) (a_truth u) = a_truth (lowered.different t u)
 related _ _ _ = no_code
 
--- where an element at a literal index begins in its array, if the index is there
+-- the offset of an element at a literal index within its array
 abbrev pub known_offset : lowered.Number → (length stride : ℕ) → Option ℕ
 known_offset (lowered.literal (pos i)) n s =
     if nat_lt i n then Some ((i * s) % 2 ^ 64) else None

@@ -1,7 +1,7 @@
--- What a module's declarations bind, and what its table of declarations has, by ordinal.
--- `BlockDeclared`, by recursion over the tree: wherever procedures and statements of a block are checked, each binding
--- is of an ordinal and binds it to what its declaration is. A well-typed module is so (`module-declared`): in its
--- numbered tree ordinals descend in each environment, so each binding is the one that is found. Nothing else of the
+-- The bindings of a module's declarations, and the table of its declarations by ordinal.
+-- `BlockDeclared` recurses over the tree: in each environment in which procedures and statements of a block are checked,
+-- each binding is of an ordinal, to the object of its declaration. A well-typed module is so (`module-declared`): in its
+-- numbered tree ordinals descend in each environment, so each binding is the one that is found. No other fact about the
 -- order of ordinals is used.
 -- Rule: none; for contracts of lowering.
 use Rattle.std.specs.Prelude.{◌≡◌, ℕ, [], ◌∷◌, Some, Option}
@@ -12,22 +12,22 @@ use Rattle.ob0_language_types.specs.Expressions.{Object}
 use Rattle.ob0_language_types.specs.WellTyped.{Signature, TypeEnvironment}
 use Rattle.ob0_language_values.specs.Values.{Shape}
 
--- what declarations are, by their ordinals
+-- the objects of declarations, by their ordinals
 abbrev pub Objects : Type 0
 Objects = ℕ → Option (Object Shape Signature)
 
--- each binding is of an ordinal, and binds it to what its declaration is
+-- states that each binding is of an ordinal, to the object of its declaration
 abbrev pub AreDeclared : Objects → TypeEnvironment Label → Type 0
 AreDeclared objects [] = Unit {0}
 AreDeclared objects (b ∷ env) =
     ((k : ℕ) × (b.0 ≡ declared k) × (objects k ≡ Some b.1)) × AreDeclared objects env
 
--- so do all bindings where a block's procedures and statements are checked,
--- and those of the blocks in it
+-- states the same for each environment in which procedures and statements of a block are checked,
+-- and of the blocks in it
 abbrev pub BlockDeclared : Objects → TypeEnvironment Label → ℕ → Tree Label block → Type 0
 BlockDeclared objects = BlockHas (AreDeclared objects)
 
--- the same of procedures
+-- states the same for procedures
 abbrev pub ProceduresDeclared : Objects
     → TypeEnvironment Label
     → ℕ

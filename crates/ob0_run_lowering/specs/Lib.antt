@@ -9,4 +9,3 @@ pub mod LoweredBodies
 pub mod KnownBlocks
 pub mod Placed
 pub mod Blocks
-pub mod LoweredModules

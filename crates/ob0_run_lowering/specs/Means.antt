@@ -1,4 +1,4 @@
--- What the code of expressions, designators and arguments means, wherever a scene is right.
+-- The meaning of the code of expressions, designators and arguments, if a scene is right.
 -- Rule: none; for contracts of lowering.
 use Rattle.std.specs.Prelude.{◌≡◌, ℕ, true, Some}
 use Rattle.ob0_tree.specs.Tree.{Tree, expression, items, selector}
@@ -23,25 +23,25 @@ use Rattle.ob0_run_lowering.specs.declared.lowered.TypedPlace.{TypedPlace}
 use Rattle.ob0_run_lowering.specs.declared.lowered.Lowered.{Lowered}
 use Rattle.ob0_run_lowering.specs.declared.scene.Scene.{Scene}
 
--- the code of an expression of a type
+-- states that the code of an expression of a type means it
 abbrev pub Means : Typed Label → (Label → Slot) → Lowered → Shape → Evaluated Label Value → Type 0
 Means checked slots l s value = CodeMeans checked slots (code_of l) s value
 
--- whatever a scene is right for
+-- for all checked names and slots for which a scene is right
 abbrev pub WhereSeen : Scene → (Typed Label → (Label → Slot) → Type 0) → Type 0
 WhereSeen scene P =
     (checked : Typed Label) (slots : Label → Slot) (targets : Label → Target)
     → Sees scene checked slots targets
     → P checked slots
 
--- the code of an expression, where it has a type
+-- states that the code of an expression means it, if it has a type
 abbrev pub Lowers : Scene → Tree ℕ expression → Lowered → Type 0
 Lowers scene e l =
     WhereSeen scene (λ checked slots. (s : Shape)
     → type_of checked (in_labels scene.resolved.now e) ≡ Some s
     → Means checked slots l s (value_of_expression (in_labels scene.resolved.now e)))
 
--- a number means the expression, where that is an INTEGER
+-- states that a number means an expression, if that is an INTEGER
 abbrev pub LowersNumber : Scene → Tree ℕ expression → Number → Type 0
 LowersNumber scene e n =
     WhereSeen scene (λ checked slots. type_of checked (in_labels scene.resolved.now e)
@@ -49,7 +49,7 @@ LowersNumber scene e n =
     → NumberMeans checked slots (number_of n)
     (value_of_expression (in_labels scene.resolved.now e)))
 
--- a truth value means the expression, where that is a BOOLEAN
+-- states that a truth means an expression, if that is a BOOLEAN
 abbrev pub LowersTruth : Scene → Tree ℕ expression → Truth → Type 0
 LowersTruth scene e t =
     WhereSeen scene (λ checked slots. type_of checked (in_labels scene.resolved.now e)
@@ -57,7 +57,7 @@ LowersTruth scene e t =
     → TruthMeans checked slots (truth_of t)
     (value_of_expression (in_labels scene.resolved.now e)))
 
--- the place of a variable with its selectors, and its type
+-- states that a place and its type are those of a variable with its selectors
 abbrev pub Locates : Scene → ℕ → Tree ℕ (items selector) → TypedPlace → Type 0
 Locates scene x path l =
     WhereSeen scene (λ checked slots. (s : Shape)
@@ -67,7 +67,7 @@ Locates scene x path l =
     × PlaceMeans checked slots (place_of l.place) s
     (place_of_designator (label_in scene.resolved.now x) (in_labels scene.resolved.now path)))
 
--- the place of an expression that is a designator alone
+-- states that a place and its type are those of an expression, if that is only a designator
 abbrev pub LocatesAlone : Scene → Tree ℕ expression → TypedPlace → Type 0
 LocatesAlone scene e l =
     WhereSeen scene (λ checked slots. (s : Shape)
@@ -75,7 +75,7 @@ LocatesAlone scene e l =
     → (type_shape (shapes_of scene.types.now) l.of ≡ s)
     × IsAt checked slots (place_of l.place) s (in_labels scene.resolved.now e))
 
--- an argument for a parameter that it fits
+-- states that the code of an argument means it, if it fits its parameter
 abbrev pub LowersArgument : Scene → Formal → Tree ℕ expression → Argument → Type 0
 LowersArgument scene f e a =
     WhereSeen scene (λ checked slots. argument_fits checked

@@ -1,4 +1,4 @@
--- What is taken of the code of an expression, where it has the requested form.
+-- The parts of the code of an expression that has the requested form.
 -- Rule: none; for contracts of lowering.
 use Rattle.std.specs.Prelude.{◌≡◌, Option, Some, None}
 use Rattle.ob0_run_machine.specs.declared.code.Argument.{Argument}
@@ -9,34 +9,34 @@ use Rattle.ob0_run_lowering.specs.declared.lowered.TypedPlace.{TypedPlace}
 use Rattle.ob0_run_lowering.specs.declared.lowered.Lowered.{Lowered}
 use Rattle.ob0_run_lowering.specs.declared.lowered.Lowered.TheVariants as code
 
--- the number that a code is
+-- states that a number is that of a code
 abbrev pub IsNumberOf : Lowered → Number → Type 0
 IsNumberOf (code.Number m) n = m ≡ n
 IsNumberOf _ n = Unit {0}
 
--- the truth value that a code is
+-- states that a truth is that of a code
 abbrev pub IsTruthOf : Lowered → Truth → Type 0
 IsTruthOf (code.Truth u) t = u ≡ t
 IsTruthOf _ t = Unit {0}
 
--- a value is passed as what it is
+-- states that an argument passes the value of a code
 abbrev pub IsValueOf : Lowered → Argument → Type 0
 IsValueOf (code.Number n) a = argument.Number n ≡ a
 IsValueOf (code.Truth t) a = argument.Truth t ≡ a
 IsValueOf (code.Block q k) a = argument.Block q k ≡ a
 IsValueOf code.Nothing a = Unit {0}
 
--- the place that was found
+-- states that a place is the one that was found
 abbrev pub IsTypedPlaceOf : Option TypedPlace → TypedPlace → Type 0
 IsTypedPlaceOf (Some m) l = m ≡ l
 IsTypedPlaceOf None l = Unit {0}
 
--- the number that an operand is, where it is one
+-- the number that an operand is, if it is one
 abbrev pub number_in : Lowered → Option Number
 number_in (code.Number n) = Some n
 number_in _ = None
 
--- the truth that it is, where it is one
+-- the truth that an operand is, if it is one
 abbrev pub truth_in : Lowered → Option Truth
 truth_in (code.Truth t) = Some t
 truth_in _ = None

@@ -1,14 +1,12 @@
--- What lowering knows where it is: what declarations are, where each of them is,
--- and how deep the running activation is.
+-- The facts that the lowering of a body needs: the objects of declarations, their sites,
+-- and the depth of the running activation.
 -- Rule: none; for contracts of lowering.
-use Rattle.std.specs.Prelude.{◌≡◌, ℕ, ◌-◌, List, slice_index_or, Some, None, Option, true, ℤ, pos}
-use Rattle.ob0_tree.specs.Places.{value_at}
-use Rattle.ob0_run_machine.specs.Evaluation as machine
+use Rattle.std.specs.Prelude.{◌≡◌, ℕ, ◌-◌, List, slice_index_or, Some, None, Option}
 use Rattle.ob0_language_names.specs.Names.{Label, as_written, declared, label_text}
 use Rattle.ob0_types_table.specs.KnownTables.{Tables, declared_in}
-use Rattle.ob0_language_types.specs.Expressions.{Object, a_constant, a_procedure, a_variable}
+use Rattle.ob0_language_types.specs.Expressions.{Object, a_procedure, a_variable}
 use Rattle.ob0_language_types.specs.WellTyped.{Signature, Typed}
-use Rattle.ob0_language_values.specs.Values.{Shape, number}
+use Rattle.ob0_language_values.specs.Values.{Shape}
 use Rattle.ob0_run_cells.specs.Activations.{Whereabouts, at_target, in_slot, nowhere, slot_of, target_of}
 use Rattle.ob0_run_cells.specs.LoweredStatements.{Target}
 use Rattle.ob0_run_cells.specs.Lowering.{Slot, held, by_reference, of_module}
@@ -16,7 +14,7 @@ use Rattle.ob0_run_lowering.specs.declared.scene.Scene.{Scene}
 use Rattle.ob0_run_lowering.specs.declared.scene.Site.{Site}
 use Rattle.ob0_run_lowering.specs.declared.scene.Site.TheVariants as site
 
--- a declaration's whereabouts, as they are seen from an activation that is so deep
+-- the place of a declaration in lowered code, as seen from an activation of this depth
 abbrev pub seen_from : ℕ → Site → Whereabouts
 seen_from depth site.Nowhere = nowhere
 seen_from depth (site.Module offset) = in_slot (of_module offset)
@@ -25,11 +23,11 @@ seen_from depth (site.ByReference at index) = in_slot (by_reference (depth - at)
 seen_from depth (site.Procedure at index) =
     at_target (record { procedure = index; up = depth - at })
 
--- where the declaration of an ordinal is
+-- the site of an ordinal
 abbrev pub site_at : List Site → ℕ → Site
 site_at sites k = slice_index_or sites k site.Nowhere
 
--- where the declaration of a label is, as it is seen from a scene
+-- the place of a label's declaration in lowered code, as seen from a scene
 abbrev pub whereabouts : Scene → Label → Whereabouts
 whereabouts scene (declared k) = seen_from scene.depth (site_at scene.sites.now k)
 whereabouts scene (as_written x) = nowhere
@@ -42,21 +40,13 @@ slot_at scene x = slot_of (whereabouts scene x)
 abbrev pub target_at : Scene → Label → Target
 target_at scene x = target_of (whereabouts scene x)
 
--- what the declaration of a label is
+-- the object of a label's declaration
 abbrev pub object_at : Tables → Label → Option (Object Shape Signature)
 object_at t (declared k) = declared_in t k
 object_at t (as_written x) = None
 
--- the numbers of the text and the constants of the module have 32 bits
-pub record HasSmall (scene : Scene) : Type 0 where
-  pub numbers : (token : ℕ)
-      → machine.fits (pos (value_at scene.resolved.now.module_read.source token)) ≡ true
-  pub constants : (x : Label) (n : ℤ)
-      → object_at scene.types.now x ≡ Some (a_constant (number n))
-      → machine.fits n ≡ true
-
--- A scene is right for what names mean in a body, for the slots of its variables and the targets of
--- its procedures: what is bound there is what its declaration is, and is where the scene has it.
+-- states that a scene is right for the checked names of a body, their slots and their targets:
+-- each bound name has the object of its declaration, and the slot or target of the scene
 pub record Sees (scene : Scene) (checked : Typed Label) (slots : Label → Slot)
     (targets : Label → Target) : Type 0 where
   pub bound : (x : Label) (o : Object Shape Signature)

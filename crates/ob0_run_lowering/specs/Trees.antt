@@ -1,4 +1,4 @@
--- The code of designators and expressions of a scene, by what declarations are and where they are.
+-- The code of designators and expressions of a scene, by the objects and sites of declarations.
 -- Rule: none; for contracts of lowering.
 use Rattle.std.specs.Prelude.{List, pos, Some, None, Option, option_and_then}
 use Rattle.ob0_tree.specs.Tree.{Tree, addend, adds, compares, designator, end, expression, factor, field, index, integer, item, items, more, multiplier, multiplies, negation, none, one, parenthesised, product, relates, selector, simple, sum, term}
@@ -18,7 +18,7 @@ use Rattle.ob0_run_lowering.specs.declared.lowered.Lowered.{Lowered}
 use Rattle.ob0_run_lowering.specs.declared.lowered.Lowered.TheVariants as code
 use Rattle.ob0_run_lowering.specs.declared.scene.Scene.{Scene}
 
--- what values of the code's types mean
+-- the code that a value of the code's types stands for
 abbrev pub code_of : Lowered → ExpressionCode
 code_of (code.Number n) = a_number (number_of n)
 code_of (code.Truth t) = a_truth (truth_of t)
@@ -29,7 +29,7 @@ code_of code.Nothing = no_code
 abbrev pub found_of : List Shape → TypedPlace → FoundPlace
 found_of shapes l = record { place = place_of l.place; shape = type_shape shapes l.of }
 
--- the whole of a variable
+-- the place of a whole variable
 abbrev pub variable_found : lowered.Place → Option (Object Shape Signature) → Option FoundPlace
 variable_found q (Some (a_variable s)) = Some (record { place = q; shape = s })
 variable_found q _ = None
@@ -65,7 +65,7 @@ abbrev mutual
   multipliers_code scene c (more (multiplies o f) rest) =
       multipliers_code scene (multiplied o c (factor_code scene f)) rest
 
-  -- a factor; a designator is a constant, or what is at its place
+  -- a factor; a designator is a constant, or the value at its place
   pub factor_code : Scene → Tree Label factor → ExpressionCode
   factor_code scene (designator x path) =
       named_code (constant_of (object_at scene.types.now x))

@@ -1,5 +1,5 @@
-//! Assignments. Where the right side has no code, which isn't so in a well-typed module, an assignment is lowered to
-//! `WriteLine`: some instruction has to be returned.
+//! Assignments. In a well-typed module the right side has code. If it has none the assignment is lowered to
+//! `WriteLine`, since some instruction has to be returned.
 
 ghost use Rattle.std.specs.Prelude.{◌≡◌, IfOk};
 ghost use Rattle.ob0_tree.specs.View.{assignment_of};
@@ -15,7 +15,7 @@ use ob0_run_machine::code::{
 use ob0_tree::Assignment;
 use std::alloc::{AllocError, Global};
 
-/// The code of an assignment of a number.
+/// Returns the code of an assignment of a number.
 fn store_number(alloc: Global, place: Place, n: Number) -> Result<Instruction, AllocError>
     ensures { IfOk result
         (λ made. statement_of made ≡ machine.stores_number (place_of place) (number_of n)) }
@@ -26,7 +26,7 @@ fn store_number(alloc: Global, place: Place, n: Number) -> Result<Instruction, A
     }
 }
 
-/// The code of an assignment of a number to a variable.
+/// Returns the code of an assignment of a number to a variable.
 fn store_variable(alloc: Global, variable: Variable, n: Number) -> Result<Instruction, AllocError>
     ensures { IfOk result
         (λ made. statement_of made ≡ machine.stores_number (variable_of variable) (number_of n)) }
@@ -40,7 +40,7 @@ fn store_variable(alloc: Global, variable: Variable, n: Number) -> Result<Instru
     }
 }
 
-/// The code of an assignment of an operation on a variable to that variable.
+/// Returns the code of an assignment of an operation on a variable to that variable.
 fn update(variable: Variable, link: Link) -> Instruction
     ensures { statement_of result ≡ machine.stores_number (variable_of variable)
         (applied link (machine.cell (variable_of variable))) }
@@ -51,7 +51,7 @@ fn update(variable: Variable, link: Link) -> Instruction
     }
 }
 
-/// The code of an assignment of an operation's result to a variable, which may be its left operand.
+/// Returns the code of an assignment of an operation's result to a variable, which may be its left operand.
 fn store_operation(
     alloc: Global,
     variable: Variable,
@@ -80,7 +80,7 @@ fn store_operation(
     }
 }
 
-/// The code of an assignment of TRUE or FALSE: to an element it is one node.
+/// Returns the code of an assignment of TRUE or FALSE. It is one node if the target is an element.
 fn store_constant(place: Place, b: bool) -> Instruction
     ensures { statement_of result ≡ machine.stores_truth (place_of place) (machine.constant b) }
 {
@@ -90,7 +90,7 @@ fn store_constant(place: Place, b: bool) -> Instruction
     }
 }
 
-/// The code of an assignment of a truth value.
+/// Returns the code of an assignment of a truth value.
 fn store_truth(place: Place, t: Truth) -> Instruction
     ensures { statement_of result ≡ machine.stores_truth (place_of place) (truth_of t) }
 {
@@ -100,7 +100,7 @@ fn store_truth(place: Place, t: Truth) -> Instruction
     }
 }
 
-/// The code of an assignment: of a number, of a truth, or of the cells of an array or a record.
+/// Returns the code of an assignment: of a number, of a truth, or of the cells of an array or a record.
 pub(crate) fn assignment(
     alloc: Global,
     scene: &Scene<'_, '_, '_>,

@@ -1,7 +1,7 @@
-//! Calls of procedures and of the standard procedures. Calls that no well-typed module has, as of a variable or of Read
-//! without an argument, are lowered to `WriteLine`: some instruction has to be returned, and none of these is executed.
+//! Calls of procedures and of the standard procedures. No well-typed module calls a variable, or Read without an
+//! argument. Such calls are lowered to `WriteLine`, since some instruction has to be returned.
 //!
-//! Arguments and parameters are walked side by side, and no length is compared: where one is left alone, they don't
+//! Arguments and parameters are visited in pairs, and no length is compared: if one list is longer, the arguments don't
 //! fit, and nothing is claimed. Read needs the place of its argument (`locate_argument`), Write the number of its
 //! argument (`number`).
 
@@ -25,7 +25,7 @@ use ob0_tree::{Call, Expression};
 use ob0_types_table::{Formal, Object, Standard};
 use std::alloc::{AllocError, Global};
 
-/// The code of a call.
+/// Returns the code of a call.
 pub(crate) fn call(
     alloc: Global,
     scene: &Scene<'_, '_, '_>,
@@ -52,7 +52,7 @@ pub(crate) fn call(
     }
 }
 
-/// The code of a call of a procedure with these parameters.
+/// Returns the code of a call of a procedure with these parameters.
 fn lower_call(
     alloc: Global,
     scene: &Scene<'_, '_, '_>,
@@ -74,7 +74,7 @@ fn lower_call(
     }))
 }
 
-/// The arguments of a call, each beside its parameter.
+/// Returns the code of the arguments of a call, each for its parameter.
 fn arguments(
     alloc: Global,
     scene: &Scene<'_, '_, '_>,
@@ -109,7 +109,7 @@ fn all_arguments(
     Ok(made)
 }
 
-/// The first argument of a call.
+/// Returns the first argument of a call.
 fn first(given: &Option<Vec<Expression>>) -> Option<&Expression>
     ensures { option_map (λ e. e.now) result ≡ slice_get (given_in given.now) 0 }
 {
@@ -119,7 +119,7 @@ fn first(given: &Option<Vec<Expression>>) -> Option<&Expression>
     }
 }
 
-/// The code of a call of a standard procedure.
+/// Returns the code of a call of a standard procedure.
 fn lower_standard_call(
     alloc: Global,
     scene: &Scene<'_, '_, '_>,

@@ -1,12 +1,11 @@
-//! Operations in a row, in a list from the second on. Two truths that are joined are a pair, more of them a list.
+//! Rows of operations. The second operation in a row begins a `Chain`, the second `&` or OR an `All` or an `Any`.
 //!
-//! The second operation in a row begins a `Chain`, the second `&` or OR an `All` or an `Any`; in `v + i * j` the sum
-//! goes to the end of the row of its right operand. By `View` they mean the same nested code, so nothing else knows of
-//! it; nor of the forms of places, negations and assignments that the machine evaluates in fewer steps. Since the
-//! meaning is the same, the depth of a row is a clause of its own (`specs/Rows`): one more operand makes a conjunction
-//! no deeper on the left than it was, or than once (`GoesOnFlat`), and so the first operand of a conjunction isn't one
-//! (`IsFlat`). `both` and `either` name each case of the left operand, since a wildcard arm would leave nothing known
-//! of it.
+//! In `v + i * j` the sum goes to the end of the row of its right operand. By `View` these nodes mean the same nested
+//! code, so no other module has to distinguish them. The same holds for the forms of places, negations and assignments
+//! that the machine evaluates in fewer steps. Since the meaning is the same, the depth of a row has a separate clause
+//! (`specs/Rows`): one more operand makes a conjunction at most as deep on the left as it was, or as a pair
+//! (`GoesOnFlat`), and so the first operand of a conjunction isn't one (`IsFlat`). `both` and `either` list each case of
+//! the left operand, since a proof knows nothing about the operand in a wildcard arm.
 
 ghost use Rattle.std.specs.Prelude.{◌≡◌, ◌≤◌, IfOk, IfSome, max, suc};
 ghost use Rattle.ob0_run_machine.specs.Lowered as machine;
@@ -19,7 +18,7 @@ use ob0_run_machine::code::{
 };
 use std::alloc::{AllocError, Global};
 
-/// An operator with its right operand.
+/// Returns the link of an operator with its right operand.
 fn link(operator: Operator, right: Number) -> Link
     ensures { (left : machine.Number)
         → applied result left ≡ machine.operation (operator_of operator) left (number_of right) }
@@ -53,7 +52,7 @@ fn link(operator: Operator, right: Number) -> Link
     }
 }
 
-/// An operator with a variable as its left operand, where there is such a link.
+/// Returns the link of an operator whose left operand is a variable, or None if there is no such link.
 fn link_after(operator: Operator, variable: Variable) -> Option<Link>
     ensures { IfSome result (λ l. (right : machine.Number) → applied l right
         ≡ machine.operation (operator_of operator) (machine.cell (variable_of variable)) right) }
@@ -67,14 +66,14 @@ fn link_after(operator: Operator, variable: Variable) -> Option<Link>
     }
 }
 
-/// One operation on a number that isn't one itself.
+/// Returns a row of one operation.
 fn single(alloc: Global, first: FirstOperand, link: Link) -> Result<Number, AllocError>
     ensures { IfOk result (λ n. number_of n ≡ applied link (first_of first)) }
 {
     Ok(Number::Operation(Box::new(alloc, Operation { first, link })?))
 }
 
-/// A row of two operations.
+/// Returns a row of two operations.
 fn two(alloc: Global, operation: Operation, next: Link) -> Result<Number, AllocError>
     ensures { IfOk result (λ n. number_of n ≡ applied next (operation_of operation)) }
 {
@@ -85,7 +84,7 @@ fn two(alloc: Global, operation: Operation, next: Link) -> Result<Number, AllocE
     Ok(Number::Chain(Box::new(alloc, Chain { first, rest })?))
 }
 
-/// A row with one operation more.
+/// Returns a row with one more operation.
 fn longer(alloc: Global, chain: Chain, link: Link) -> Result<Number, AllocError>
     ensures { IfOk result (λ n. number_of n ≡ applied link (chained_in chain)) }
 {
@@ -94,7 +93,7 @@ fn longer(alloc: Global, chain: Chain, link: Link) -> Result<Number, AllocError>
     Ok(Number::Chain(Box::new(alloc, Chain { first, rest })?))
 }
 
-/// An operation between a variable and a number.
+/// Returns an operation between a variable and a number, as a row of one operation.
 fn plain(
     alloc: Global,
     operator: Operator,
@@ -111,8 +110,8 @@ fn plain(
     )
 }
 
-/// An operation on a variable and a number. Where the number is a row of operations, they are all in one row: a variable
-/// can be evaluated after what it is operated with.
+/// Returns an operation between a variable and a number. If the number is a row of operations, all are in one row, since a
+/// variable can be evaluated after the right operand.
 fn operation_on_variable(
     alloc: Global,
     operator: Operator,
@@ -132,7 +131,7 @@ fn operation_on_variable(
     }
 }
 
-/// An operation between two numbers. Where the left one is an operation, both are in one row.
+/// Returns an operation between two numbers. If the left operand is an operation, both are in one row.
 pub(crate) fn operation(
     alloc: Global,
     operator: Operator,
@@ -156,7 +155,7 @@ pub(crate) fn operation(
     }
 }
 
-/// A conjunction with one truth more.
+/// Returns a conjunction with one more truth.
 fn all_of(alloc: Global, several: Several, right: Truth) -> Result<Truth, AllocError>
     ensures meaning { IfOk result
         (λ t. truth_of t ≡ machine.both (all_in several) (truth_of right)) }
@@ -169,7 +168,7 @@ fn all_of(alloc: Global, several: Several, right: Truth) -> Result<Truth, AllocE
     Ok(Truth::All(several))
 }
 
-/// A disjunction with one truth more.
+/// Returns a disjunction with one more truth.
 fn any_of(alloc: Global, several: Several, right: Truth) -> Result<Truth, AllocError>
     ensures meaning { IfOk result
         (λ t. truth_of t ≡ machine.either (any_in several) (truth_of right)) }
@@ -182,7 +181,7 @@ fn any_of(alloc: Global, several: Several, right: Truth) -> Result<Truth, AllocE
     Ok(Truth::Any(several))
 }
 
-/// A conjunction of three truths in a row.
+/// Returns a conjunction of three truths.
 fn three_in_all(
     alloc: Global,
     first: Truth,
@@ -199,7 +198,7 @@ fn three_in_all(
     all_of(alloc, Several { first, rest }, third)
 }
 
-/// A disjunction of three truths in a row.
+/// Returns a disjunction of three truths.
 fn three_in_any(
     alloc: Global,
     first: Truth,
@@ -216,7 +215,7 @@ fn three_in_any(
     any_of(alloc, Several { first, rest }, third)
 }
 
-/// The negation of a truth: of a flag it is one node.
+/// Returns the negation of a truth. It is one node if the truth is a flag.
 pub(crate) fn negation(alloc: Global, truth: Truth) -> Result<Truth, AllocError>
     ensures meaning { IfOk result (λ t. truth_of t ≡ machine.negation (truth_of truth)) }
     ensures flat { IfOk result (λ t. (and_depth t ≡ 0) × (or_depth t ≡ 0)) }

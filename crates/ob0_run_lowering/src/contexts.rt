@@ -1,4 +1,4 @@
-//! What is known of a module while its blocks are lowered.
+//! The facts about a module that the lowering of its blocks needs.
 
 ghost use Rattle.std.specs.Prelude.{◌≡◌};
 
@@ -7,7 +7,7 @@ use ob0_scope_table::Resolved;
 use ob0_types_table::TypeId;
 use std::alloc::Global;
 
-/// The module, its types, and where memory comes from.
+/// The module, its types, and the allocator.
 #[derive(Clone, Copy)]
 pub(crate) struct LoweringContext<'g, 'k, 't> {
     pub(crate) alloc: Global,
@@ -24,7 +24,7 @@ impl<'g, 'k, 't> LoweringContext<'g, 'k, 't> {
     ghost use Rattle.ob0_run_lowering.specs.Scenes.{object_at};
     ghost use Rattle.ob0_run_lowering.specs.Placed.{declared_size};
 
-    /// The type of what a name declares.
+    /// Returns the type of the variable that a name declares.
     fn type_of(&self, name: usize) -> Option<TypeId>
         ensures { option_map (type_shape (shapes_of self.now.types.now)) result
             ≡ type_declared (object_at self.now.types.now (label_in self.now.resolved.now name)) }
@@ -33,7 +33,7 @@ impl<'g, 'k, 't> LoweringContext<'g, 'k, 't> {
         self.types.declarations().declared_type(ordinal)
     }
 
-    /// How many cells the variable that a name declares has.
+    /// Returns the number of cells of the variable that a name declares.
     pub(crate) fn size(&self, name: usize) -> usize
         ensures { result ≡ declared_size self.now.types.now (label_in self.now.resolved.now name) }
     {

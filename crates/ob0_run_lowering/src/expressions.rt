@@ -1,4 +1,4 @@
-//! Lowering of expressions, places and arguments, as they are met in statements.
+//! Lowering of expressions, places and arguments, for statements.
 
 ghost use Rattle.std.specs.Prelude.{IfOk};
 ghost use Rattle.ob0_tree.specs.View.{expression_of};
@@ -7,7 +7,6 @@ ghost use Rattle.ob0_language_types.specs.Selected.{selectors_in};
 ghost use Rattle.ob0_run_lowering.specs.Means.{Locates, LocatesAlone, Lowers, LowersArgument, LowersNumber, LowersTruth};
 ghost use Rattle.ob0_run_lowering.specs.Parts.{IsNumberOf, IsTypedPlaceOf, IsTruthOf, IsValueOf};
 ghost use Rattle.ob0_run_lowering.specs.Rows.{IsFlat};
-ghost use Rattle.ob0_run_lowering.specs.Scenes.{HasSmall};
 ghost use Rattle.ob0_run_lowering.specs.declared.lowered.Lowered.TheVariants as code;
 
 use crate::lowered::{Lowered, TypedPlace};
@@ -18,7 +17,7 @@ use ob0_types_table::designated::lone_designator;
 use ob0_types_table::{Formal, TypeId};
 use std::alloc::{AllocError, Global};
 
-/// The number that a code is.
+/// Returns the number of a code, or 0 if it has another type.
 fn number_of(lowered: Lowered) -> Number
     ensures { IsNumberOf lowered result }
 {
@@ -30,7 +29,7 @@ fn number_of(lowered: Lowered) -> Number
     }
 }
 
-/// The truth that a code is.
+/// Returns the truth of a code, or FALSE if it has another type.
 fn truth_of(lowered: Lowered) -> Truth
     ensures taken { IsTruthOf lowered result }
     ensures flat { IsFlat lowered → IsFlat (code.Truth result) }
@@ -43,7 +42,7 @@ fn truth_of(lowered: Lowered) -> Truth
     }
 }
 
-/// A code as an argument that is passed by its value.
+/// Returns a code as an argument that is passed by value.
 fn value_of(lowered: Lowered) -> Argument
     ensures { IsValueOf lowered result }
 {
@@ -62,7 +61,7 @@ fn nowhere() -> TypedPlace {
     }
 }
 
-/// A place that was found.
+/// Returns a place that was found, or the module's first cell.
 fn place_of(found: Option<TypedPlace>) -> TypedPlace
     ensures { IsTypedPlaceOf found result }
 {
@@ -73,29 +72,19 @@ fn place_of(found: Option<TypedPlace>) -> TypedPlace
 }
 
 impl<'s, 'k, 't> Scene<'s, 'k, 't> {
-    /// The code of an expression.
+    /// Returns the code of an expression.
     ///
     /// # Errors
     ///
-    /// Out of memory, as for all that follows.
+    /// An allocation failed. The other functions here have no other error either.
     pub fn expression(&self, alloc: Global, e: &Expression) -> Result<Lowered, AllocError>
         ensures lowers { IfOk result (Lowers self.now (expression_of e.now)) }
         ensures flat { IfOk result IsFlat }
     {
-        self.has_small();
         self.lower_expression(alloc, e)
     }
 
-    /// The numbers of the text and the constants of the module have 32 bits.
-    fn has_small(&self)
-        ensures { HasSmall self.now }
-    {
-        // For the proof: what the contracts of these calls say.
-        let _known = self.types.declarations();
-        let _text = self.resolved.tokens().text();
-    }
-
-    /// The code of an expression that evaluates to a number.
+    /// Returns the code of an expression that evaluates to a number.
     pub fn number(&self, alloc: Global, e: &Expression) -> Result<Number, AllocError>
         ensures { IfOk result (LowersNumber self.now (expression_of e.now)) }
     {
@@ -103,7 +92,7 @@ impl<'s, 'k, 't> Scene<'s, 'k, 't> {
         Ok(number_of(lowered))
     }
 
-    /// The code of a condition.
+    /// Returns the code of a condition.
     pub fn truth(&self, alloc: Global, e: &Expression) -> Result<Truth, AllocError>
         ensures lowers { IfOk result (LowersTruth self.now (expression_of e.now)) }
         ensures flat { IfOk result (λ t. IsFlat (code.Truth t)) }
@@ -112,16 +101,15 @@ impl<'s, 'k, 't> Scene<'s, 'k, 't> {
         Ok(truth_of(lowered))
     }
 
-    /// The place of a variable with its selectors, and its type.
+    /// Returns the place of a variable with its selectors, and its type.
     pub fn place(&self, alloc: Global, d: &Designator) -> Result<TypedPlace, AllocError>
         ensures { IfOk result (Locates self.now (out-Designator d.now).name (selectors_in d.now)) }
     {
-        self.has_small();
         let found = self.locate(alloc, d)?;
         Ok(place_of(found))
     }
 
-    /// The place of an argument for a VAR parameter: a designator alone.
+    /// Returns the place of an argument for a VAR parameter, which has to be a designator without operators.
     pub fn locate_argument(&self, alloc: Global, e: &Expression) -> Result<TypedPlace, AllocError>
         ensures { IfOk result (LocatesAlone self.now (expression_of e.now)) }
     {
@@ -131,7 +119,7 @@ impl<'s, 'k, 't> Scene<'s, 'k, 't> {
         }
     }
 
-    /// An argument of a call.
+    /// Returns the code of an argument of a call.
     pub fn argument(
         &self,
         alloc: Global,

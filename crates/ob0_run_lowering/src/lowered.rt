@@ -1,4 +1,4 @@
-//! What an expression or a designator is lowered to.
+//! The code of an expression or a designator.
 
 use ob0_run_machine::code::{Number, Place, Truth};
 use ob0_types_table::TypeId;
@@ -8,14 +8,14 @@ use ob0_types_table::TypeId;
 pub enum Lowered {
     Number(Number),
     Truth(Truth),
-    /// The cells of an array or a record: where they begin, and their number.
+    /// The cells of an array or a record: their first place, and their number.
     Block(Place, usize),
-    /// No code: of what no expression of a well-typed module is. A number, a truth or a place that is needed there is 0,
+    /// No code. No expression of a well-typed module has this. If a number, a truth or a place is needed there, it is 0,
     /// FALSE or the module's first cell.
     Nothing,
 }
 
-/// Where a designator leads, and the type of what is there.
+/// The place of a designator, and the type of its value.
 #[derive(Drop)]
 pub struct TypedPlace {
     pub place: Place,

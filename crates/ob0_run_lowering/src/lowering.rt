@@ -1,10 +1,10 @@
 //! Lowering of designators and expressions, at a body. Chains are walked by loops, nestings by calls.
 //!
-//! Code and meaning are two steps. `specs/Codes` and `specs/Trees` say which code a tree has (`expression_code`), as
-//! functions that compute; this walk is proved equal to them, an equation each. That this code means the tree is an
-//! induction over trees alone (`proofs/TreesMean`), by the laws of `ob0_run_cells`. No function's proof speaks of
-//! moments or cells. The types that the walk finds by the way are those of the table; only `bound` of `Sees` ties them
-//! to what is checked. A variable that isn't in scope has a type too, and nothing is claimed of it.
+//! Code and meaning are two steps. `specs/Codes` and `specs/Trees` define the code of a tree (`expression_code`), as
+//! functions that compute; each function here returns that code. An induction over trees (`proofs/TreesMean`) shows that
+//! the code means the tree, by the laws of `ob0_run_cells`. No proof of a function mentions moments or cells. The types
+//! of places come from the table; only `bound` of `Sees` relates them to the checked types. A variable that isn't in
+//! scope also has a type, about which nothing is claimed.
 
 ghost use Rattle.std.specs.Prelude.{◌≡◌, IfOk, Some, option_and_then, option_map, pos};
 ghost use Rattle.ob0_tree.specs.Places.{value_at};
@@ -49,7 +49,7 @@ fn constant(value: Scalar) -> Lowered
 }
 
 impl<'s, 'k, 't> Scene<'s, 'k, 't> {
-    /// The type of the variable that a name means.
+    /// Returns the type of the variable that a name refers to.
     fn variable_type(&self, name: usize) -> Option<TypeId>
         ensures { option_map (type_shape (shapes_of self.now.types.now)) result
             ≡ variable_of (object_at self.now.types.now (label_in self.now.resolved.now name)) }
@@ -64,7 +64,7 @@ impl<'s, 'k, 't> Scene<'s, 'k, 't> {
         }
     }
 
-    /// The value of the constant that a name means.
+    /// Returns the value of the constant that a name refers to.
     fn constant(&self, name: usize) -> Option<Scalar>
         ensures { option_map scalar_value result
             ≡ constant_of (object_at self.now.types.now (label_in self.now.resolved.now name)) }
@@ -79,7 +79,7 @@ impl<'s, 'k, 't> Scene<'s, 'k, 't> {
         }
     }
 
-    /// How a field's name is written. Nothing where a declaration binds the name: that isn't a field's.
+    /// Returns the spelling of a field's name. It is empty if the name is bound to a declaration.
     fn field_name(&self, token: usize) -> &'t str
         ensures { result.now ≡ label_text (label_in self.now.resolved.now token) }
     {
@@ -89,14 +89,14 @@ impl<'s, 'k, 't> Scene<'s, 'k, 't> {
         }
     }
 
-    /// The number that a token is.
+    /// Returns the value of a token that is a number.
     fn integer(&self, token: usize) -> i32
         ensures { result ≡ pos (value_at self.now.resolved.now.module_read.source token) }
     {
         number_at(self.resolved.tokens(), token)
     }
 
-    /// The whole of a variable.
+    /// Returns the place of a whole variable.
     fn base(&self, alloc: Global, name: usize) -> Result<Option<TypedPlace>, AllocError>
         ensures { IfOk result (λ o. option_map (found_of (shapes_of self.now.types.now)) o
             ≡ base_found self.now (label_in self.now.resolved.now name)) }
@@ -110,7 +110,7 @@ impl<'s, 'k, 't> Scene<'s, 'k, 't> {
         }
     }
 
-    /// What is at a place.
+    /// Returns the code of the value at a place.
     fn code_at_place(&self, at: TypedPlace) -> Lowered
         ensures code { code_of result
             ≡ code_at_place (found_of (shapes_of self.now.types.now) at).place
@@ -138,7 +138,7 @@ impl<'s, 'k, 't> Scene<'s, 'k, 't> {
         }
     }
 
-    /// A field of what is at a place.
+    /// Returns the place of a field of a record.
     fn field(
         &self,
         alloc: Global,
@@ -161,7 +161,7 @@ impl<'s, 'k, 't> Scene<'s, 'k, 't> {
         }
     }
 
-    /// An element of what is at a place.
+    /// Returns the place of an element of an array.
     fn element(
         &self,
         alloc: Global,
@@ -227,7 +227,7 @@ impl<'s, 'k, 't> Scene<'s, 'k, 't> {
         }
     }
 
-    /// The code of an expression.
+    /// Returns the code of an expression.
     #[cycle(lowering)]
     pub(crate) fn lower_expression(
         &self,
@@ -307,7 +307,7 @@ impl<'s, 'k, 't> Scene<'s, 'k, 't> {
         }
     }
 
-    /// A constant, or what is at a designator's place.
+    /// Returns the code of a constant, or of the value at a designator's place.
     #[cycle(lowering)]
     fn lower_designator(&self, alloc: Global, d: &Designator) -> Result<Lowered, AllocError>
         ensures code { IfOk result (λ l. code_of l
@@ -323,7 +323,7 @@ impl<'s, 'k, 't> Scene<'s, 'k, 't> {
         }
     }
 
-    /// The place of a variable with its selectors.
+    /// Returns the place of a variable with its selectors.
     #[cycle(lowering)]
     pub(crate) fn locate(
         &self,

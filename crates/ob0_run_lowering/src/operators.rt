@@ -18,7 +18,7 @@ use ob0_run_machine::code::{Number, Operands, Operator, Place, Row, Truth, Truth
 use ob0_tree::{AddOperator, MultiplyOperator, Relation, Sign};
 use std::alloc::{AllocError, Global};
 
-/// The number that an operand is, where it is one.
+/// Returns the number that an operand is, or None if it has another type.
 fn number_in(operand: Lowered) -> Option<Number>
     ensures { result ≡ number_in operand }
 {
@@ -30,7 +30,7 @@ fn number_in(operand: Lowered) -> Option<Number>
     }
 }
 
-/// The truth that an operand is, where it is one.
+/// Returns the truth that an operand is, or None if it has another type.
 fn truth_in(operand: Lowered) -> Option<Truth>
     ensures { result ≡ truth_in operand }
 {
@@ -142,19 +142,21 @@ fn lower_minus(alloc: Global, operand: Lowered) -> Result<Lowered, AllocError>
     }
 }
 
-fn lower_plus(operand: Lowered) -> Lowered
-    ensures code { code_of result ≡ codes.signed (Some signs.Plus) (code_of operand) }
-    ensures flat { GoesOnFlat operand result }
+/// Returns the code of a term with the sign `+`: its sum with 0.
+fn lower_plus(alloc: Global, operand: Lowered) -> Result<Lowered, AllocError>
+    ensures code { IfOk result
+        (λ l. code_of l ≡ codes.signed (Some signs.Plus) (code_of operand)) }
+    ensures flat { IfOk result (GoesOnFlat operand) }
 {
-    match operand {
-        Lowered::Number(number) => Lowered::Number(number),
-        Lowered::Truth(_) => Lowered::Nothing,
-        Lowered::Block(_, _) => Lowered::Nothing,
-        Lowered::Nothing => Lowered::Nothing,
-    }
+    lower_operation(
+        alloc,
+        Operator::Sum,
+        operand,
+        Lowered::Number(Number::Literal(0)),
+    )
 }
 
-/// A term with its sign. `+` leaves a number as it is.
+/// Returns the code of a term with its sign.
 pub(crate) fn lower_sign(
     alloc: Global,
     sign: Option<Sign>,
@@ -166,7 +168,7 @@ pub(crate) fn lower_sign(
     match sign {
         None => Ok(operand),
         Some(sign) => match sign {
-            Sign::Plus => Ok(lower_plus(operand)),
+            Sign::Plus => lower_plus(alloc, operand),
             Sign::Minus => lower_minus(alloc, operand),
         },
     }
@@ -197,7 +199,7 @@ fn relation_in(relation: Relation) -> code::Comparator
     }
 }
 
-/// A relation of a variable with a literal.
+/// Returns the relation of a variable with a literal.
 fn compare_to_literal(relation: code::Comparator, variable: Variable, n: i32) -> Truth
     ensures code { truth_of result ≡ view.compared_by relation variable (machine.literal n) }
     ensures flat { (and_depth result ≡ 0) × (or_depth result ≡ 0) }
@@ -208,7 +210,7 @@ fn compare_to_literal(relation: code::Comparator, variable: Variable, n: i32) ->
     }
 }
 
-/// A relation of a variable with a number: with a literal and with a variable it is one node.
+/// Returns the relation of a variable with a number. With a literal or a variable it is one node.
 fn compare_variable(
     alloc: Global,
     relation: code::Comparator,
@@ -230,8 +232,8 @@ fn compare_variable(
     }
 }
 
-/// A relation of what is at a place with a number: an element that one variable is the index of is compared with a
-/// variable in one node.
+/// Returns the relation of the number at a place with another number. An element whose array and index are variables is
+/// compared with a variable in one node.
 fn compare_cell(
     alloc: Global,
     relation: code::Comparator,
@@ -275,7 +277,7 @@ fn compare_row(
     }
 }
 
-/// A relation of two numbers.
+/// Returns the relation of two numbers.
 fn relate_numbers(
     alloc: Global,
     relation: Relation,
@@ -297,7 +299,7 @@ fn relate_numbers(
     }
 }
 
-/// `=` or `#` of two truths.
+/// Returns the code of `=` or `#` of two truths.
 fn relate_truths(
     alloc: Global,
     relation: Relation,
@@ -325,7 +327,7 @@ fn relate_truths(
     }
 }
 
-/// A relation of a number with what should be one.
+/// Returns the code of the relation of a number with an operand, which has no code if the operand isn't a number.
 fn compare_numbers(
     alloc: Global,
     relation: Relation,
@@ -343,7 +345,7 @@ fn compare_numbers(
     Ok(Lowered::Truth(truth))
 }
 
-/// A relation of a truth with what should be one.
+/// Returns the code of the relation of a truth with an operand, which has no code if the operand isn't a truth.
 fn compare_truths(
     alloc: Global,
     relation: Relation,

@@ -1,9 +1,9 @@
-//! The code of places, and of what is at them, in the form that is evaluated in the fewest steps.
+//! The code of places and of their values, in the form that is evaluated in the fewest steps.
 //!
-//! Offsets are added up where a place is lowered (`part_at`): a field of a variable is a variable, and one of an element
-//! is an element with an offset. An element at a literal index that is there is a part of its array
-//! (`element_at_place`), at the same address in all activations and over all cells (`proofs/PartsFound`). So what the
-//! machine does in one step with a variable it does with its fields.
+//! Offsets are added when a place is lowered (`part_at`): a field of a variable is a variable, and a field of an element
+//! is an element with an offset. An element at a literal index within its array is a part of the array
+//! (`element_at_place`), at the same address in all activations and over all cells (`proofs/PartsFound`). So the machine
+//! needs one step for a field of a variable, as for the variable.
 
 ghost use Rattle.std.specs.Prelude.{◌≡◌, IfOk, length};
 ghost use Rattle.ob0_run_machine.specs.Lowered as machine;
@@ -17,7 +17,7 @@ use ob0_run_machine::code::{
 };
 use std::alloc::{AllocError, Global};
 
-/// The number that is stored at a place.
+/// Returns the code of the number at a place.
 pub(crate) fn content(place: Place) -> Number
     ensures { number_of result ≡ machine.cell (place_of place) }
 {
@@ -27,7 +27,7 @@ pub(crate) fn content(place: Place) -> Number
     }
 }
 
-/// A part at an offset of what is at a place: offsets are added up.
+/// Returns the place of a part at an offset.
 pub(crate) fn part(alloc: Global, whole: Place, offset: usize) -> Result<Place, AllocError>
     ensures { IfOk result (λ p. place_of p ≡ part_at (place_of whole) offset) }
 {
@@ -62,8 +62,8 @@ fn part_of_variable(alloc: Global, variable: Variable, offset: usize) -> Result<
     }
 }
 
-/// What is at an offset in what a VAR parameter of the activation `up` levels out leads to. One of the running
-/// activation is a variable, where both its numbers have 32 bits.
+/// Returns the place at an offset from the address of a VAR parameter of the activation `up` levels out. It is a
+/// `Variable` if the activation is the running one and index and offset have 32 bits.
 pub(crate) fn reference(
     alloc: Global,
     up: usize,
@@ -82,7 +82,7 @@ pub(crate) fn reference(
     Ok(Place::Passed(Box::new(alloc, reference)?))
 }
 
-/// A part of an element of an array that is a variable, at an index that is one.
+/// Returns a part of an element, if the array and the index are variables.
 fn part_of_row(alloc: Global, row: Row, offset: usize) -> Result<Place, AllocError>
     ensures { IfOk result (λ p. place_of p ≡ part_at (row_of row) offset) }
 {
@@ -93,7 +93,7 @@ fn part_of_row(alloc: Global, row: Row, offset: usize) -> Result<Place, AllocErr
     Ok(Place::Row(Box::new(alloc, row)?))
 }
 
-/// A part of an element.
+/// Returns a part of an element.
 fn part_of_element(alloc: Global, element: Element, offset: usize) -> Result<Place, AllocError>
     ensures { IfOk result (λ p. place_of p ≡ part_at (element_of element) offset) }
 {
@@ -114,7 +114,7 @@ fn part_of_element(alloc: Global, element: Element, offset: usize) -> Result<Pla
     Ok(Place::Element(Box::new(alloc, element)?))
 }
 
-/// Where the element at a literal index begins in its array, if it is there.
+/// Returns the offset of the element at a literal index, or None if the array has no such element.
 fn literal_offset(index: i32, length: usize, stride: usize) -> Option<usize>
     ensures { result ≡ known_offset (machine.literal index) length stride }
 {
@@ -140,15 +140,15 @@ fn first_offset(first: &FirstOperand, length: usize, stride: usize) -> Option<us
     }
 }
 
-/// How many operations are in a row.
+/// Returns the number of operations in a row.
 fn count_links(chain: &Chain) -> usize
     ensures { result ≡ length (out-Chain chain.now).rest.items }
 {
     chain.rest.len()
 }
 
-/// How far into an array an index leads that is a row of operations: known where the row has none, since it is a literal
-/// then.
+/// Returns the offset of the element whose index is a row of operations. It is known only if the row has no operations
+/// and begins with a literal.
 fn chain_offset(chain: &Chain, length: usize, stride: usize) -> Option<usize>
     ensures { result ≡ known_offset (chained_in chain.now) length stride }
 {
@@ -159,7 +159,7 @@ fn chain_offset(chain: &Chain, length: usize, stride: usize) -> Option<usize>
     None
 }
 
-/// Where an element begins in its array, where its index is a literal and it is there.
+/// Returns the offset of an element if its index is a literal within the array.
 fn known_offset(index: &Number, length: usize, stride: usize) -> Option<usize>
     ensures { result ≡ known_offset (number_of index.now) length stride }
 {
@@ -173,7 +173,7 @@ fn known_offset(index: &Number, length: usize, stride: usize) -> Option<usize>
     }
 }
 
-/// An element of the array at a place: at a literal index it is a part of the array.
+/// Returns an element of the array at a place: at a literal index it is a part of the array.
 pub(crate) fn element(
     alloc: Global,
     array: Place,
@@ -190,7 +190,7 @@ pub(crate) fn element(
     }
 }
 
-/// An element at an index that is found in the run.
+/// Returns an element at an index that is evaluated by the run.
 fn computed_element(
     alloc: Global,
     array: Place,
@@ -207,7 +207,7 @@ fn computed_element(
     }
 }
 
-/// An element of an array that is a variable.
+/// Returns an element of an array that is a variable.
 fn variable_element(
     alloc: Global,
     array: Variable,

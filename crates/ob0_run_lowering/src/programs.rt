@@ -1,15 +1,17 @@
 //! Procedures, blocks, and the program of a module.
 
-ghost use Rattle.std.specs.Prelude.{◌≡◌, ◌≤◌, ℕ, IfOk, OnOk, slice_set};
+ghost use Rattle.std.specs.Prelude.{◌≡◌, ℕ, IfOk, OnOk, slice_set};
 ghost use Rattle.ob0_tree.specs.Tree.{more};
 ghost use Rattle.ob0_tree.specs.View.{block_of, procedure_of};
 ghost use Rattle.ob0_tree.specs.Parsed.{named_tree_of};
 ghost use Rattle.ob0_types_table.specs.KnownTables.{declared_in};
 ghost use Rattle.ob0_language_types.specs.Bindings.{declared_object};
 ghost use Rattle.ob0_language_types.specs.WellTyped.{WellTyped};
+ghost use Rattle.ob0_language_names.specs.Names.{as_labels};
+ghost use Rattle.ob0_language_names.specs.Scopes.{numbered};
 ghost use Rattle.ob0_scope_table.specs.InLabels.{in_labels};
+ghost use Rattle.ob0_run_cells.specs.Activations.{ProgramMeans};
 ghost use Rattle.ob0_run_machine.specs.View.{program_of};
-ghost use Rattle.ob0_run_lowering.specs.LoweredModules.{MeansModule};
 ghost use Rattle.ob0_run_lowering.specs.Blocks.{Goes, LowersBlock};
 
 use crate::contexts::LoweringContext;
@@ -21,30 +23,17 @@ use ob0_tree::{Block, Procedure};
 use ob0_types_table::DeclarationTable;
 use std::alloc::{AllocError, Global};
 
-/// A module on its way to a program: where what is in scope is, the procedures so far, and the most cells of an
-/// activation so far.
+/// The lowering of a module so far: the sites of the names in scope, and the procedures.
 #[derive(Drop)]
 pub(crate) struct Lowering {
     pub(crate) visible: VisibleSites,
     pub(crate) procedures: Vec<code::Routine>,
-    pub(crate) most: usize,
 }
 
-/// The program of a module. An activation of the module or of a procedure of it has at most `most_cells` cells, those of
-/// its parameters among them, and one has as many.
+/// The program of a module.
 #[derive(Drop)]
 pub struct Program {
     pub code: code::LoweredCode,
-    pub most_cells: usize,
-}
-
-/// The greater of two numbers.
-fn greater(a: usize, b: usize) -> usize
-    ensures left { a ≤ result }
-    ensures right { b ≤ result }
-    ensures least { (n : ℕ) → a ≤ n → b ≤ n → result ≤ n }
-{
-    if a < b { b } else { a }
 }
 
 impl Lowering {
@@ -62,14 +51,13 @@ impl Lowering {
         ensures procedures { self.new.procedures.items
             ≡ slice_set self.old.procedures.items index entry }
         ensures visible { self.new.visible ≡ self.old.visible }
-        ensures most { self.new.most ≡ self.old.most }
     {
         if index < self.procedures.len() {
             self.procedures[index] = entry;
         }
     }
 
-    /// A procedure's place in the program, which its name has from its heading on. Its code comes later.
+    /// Gives a procedure an index in the program, which its name refers to after the heading. Its code is kept later.
     fn announce(
         &mut self,
         context: &LoweringContext<'_, '_, '_>,
@@ -82,7 +70,6 @@ impl Lowering {
             ≡ put_at (ordinal_in context.now.resolved.now.ordinals name) (site.Procedure depth i)
             (site_at self.old.visible.sites.items) k) }
         ensures follows { IfOk result (λ i. Follows self.old.visible self.new.visible) }
-        ensures most { IfOk result (λ i. self.new.most ≡ self.old.most) }
         ensures pushed { IfOk result (λ i. (e : code.Routine)
             × (self.new.procedures.items ≡ self.old.procedures.items ++ e ∷ [])) }
     {
@@ -97,8 +84,8 @@ impl Lowering {
         Ok(index)
     }
 
-    /// A procedure is in scope after its heading, and so in its own body; its parameters and what it declares are in
-    /// scope up to its end.
+    /// Lowers a procedure. It is in scope after its heading, and so in its own body. Its parameters and declarations are
+    /// in scope up to its end.
     #[cycle(blocks)]
     fn procedure(
         &mut self,
@@ -127,7 +114,7 @@ impl Lowering {
         Ok(())
     }
 
-    /// A block: its variables, its procedures, and then its statements.
+    /// Lowers a block: its variables, its procedures, and then its statements.
     #[cycle(blocks)]
     fn block(
         &mut self,
@@ -139,7 +126,6 @@ impl Lowering {
             (in_labels context.now.resolved.now (block_of b.now))) }
     {
         let own = self.visible.variables(context, frame, &b.variables)?;
-        self.most = greater(self.most, own.cells);
         for p in &b.procedures {
             self.procedure(context, own.depth, p)?;
         }
@@ -157,11 +143,11 @@ impl Lowering {
     }
 }
 
-/// The program of a module, by what is known of its declarations.
+/// Returns the program of a module, by the table of its declarations.
 ///
 /// # Errors
 ///
-/// Out of memory.
+/// An allocation failed, or a number of cells has more than 64 bits.
 pub fn lower<'t>(
     alloc: Global,
     resolved: &Resolved<'t>,
@@ -170,7 +156,7 @@ pub fn lower<'t>(
     ensures { IfOk result (λ made. WellTyped (named_tree_of resolved.now.module_read)
         → ((k : ℕ)
         → declared_in known.now k ≡ declared_object (named_tree_of resolved.now.module_read) k)
-        → MeansModule made.most_cells (named_tree_of resolved.now.module_read)
+        → ProgramMeans as_labels (numbered (named_tree_of resolved.now.module_read))
         (program_of made.code)) }
 {
     let types = Types::new(alloc, known)?;
@@ -182,7 +168,6 @@ pub fn lower<'t>(
     let mut lowering = Lowering {
         visible: VisibleSites::new(alloc),
         procedures: Vec::new(alloc),
-        most: 0,
     };
     let frame = Frame {
         depth: 0,
@@ -195,8 +180,5 @@ pub fn lower<'t>(
         body: entry.body,
         procedures: lowering.procedures,
     };
-    Ok(Program {
-        code,
-        most_cells: lowering.most,
-    })
+    Ok(Program { code })
 }

@@ -1,4 +1,4 @@
-//! What lowering knows where it is.
+//! The facts that the lowering of a body needs.
 
 ghost use Rattle.std.specs.Prelude.{◌≡◌, IfOk};
 ghost use Rattle.ob0_run_machine.specs.View.{place_of};
@@ -12,8 +12,8 @@ use ob0_scope_table::Resolved;
 use ob0_types_table::Object;
 use std::alloc::{AllocError, Global};
 
-/// Where a declaration is. `depth` says how deep an activation is: 0 for the module's, 1 for those of the module's own
-/// procedures.
+/// The place of a declaration. `depth` is the depth of an activation: 0 for the module's, 1 for the procedures that the
+/// module declares.
 #[derive(Clone, Copy, PartialEq, Eq)]
 pub enum Site {
     /// Nowhere in lowered code: a constant or a type.
@@ -22,13 +22,13 @@ pub enum Site {
     Module(usize),
     /// A variable, at an offset in the cells of an activation.
     Held { depth: usize, offset: usize },
-    /// A VAR parameter of an activation, by its index among these.
+    /// A VAR parameter of an activation, by its index among the VAR parameters.
     ByReference { depth: usize, index: usize },
     /// A procedure that is declared in an activation, by its index in the program.
     Procedure { depth: usize, index: usize },
 }
 
-/// Which procedure a call calls: its index, and how many levels out it is declared.
+/// The procedure of a call: its index, and how many levels out it is declared.
 #[derive(Clone, Copy)]
 pub struct CallTarget {
     pub procedure: usize,
@@ -36,7 +36,7 @@ pub struct CallTarget {
 }
 
 impl CallTarget {
-    /// Of what isn't a procedure.
+    /// Returns the target of a name that isn't a procedure's.
     fn none() -> CallTarget
         ensures { result ≡ record { procedure = 0; up = 0 } }
     {
@@ -47,8 +47,8 @@ impl CallTarget {
     }
 }
 
-/// What lowering knows at a body: the module, its types, where each declaration is by its ordinal, and how deep the
-/// body's activation is, 0 for the module's own.
+/// The facts at a body: the module, its types, the place of each declaration by its ordinal, and the depth of the body's
+/// activation, which is 0 for the module.
 #[derive(Clone, Copy)]
 pub struct Scene<'s, 'k, 't> {
     pub resolved: &'s Resolved<'t>,
@@ -64,7 +64,7 @@ impl<'s, 'k, 't> Scene<'s, 'k, 't> {
     ghost use Rattle.ob0_types_table.specs.Tables.{object_in};
     ghost use Rattle.ob0_run_lowering.specs.Scenes.{object_at, seen_from, slot_at, target_at, whereabouts};
 
-    /// What the declaration of a name is.
+    /// Returns the object that a name is declared as.
     pub fn object(&self, name: usize) -> Option<&'k Object>
         ensures { option_and_then (λ o. object_in (shapes_of self.now.types.now) o.now) result
             ≡ object_at self.now.types.now (label_in self.now.resolved.now name) }
@@ -73,7 +73,7 @@ impl<'s, 'k, 't> Scene<'s, 'k, 't> {
         self.types.declarations().object(ordinal)
     }
 
-    /// Where the declaration of a name is.
+    /// Returns the place of a name's declaration.
     fn site(&self, name: usize) -> Site
         ensures { seen_from self.now.depth result
             ≡ whereabouts self.now (label_in self.now.resolved.now name) }
@@ -87,7 +87,7 @@ impl<'s, 'k, 't> Scene<'s, 'k, 't> {
         }
     }
 
-    /// Which procedure a name means.
+    /// Returns the procedure that a name refers to.
     pub fn target(&self, name: usize) -> CallTarget
         ensures { record { procedure = result.procedure; up = result.up }
             ≡ target_at self.now (label_in self.now.resolved.now name) }
@@ -104,7 +104,7 @@ impl<'s, 'k, 't> Scene<'s, 'k, 't> {
         }
     }
 
-    /// Where a variable is.
+    /// Returns the place of a variable.
     pub(crate) fn variable(&self, alloc: Global, name: usize) -> Result<Place, AllocError>
         ensures { IfOk result (λ p. place_of p
             ≡ slot_place (slot_at self.now (label_in self.now.resolved.now name))) }
@@ -123,7 +123,7 @@ impl<'s, 'k, 't> Scene<'s, 'k, 't> {
     }
 }
 
-/// A place in the cells of the activation `up` levels out.
+/// Returns the place at an offset in the cells of the activation `up` levels out.
 fn held_place(up: usize, offset: usize) -> Place
     ensures { place_of result ≡ slot_place (slots.held up offset) }
 {

@@ -1,8 +1,8 @@
 //! Statements, their branches and their loops.
 //!
-//! A loop keeps "with the code of what is left, the code made so far is the code of the whole" (`SequenceMade`,
-//! `BranchesMade`, `ArgumentsMade`): it takes the code of what is left as an argument, and in the end that is none. An
-//! empty statement has no code, so what was made needn't be as long as what was read.
+//! The invariant of a loop says: the code made so far, followed by any code of the rest, is code of the whole
+//! (`SequenceMade`, `BranchesMade`, `ArgumentsMade`). At the end there is no rest. An empty statement has no code, so the
+//! code may have fewer statements than the text.
 
 ghost use Rattle.std.specs.Prelude.{◌≡◌, ◌++◌, IfOk, OnOk, option_map, option_to_list};
 ghost use Rattle.ob0_tree.specs.View as view;
@@ -18,7 +18,7 @@ use ob0_run_machine::code;
 use ob0_tree::{If, Statement};
 use std::alloc::{AllocError, Global};
 
-/// The code of a body: none where there is no BEGIN.
+/// Returns the code of a body, which is empty if there is no BEGIN.
 pub fn body(
     alloc: Global,
     scene: &Scene<'_, '_, '_>,
@@ -33,7 +33,7 @@ pub fn body(
     }
 }
 
-/// Adds the code of a statement, where it has some.
+/// Adds the code of a statement, if it has code.
 fn add(made: &mut Vec<code::Instruction>, next: Option<code::Instruction>) -> Result<(), AllocError>
     ensures { OnOk result (made.new.items ≡ made.old.items ++ option_to_list next) }
 {
@@ -46,7 +46,7 @@ fn add(made: &mut Vec<code::Instruction>, next: Option<code::Instruction>) -> Re
     }
 }
 
-/// The code of a statement: none for an empty one.
+/// Returns the code of a statement, or None if it is empty.
 #[cycle(statements)]
 fn statement(
     alloc: Global,
@@ -74,7 +74,7 @@ fn statement(
     }
 }
 
-/// The code of statements, in order.
+/// Returns the code of statements, in order.
 #[cycle(statements)]
 fn sequence(
     alloc: Global,
@@ -92,7 +92,7 @@ fn sequence(
     Ok(made)
 }
 
-/// The code of IF with its ELSIF and ELSE parts.
+/// Returns the code of IF with its ELSIF and ELSE parts.
 #[cycle(statements)]
 fn branches(
     alloc: Global,

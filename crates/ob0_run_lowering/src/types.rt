@@ -1,28 +1,22 @@
-//! The types of a module, with how many cells they have.
+//! The types of a module, with their numbers of cells.
 //!
-//! Sizes are found once, for each entry of the checker's table over those before it (`LayOut` goes along
-//! `shapes_from`), with the offsets of a record's fields. So an offset is a look-up, by the field's place. `HasSmall`:
-//! numbers of the text and constants have 32 bits. Of the text that is in the scan's promise; of constants it is
-//! learned by reading each once (`constants_are_small`), since a number that is in a table has no range before it is
-//! read.
+//! Sizes are computed once, for each entry of the checker's table from the entries before it (`LayOut` has the order of
+//! `shapes_from`), with the offsets of a record's fields. So the offset of a field is a look-up by its place.
 
-ghost use Rattle.std.specs.Prelude.{◌≡◌, ◌≤◌, ◌+◌, ◌*◌, ◌^◌, ℕ, ℤ, Some, true, IfOk, List, MatchResult, slice_index_or};
+ghost use Rattle.std.specs.Prelude.{◌≡◌, ◌≤◌, ◌+◌, ◌*◌, ◌^◌, ℕ, IfOk, List, MatchResult, slice_index_or};
 ghost use Rattle.ob0_run_cells.specs.Cells.{field_offset, size, step_offset};
-ghost use Rattle.ob0_run_machine.specs.Evaluation as machine;
 ghost use Rattle.ob0_language_names.specs.Names.{Name};
 ghost use Rattle.ob0_types_table.specs.FieldPlaces.{field_selected};
-ghost use Rattle.ob0_types_table.specs.KnownTables.{declared_in, shapes_of};
+ghost use Rattle.ob0_types_table.specs.KnownTables.{shapes_of};
 ghost use Rattle.ob0_types_table.specs.Tables.{fields_shape, made_shape, no_shape, only_array, only_record, type_shape};
-ghost use Rattle.ob0_language_types.specs.Expressions.{a_constant};
 ghost use Rattle.ob0_language_values.specs.Values as values;
 ghost use Rattle.ob0_run_lowering.specs.Layouts.{AreLaidOut, LayOut, HasLayout, RecordAt};
 
-use ob0_language_values::Scalar;
 use ob0_types_table::{DeclarationTable, Field, FieldOf, TypeEntry, TypeId};
 use std::alloc::{AllocError, Global};
 use std::marker::Model;
 
-/// A record: how many cells it has, and where each field begins.
+/// The layout of a record: its number of cells, and the offset of each field.
 #[derive(Drop)]
 struct RecordLayout {
     cells: usize,
@@ -36,14 +30,14 @@ enum Layout {
     Record(RecordLayout),
 }
 
-/// What is known of a module, with the sizes of its types.
+/// The table of a module's declarations, with the sizes of its types.
 #[derive(Drop)]
 pub struct Types<'k> {
     known: &'k DeclarationTable,
     layouts: Vec<Layout>,
 }
 
-/// A sum of cells. An error exactly where it has no number of 64 bits: no allocation is that large.
+/// Returns a sum of cells. It is an error exactly if the sum has more than 64 bits: no allocation is that large.
 fn plus(cells: usize, more: usize) -> Result<usize, AllocError>
     ensures { MatchResult result (λ n. n ≡ cells + more) (λ _. 2 ^ 64 ≤ cells + more) }
 {
@@ -53,7 +47,7 @@ fn plus(cells: usize, more: usize) -> Result<usize, AllocError>
     }
 }
 
-/// `count` times `cells`. An error exactly where this has no number of 64 bits.
+/// Returns `count` times `cells`. It is an error exactly if the product has more than 64 bits.
 fn times(count: usize, cells: usize) -> Result<usize, AllocError>
     ensures { MatchResult result (λ n. n ≡ count * cells) (λ _. 2 ^ 64 ≤ count * cells) }
 {
@@ -63,7 +57,7 @@ fn times(count: usize, cells: usize) -> Result<usize, AllocError>
     }
 }
 
-/// The cells of the array at a place of the table.
+/// Returns the number of cells of the array at a place of the table.
 fn array_cells(layouts: &[Layout], place: usize) -> usize
     ensures { (shapes : List values.Shape)
         → LayOut shapes layouts.now
@@ -78,7 +72,7 @@ fn array_cells(layouts: &[Layout], place: usize) -> usize
     }
 }
 
-/// The record at a place of the table.
+/// Returns the record at a place of the table.
 fn record_at(layouts: &[Layout], place: usize) -> Option<&RecordLayout>
     ensures { (shapes : List values.Shape)
         → LayOut shapes layouts.now
@@ -104,7 +98,7 @@ fn record_cells(layouts: &[Layout], place: usize) -> usize
     }
 }
 
-/// How many cells a type has, by the types that were laid out so far.
+/// Returns the number of cells of a type, by the layouts so far.
 fn size_in(layouts: &[Layout], of: TypeId) -> usize
     ensures { (shapes : List values.Shape)
         → LayOut shapes layouts.now
@@ -119,7 +113,7 @@ fn size_in(layouts: &[Layout], of: TypeId) -> usize
     }
 }
 
-/// The fields of a record one after the other.
+/// Returns the layout of a record: its fields one after the other.
 fn lay_out_record(
     alloc: Global,
     layouts: &[Layout],
@@ -138,7 +132,7 @@ fn lay_out_record(
     Ok(RecordLayout { cells, offsets })
 }
 
-/// An entry of the table, by those before it.
+/// Returns the layout of an entry of the table, by the layouts before it.
 fn entry(alloc: Global, layouts: &[Layout], shape: &TypeEntry) -> Result<Layout, AllocError>
     ensures { (shapes : List values.Shape)
         → LayOut shapes layouts.now
@@ -156,55 +150,22 @@ fn entry(alloc: Global, layouts: &[Layout], shape: &TypeEntry) -> Result<Layout,
     }
 }
 
-/// The constant of an ordinal has 32 bits.
-fn constant_is_small(known: &DeclarationTable, ordinal: usize)
-    ensures { (n : ℤ)
-        → declared_in known.now ordinal ≡ Some (a_constant (values.number n))
-        → machine.fits n ≡ true }
-{
-    match known.constant(ordinal) {
-        None => {}
-        Some(value) => match value {
-            Scalar::Number(_number) => {}
-            Scalar::Truth(_truth) => {}
-        },
-    }
-}
-
-/// The constants of a module have 32 bits. The loop is for the proof alone: that a constant has 32 bits is known of each
-/// that is looked up, not of all at once, so each is looked up, once for a module.
-fn constants_are_small(known: &DeclarationTable)
-    ensures { (k : ℕ) (n : ℤ)
-        → declared_in known.now k ≡ Some (a_constant (values.number n))
-        → machine.fits n ≡ true }
-{
-    for ordinal in 0..known.count() {
-        constant_is_small(known, ordinal);
-    }
-}
-
 impl<'k> Model for Types<'k> {
-    ghost use Rattle.std.specs.Prelude.{◌≡◌, ℕ, ℤ, Some, true};
-    ghost use Rattle.ob0_run_machine.specs.Evaluation as machine;
-    ghost use Rattle.ob0_types_table.specs.KnownTables.{Tables, declared_in, shapes_of};
-    ghost use Rattle.ob0_language_types.specs.Expressions.{a_constant};
-    ghost use Rattle.ob0_language_values.specs.Values.{number};
+    ghost use Rattle.ob0_types_table.specs.KnownTables.{Tables, shapes_of};
     ghost use Rattle.ob0_run_lowering.specs.Layouts.{LayOut};
 
     ghost Value = { Tables };
 
     ghost view = { λ t. t.known.now };
 
-    ghost invariant = { λ t. LayOut (shapes_of t.known.now) t.layouts.items
-        × ((k : ℕ) (n : ℤ) → declared_in t.known.now k ≡ Some (a_constant (number n))
-        → machine.fits n ≡ true) };
+    ghost invariant = { λ t. LayOut (shapes_of t.known.now) t.layouts.items };
 }
 
 impl<'k> Types<'k> {
     ghost use Rattle.ob0_types_table.specs.KnownTables.{shapes_of};
     ghost use Rattle.ob0_language_values.specs.Values.{at_field};
 
-    /// The sizes of all types, each found once.
+    /// Computes the sizes of all types.
     ///
     /// # Errors
     ///
@@ -212,29 +173,25 @@ impl<'k> Types<'k> {
     pub fn new(alloc: Global, known: &'k DeclarationTable) -> Result<Types<'k>, AllocError>
         ensures { IfOk result (λ t. t ≡ known.now) }
     {
-        constants_are_small(known);
         let layouts = lay_out_all(alloc, known)?;
         Ok(Types { known, layouts })
     }
 
-    /// What is known of the module. Its constants have 32 bits.
+    /// Returns the table of the module's declarations.
     pub fn declarations(&self) -> &'k DeclarationTable
-        ensures value { result.now ≡ self.now }
-        ensures small { (k : ℕ) (n : ℤ)
-            → declared_in self.now k ≡ Some (a_constant (values.number n))
-            → machine.fits n ≡ true }
+        ensures { result.now ≡ self.now }
     {
         self.known
     }
 
-    /// How many cells a type has.
+    /// Returns the number of cells of a type.
     pub fn size(&self, of: TypeId) -> usize
         ensures { result ≡ size (type_shape (shapes_of self.now) of) }
     {
         size_in(self.layouts.as_slice(), of)
     }
 
-    /// Where the first field of this name begins, in the cells of a record.
+    /// Returns the offset of the first field with this name, in the cells of a record.
     pub fn offset(&self, of: TypeId, name: &str) -> usize
         ensures { result ≡ step_offset (type_shape (shapes_of self.now) of) (at_field name.now) }
     {
@@ -251,7 +208,7 @@ fn offset_at(offsets: &[usize], index: usize) -> usize
     }
 }
 
-/// Where a field begins that was found, or all of them end.
+/// Returns the offset of a field, or the size of the record if there is no such field.
 fn record_offset(laid: &RecordLayout, field: Option<FieldOf>) -> usize
     ensures { (k : ℕ) (fs : values.FieldShapes) (x : Name)
         → AreLaidOut fs laid.now
@@ -280,7 +237,7 @@ fn offset_in(known: &DeclarationTable, layouts: &[Layout], of: TypeId, name: &st
     }
 }
 
-/// All types of the table, each by those before it.
+/// Returns the layouts of all types of the table, each by the layouts before it.
 fn lay_out_all(alloc: Global, known: &DeclarationTable) -> Result<Vec<Layout>, AllocError>
     ensures { IfOk result (λ layouts. LayOut (shapes_of known.now) layouts.items) }
 {

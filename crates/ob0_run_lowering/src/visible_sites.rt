@@ -1,7 +1,7 @@
-//! Where declarations in scope are, and how the names of a block or of a heading are placed.
+//! The places of the declarations in scope, and the placing of the names of a block or a heading.
 //!
-//! What a binding hides is kept, and put back at the end of a procedure; so a table by ordinal is enough, and a
-//! procedure costs what it declares.
+//! A binding keeps the site that it hides, which is restored at the end of the procedure. So a table by ordinal is
+//! enough, and a procedure costs as much as it declares.
 
 ghost use Rattle.std.specs.Prelude.{◌≡◌, ◌≤◌, ◌+◌, ◌^◌, ℕ, suc, IfOk, OnOk, MatchOption, length, slice_set};
 ghost use Rattle.ob0_run_lowering.specs.Scenes.{site_at};
@@ -12,21 +12,21 @@ use crate::contexts::LoweringContext;
 use ob0_tree::{Names as NameList, Section, Variables};
 use std::alloc::{AllocError, Global};
 
-/// Where something else with the same ordinal was, before a binding.
+/// The site that an ordinal had before a binding.
 #[derive(Drop, Clone, Copy)]
 pub(crate) struct Hidden {
     pub(crate) ordinal: usize,
     pub(crate) before: Site,
 }
 
-/// Where each declaration in scope is, by its ordinal, and what its bindings have hidden, oldest first.
+/// The site of each declaration in scope, by its ordinal, and the sites that bindings have hidden, the oldest first.
 #[derive(Drop)]
 pub(crate) struct VisibleSites {
     pub(crate) sites: Vec<Site>,
     pub(crate) hidden: Vec<Hidden>,
 }
 
-/// An activation so far: how deep it is, 0 for the module's own, how many cells it has, and how many VAR parameters.
+/// An activation so far: its depth, which is 0 for the module, and its numbers of cells and of VAR parameters.
 #[derive(Clone, Copy)]
 pub(crate) struct Frame {
     pub(crate) depth: usize,
@@ -34,7 +34,7 @@ pub(crate) struct Frame {
     pub(crate) references: usize,
 }
 
-/// Where the next variable of an activation is.
+/// Returns the site of the next variable of an activation.
 fn next_site(frame: Frame) -> Site
     ensures { IsNextSite frame result }
 {
@@ -49,7 +49,7 @@ fn next_site(frame: Frame) -> Site
 }
 
 impl Frame {
-    /// The frame with `size` cells more. None where these cells have no addresses: no allocation is that large.
+    /// Returns the frame with `size` more cells, or None if their number has more than 64 bits.
     fn with(self, size: usize) -> Option<Frame>
         ensures { MatchOption result (2 ^ 64 ≤ self.cells + size)
             (λ f. f ≡ record self { cells = self.cells + size }) }
@@ -73,7 +73,7 @@ impl VisibleSites {
     ghost use Rattle.ob0_run_lowering.specs.Placed as placed;
     ghost use Rattle.ob0_types_table.specs.Tables.{mode_of};
 
-    /// Nothing is in scope.
+    /// Returns a table with nothing in scope.
     pub(crate) fn new(alloc: Global) -> VisibleSites
         ensures { result.sites.items ≡ [] }
     {
@@ -97,7 +97,7 @@ impl VisibleSites {
         Ok(())
     }
 
-    /// Puts a site at an ordinal that there is.
+    /// Sets the site of an ordinal. Does nothing if the list is too short for it.
     fn put(&mut self, ordinal: usize, site: Site)
         ensures sites { self.new.sites.items ≡ slice_set self.old.sites.items ordinal site }
         ensures hidden { self.new.hidden.items ≡ self.old.hidden.items }
@@ -107,7 +107,7 @@ impl VisibleSites {
         }
     }
 
-    /// Where the declaration of an ordinal is.
+    /// Returns the site of an ordinal.
     fn at(&self, ordinal: usize) -> Site
         ensures { result ≡ site_at self.now.sites.items ordinal }
     {
@@ -131,7 +131,7 @@ impl VisibleSites {
         Ok(())
     }
 
-    /// Brings what a name declares into scope. A name without an ordinal declares nothing.
+    /// Brings the declaration of a name into scope. A name without an ordinal declares nothing.
     pub(crate) fn bind(&mut self, ordinal: Option<usize>, site: Site) -> Result<(), AllocError>
         ensures sites { OnOk result ((k : ℕ)
             → site_at self.new.sites.items k
@@ -144,14 +144,14 @@ impl VisibleSites {
         }
     }
 
-    /// How much is hidden.
+    /// Returns the number of hidden sites.
     pub(crate) fn mark(&self) -> usize
         ensures { result ≡ length self.now.hidden.items }
     {
         self.hidden.len()
     }
 
-    /// Goes back to what was in scope when so much was hidden.
+    /// Restores the sites that were hidden after a mark, the latest first.
     pub(crate) fn back_to(&mut self, mark: usize)
         ensures { (w : VisibleSites)
             → Follows w self.old
@@ -166,7 +166,7 @@ impl VisibleSites {
         }
     }
 
-    /// Places what a name declares: a VAR parameter, or else a variable, in cells of its own.
+    /// Places the declaration of a name: a VAR parameter by its index, a variable in new cells.
     fn place(
         &mut self,
         context: &LoweringContext<'_, '_, '_>,

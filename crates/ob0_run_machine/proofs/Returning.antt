@@ -1,5 +1,7 @@
 -- Calls: the body of a procedure runs, and its cells are dropped.
-use Rattle.std.proofs.Common.{◌≡◌, ◌≢◌, ℕ, zero, suc, arith, ◌-◌, ℤ, refl, sym, ap, ◌∙◌, subst, Ok, Err, List, [], ◌++◌, take, Option, None, Some, Result, IsErr}
+use Rattle.std.proofs.Common.{◌≡◌, ◌≢◌, ℕ, zero, suc, arith, ◌+◌, ◌-◌, ◌<◌, ◌^◌, true, nat_lt, if◌then◌else◌, length, length-append, ℤ, pos, refl, sym, ap, ◌∙◌, subst, Ok, Err, List, [], ◌++◌, take, Option, None, Some, Result, IsErr}
+use Rattle.std.proofs.lemmas.List.{length-replicate}
+use Rattle.std.proofs.lemmas.Bool.{lt-ltb}
 use Rattle.ob0_run_machine.specs.declared.code.LoweredCode.{LoweredCode}
 use Rattle.ob0_run_machine.specs.declared.ending.Stop.{Stop}
 use Rattle.ob0_run_machine.specs.declared.ending.Stop.TheVariants as stop
@@ -8,7 +10,7 @@ use Rattle.ob0_run_machine.specs.declared.machine.Machine.{Machine}
 use Rattle.ob0_run_machine.specs.Answers.{end_at}
 use Rattle.ob0_run_machine.specs.Evaluation as ending
 use Rattle.ob0_run_machine.specs.Evaluation.{CallBound, Levels, innermost}
-use Rattle.ob0_run_machine.specs.Execution.{MachineProgress, MachineState, OutputItem, activate, call, execute_all, finished, drop_variables, outermost, run, running, stopped, zeros}
+use Rattle.ob0_run_machine.specs.Execution.{MachineProgress, MachineState, OutputItem, activate, call, execute_all, finished, drop_variables, no_room, outermost, run, running, stopped, with_cells, zeros}
 use Rattle.ob0_run_machine.specs.Levels.{levels_of}
 use Rattle.ob0_run_machine.specs.Lowered.{Routine}
 use Rattle.ob0_run_machine.specs.Machines.{MachineDoes, Enters, StopsRun, Performs, Post, MachineSteps, activated, executed_all, items_out, state_of}
@@ -57,15 +59,24 @@ pub activates_none : {post : Post} {m : Machine} {o : Option Routine} (u : Unit 
 unfolding activate
 activates_none {m = m} u t ls e = record { as_defined = λ enters p. ap (λ o. activate enters t ls o (state_of m)) e }
 
-activate-goes : (enters : _) (t : ℕ) (ls : Levels) (o : Option Routine) (p : Routine) (s : MachineState) → o ≡ Some p → activate enters t ls o s ≡ execute_all enters t ls p.body (record s { cells = s.cells ++ zeros p.cells })
+-- there is room for cells that are there
+pub has_room : (cells more : List ℤ) (n : ℕ) → more ≡ cells ++ zeros n → length more < 2 ^ 64 → nat_lt (length cells + n) (2 ^ 64) ≡ true
+has_room cells more n same few =
+    let long : length more ≡ length cells + n = ap length same ∙ (length-append cells (zeros n) ∙ ap (λ k. length cells + k) (length-replicate n (pos 0))) in
+    lt-ltb (length cells + n) (2 ^ 64) (omega (arith, long, few))
+
+pub with-room : (n : ℕ) (next : MachineState → MachineProgress) (s : MachineState) (more : List ℤ) → more ≡ s.cells ++ zeros n → length more < 2 ^ 64 → with_cells n next s ≡ next (record s { cells = s.cells ++ zeros n })
+with-room n next s more same few = ap (λ b. if b then next (record s { cells = s.cells ++ zeros n }) else no_room) (has_room s.cells more n same few)
+
+activate-goes : (enters : _) (t : ℕ) (ls : Levels) (o : Option Routine) (p : Routine) (s : MachineState) → o ≡ Some p → activate enters t ls o s ≡ with_cells p.cells (execute_all enters t ls p.body) s
 unfolding activate
 activate-goes enters t ls o p s e = ap (λ o. activate enters t ls o s) e
 
-pub activates : {post : Post} {r : Result (Unit {0}) Stop} {m m₂ m' : Machine} {o : Option Routine} (t : ℕ) (ls : Levels) (p : Routine) → o ≡ Some p → state_of m₂ ≡ record (state_of m) { cells = m.cells.items ++ zeros p.cells }
-    → MachineDoes post r m₂ m' (executed_all t ls p.body) → MachineDoes post r m m' (activated o t ls)
-activates {r = r} {m = m} {m' = m'} {o = o} t ls p e more d = record {
+pub activates : {post : Post} {r : Result (Unit {0}) Stop} {m m₂ m' : Machine} {o : Option Routine} (t : ℕ) (ls : Levels) (p : Routine) → o ≡ Some p → m₂.cells.items ≡ m.cells.items ++ zeros p.cells → length m₂.cells.items < 2 ^ 64
+    → state_of m₂ ≡ record (state_of m) { cells = m.cells.items ++ zeros p.cells } → MachineDoes post r m₂ m' (executed_all t ls p.body) → MachineDoes post r m m' (activated o t ls)
+activates {r = r} {m = m} {m₂ = m₂} {m' = m'} {o = o} t ls p e grown few more d = record {
   as_defined = λ enters performs.
-      subst (MachineSteps r m') (sym (activate-goes enters t ls o p (state_of m) e ∙ ap (execute_all enters t ls p.body) (sym more))) (d.as_defined enters performs);
+      subst (MachineSteps r m') (sym (activate-goes enters t ls o p (state_of m) e ∙ with-room p.cells (execute_all enters t ls p.body) (state_of m) m₂.cells.items grown few ∙ ap (execute_all enters t ls p.body) (sym more))) (d.as_defined enters performs);
 }
 
 pub leaving_steps : (r : Result (Unit {0}) Stop) (e : Stop) (m : Machine) (p : MachineProgress) → (y : Stop) × (r ≡ Err y) × (y ≡ e) → MachineSteps (Err e) m p → MachineSteps r m p
@@ -90,18 +101,20 @@ ok-same : {A E : Type 0} {a b : A} (r : Result A E) → r ≡ Ok a → r ≡ Ok 
 ok-same {a = a} r h k = sym (ap (given a) h) ∙ ap (given a) k
 
 ended_at : (o : Option ending.Halt) (m : Machine) (p : MachineProgress) (r : Result End AllocError) (end : End) → r ≡ Ok end → EndsAs o r → StopsRun o m p
-    → record { output = items_out m.output.items; ending = end_in end } ≡ finished p
-ended_at (Some e) m p r end is h steps = ap (λ e. record { output = items_out m.output.items; ending = e }) (ap end_in (ok-same r is h.1) ∙ h.2) ∙ sym (ap finished steps)
+    → Some (record { output = items_out m.output.items; ending = end_in end }) ≡ finished p
+ended_at (Some e) m p r end is h steps = ap (λ e. Some (record { output = items_out m.output.items; ending = e })) (ap end_in (ok-same r is h.1) ∙ h.2) ∙ sym (ap finished steps)
 ended_at None m p r end is h steps = let no = subst IsErr is h in absurd (cc)
 
 pub ended_by : (m : Machine) (p : MachineProgress) (executed : Result (Unit {0}) Stop) (r : Result End AllocError) (end : End) → r ≡ Ok end → IsEndOf executed r → MachineSteps executed m p
-    → record { output = items_out m.output.items; ending = end_in end } ≡ finished p
-ended_by m p (Ok done) r end is h steps = ap (λ e. record { output = items_out m.output.items; ending = end_in e }) (ok-same r is h) ∙ sym (ap finished steps)
+    → Some (record { output = items_out m.output.items; ending = end_in end }) ≡ finished p
+ended_by m p (Ok done) r end is h steps = ap (λ e. Some (record { output = items_out m.output.items; ending = end_in e })) (ok-same r is h) ∙ sym (ap finished steps)
 ended_by m p (Err s) r end is h steps = ended_at (end_at s) m p r end is h steps
 
-pub finishes : (program : lowered.LoweredCode) (input : List ℤ) (c t : ℕ) (s : MachineState) (p : MachineProgress) → s ≡ record { cells = zeros program.cells; input = input; output = [] } → block_run program c t s ≡ p → finished p ≡ run program input c t
+pub finishes : (program : lowered.LoweredCode) (input : List ℤ) (c t : ℕ) (s : MachineState) (p : MachineProgress) (more : List ℤ) → more ≡ [] ++ zeros program.cells → length more < 2 ^ 64 → s ≡ record { cells = zeros program.cells; input = input; output = [] } → block_run program c t s ≡ p
+    → run program input c t ≡ finished p
 unfolding run
-finishes program input c t s p begun h = sym (ap finished h) ∙ ap (λ s. finished (block_run program c t s)) begun
+finishes program input c t s p more same few begun h =
+    ap finished (with-room program.cells (block_run program c t) record { cells = []; input = input; output = [] } more same few) ∙ ap (λ s. finished (block_run program c t s)) (sym begun) ∙ ap finished h
 
 pub begins_with : (cells before zs input : List ℤ) (out : List Item) → cells ≡ before ++ zs → before ≡ [] → out ≡ [] → state_with cells input (items_out out) ≡ state_with zs input []
 begins_with cells before zs input out a b d = ap (λ cells. state_with cells input (items_out out)) (a ∙ ap (λ xs. xs ++ zs) b) ∙ ap (λ out. state_with zs input (items_out out)) d

@@ -1,4 +1,4 @@
--- What the machine's steps return.
+-- The results of the machine's steps.
 -- Rule: none; for contracts of the machine's steps.
 use Rattle.std.specs.Prelude.{ℤ, List, Option, Some, None, Ok, Err, Result}
 use Rattle.ob0_run_machine.specs.declared.ending.Ending.{Ending}
@@ -13,16 +13,13 @@ use Rattle.ob0_run_machine.specs.declared.evaluated.Evaluated.TheVariants as eva
 use Rattle.ob0_run_machine.specs.Lowered.{literal}
 use Rattle.ob0_run_machine.specs.View.{applied}
 
--- how a run ends
+-- the end of a run at an expression
 abbrev pub end_of : Ending → Halt
 end_of ending.Overflow = evaluation.Overflow
 end_of ending.Divisor = evaluation.Divisor
 end_of ending.Index = evaluation.Index
-end_of ending.InputEnd = evaluation.InputEnd
-end_of ending.CallBound = evaluation.CallBound
-end_of ending.TurnBound = evaluation.TurnBound
 
--- the end of a run at a step that gives nothing; none where an allocation failed
+-- the end of a run at a step without a result, or None if an allocation failed
 abbrev pub end_at : Stop → Option Halt
 end_at stop.Overflow = Some evaluation.Overflow
 end_at stop.Divisor = Some evaluation.Divisor
@@ -32,26 +29,23 @@ end_at stop.CallBound = Some evaluation.CallBound
 end_at stop.TurnBound = Some evaluation.TurnBound
 end_at stop.Memory = None
 
--- a result is what a step gives, or how it ends the run
+-- the outcome of a step, by its result
 abbrev pub outcome_of_result : {A : Type 0} → Result A Ending → StepResult A
 outcome_of_result (Ok a) = gives a
 outcome_of_result (Err e) = ends (end_of e)
 
--- the same of an evaluation
+-- the outcome of an evaluation
 abbrev pub outcome_of : {A : Type 0} → Evaluated A → StepResult A
 outcome_of (evaluated.Value a) = gives a
 outcome_of evaluated.Overflow = ends evaluation.Overflow
 outcome_of evaluated.Divisor = ends evaluation.Divisor
 outcome_of evaluated.Index = ends evaluation.Index
-outcome_of evaluated.InputEnd = ends evaluation.InputEnd
-outcome_of evaluated.CallBound = ends evaluation.CallBound
-outcome_of evaluated.TurnBound = ends evaluation.TurnBound
 
--- a number that is there is given, one that isn't is past the 32 bits
+-- the outcome of an operation that is None if its result has more than 32 bits
 abbrev pub if_there : Option ℤ → StepResult ℤ
 if_there None = ends evaluation.Overflow
 if_there (Some n) = gives n
 
--- a number with one operation more
+-- the outcome of one more operation on a number
 abbrev pub linked : Levels → List ℤ → Link → ℤ → StepResult ℤ
 linked ls cells l left = number ls cells (applied l (literal left))

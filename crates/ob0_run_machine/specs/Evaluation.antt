@@ -8,7 +8,7 @@ pub use Rattle.ob0_language_values.specs.Values.{fits, same_truth}
 use Rattle.ob0_run_machine.specs.Lowered.{Place, in_module, here, outside, passed, element, Number, literal, cell, negative, operation, Operator, sum, difference, product, quotient, remainder, Comparator, equal, not_equal, less, less_equal, greater, greater_equal, Truth, constant, flag, negation, both, either, related, same, different}
 
 infixl 20 ◌>>=◌
--- how a run ends
+-- the end of a run
 pub data Halt : Type 0 where
   Done Overflow Divisor Index InputEnd CallBound TurnBound : Halt
 
@@ -22,7 +22,7 @@ abbrev pub ◌>>=◌ : {A B : Type 0} → StepResult A → (A → StepResult B) 
 ◌>>=◌ (gives a) next = next a
 ◌>>=◌ (ends e) next = ends e
 
--- an activation: where its cells begin, and where its VAR parameters lead
+-- an activation: the address of its first cell, and the addresses of its VAR parameters
 pub record Level : Type 0 where
   pub base : ℕ
   pub addresses : List ℕ
@@ -44,13 +44,13 @@ level_at ls up = innermost (drop up ls)
 abbrev pub forward : ℕ → ℕ → ℕ
 forward address offset = (address + offset) % 2 ^ 64
 
--- an element of an array is there for an index from 0 on and below the length
+-- the address of an element; Index if the index is negative or not below the length
 abbrev pub element_at : ℕ → ℕ → ℕ → ℤ → StepResult ℕ
 element_at address length stride (pos i) =
     if nat_lt i length then gives (forward address (i * stride)) else ends Index
 element_at address length stride (negsuc i) = ends Index
 
--- the value of a cell; 0 where there is none
+-- the value of a cell, or 0 if there is no cell at the address
 abbrev pub cell_at : List ℤ → ℕ → ℤ
 cell_at cells address = slice_index_or cells address (pos 0)
 
@@ -58,7 +58,7 @@ cell_at cells address = slice_index_or cells address (pos 0)
 abbrev pub in_range : ℤ → StepResult ℤ
 in_range n = if fits n then gives n else ends Overflow
 
--- by a divisor below 1 nothing is divided
+-- the result of a division, which is None for a divisor below 1
 abbrev pub divided_by : Option ℤ → StepResult ℤ
 divided_by None = ends Divisor
 divided_by (Some n) = in_range n
@@ -72,7 +72,7 @@ operate quotient a b = divided_by (divided division.quotient a b)
 operate remainder a b = divided_by (divided division.remainder a b)
 
 abbrev mutual
-  -- the address of a place among all cells; Index where an element isn't there
+  -- the address of a place among all cells; Index if an array has no such element
   pub address : Levels → List ℤ → Place → StepResult ℕ
   address ls cells (in_module offset) = gives offset
   address ls cells (here offset) = gives (forward (innermost ls).base offset)
@@ -98,7 +98,7 @@ compare less_equal a b = int_le a b
 compare greater a b = int_lt b a
 compare greater_equal a b = int_le b a
 
--- 0 is FALSE, all else TRUE
+-- the truth value of a cell: FALSE for 0, TRUE for any other number
 abbrev pub is_true : ℤ → Bool
 is_true (pos zero) = false
 is_true (pos (suc n)) = true

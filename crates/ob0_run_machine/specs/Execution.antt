@@ -3,7 +3,7 @@
 -- and bounds c on open calls and t on the iterations of a loop.
 -- Rule: none; for contracts of the machine: what lowered statements mean,
 -- by the rules of docs/LANGUAGE.md, Runs 5 to 10.
-use Rattle.std.specs.Prelude.{ℕ, zero, suc, ◌+◌, ◌-◌, Bool, true, false, ◌&&◌, List, [], ◌∷◌, ◌++◌, length, take, drop, replicate, ℤ, pos, Some, None, Option, if◌then◌else◌, nat_le, slice_get, slice_set}
+use Rattle.std.specs.Prelude.{ℕ, zero, suc, ◌+◌, ◌-◌, ◌^◌, Bool, true, false, ◌&&◌, List, [], ◌∷◌, ◌++◌, length, take, drop, replicate, ℤ, pos, Some, None, Option, if◌then◌else◌, nat_le, nat_lt, slice_get, slice_set}
 use Rattle.ob0_run_machine.specs.Lowered.{LoweredArgument, by_place, by_number, by_truth, by_block, Instruction, stores_number, stores_truth, copies, reads, writes, writes_line, chooses, while_loop, repeat_loop, calls, Instructions, no_statement, before, Branches, no_branch, branch, Routine, LoweredCode}
 use Rattle.ob0_run_machine.specs.Evaluation.{CallBound, Done, Halt, InputEnd, StepResult, Levels, TurnBound, address, as_cell, ends, gives, innermost, number, truth, ◌>>=◌}
 
@@ -12,27 +12,30 @@ pub data OutputItem : Type 0 where
   number_out : ℤ → OutputItem
   line_out : OutputItem
 
--- the cells of all variables, those of the module first
+-- the cells of all variables, the module's first, the rest of the input, and the output so far
 pub record MachineState : Type 0 where
   pub cells : List ℤ
   pub input : List ℤ
   pub output : List OutputItem
 
--- a run goes on, or it has ended; what was output before remains
+-- a run continues, or it has ended with this output.
+-- There is no room if there are no addresses for the cells of an activation
 pub data MachineProgress : Type 0 where
   running : MachineState → MachineProgress
   stopped : Halt → List OutputItem → MachineProgress
+  no_room : MachineProgress
 
--- what an evaluation gives, used in a state
+-- an evaluation, followed by a use of its result
 abbrev pub use_in : {A : Type 0} → MachineState → StepResult A → (A → MachineProgress)
     → MachineProgress
 use_in s (gives a) next = next a
 use_in s (ends e) next = stopped e s.output
 
--- a run that goes on is continued; one that has ended stays so
+-- a run, followed by a further step if it hasn't ended
 abbrev pub continue_with : MachineProgress → (MachineState → MachineProgress) → MachineProgress
 continue_with (running s) next = next s
 continue_with (stopped e out) next = stopped e out
+continue_with no_room next = no_room
 
 -- one of two ways, by a condition
 abbrev pub choose : MachineState → StepResult Bool
@@ -47,11 +50,11 @@ choose s (ends e) when_true when_false = stopped e s.output
 abbrev pub append_output : MachineState → OutputItem → MachineState
 append_output s i = record s { output = s.output ++ i ∷ [] }
 
--- a cell that isn't there stays so
+-- the state after a number was stored at an address; unchanged if there is no cell at it
 abbrev pub store_at : MachineState → ℕ → ℤ → MachineState
 store_at s a n = record s { cells = slice_set s.cells a n }
 
--- n cells from one address go to another, where both are there; else nothing changes
+-- the cells after n cells were copied from one address to another; unchanged if there are too few at either
 abbrev pub copied : List ℤ → (to from n : ℕ) → List ℤ
 copied cells to from n =
     if nat_le (to + n) (length cells) && nat_le (from + n) (length cells)
@@ -62,7 +65,7 @@ copied cells to from n =
 abbrev pub zeros : ℕ → List ℤ
 zeros n = replicate n (pos 0)
 
--- n cells from an address on; all are 0 where not all of them are there
+-- the n cells at an address, or n zeros if there are too few
 abbrev pub block_at : List ℤ → (from n : ℕ) → List ℤ
 block_at cells from n =
     if nat_le (from + n) (length cells) then take n (drop from cells) else zeros n
@@ -72,7 +75,7 @@ abbrev pub read_number : MachineState → ℕ → List ℤ → MachineProgress
 read_number s a [] = stopped InputEnd s.output
 read_number s a (n ∷ rest) = running (store_at (record s { input = rest }) a n)
 
--- what was passed: values are cells at the end, and places are addresses,
+-- the arguments passed so far: values as cells at the end, and places as addresses,
 -- both in the order of the parameters
 pub record Passed : Type 0 where
   pub cells : List ℤ
@@ -97,8 +100,8 @@ abbrev pub pass_all : Levels → List LoweredArgument → Passed → StepResult 
 pass_all ls [] done = gives done
 pass_all ls (a ∷ as_given) done = pass ls a done >>= pass_all ls as_given
 
--- WHILE evaluates its condition; where it is TRUE and none of t iterations is left, the run ends
--- with TurnBound; else one more is made
+-- WHILE evaluates its condition; if it is TRUE and no iteration of t is left, the run ends
+-- with TurnBound; otherwise one more is made
 abbrev pub turns : ℕ → (MachineState → StepResult Bool)
     → (MachineState → MachineProgress)
     → MachineState
@@ -110,8 +113,7 @@ turns (suc t) condition statements s =
     running
 
 -- REPEAT makes an iteration and then evaluates its condition: TRUE ends the statement; FALSE ends
--- the run with TurnBound where none of the t iterations after the first is left;
--- else one more is made
+-- the run with TurnBound if no iteration of t after the first is left; otherwise one more is made
 abbrev pub turns_until : ℕ → (MachineState → StepResult Bool)
     → (MachineState → MachineProgress)
     → MachineState
@@ -122,8 +124,8 @@ turns_until zero condition turn s =
 turns_until (suc t) condition turn s =
     continue_with (turn s) (λ s'. choose s' (condition s') running (turns_until t condition turn))
 
--- what a procedure does where it is called: the activations that its body sees, its own first,
--- whose arguments are passed
+-- the effect of a call of a procedure, by the activations that its body sees, its own first,
+-- whose arguments have been passed
 abbrev pub CallEffect : Type 0
 CallEffect = ℕ → Levels → MachineState → MachineProgress
 
@@ -164,7 +166,7 @@ unfoldable mutual
   execute_all enter t ls (before a rest) s =
       continue_with (execute enter t ls a s) (execute_all enter t ls rest)
 
-  -- what the first branch with a TRUE condition executes; `otherwise` where there is none
+  -- the statements of the first branch with a TRUE condition, or `otherwise`
   pub execute_branches : CallEffect → ℕ → Levels → Branches
       → (MachineState → MachineProgress)
       → MachineState
@@ -174,18 +176,25 @@ unfoldable mutual
       choose s (truth ls s.cells c) (execute_all enter t ls body)
       (execute_branches enter t ls rest otherwise)
 
--- a call that returns drops its cells: the first n stay
+-- a call that returns drops its cells and keeps the first n
 abbrev pub drop_variables : ℕ → MachineProgress → MachineProgress
 drop_variables n (running s) = running record s { cells = take n s.cells }
 drop_variables n (stopped e out) = stopped e out
+drop_variables n no_room = no_room
+
+-- an activation gets n new cells at the end, if all cells have addresses of 64 bits
+abbrev pub with_cells : ℕ → (MachineState → MachineProgress) → MachineState → MachineProgress
+with_cells n next s =
+    if nat_lt (length s.cells + n) (2 ^ 64)
+    then next record s { cells = s.cells ++ zeros n }
+    else no_room
 
 -- the body of a procedure runs with its own cells after its arguments;
--- what isn't there does nothing
+-- a procedure that doesn't exist does nothing
 unfoldable pub activate : CallEffect → ℕ → Levels → Option Routine → MachineState → MachineProgress
 unfolding execute_all
 activate enter t ls None s = running s
-activate enter t ls (Some p) s =
-    execute_all enter t ls p.body record s { cells = s.cells ++ zeros p.cells }
+activate enter t ls (Some p) s = with_cells p.cells (execute_all enter t ls p.body) s
 
 -- calls, of which c more may be open
 unfoldable pub call : List Routine → ℕ → ℕ → CallEffect
@@ -200,18 +209,20 @@ pub record MachineRun : Type 0 where
   pub output : List OutputItem
   pub ending : Halt
 
--- a run that reaches the end of the program ends with Done
-abbrev pub finished : MachineProgress → MachineRun
-finished (running s) = record { output = s.output; ending = Done }
-finished (stopped e out) = record { output = out; ending = e }
+-- a run that reaches the end of the program ends with Done; one without room comes to nothing
+abbrev pub finished : MachineProgress → Option MachineRun
+finished (running s) = Some (record { output = s.output; ending = Done })
+finished (stopped e out) = Some (record { output = out; ending = e })
+finished no_room = None
 
 -- the module's own activation is the outermost one
 abbrev pub outermost : Levels
 outermost = record { base = 0; addresses = [] } ∷ []
 
--- the run of a program on an input
-unfoldable pub run : LoweredCode → List ℤ → ℕ → ℕ → MachineRun
+-- the run of a program on an input, if there is room for it
+unfoldable pub run : LoweredCode → List ℤ → ℕ → ℕ → Option MachineRun
 unfolding execute_all call
 run program input c t =
-    finished (execute_all (call program.procedures c t) t outermost program.body record
-    { cells = zeros program.cells; input = input; output = [] })
+    finished (with_cells program.cells
+    (execute_all (call program.procedures c t) t outermost program.body) record
+    { cells = []; input = input; output = [] })

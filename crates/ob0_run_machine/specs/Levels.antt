@@ -1,4 +1,4 @@
--- The activations that an activation sees, itself first, and where VAR parameters lead.
+-- The activations that an activation sees, itself first, and the addresses of VAR parameters.
 -- Rule: none; for contracts of the machine.
 use Rattle.std.specs.Prelude.{ℕ, List, Option, Some, None, [], ◌∷◌}
 use denote.Ref.{Bor}

@@ -1,10 +1,10 @@
 -- Lowered code: a module whose variables are offsets of cells, whose designators are bases, bounds
 -- and offsets, and whose calls name their procedure by its index.
--- No definition has a premise on the code or a case that is stuck. A cell that isn't there is 0, and writing it changes
--- nothing; a block of cells is copied where both places have it whole, and as an argument it is zeros where it isn't
--- there; a procedure that isn't there does nothing; an activation further out than there are has base 0 and no
+-- No definition has a premise on the code or a case that is stuck. An address without a cell has the value 0, and writing
+-- to it changes nothing. A block is copied if both places have all its cells; as an argument it is zeros if its place
+-- doesn't. A procedure that doesn't exist does nothing. An activation further out than there are has base 0 and no
 -- addresses. Addresses wrap at 64 bits. So no index is tested twice, and no lowered code needs a premise. Arguments are
--- put at the end of the cells one by one, and the next is evaluated over what is there then (`pass_all`).
+-- added at the end of the cells one by one, and the next is evaluated over the cells so far (`pass_all`).
 -- Rule: none; for contracts of the machine: lowered code.
 use Rattle.std.specs.Prelude.{ℕ, Bool, List, ℤ}
 
@@ -13,7 +13,7 @@ pub data Operator : Type 0 where
   sum difference product quotient remainder : Operator
 
 mutual
-  -- where a variable or a part of one is
+  -- the place of a variable or of a part of one
   pub data Place : Type 0 where
     -- at an offset in the cells of the module
     in_module : (offset : ℕ) → Place
@@ -21,8 +21,8 @@ mutual
     here : (offset : ℕ) → Place
     -- at an offset in the cells of the activation `up` levels out
     outside : (up offset : ℕ) → Place
-    -- at an offset in what a VAR parameter of the activation `up` levels out leads to,
-    -- by its index among them
+    -- at an offset from the address of a VAR parameter of the activation `up` levels out,
+    -- by its index among the VAR parameters
     passed : (up index offset : ℕ) → Place
     -- at an offset in an element of an array, which has `length` elements of `stride` cells each
     element : Place → Number → (length stride offset : ℕ) → Place
@@ -60,12 +60,12 @@ mutual
   pub data Instruction : Type 0 where
     stores_number : Place → Number → Instruction
     stores_truth : Place → Truth → Instruction
-    -- this number of cells from the second place go to the first
+    -- copies this number of cells from the second place to the first
     copies : Place → Place → (cells : ℕ) → Instruction
     reads : Place → Instruction
     writes : Number → Instruction
     writes_line : Instruction
-    -- IF and its ELSIF parts, and what is executed where no condition is TRUE
+    -- IF and its ELSIF parts, and the statements that run if no condition is TRUE
     chooses : Branches → Instructions → Instruction
     while_loop : Truth → Instructions → Instruction
     repeat_loop : Instructions → Truth → Instruction
@@ -77,17 +77,17 @@ mutual
     no_statement : Instructions
     before : Instruction → Instructions → Instructions
 
-  -- conditions, each with what is executed where it is the first that is TRUE
+  -- conditions, each with the statements that run if it is the first that is TRUE
   pub data Branches : Type 0 where
     no_branch : Branches
     branch : Truth → Instructions → Branches → Branches
 
--- a procedure, with `cells` cells beside those of its parameters
+-- a procedure, with `cells` cells in addition to the cells of its parameters
 pub record Routine : Type 0 where
   pub cells : ℕ
   pub body : Instructions
 
--- a module, with `cells` cells of its own
+-- a module, whose variables have `cells` cells
 pub record LoweredCode : Type 0 where
   pub cells : ℕ
   pub body : Instructions

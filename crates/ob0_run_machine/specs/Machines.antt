@@ -1,9 +1,9 @@
--- What the machine means, and what a step of it says of the run.
--- Iterations are a parameter, so that the machine is the state alone (cells, input, output) and a step says nothing of
--- what stays the same. Contracts of steps without memory are equations (`after_step`, `executed`); those that take
--- memory are by cases (`MachineSteps`, `Passes`). `MachineDoes` and what the loops keep are records (`InSequence`,
--- `InBranches`, `InWhile`, `InRepeat`): their lemmas take all else as implicit arguments, so an answer is one line.
--- There is one fact for each loop, indexed by how far it has come, with one lemma for each way to go on or to end.
+-- The meaning of the machine's state, and of the result of a step.
+-- Iterations are a parameter, so the state of the machine is only cells, input and output. Contracts of steps without
+-- memory are equations (`after_step`, `executed`); contracts of steps that take memory are by cases (`MachineSteps`,
+-- `Passes`). `MachineDoes` and the invariants of loops are records (`InSequence`, `InBranches`, `InWhile`, `InRepeat`):
+-- their lemmas have implicit arguments otherwise, so an answer is one line. Each loop has one fact, indexed by the
+-- iterations so far, with one lemma for each way to continue or to end.
 -- Rule: none; for contracts of the machine.
 use Rattle.std.specs.Prelude.{◌≡◌, ℕ, ℤ, List, map, Ok, Err, None, Option, Some, Result, true}
 use denote.MutBor.{MutBor}
@@ -38,60 +38,60 @@ abbrev pub state_of : Machine → MachineState
 state_of m =
     record { cells = m.cells.items; input = m.input.now; output = items_out m.output.items }
 
--- a step that takes no memory goes on in the state that it leaves,
--- or ends the run with what was output
+-- the run after a step that takes no memory: it continues in the machine's state,
+-- or has ended with its output
 abbrev pub after_step : Result (Unit {0}) Ending → Machine → MachineProgress
 after_step (Ok done) m = running (state_of m)
 after_step (Err e) m = stopped (end_of e) (items_out m.output.items)
 
--- a step that gives nothing ends the run with what was output;
--- it ends nothing only where an allocation has failed
+-- states that the run has ended with the machine's output,
+-- or that an allocation has failed
 abbrev pub StopsRun : Option Halt → Machine → MachineProgress → Type 0
 StopsRun (Some e) m p = p ≡ stopped e (items_out m.output.items)
 StopsRun None m p = has_failed m.memory ≡ true
 
--- the same of any step
+-- states the same for a step with an error; otherwise the run continues in the machine's state
 abbrev pub MachineSteps : Result (Unit {0}) Stop → Machine → MachineProgress → Type 0
 MachineSteps (Ok done) m p = p ≡ running (state_of m)
 MachineSteps (Err s) m p = StopsRun (end_at s) m p
 
--- what a closure that performs calls does: the machine before it, the procedure, the activation,
--- its answer and the machine after it
+-- the postcondition of a closure that performs calls: the machine before it, the procedure,
+-- the activation, its result and the machine after it
 abbrev pub Post : Type 1
 Post = MutBor Machine → ℕ → Bor level.Level → Result (Unit {0}) Stop → MutBor Machine → Type 0
 
--- calls do what `enters` says
+-- states that calls do what `enters` says
 abbrev pub Performs : Post → CallEffect → Type 0
 Performs post enters =
     (at : MutBor Machine) (k : ℕ) (l : Bor level.Level) (r : Result (Unit {0}) Stop)
     (after : MutBor Machine)
     → post at k l r after → MachineSteps r after.now (enters k (levels_of l.now) (state_of at.now))
 
--- what a part of a program does, by what calls do
+-- the effect of a part of a program, by the effect of calls
 abbrev pub Doing : Type 0
 Doing = CallEffect → MachineState → MachineProgress
 
--- what a statement does
+-- the effect of a statement
 abbrev pub executed : ℕ → Levels → Instruction → Doing
 executed t ls a enters s = execute enters t ls a s
 
--- what statements do
+-- the effect of statements
 abbrev pub executed_all : ℕ → Levels → Instructions → Doing
 executed_all t ls as_listed enters s = execute_all enters t ls as_listed s
 
--- what the first of these branches with a TRUE condition does; `otherwise` where there is none
+-- the effect of the first branch with a TRUE condition, or of `otherwise`
 abbrev pub executed_others : ℕ → Levels → Branches → Instructions → Doing
 executed_others t ls bs otherwise enters s =
     execute_branches enters t ls bs (execute_all enters t ls otherwise) s
 
--- a step of the machine does what `doing` says, where calls do what they say
+-- states that a step of the machine has an effect, if calls do what they say
 pub record MachineDoes (post : Post) (r : Result (Unit {0}) Stop) (m m' : Machine) (doing : Doing)
     : Type 0 where
   pub as_defined : (enters : CallEffect)
       → Performs post enters
       → MachineSteps r m' (doing enters (state_of m))
 
--- what was passed, on top of what was there
+-- cells with the passed values at their end, and the passed addresses
 abbrev pub passed_in : List ℤ → List ℕ → Passed
 passed_in cells addresses = record { cells = cells; addresses = addresses }
 
@@ -101,12 +101,12 @@ abbrev pub entering : ℕ → ℕ → Levels → ℕ → List ℕ → Doing
 entering k up ls base addresses enters s =
     enters k (entered ls base up (passed_in s.cells addresses)) s
 
--- arguments that can't be passed end the run; they end nothing only where an allocation has failed
+-- states that arguments end the run, or that an allocation has failed
 abbrev pub StopsPassing : Option Halt → Memory → StepResult Passed → Type 0
 StopsPassing (Some e) memory o = o ≡ ends e
 StopsPassing None memory o = has_failed memory ≡ true
 
--- an argument is passed, or it ends the run
+-- states that an argument is passed, or ends the run
 abbrev pub Passes : Result (Unit {0}) Stop → Memory → List ℤ → List ℕ → StepResult Passed → Type 0
 Passes (Ok done) memory cells addresses o = o ≡ gives (passed_in cells addresses)
 Passes (Err s) memory cells addresses o = StopsPassing (end_at s) memory o

@@ -1,4 +1,4 @@
--- What the code's outcome of a run means.
+-- The meaning of the code's outcome of a run.
 -- Rule: none; for contracts: what values of the code mean.
 use Rattle.std.specs.Prelude.{◌≡◌, ℕ, IsErr, Ok, Err, None, Option, Result, Some}
 use Rattle.std.specs.declared.alloc.AllocError.{AllocError}
@@ -22,13 +22,13 @@ end_in code.InputEnd = InputEnd
 end_in code.CallBound = CallBound
 end_in code.TurnBound = TurnBound
 
--- this end is returned, and an error where there is none
+-- states that this end is returned, or an error if there is none
 abbrev pub EndsAs : Option Halt → Result End AllocError → Type 0
 EndsAs (Some e) r = (x : End) × (r ≡ Ok x) × (end_in x ≡ e)
 EndsAs None r = IsErr r
 
--- statements that return have reached the end of the program, a rule that they break ends the run,
--- and nothing else but an allocation that failed leaves it without an end
+-- states the end of a run by the result of its statements: Done if they return,
+-- an error if an allocation failed, otherwise the end of the fault or bound
 abbrev pub IsEndOf : Result (Unit {0}) Stop → Result End AllocError → Type 0
 IsEndOf (Ok done) r = r ≡ Ok code.Done
 IsEndOf (Err s) r = EndsAs (end_at s) r
@@ -37,6 +37,6 @@ IsEndOf (Err s) r = EndsAs (end_at s) r
 abbrev pub run_of : Outcome → MachineRun
 run_of o = record { output = items_out o.output.items; ending = end_in o.end }
 
--- the statements of a program, from a state on
+-- the run of a program's statements, from a state
 abbrev pub block_run : LoweredCode → ℕ → ℕ → MachineState → MachineProgress
 block_run program c t s = execute_all (call program.procedures c t) t outermost program.body s

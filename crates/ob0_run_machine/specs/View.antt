@@ -45,17 +45,17 @@ operator_of operator.Product = lowered.product
 operator_of operator.Quotient = lowered.quotient
 operator_of operator.Remainder = lowered.remainder
 
--- where a variable of the code is
+-- the place of a variable of the code
 abbrev pub variable_of : Variable → lowered.Place
 variable_of (variable.Module offset) = lowered.in_module offset
 variable_of (variable.Here offset) = lowered.here offset
 variable_of (variable.ByReference index offset) = lowered.passed 0 index offset
 
--- at an offset in what a VAR parameter leads to
+-- the place at an offset from the address of a VAR parameter
 abbrev pub reference_of : Reference → lowered.Place
 reference_of r = lowered.passed r.up r.index r.offset
 
--- at an offset in the element of an array at the index that a variable has
+-- the place at an offset in the element of an array, at the value of a variable
 abbrev pub row_of : Row → lowered.Place
 row_of r =
     lowered.element (variable_of r.array) (lowered.cell (variable_of r.index)) r.length r.stride
@@ -130,7 +130,7 @@ element_of e =
 abbrev pub operation_of : Operation → lowered.Number
 operation_of o = applied (out-Operation o).link (first_of (out-Operation o).first)
 
--- a chain of operations, from this left operand on
+-- a chain of operations on this left operand
 abbrev pub chained_from : lowered.Number → List Link → lowered.Number
 chained_from left [] = left
 chained_from left (l ∷ ls) = chained_from (applied l left) ls
@@ -181,12 +181,12 @@ abbrev mutual
   truth_of (truth.Different' pointer left right) =
       lowered.different (truth_of left) (truth_of right)
 
-  -- a chain of `&`, from this left operand on
+  -- a chain of `&` on this left operand
   pub all_of : {n : _} → truth.Row_of-Truth n → lowered.Truth → lowered.Truth
   all_of truth.end_of-Truth left = left
   all_of (truth.more_of-Truth t row) left = all_of row (lowered.both left (truth_of t))
 
-  -- a chain of OR, from this left operand on
+  -- a chain of OR on this left operand
   pub any_of : {n : _} → truth.Row_of-Truth n → lowered.Truth → lowered.Truth
   any_of truth.end_of-Truth left = left
   any_of (truth.more_of-Truth t row) left = any_of row (lowered.either left (truth_of t))
@@ -196,7 +196,7 @@ abbrev pub all_from : lowered.Truth → List Truth → lowered.Truth
 all_from left [] = left
 all_from left (t ∷ ts) = all_from (lowered.both left (truth_of t)) ts
 
--- a chain of OR, from this left operand on
+-- a chain of OR on this left operand
 abbrev pub any_from : lowered.Truth → List Truth → lowered.Truth
 any_from left [] = left
 any_from left (t ∷ ts) = any_from (lowered.either left (truth_of t)) ts
@@ -302,7 +302,7 @@ program_of p =
 abbrev pub others_in : if_statement.Conditional → lowered.Branches
 others_in i = all_branches (if_statement.out-Conditional i).others.items
 
--- what is executed where no condition of an IF is TRUE
+-- the statements that run if no condition of an IF is TRUE
 abbrev pub otherwise_in : if_statement.Conditional → lowered.Instructions
 otherwise_in i = sequence_of (if_statement.out-Conditional i).otherwise.items
 

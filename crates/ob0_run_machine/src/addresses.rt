@@ -1,4 +1,4 @@
-//! Where the VAR parameters of a call lead.
+//! The addresses of a call's VAR parameters.
 
 ghost use Rattle.std.specs.Prelude.{◌≡◌, ◌++◌, ◌∷◌, [], IfOk, OnErr, OnOk, true};
 ghost use Rattle.ob0_run_machine.specs.Allocations.{has_failed};
@@ -7,7 +7,7 @@ ghost use Rattle.ob0_run_machine.specs.Levels.{addresses_in};
 use crate::memory::Memory;
 use std::alloc::AllocError;
 
-/// Addresses in order. One or two are here, more in a list: most calls allocate nothing for them.
+/// Addresses in order. One or two are stored here, more in a list, so most calls allocate nothing for them.
 #[derive(Drop)]
 pub(crate) enum Addresses {
     Empty,
@@ -16,7 +16,7 @@ pub(crate) enum Addresses {
     More(Vec<usize>),
 }
 
-/// Three addresses.
+/// Returns a list of three addresses.
 fn three(memory: &mut Memory, a: usize, b: usize, c: usize) -> Result<Addresses, AllocError>
     ensures listed { IfOk result (λ r. addresses_in r ≡ a ∷ b ∷ c ∷ []) }
     ensures failed { OnErr result (has_failed memory.new ≡ true) }
@@ -29,7 +29,7 @@ fn three(memory: &mut Memory, a: usize, b: usize, c: usize) -> Result<Addresses,
 }
 
 impl Addresses {
-    /// Puts one more at the end.
+    /// Adds an address at the end.
     #[inline(always)]
     pub(crate) fn push(&mut self, memory: &mut Memory, address: usize) -> Result<(), AllocError>
         ensures items { OnOk result

@@ -1,4 +1,4 @@
-//! Calls of procedures. The cells of a call are dropped at its return.
+//! Calls of procedures. A call's cells are dropped when it returns.
 
 ghost use Rattle.std.specs.Prelude.{◌≡◌, map, option_map, slice_get, take};
 ghost use Rattle.ob0_run_machine.specs.Evaluation.{innermost};
@@ -12,7 +12,7 @@ use crate::level::Level;
 use crate::machine::Machine;
 use crate::statements::run_inlined;
 
-/// The procedure at an index.
+/// Returns the procedure at an index.
 #[inline(always)]
 fn procedure_at<'p>(procedures: &'p [Routine], procedure: usize) -> Option<&'p Routine>
     ensures { option_map (λ p. procedure_of p.now) result
@@ -24,7 +24,7 @@ fn procedure_at<'p>(procedures: &'p [Routine], procedure: usize) -> Option<&'p R
     Some(&procedures[procedure])
 }
 
-/// The body of a procedure, with its own cells after its arguments.
+/// Runs the body of a procedure, with its own cells after its arguments.
 fn activate<F: Fn(&mut Machine<'_>, usize, &Level<'_>) -> Result<(), Stop>>(
     procedure: Option<&Routine>,
     level: &Level<'_>,
@@ -57,7 +57,7 @@ fn drop_variables(machine: &mut Machine<'_>, level: &Level<'_>)
     machine.cells.truncate(level.base);
 }
 
-/// A call of a procedure, where `calls` calls more may be open.
+/// Calls a procedure, if `calls` more calls may be open.
 #[inline(never)]
 pub(crate) fn call(
     program: &LoweredCode,

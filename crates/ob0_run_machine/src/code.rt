@@ -1,21 +1,24 @@
-//! Lowered code: variables are offsets of cells, designators are bases, bounds and offsets, and a call names its
+//! Lowered code: variables are offsets of cells, designators are bases, bounds and offsets, and a call refers to its
 //! procedure by its index.
 //!
-//! Fewer steps, the same definitions: more nodes have the same view. A variable of the module or of the running
-//! activation, or what a VAR parameter of that leads to, is one tag (`Variable`), as a number, as the target of an
-//! assignment, and as array and index of a `Row`; the operations of a row are links on an accumulator, with the
-//! operator and a literal or variable in one tag (`Link`), any other right operand in one called function
-//! (`apply_other`); `v + i * j` is a row too (`VariableSum`), since a variable that is read after the row is the same;
-//! `x := x + k` is an `Increase`, `x := x * y` an `Update`, and an assignment of operations in a row evaluates them where
-//! it is (`StoreChain`); a variable compared with a literal or a variable is one node (`LessThanLiteral`,
-//! `ComparedToLiteral`, `ComparedToVariable`), and so are an element compared with a variable (`RowToVariable`), an
-//! element that becomes TRUE or FALSE (`StoreConstant`) and `~flag` (`Unset`). Conditions that compare variables are
-//! evaluated where they are used, a flag and an element by small functions (`flag`, `compare_row`), all others in a large
-//! one (`flat_truth`).
+//! Several nodes have the same view, so the machine takes fewer steps by the same definitions:
 //!
-//! Long sums and long conjunctions are `Chain`, `All` and `Any`, in a loop; they mean pairs that are nested to the
-//! left. So no stack is needed for a long operator chain. What operations begin with is a `FirstOperand`, which is no
-//! operation: so a row isn't nested in the left operand of another, by its type.
+//! - A variable of the module or of the running activation, or at an offset from the address of a VAR parameter, is one
+//!   tag (`Variable`): as a number, as the target of an assignment, and as array and index of a `Row`.
+//! - The operations of a row are links on an accumulator, with the operator and a literal or variable in one tag
+//!   (`Link`). Any other right operand is evaluated by a called function (`apply_other`). `v + i * j` is also a row
+//!   (`VariableSum`), since the variable has the same value after the product was evaluated.
+//! - `x := x + k` is an `Increase`, `x := x * y` an `Update`. An assignment of a row to a variable evaluates the row
+//!   itself (`StoreChain`).
+//! - A variable compared with a literal or a variable is one node (`LessThanLiteral`, `ComparedToLiteral`,
+//!   `ComparedToVariable`). So are an element compared with a variable (`RowToVariable`), an element that becomes TRUE or
+//!   FALSE (`StoreConstant`), and `~flag` (`Unset`).
+//! - Conditions that compare variables are evaluated inline, a flag and an element by small functions (`flag`,
+//!   `compare_row`), all others in a large function (`flat_truth`).
+//!
+//! Long sums and long conjunctions are `Chain`, `All` and `Any`, which loops evaluate; they mean pairs that are nested to
+//! the left. So a long chain of operators needs no stack. A row of operations begins with a `FirstOperand`, which is no
+//! operation. So no row is nested in the left operand of another, by its type.
 
 /// The operators between two numbers.
 #[derive(Clone, Copy, PartialEq, Eq, Debug)]
@@ -27,30 +30,30 @@ pub enum Operator {
     Remainder,
 }
 
-/// A variable of the module or of the running activation, by its offset in the cells of either, or what is at an offset
-/// in what a VAR parameter of the running activation leads to, by its index among these parameters.
+/// A variable of the module or of the running activation, by its offset in their cells, or a place at an offset from the
+/// address of a VAR parameter of the running activation, by its index among the VAR parameters.
 #[derive(Clone, Copy, PartialEq, Eq, Debug)]
 pub enum Variable {
     Module(usize),
     Here(usize),
-    /// Numbers of 32 bits, so that a variable has 16 bytes; others are a `Place::Passed`.
+    /// Its numbers have 32 bits, so a `Variable` has 16 bytes. Larger numbers are in a `Place::Passed`.
     ByReference { index: u32, offset: u32 },
 }
 
-/// Where a variable or a part of one is.
+/// The place of a variable or of a part of one.
 #[cycle(numbers)]
 #[derive(Drop)]
 pub enum Place {
     Variable(Variable),
-    /// In the cells of the activation that is `up` levels out, at an offset.
+    /// At an offset in the cells of the activation that is `up` levels out.
     Outside { up: usize, offset: usize },
     Passed(Box<Reference>),
-    /// An element of an array that is a variable, at an index that is one: an `Element` in one step.
+    /// An element of an array that is a variable, at an index that is a variable: an `Element` in one step.
     Row(Box<Row>),
     Element(Box<Element>),
 }
 
-/// At an offset in what a VAR parameter of the activation `up` levels out leads to, by its index among these
+/// A place at an offset from the address of a VAR parameter of the activation `up` levels out, by its index among the VAR
 /// parameters.
 #[derive(Clone, Copy, PartialEq, Eq, Debug)]
 pub struct Reference {
@@ -59,7 +62,7 @@ pub struct Reference {
     pub offset: usize,
 }
 
-/// At an offset in an element of an array, at an index: the array has `length` elements of `stride` cells each.
+/// A place at an offset in the element at an index of an array, which has `length` elements of `stride` cells each.
 #[derive(Clone, Copy, PartialEq, Eq, Debug)]
 pub struct Row {
     pub array: Variable,
@@ -69,7 +72,7 @@ pub struct Row {
     pub offset: usize,
 }
 
-/// At an offset in an element of an array, at an index: the array has `length` elements of `stride` cells each.
+/// A place at an offset in the element at an index of an array, which has `length` elements of `stride` cells each.
 #[cycle(numbers)]
 #[derive(Drop)]
 pub struct Element {
@@ -86,7 +89,7 @@ pub struct Element {
 pub enum Number {
     Literal(i32),
     Variable(Variable),
-    /// What is at another place.
+    /// The number at another place.
     Cell(Place),
     Negative(Box<Number>),
     /// One operation.
@@ -95,8 +98,7 @@ pub enum Number {
     Chain(Box<Chain>),
 }
 
-/// What operations in a row begin with: a number that isn't an operation. So no row is nested in the left operand of
-/// another.
+/// The first operand of a row of operations: a number that isn't an operation.
 #[cycle(numbers)]
 #[derive(Drop)]
 pub enum FirstOperand {
@@ -114,7 +116,7 @@ pub struct Operation {
     pub link: Link,
 }
 
-/// A first operand, and operators with theirs, from left to right.
+/// A first operand, and operators with their right operands, from left to right.
 #[cycle(numbers)]
 #[derive(Drop)]
 pub struct Chain {
@@ -122,8 +124,8 @@ pub struct Chain {
     pub rest: Vec<Link>,
 }
 
-/// An operator with its right operand: a literal, a variable or another number. Its left operand is what was computed
-/// so far; where the name begins with the variable, that is the left operand, and what was computed is the right one.
+/// An operator with its right operand: a literal, a variable or another number. The left operand is the result so far.
+/// If the case's name begins with `Variable`, the variable is the left operand and the result so far the right one.
 #[cycle(numbers)]
 #[derive(Drop)]
 pub enum Link {
@@ -177,7 +179,7 @@ pub enum Truth {
     /// Many truths joined by `OR`.
     Any(Box<Several>),
     Related(Comparator, Box<Operands>),
-    /// A variable that is less than a literal: a `Related` in one step, as the next three are.
+    /// A variable that is less than a literal: a `Related` in one step, like the next three.
     LessThanLiteral(Variable, i32),
     /// A variable compared with a literal.
     ComparedToLiteral(Comparator, Variable, i32),
@@ -210,7 +212,7 @@ pub enum Argument {
     Place(Place),
     Number(Number),
     Truth(Truth),
-    /// The cells of an array or a record: where they begin, and their number.
+    /// The cells of an array or a record: their first place, and their number.
     Block(Place, usize),
 }
 
@@ -230,7 +232,7 @@ pub enum Instruction {
     StoreTruth(Place, Truth),
     /// An element becomes TRUE or FALSE.
     StoreConstant(Box<Row>, bool),
-    /// The cells from the second place on go to the first; the last field is their number.
+    /// Copies cells from the second place to the first; the last field is their number.
     Copy(Place, Place, usize),
     Read(Place),
     Write(Number),
@@ -241,7 +243,7 @@ pub enum Instruction {
     Call(ProcedureCall),
 }
 
-/// IF: its condition with the statements that are run where it is TRUE, its ELSIF parts, and what is executed where no
+/// IF: its condition with the statements that run if it is TRUE, its ELSIF parts, and the statements that run if no
 /// condition is TRUE. So an IF without ELSIF is evaluated without a list.
 #[cycle(statements)]
 #[derive(Drop)]
@@ -252,7 +254,7 @@ pub struct Conditional {
     pub otherwise: Vec<Instruction>,
 }
 
-/// A condition, and the statements that are run where it is TRUE.
+/// A condition, and the statements that run if it is TRUE.
 #[cycle(statements)]
 #[derive(Drop)]
 pub struct Branch {
@@ -284,14 +286,14 @@ pub struct ProcedureCall {
     pub arguments: Vec<Argument>,
 }
 
-/// A procedure. It has `cells` cells beside those of its parameters.
+/// A procedure. It has `cells` cells in addition to the cells of its parameters.
 #[derive(Drop)]
 pub struct Routine {
     pub cells: usize,
     pub body: Vec<Instruction>,
 }
 
-/// A module. It has `cells` cells of its own.
+/// A module. Its variables have `cells` cells.
 pub struct LoweredCode {
     pub cells: usize,
     pub body: Vec<Instruction>,

@@ -1,4 +1,4 @@
-//! Copies of cells: from one part of a slice to another they go at once, between parts that overlap one by one.
+//! Copies of cells: at once between parts of a slice that are apart, one by one between parts that overlap.
 
 ghost use Rattle.std.specs.Prelude.{◌≡◌, ◌+◌, ◌≤◌, length};
 ghost use Rattle.ob0_run_machine.specs.Execution.{copied};

@@ -1,21 +1,18 @@
-//! How runs end.
+//! The ways in which a step ends a run.
 
 ghost use Rattle.std.specs.Prelude.{◌≡◌, Some};
 
 use std::alloc::{AllocError, AllocFailed};
 
-/// How a run ends where it doesn't reach the end of the program: each as the case of `End` of that name.
+/// How an expression ends a run: each case is the case of `End` with the same name.
 #[derive(Clone, Copy, PartialEq, Eq, Debug)]
-pub enum Ending {
+pub(crate) enum Ending {
     Overflow,
     Divisor,
     Index,
-    InputEnd,
-    CallBound,
-    TurnBound,
 }
 
-/// Why a step of a run gives nothing, in one tag: so a step's result is returned in registers.
+/// Why a statement ends a run. It has one tag, so a step's result is returned in registers.
 #[derive(Clone, Copy, PartialEq, Eq, Debug)]
 pub(crate) enum Stop {
     Overflow,
@@ -39,9 +36,6 @@ impl From<Ending> for Stop {
             Ending::Overflow => Stop::Overflow,
             Ending::Divisor => Stop::Divisor,
             Ending::Index => Stop::Index,
-            Ending::InputEnd => Stop::InputEnd,
-            Ending::CallBound => Stop::CallBound,
-            Ending::TurnBound => Stop::TurnBound,
         }
     }
 }

@@ -1,30 +1,26 @@
-//! What evaluations give.
+//! The results of evaluations.
 //!
-//! Results are flat where they are returned. A `Result` of a number or an address is returned through memory, an enum
-//! with one payload in registers. So a function that is called (`operation`, `chain`, `element`, `flat_truth`, ..)
-//! returns an `Evaluated`, and one that is inlined a `Result`, with `?`; `flat` and `into_result` join both. The steps
-//! of statements return `Result<(), Stop>`, with a `Stop` of one tag (no enum in it), so that this too is in registers:
-//! `end_at` says which end it is, and none where an allocation failed.
+//! A `Result` of a number or an address is returned through memory, an enum with one payload in registers. So a function
+//! that is called (`operation`, `chain`, `element`, `flat_truth`, ..) returns an `Evaluated`, and a function that is
+//! inlined a `Result`, with `?`; `flat` and `into_result` convert them. The steps of statements return
+//! `Result<(), Stop>`. A `Stop` has one tag, with no enum in it, so this is also returned in registers; `end_at` says
+//! which end it is, and is None if an allocation failed.
 
 ghost use Rattle.std.specs.Prelude.{◌≡◌};
 ghost use Rattle.ob0_run_machine.specs.Answers.{outcome_of, outcome_of_result};
 
 use crate::ending::Ending;
 
-/// What an evaluation gives, or how it ends the run, in one tag: this is returned in registers, a `Result` through
-/// memory.
+/// The result of an evaluation, or how it ends the run, in one tag.
 #[derive(Clone, Copy, PartialEq, Eq, Debug)]
 pub(crate) enum Evaluated<T> {
     Value(T),
     Overflow,
     Divisor,
     Index,
-    InputEnd,
-    CallBound,
-    TurnBound,
 }
 
-/// A result in one tag.
+/// Returns a result in one tag.
 #[inline(always)]
 pub(crate) fn flat<T: Copy>(given: Result<T, Ending>) -> Evaluated<T>
     ensures { outcome_of result ≡ outcome_of_result given }
@@ -35,14 +31,11 @@ pub(crate) fn flat<T: Copy>(given: Result<T, Ending>) -> Evaluated<T>
             Ending::Overflow => Evaluated::Overflow,
             Ending::Divisor => Evaluated::Divisor,
             Ending::Index => Evaluated::Index,
-            Ending::InputEnd => Evaluated::InputEnd,
-            Ending::CallBound => Evaluated::CallBound,
-            Ending::TurnBound => Evaluated::TurnBound,
         },
     }
 }
 
-/// An evaluation as a result.
+/// Returns an evaluation as a `Result`.
 #[inline(always)]
 pub(crate) fn into_result<T: Copy>(given: Evaluated<T>) -> Result<T, Ending>
     ensures { outcome_of_result result ≡ outcome_of given }
@@ -52,8 +45,5 @@ pub(crate) fn into_result<T: Copy>(given: Evaluated<T>) -> Result<T, Ending>
         Evaluated::Overflow => Err(Ending::Overflow),
         Evaluated::Divisor => Err(Ending::Divisor),
         Evaluated::Index => Err(Ending::Index),
-        Evaluated::InputEnd => Err(Ending::InputEnd),
-        Evaluated::CallBound => Err(Ending::CallBound),
-        Evaluated::TurnBound => Err(Ending::TurnBound),
     }
 }

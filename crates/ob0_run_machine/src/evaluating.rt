@@ -21,7 +21,7 @@ use crate::operators::{
     subtract,
 };
 
-/// What a cell holds. What isn't there has the value 0.
+/// Returns the value of a cell, or 0 if there is no cell at the address.
 #[inline(always)]
 pub(crate) fn cell_at(cells: &[i32], address: usize) -> i32
     ensures { result ≡ cell_at cells.now address }
@@ -32,7 +32,7 @@ pub(crate) fn cell_at(cells: &[i32], address: usize) -> i32
     }
 }
 
-/// The address of a variable.
+/// Returns the address of a variable.
 #[inline(always)]
 pub(crate) fn variable_at(variable: Variable, level: &Level<'_>) -> usize
     ensures { (cells : List ℤ)
@@ -47,7 +47,7 @@ pub(crate) fn variable_at(variable: Variable, level: &Level<'_>) -> usize
     }
 }
 
-/// What a variable holds.
+/// Returns the value of a variable.
 #[inline(always)]
 fn value_of(variable: Variable, level: &Level<'_>, cells: &[i32]) -> i32
     ensures { number (levels_of level.now) cells.now (lowered.cell (variable_of variable))
@@ -56,7 +56,7 @@ fn value_of(variable: Variable, level: &Level<'_>, cells: &[i32]) -> i32
     cell_at(cells, variable_at(variable, level))
 }
 
-/// The address in an element of an array that is a variable.
+/// Returns an address in an element, if the array and the index are variables.
 #[inline(always)]
 pub(crate) fn row(row: &Row, level: &Level<'_>, cells: &[i32]) -> Result<usize, Ending>
     ensures { outcome_of_result result ≡ address (levels_of level.now) cells.now (row_of row.now) }
@@ -66,7 +66,7 @@ pub(crate) fn row(row: &Row, level: &Level<'_>, cells: &[i32]) -> Result<usize, 
     element_at(array, row.length, row.stride, index)
 }
 
-/// The address of a place.
+/// Returns the address of a place.
 #[inline(always)]
 #[cycle(evaluation)]
 pub(crate) fn locate(place: &Place, level: &Level<'_>, cells: &[i32]) -> Result<usize, Ending>
@@ -82,7 +82,7 @@ pub(crate) fn locate(place: &Place, level: &Level<'_>, cells: &[i32]) -> Result<
     }
 }
 
-/// The address in an element.
+/// Returns an address in an element.
 #[inline(never)]
 #[cycle(evaluation)]
 fn element(e: &Element, level: &Level<'_>, cells: &[i32]) -> Evaluated<usize>
@@ -102,7 +102,7 @@ fn locate_element(e: &Element, level: &Level<'_>, cells: &[i32]) -> Result<usize
     element_at(forward(a, e.offset), e.length, e.stride, i)
 }
 
-/// The value of a number.
+/// Returns the value of a number.
 #[inline(always)]
 #[cycle(evaluation)]
 pub(crate) fn evaluate_number(n: &Number, level: &Level<'_>, cells: &[i32]) -> Result<i32, Ending>
@@ -121,7 +121,7 @@ pub(crate) fn evaluate_number(n: &Number, level: &Level<'_>, cells: &[i32]) -> R
     }
 }
 
-/// What operations begin with.
+/// Returns the value of the first operand of a row.
 #[inline(always)]
 #[cycle(evaluation)]
 fn evaluate_first(n: &FirstOperand, level: &Level<'_>, cells: &[i32]) -> Result<i32, Ending>
@@ -150,7 +150,7 @@ fn opposite(operand: &Number, level: &Level<'_>, cells: &[i32]) -> Evaluated<i32
     }
 }
 
-/// An operation. On a variable, as most are, it needs no registers to be saved.
+/// Evaluates an operation. If its left operand is a variable, as in most, no registers have to be saved.
 #[inline(never)]
 #[cycle(evaluation)]
 fn operation(o: &Operation, level: &Level<'_>, cells: &[i32]) -> Evaluated<i32>
@@ -181,7 +181,7 @@ fn chain(c: &Chain, level: &Level<'_>, cells: &[i32]) -> Evaluated<i32>
     flat(operations(c, level, cells))
 }
 
-/// The operations of a chain, from left to right.
+/// Evaluates the operations of a chain, from left to right.
 #[inline(always)]
 #[cycle(evaluation)]
 pub(crate) fn operations(c: &Chain, level: &Level<'_>, cells: &[i32]) -> Result<i32, Ending>
@@ -194,7 +194,7 @@ pub(crate) fn operations(c: &Chain, level: &Level<'_>, cells: &[i32]) -> Result<
     Ok(left)
 }
 
-/// An operation on a number. It is small, so that it is inlined: a right operand that is neither a literal nor a
+/// Applies an operation to a number. It is small, so it is inlined: a right operand that is neither a literal nor a
 /// variable is evaluated in a call.
 #[inline(always)]
 #[cycle(evaluation)]
@@ -219,7 +219,7 @@ fn apply(link: &Link, left: i32, level: &Level<'_>, cells: &[i32]) -> Result<i32
     }
 }
 
-/// An operator between a number and an expression.
+/// Applies an operator to a number and an expression.
 #[inline(never)]
 #[cycle(evaluation)]
 fn apply_other(
@@ -239,7 +239,7 @@ fn apply_other(
     }
 }
 
-/// The result of an operation on what a variable holds.
+/// Returns the result of an operation on the value of a variable.
 #[inline(always)]
 pub(crate) fn evaluate_update(
     variable: Variable,
@@ -255,7 +255,7 @@ pub(crate) fn evaluate_update(
     apply(link, left, level, cells)
 }
 
-/// Whether a cell is TRUE.
+/// Returns whether the cell at a place is TRUE.
 #[inline(never)]
 fn flag(place: &Place, level: &Level<'_>, cells: &[i32]) -> Evaluated<bool>
     ensures { outcome_of result
@@ -267,7 +267,7 @@ fn flag(place: &Place, level: &Level<'_>, cells: &[i32]) -> Evaluated<bool>
     }
 }
 
-/// Whether a cell is FALSE.
+/// Returns whether the cell at a place is FALSE.
 #[inline(always)]
 fn unset(place: &Place, level: &Level<'_>, cells: &[i32]) -> Result<bool, Ending>
     ensures { outcome_of_result result
@@ -278,7 +278,7 @@ fn unset(place: &Place, level: &Level<'_>, cells: &[i32]) -> Result<bool, Ending
     Ok(!a)
 }
 
-/// Whether a truth is TRUE. A constant, a flag and a comparison of a variable, as most conditions are, are found here.
+/// Returns the value of a truth. Constants, flags and comparisons of variables, as most conditions are, are inlined.
 #[inline(always)]
 pub(crate) fn evaluate_truth(t: &Truth, level: &Level<'_>, cells: &[i32]) -> Result<bool, Ending>
     ensures { outcome_of_result result ≡ truth (levels_of level.now) cells.now (truth_of t.now) }
@@ -348,7 +348,7 @@ fn any_truth(t: &Truth, level: &Level<'_>, cells: &[i32]) -> Result<bool, Ending
     }
 }
 
-/// Whether a relation holds between what a variable holds and a number.
+/// Returns whether a relation holds between the value of a variable and a number.
 #[inline(always)]
 fn compare_variable(
     relation: Comparator,
@@ -363,7 +363,7 @@ fn compare_variable(
     compare(relation, value_of(variable, level, cells), right)
 }
 
-/// Whether a relation holds between an element and what a variable holds.
+/// Returns whether a relation holds between an element and the value of a variable.
 #[inline(never)]
 fn compare_row(
     relation: Comparator,
@@ -384,7 +384,7 @@ fn compare_row(
     }
 }
 
-/// Whether a relation holds between two numbers.
+/// Returns whether a relation holds between two numbers.
 #[inline(always)]
 fn compare_operands(
     relation: Comparator,
@@ -448,7 +448,7 @@ fn different(operands: &Truths, level: &Level<'_>, cells: &[i32]) -> Result<bool
     Ok(!alike(left, right))
 }
 
-/// `&` between many: from the first FALSE on nothing is evaluated.
+/// Evaluates `&` between many truths. After the first FALSE nothing is evaluated.
 #[cycle(truths)]
 fn all(several: &Several, level: &Level<'_>, cells: &[i32]) -> Result<bool, Ending>
     ensures { outcome_of_result result
@@ -474,7 +474,7 @@ fn and(left: bool, t: &Truth, level: &Level<'_>, cells: &[i32]) -> Result<bool, 
     }
 }
 
-/// `OR` between many: from the first TRUE on nothing is evaluated.
+/// Evaluates `OR` between many truths. After the first TRUE nothing is evaluated.
 #[cycle(truths)]
 fn any(several: &Several, level: &Level<'_>, cells: &[i32]) -> Result<bool, Ending>
     ensures { outcome_of_result result

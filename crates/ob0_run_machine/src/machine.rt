@@ -1,34 +1,34 @@
-//! The machine: the cells of all variables, the rest of the input, and what was output.
+//! The machine: the cells of all variables, the rest of the input, and the output so far.
 
 ghost use Rattle.std.specs.Prelude.{◌≡◌, ◌≤◌, OnErr, OnOk, length, slice_set, true, vec_capacity, vec_len};
 ghost use Rattle.ob0_run_machine.specs.Execution.{copied, append_output, read_number};
-ghost use Rattle.ob0_run_machine.specs.Machines.{item_of, after_step, state_of};
+ghost use Rattle.ob0_run_machine.specs.Machines.{MachineSteps, item_of, state_of};
 ghost use Rattle.ob0_run_machine.specs.Allocations.{has_failed};
 
 use crate::copying::copy_cells;
-use crate::ending::Ending;
+use crate::ending::Stop;
 use crate::memory::Memory;
 use std::alloc::AllocError;
 
-/// What a run outputs.
+/// An item of a run's output.
 #[derive(Clone, Copy, PartialEq, Eq, Debug)]
 pub enum Item {
     Number(i32),
     Line,
 }
 
-/// The state of a run: its cells, the rest of the input, and what it has output.
+/// The state of a run: its cells, the rest of the input, and the output so far.
 #[derive(Drop)]
 pub(crate) struct Machine<'i> {
     pub memory: Memory,
-    /// The cells of all variables, those of the module first.
+    /// The cells of all variables, the module's first.
     pub cells: Vec<i32>,
-    /// The numbers that weren't read yet.
+    /// The numbers that haven't been read yet.
     pub input: &'i [i32],
     pub output: Vec<Item>,
 }
 
-/// Writes a cell. One that isn't there stays so.
+/// Writes a cell. Does nothing if there is no cell at the address.
 #[inline(always)]
 pub(crate) fn store(cells: &mut Vec<i32>, address: usize, number: i32)
     ensures { cells.new.items ≡ slice_set cells.old.items address number }
@@ -38,7 +38,7 @@ pub(crate) fn store(cells: &mut Vec<i32>, address: usize, number: i32)
     }
 }
 
-/// Copies `count` cells from one address to another, where both are there.
+/// Copies `count` cells from one address to another. Does nothing if there are too few cells at either.
 pub(crate) fn copy(cells: &mut Vec<i32>, to: usize, from: usize, count: usize)
     ensures { cells.new.items ≡ copied cells.old.items to from count }
 {
@@ -56,20 +56,20 @@ pub(crate) fn copy(cells: &mut Vec<i32>, to: usize, from: usize, count: usize)
 }
 
 impl<'i> Machine<'i> {
-    /// How many cells there are.
+    /// Returns the number of cells.
     pub(crate) fn size(&self) -> usize
         ensures { result ≡ length self.now.cells.items }
     {
         self.cells.len()
     }
 
-    /// Takes the next number of the input.
-    pub(crate) fn read_number(&mut self, address: usize) -> Result<(), Ending>
-        ensures { after_step result self.new
-            ≡ read_number (state_of self.old) address (state_of self.old).input }
+    /// Moves the next number of the input to a cell. Ends the run if no input is left.
+    pub(crate) fn read_number(&mut self, address: usize) -> Result<(), Stop>
+        ensures { MachineSteps result self.new
+            (read_number (state_of self.old) address (state_of self.old).input) }
     {
         match self.input {
-            [] => Err(Ending::InputEnd),
+            [] => Err(Stop::InputEnd),
             [first, rest @ ..] => {
                 store(&mut self.cells, address, *first);
                 self.input = rest;

@@ -1,21 +1,20 @@
-//! Memory of a run: its lists grow here alone, so that it is known whether an allocation has failed.
+//! The memory of a run. Its lists grow only here, so it is known whether `Memory::fail` was called.
 //!
-//! A step is out of memory only if an allocation has failed (`MachineSteps`, `Passes`), so a bound or a rule that is
-//! broken can't be reported as out of memory. That the run needed the memory isn't stated. Each function that grows a
-//! list fails only if the list had too little capacity (`full`). More cells than there are addresses count as a failed
-//! allocation.
+//! A step is out of memory only if that was called (`MachineSteps`, `Passes`), so a fault or a bound can't be reported as
+//! out of memory. Each function that grows a list fails only if the list had too little capacity (`full`). Nothing states
+//! that the run needed the memory, or that the allocator refused it.
 
-ghost use Rattle.std.specs.Prelude.{◌≡◌, ◌+◌, ◌++◌, ◌∷◌, ◌<◌, ◌≤◌, [], OnErr, OnOk, false, true, vec_capacity, vec_len};
+ghost use Rattle.std.specs.Prelude.{◌≡◌, ◌+◌, ◌++◌, ◌∷◌, ◌<◌, ◌≤◌, ◌^◌, [], OnErr, OnOk, false, length, true, vec_capacity, vec_len};
 ghost use Rattle.ob0_run_machine.specs.Execution.{block_at, zeros};
 ghost use Rattle.ob0_run_machine.specs.Allocations.{has_failed};
 
 use crate::copying::copy_up;
 use std::alloc::{AllocError, Global};
 
-/// The most cells that are put at the end one by one.
+/// The largest number of cells that are added one by one.
 const FEW_CELLS: usize = 8;
 
-/// The allocator, and whether an allocation has failed.
+/// The allocator, and whether `fail` was called.
 #[derive(Clone, Copy)]
 pub(crate) struct Memory {
     alloc: Global,
@@ -23,7 +22,7 @@ pub(crate) struct Memory {
 }
 
 impl Memory {
-    /// An allocator that hasn't failed.
+    /// Returns the memory of a new run.
     pub(crate) fn new(alloc: Global) -> Memory
         ensures { has_failed result ≡ false }
     {
@@ -33,14 +32,14 @@ impl Memory {
         }
     }
 
-    /// An empty list.
+    /// Returns an empty list.
     pub(crate) fn list<T>(&self) -> Vec<T>
         ensures { result.items ≡ [] }
     {
         Vec::new(self.alloc)
     }
 
-    /// Puts an item at the end.
+    /// Adds an item at the end of a list.
     #[inline(always)]
     pub(crate) fn push<T: Copy>(&mut self, list: &mut Vec<T>, item: T) -> Result<(), AllocError>
         ensures items { OnOk result (list.new.items ≡ list.old.items ++ item ∷ []) }
@@ -54,7 +53,7 @@ impl Memory {
         }
     }
 
-    /// Puts `count` new cells at the end. A few, as most procedures have, are put there one by one, without a call.
+    /// Adds `count` new cells at the end. A few, as most procedures have, are added one by one, without a call.
     #[inline(always)]
     pub(crate) fn push_zeros(
         &mut self,
@@ -64,6 +63,7 @@ impl Memory {
         ensures items { OnOk result (cells.new.items ≡ cells.old.items ++ zeros count) }
         ensures failed { OnErr result (has_failed self.new ≡ true) }
         ensures full { OnErr result (vec_capacity cells.old < vec_len cells.old + count) }
+        ensures room { OnOk result (length cells.new.items < 2 ^ 64) }
     {
         if count > FEW_CELLS {
             return self.push_row_of_zeros(cells, count);
@@ -71,6 +71,8 @@ impl Memory {
         for _cell in 0..count {
             self.push(cells, 0)?;
         }
+        // For the proof: a list's length has 64 bits.
+        let _length = cells.len();
         Ok(())
     }
 
@@ -79,6 +81,7 @@ impl Memory {
         ensures items { OnOk result (cells.new.items ≡ cells.old.items ++ zeros count) }
         ensures failed { OnErr result (has_failed self.new ≡ true) }
         ensures full { OnErr result (vec_capacity cells.old < vec_len cells.old + count) }
+        ensures room { OnOk result (length cells.new.items < 2 ^ 64) }
     {
         match cells.len().checked_add(count) {
             None => Err(self.fail()),
@@ -89,7 +92,7 @@ impl Memory {
         }
     }
 
-    /// Puts a copy of `count` cells at the end, zeros where they aren't there.
+    /// Adds a copy of `count` cells at the end, or zeros if there are too few cells at the address.
     pub(crate) fn push_block(
         &mut self,
         cells: &mut Vec<i32>,
@@ -113,7 +116,7 @@ impl Memory {
         Ok(())
     }
 
-    /// Remembers that an allocation has failed.
+    /// Notes that an allocation has failed, and returns the error.
     #[cold]
     fn fail(&mut self) -> AllocError
         ensures { has_failed self.new ≡ true }

@@ -1,4 +1,4 @@
-//! What the operators give of numbers and truths.
+//! The operators on numbers and truths.
 
 ghost use Rattle.std.specs.Prelude.{◌≡◌, neg_ℤ};
 ghost use Rattle.ob0_run_machine.specs.Answers.{if_there, outcome_of_result};
@@ -9,7 +9,7 @@ ghost use Rattle.ob0_run_machine.specs.View.{operator_of, relation_of};
 use crate::code::{Comparator, Operator};
 use crate::ending::Ending;
 
-/// A number where it could be computed in 32 bits, else an overflow.
+/// Returns a number, or the end Overflow if there is none.
 #[inline(always)]
 fn in_range(number: Option<i32>) -> Result<i32, Ending>
     ensures { outcome_of_result result ≡ if_there number }
@@ -20,7 +20,7 @@ fn in_range(number: Option<i32>) -> Result<i32, Ending>
     }
 }
 
-/// What a division gives, else the end Divisor.
+/// Returns the result of a division, or the end Divisor if there is none.
 #[inline(always)]
 fn of_division(number: Option<i32>) -> Result<i32, Ending>
     ensures { outcome_of_result result ≡ divided_by number }
@@ -31,7 +31,7 @@ fn of_division(number: Option<i32>) -> Result<i32, Ending>
     }
 }
 
-/// DIV, which rounds down, for a divisor from 1 on.
+/// Returns the quotient by a divisor of at least 1, rounded down.
 #[inline(always)]
 pub(crate) fn divide(left: i32, right: i32) -> Result<i32, Ending>
     ensures { outcome_of_result result ≡ operate quotient left right }
@@ -39,7 +39,7 @@ pub(crate) fn divide(left: i32, right: i32) -> Result<i32, Ending>
     of_division(ob0_language_values::divide(left, right))
 }
 
-/// MOD, the rest from 0 on, for a divisor from 1 on.
+/// Returns the remainder by a divisor of at least 1, which is not negative.
 #[inline(always)]
 pub(crate) fn modulo(left: i32, right: i32) -> Result<i32, Ending>
     ensures { outcome_of_result result ≡ operate remainder left right }
@@ -47,7 +47,7 @@ pub(crate) fn modulo(left: i32, right: i32) -> Result<i32, Ending>
     of_division(ob0_language_values::modulo(left, right))
 }
 
-/// The sum; the end Overflow where it isn't of 32 bits. So are the difference and the product.
+/// Returns the sum, or the end Overflow if it has more than 32 bits. Difference and product do the same.
 #[inline(always)]
 pub(crate) fn add(left: i32, right: i32) -> Result<i32, Ending>
     ensures { outcome_of_result result ≡ operate sum left right }
@@ -69,7 +69,7 @@ pub(crate) fn multiply(left: i32, right: i32) -> Result<i32, Ending>
     in_range(left.checked_mul(right))
 }
 
-/// The result of an operator.
+/// Returns the result of an operator.
 #[inline(always)]
 pub(crate) fn operate(operator: Operator, left: i32, right: i32) -> Result<i32, Ending>
     ensures { outcome_of_result result ≡ operate (operator_of operator) left right }
@@ -83,7 +83,7 @@ pub(crate) fn operate(operator: Operator, left: i32, right: i32) -> Result<i32, 
     }
 }
 
-/// The number with the other sign, or the end Overflow.
+/// Returns the number with the other sign, or the end Overflow.
 #[inline(always)]
 pub(crate) fn negative(number: i32) -> Result<i32, Ending>
     ensures { outcome_of_result result ≡ in_range (neg_ℤ number) }
@@ -91,7 +91,7 @@ pub(crate) fn negative(number: i32) -> Result<i32, Ending>
     in_range(number.checked_neg())
 }
 
-/// Whether two numbers are in a relation.
+/// Returns whether two numbers are in a relation.
 #[inline(always)]
 pub(crate) fn compare(relation: Comparator, left: i32, right: i32) -> bool
     ensures { result ≡ compare (relation_of relation) left right }
@@ -106,7 +106,7 @@ pub(crate) fn compare(relation: Comparator, left: i32, right: i32) -> bool
     }
 }
 
-/// Whether two truth values are the same.
+/// Returns whether two truth values are the same.
 #[inline(always)]
 pub(crate) fn alike(left: bool, right: bool) -> bool
     ensures { result ≡ same_truth left right }
@@ -114,7 +114,7 @@ pub(crate) fn alike(left: bool, right: bool) -> bool
     left == right
 }
 
-/// The truth value that a cell has: TRUE is any number but 0.
+/// Returns the truth value of a cell: TRUE for any number except 0.
 #[inline(always)]
 pub(crate) fn is_true(number: i32) -> bool
     ensures { result ≡ is_true number }
@@ -122,7 +122,7 @@ pub(crate) fn is_true(number: i32) -> bool
     number != 0
 }
 
-/// A truth value as a cell: 1 for TRUE, 0 for FALSE.
+/// Returns the cell of a truth value: 1 for TRUE, 0 for FALSE.
 #[inline(always)]
 pub(crate) fn as_cell(truth: bool) -> i32
     ensures { result ≡ as_cell truth }
@@ -130,7 +130,7 @@ pub(crate) fn as_cell(truth: bool) -> i32
     if truth { 1 } else { 0 }
 }
 
-/// The address so far after another one.
+/// Returns the address at an offset from another.
 #[inline(always)]
 pub(crate) fn forward(address: usize, offset: usize) -> usize
     ensures { result ≡ forward address offset }
@@ -138,7 +138,7 @@ pub(crate) fn forward(address: usize, offset: usize) -> usize
     address.wrapping_add(offset)
 }
 
-/// The address of an array's element.
+/// Returns the address of an array's element, or the end Index.
 #[inline(always)]
 pub(crate) fn element_at(
     address: usize,

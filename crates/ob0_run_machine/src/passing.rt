@@ -1,4 +1,4 @@
-//! Arguments: values are cells at the end, VAR parameters addresses.
+//! The passing of arguments: values as cells at the end, VAR parameters as addresses.
 
 ghost use Rattle.std.specs.Prelude.{map};
 ghost use Rattle.ob0_run_machine.specs.Execution.{pass, pass_all};

@@ -1,6 +1,6 @@
 //! Runs of programs.
 
-ghost use Rattle.std.specs.Prelude.{◌≡◌, IfOk};
+ghost use Rattle.std.specs.Prelude.{◌≡◌, IfOk, Some};
 ghost use Rattle.ob0_run_machine.specs.Execution.{run};
 ghost use Rattle.ob0_run_machine.specs.Outcomes.{IsEndOf, block_run, run_of};
 ghost use Rattle.ob0_run_machine.specs.Machines.{MachineSteps, state_of};
@@ -15,7 +15,7 @@ use crate::memory::Memory;
 use crate::statements::run_called;
 use std::alloc::{AllocError, Global};
 
-/// How a run ends.
+/// The end of a run.
 #[derive(Clone, Copy, PartialEq, Eq, Debug)]
 pub enum End {
     /// The end of the program.
@@ -28,20 +28,20 @@ pub enum End {
     Index,
     /// Nothing left to read.
     InputEnd,
-    /// A call more than may be open.
+    /// One more call than may be open.
     CallBound,
-    /// An iteration more than an execution of a loop may make.
+    /// One more iteration than an execution of a loop may make.
     TurnBound,
 }
 
-/// What a run output, and how it ended.
+/// The output of a run, and its end.
 #[derive(Debug, Drop)]
 pub struct Outcome {
     pub output: Vec<Item>,
     pub end: End,
 }
 
-/// The statements of a program.
+/// Runs the statements of a program.
 fn execute(
     program: &LoweredCode,
     calls: u32,
@@ -62,7 +62,7 @@ fn execute(
     run_called(&program.body, &level, turns, machine, &enter)
 }
 
-/// The end of a run whose statements returned this. An error exactly where an allocation failed.
+/// Returns the end of a run by the result of its statements. It is an error exactly if that is `Stop::Memory`.
 fn end_of(executed: Result<(), Stop>) -> Result<End, AllocError>
     ensures { IsEndOf executed result }
 {
@@ -93,7 +93,8 @@ pub fn run(
     calls: u32,
     turns: u32,
 ) -> Result<Outcome, AllocError>
-    ensures { IfOk result (λ o. run_of o ≡ run (program_of program.now) input.now calls turns) }
+    ensures { IfOk result
+        (λ o. run (program_of program.now) input.now calls turns ≡ Some (run_of o)) }
 {
     let mut memory = Memory::new(alloc);
     let mut cells = Vec::new(alloc);

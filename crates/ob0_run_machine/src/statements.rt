@@ -1,4 +1,4 @@
-//! Statements. What calls do is an argument.
+//! Statements. The effect of calls is an argument.
 
 ghost use Rattle.std.specs.Prelude.{◌≡◌, ℕ};
 ghost use Rattle.ob0_run_machine.specs.Answers.{outcome_of_result};
@@ -23,7 +23,7 @@ use crate::machine::{Item, Machine, copy, store};
 use crate::operators::{add, as_cell};
 use crate::passing::pass_all;
 
-/// An assignment to any place. It is a function, so that `statement` stays small enough to be inlined.
+/// Assigns a number to any place. It isn't inlined, so that `statement` is small enough to be inlined.
 #[tactic(auto, unfolding(crate::specs::Execution::execute))]
 #[inline(never)]
 fn store_number(
@@ -43,7 +43,7 @@ fn store_number(
     Ok(())
 }
 
-/// An assignment to a variable.
+/// Assigns a number to a variable.
 #[tactic(auto, unfolding(crate::specs::Execution::execute))]
 #[inline(always)]
 fn store_variable(
@@ -62,7 +62,7 @@ fn store_variable(
     Ok(())
 }
 
-/// An assignment of operations in a row to a variable: a function, so that `statement` stays small enough to be inlined.
+/// Assigns a row of operations to a variable. It isn't inlined for the same reason.
 #[tactic(auto, unfolding(crate::specs::Execution::execute))]
 #[inline(never)]
 fn store_chain(
@@ -81,7 +81,7 @@ fn store_chain(
     Ok(())
 }
 
-/// A variable becomes more by a number.
+/// Adds a number to a variable.
 #[tactic(auto, unfolding(crate::specs::Execution::execute))]
 #[inline(always)]
 fn increase(
@@ -100,7 +100,7 @@ fn increase(
     Ok(())
 }
 
-/// A variable becomes the result of an operation on it: a function for the same reason.
+/// Assigns the result of an operation on a variable to it. It isn't inlined for the same reason.
 #[tactic(auto, unfolding(crate::specs::Execution::execute))]
 #[inline(never)]
 fn update(
@@ -119,7 +119,7 @@ fn update(
     Ok(())
 }
 
-/// An assignment of a truth value: a function for the same reason.
+/// Assigns a truth value. It isn't inlined for the same reason.
 #[tactic(auto, unfolding(crate::specs::Execution::execute))]
 #[inline(never)]
 fn store_truth(
@@ -139,7 +139,7 @@ fn store_truth(
     Ok(())
 }
 
-/// An element becomes TRUE or FALSE.
+/// Assigns TRUE or FALSE to an element.
 #[tactic(auto, unfolding(crate::specs::Execution::execute))]
 #[inline(never)]
 fn store_constant(
@@ -178,11 +178,10 @@ fn copy_block(
 }
 
 #[tactic(auto, unfolding(crate::specs::Execution::execute))]
-fn read(place: &Place, level: &Level<'_>, machine: &mut Machine<'_>) -> Result<(), Ending>
+fn read(place: &Place, level: &Level<'_>, machine: &mut Machine<'_>) -> Result<(), Stop>
     ensures { (enters : CallEffect) (t : ℕ)
-        → after_step result machine.new
-        ≡ execute enters t (levels_of level.now) (lowered.reads (place_of place.now))
-        (state_of machine.old) }
+        → MachineSteps result machine.new (execute enters t (levels_of level.now)
+        (lowered.reads (place_of place.now)) (state_of machine.old)) }
 {
     let a = locate(place, level, machine.cells.as_slice())?;
     machine.read_number(a)
@@ -209,7 +208,7 @@ fn write_line(level: &Level<'_>, machine: &mut Machine<'_>) -> Result<(), Stop>
     Ok(())
 }
 
-/// Enters the procedure of a call, whose arguments are passed.
+/// Enters the procedure of a call whose arguments have been passed.
 #[inline(always)]
 fn enter_procedure<F: Fn(&mut Machine<'_>, usize, &Level<'_>) -> Result<(), Stop>>(
     c: &ProcedureCall,
@@ -231,7 +230,7 @@ fn enter_procedure<F: Fn(&mut Machine<'_>, usize, &Level<'_>) -> Result<(), Stop
     enter(machine, c.procedure, &entered)
 }
 
-/// A call: its arguments are passed, then the procedure is entered.
+/// Passes the arguments of a call, then enters its procedure.
 #[inline(never)]
 fn run_call<F: Fn(&mut Machine<'_>, usize, &Level<'_>) -> Result<(), Stop>>(
     c: &ProcedureCall,
@@ -261,7 +260,7 @@ fn run_call<F: Fn(&mut Machine<'_>, usize, &Level<'_>) -> Result<(), Stop>>(
     }
 }
 
-/// Whether a condition holds, now.
+/// Returns the value of a condition.
 #[inline(always)]
 fn evaluate_condition(
     condition: &Truth,
@@ -298,7 +297,7 @@ fn statement<F: Fn(&mut Machine<'_>, usize, &Level<'_>) -> Result<(), Stop>>(
         Instruction::StoreTruth(place, t) => Ok(store_truth(place, t, level, machine)?),
         Instruction::StoreConstant(r, b) => Ok(store_constant(r, *b, level, machine)?),
         Instruction::Copy(to, from, count) => Ok(copy_block(to, from, *count, level, machine)?),
-        Instruction::Read(place) => Ok(read(place, level, machine)?),
+        Instruction::Read(place) => read(place, level, machine),
         Instruction::Write(n) => write(n, level, machine),
         Instruction::WriteLine => write_line(level, machine),
         Instruction::If(i) => branches(i, level, turns, machine, enter),
@@ -308,7 +307,7 @@ fn statement<F: Fn(&mut Machine<'_>, usize, &Level<'_>) -> Result<(), Stop>>(
     }
 }
 
-/// Statements in order. Loops and procedures execute their bodies by this, without a call.
+/// Runs statements in order. Loops and procedures run their bodies by this, without a call.
 #[inline(always)]
 #[cycle(execution)]
 pub(crate) fn run_inlined<F: Fn(&mut Machine<'_>, usize, &Level<'_>) -> Result<(), Stop>>(
@@ -328,7 +327,7 @@ pub(crate) fn run_inlined<F: Fn(&mut Machine<'_>, usize, &Level<'_>) -> Result<(
     Ok(())
 }
 
-/// Statements in order, in a call: the branches of an IF.
+/// Runs statements in order, in a call: the branches of an IF.
 #[inline(never)]
 #[cycle(execution)]
 pub(crate) fn run_called<F: Fn(&mut Machine<'_>, usize, &Level<'_>) -> Result<(), Stop>>(
@@ -345,7 +344,7 @@ pub(crate) fn run_called<F: Fn(&mut Machine<'_>, usize, &Level<'_>) -> Result<()
     run_inlined(statements, level, turns, machine, enter)
 }
 
-/// Statements in order, in a call unless there are none, as of an IF without ELSE.
+/// Runs statements in order, in a call unless there are none, as in an IF without ELSE.
 #[inline(always)]
 #[cycle(execution)]
 fn run_unless_empty<F: Fn(&mut Machine<'_>, usize, &Level<'_>) -> Result<(), Stop>>(
@@ -366,7 +365,7 @@ fn run_unless_empty<F: Fn(&mut Machine<'_>, usize, &Level<'_>) -> Result<(), Sto
     run_called(statements, level, turns, machine, enter)
 }
 
-/// IF: the statements after the first condition that is TRUE.
+/// Runs an IF: the statements after the first condition that is TRUE.
 #[inline(always)]
 #[cycle(execution)]
 fn branches<F: Fn(&mut Machine<'_>, usize, &Level<'_>) -> Result<(), Stop>>(
@@ -391,7 +390,7 @@ fn branches<F: Fn(&mut Machine<'_>, usize, &Level<'_>) -> Result<(), Stop>>(
     other_branches(i, level, turns, machine, enter)
 }
 
-/// The ELSIF parts of an IF, and its ELSE.
+/// Runs the ELSIF parts of an IF, and its ELSE.
 #[inline(never)]
 #[cycle(execution)]
 fn other_branches<F: Fn(&mut Machine<'_>, usize, &Level<'_>) -> Result<(), Stop>>(
@@ -413,7 +412,7 @@ fn other_branches<F: Fn(&mut Machine<'_>, usize, &Level<'_>) -> Result<(), Stop>
     run_unless_empty(&i.otherwise, level, turns, machine, enter)
 }
 
-/// WHILE: where the condition is TRUE and this execution has made as many iterations as it may, it ends with TurnBound.
+/// Runs a WHILE. It ends the run with TurnBound if the condition is TRUE after as many iterations as it may make.
 #[inline(never)]
 #[cycle(execution)]
 fn run_while<F: Fn(&mut Machine<'_>, usize, &Level<'_>) -> Result<(), Stop>>(
@@ -440,7 +439,7 @@ fn run_while<F: Fn(&mut Machine<'_>, usize, &Level<'_>) -> Result<(), Stop>>(
     }
 }
 
-/// REPEAT: the first iteration is made whatever the bound.
+/// Runs a REPEAT. The first iteration is made even if the bound is 0.
 #[inline(never)]
 #[cycle(execution)]
 fn run_repeat<F: Fn(&mut Machine<'_>, usize, &Level<'_>) -> Result<(), Stop>>(

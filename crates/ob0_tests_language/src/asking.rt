@@ -2,6 +2,7 @@
 
 ghost use Rattle.std.specs.Prelude.{⊤};
 
+use crate::code::push_code;
 use crate::declarations::{push_bound, push_capture, push_type};
 use crate::edits::{push_edited, rename_or_faults};
 use crate::names::{push_all_shown, push_name};
@@ -30,6 +31,8 @@ pub enum Asked {
     /// The output of a run on an input, and how it ends, with bounds on open calls and on
     /// iterations of a loop.
     Run(&'static [i32], u32, u32),
+    /// The nodes that the statements are lowered to.
+    Code,
     /// The text after a renaming at a place, or the refusal. The next questions are for the text
     /// after other edits.
     Rename(u64, u64, &'static str),
@@ -100,6 +103,7 @@ fn push_answer(
         Asked::Bound(declaration, new) => push_bound(alloc, out, module, declaration, new),
         Asked::NameAt(offset) => push_name(alloc, out, module, offset),
         Asked::Shown => push_all_shown(alloc, out, module),
+        Asked::Code => push_code(alloc, out, module),
         Asked::Run(input, calls, turns) => push_run(alloc, out, module, input, calls, turns),
         edit => push_edited(alloc, out, module, edit),
     }

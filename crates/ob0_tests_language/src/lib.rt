@@ -5,6 +5,8 @@
 #[cfg(test)]
 mod asking;
 #[cfg(test)]
+mod code;
+#[cfg(test)]
 mod declarations;
 #[cfg(test)]
 mod edits;

@@ -19,7 +19,7 @@ block-loop-p-preserved t c =
     let r = c.args.context.now.resolved.now in
     let items = c.deref-p-items.result.now in
     record {
-      goes = goes_on c.args.context.now.types.now (record { visible = c.variables.new.self; procedures = c.args.self.now.procedures; most = c.greater-self.result }) c.loop-p.self c.procedure.new.self c.in_ok-own.own.depth r items c.loop-p.p-index c.p-item.result (in_labels r (items_of procedure_of items))
+      goes = goes_on c.args.context.now.types.now (record { visible = c.variables.new.self; procedures = c.args.self.now.procedures }) c.loop-p.self c.procedure.new.self c.in_ok-own.own.depth r items c.loop-p.p-index c.p-item.result (in_labels r (items_of procedure_of items))
           c.loop-p.invariant.goes c.loop-p-test.true c.p-item.is c.in_ok-procedure.ensures;
     }
 
@@ -29,7 +29,7 @@ block-returns t c =
     let own = c.in_ok-own.own in
     let scene : Scene = record { resolved = c.args.context.now.resolved; types = c.args.context.now.types; sites = c.as_slice.result; depth = own.depth } in
     let entry : Routine = record { cells = own.cells - c.args.frame.cells; body = c.in_ok-body.body } in
-    block_means c.args.context.now.types.now c.args.self.now c.loop-p.self c.variables.new.self c.args.b.now c.deref-p-items.result.now c.loop-p.p-index c.args.frame own scene entry r c.in_ok-own.ensures c.greater-self.result (record { left = c.greater-self.ensures.left; right = c.greater-self.ensures.right; least = c.greater-self.ensures.least }) c.loop-p.invariant.goes c.loop-p-test.false
+    block_means c.args.context.now.types.now c.args.self.now c.loop-p.self c.variables.new.self c.args.b.now c.deref-p-items.result.now c.loop-p.p-index c.args.frame own scene entry r c.in_ok-own.ensures c.loop-p.invariant.goes c.loop-p-test.false
     c.deref-p-items.ensures.value refl c.as_slice.ensures.value refl c.in_ok-body.ensures refl
 
 pub procedure-returns : goal.procedure-returns
@@ -37,7 +37,7 @@ procedure-returns t c = λ rest.
     let r = c.args.context.now.resolved.now in
     let deep : c.in-Some.inside ≡ suc c.args.depth = omega (arith, c.in-Some.ensures) in
     let first : Frame = record { depth = c.in-Some.inside; cells = 0; references = 0 } in
-    let lowers : LowersBlock c.args.context.now.types.now (record { visible = c.parameters.new.self; procedures = c.announce.new.self.procedures; most = c.announce.new.self.most }) c.block.new.self c.in_ok-frame.frame (in_labels r (block_of (out-Procedure c.args.p.now).block)) c.in_ok-entry.entry = c.in_ok-entry.ensures in
+    let lowers : LowersBlock c.args.context.now.types.now (record { visible = c.parameters.new.self; procedures = c.announce.new.self.procedures }) c.block.new.self c.in_ok-frame.frame (in_labels r (block_of (out-Procedure c.args.p.now).block)) c.in_ok-entry.entry = c.in_ok-entry.ensures in
     procedure_means c.args.context.now.types.now c.args.self.now c.announce.new.self c.block.new.self c.keep.new.self c.args.depth c.in_ok-index.index c.args.p.now r first c.in_ok-frame.frame c.in_ok-entry.entry rest
     record {
       index_is = c.in_ok-index.ensures.index;
@@ -49,6 +49,4 @@ procedure-returns t c = λ rest.
       back = subst (IsRestored c.announce.new.self.visible c.block.new.self.visible) (sym c.keep.ensures.visible)
           (c.back_to.ensures c.announce.new.self.visible (follows_then c.announce.new.self.visible c.parameters.new.self c.block.new.self.visible c.in_ok-frame.ensures.follows lowers.follows) c.mark-outside.ensures);
       kept = c.keep.ensures.procedures;
-      most_announced = c.in_ok-index.ensures.most;
-      most_kept = c.keep.ensures.most;
     }

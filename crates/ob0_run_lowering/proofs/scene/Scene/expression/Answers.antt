@@ -11,4 +11,4 @@ pub returns-clause-lowers : goal.returns-clause-lowers
 returns-clause-lowers c =
     let scene = c.args.self.now in
     let e = expression_of c.args.e.now in
-    IfOk-weaker c.lower_expression.result (λ l. code_of l ≡ expression_code scene (in_labels scene.resolved.now e)) (Lowers scene e) (λ l same. lowers-by scene e l c.has_small.ensures same) c.lower_expression.ensures.code
+    IfOk-weaker c.lower_expression.result (λ l. code_of l ≡ expression_code scene (in_labels scene.resolved.now e)) (Lowers scene e) (λ l same. lowers-by scene e l same) c.lower_expression.ensures.code

@@ -1,0 +1,123 @@
+//! The nodes that statements are lowered to. No contract distinguishes a fused node from the nodes that it stands for:
+//! without it the program would only be slower.
+
+use crate::asking::Asked::Code;
+use crate::asking::{Row, Walk, first_wrong, rows};
+use ob0_run::lower;
+use ob0_run_machine::code::{Instruction, Number, Truth};
+use ob0_types::WellTyped;
+use std::alloc::{AllocError, Global};
+use std::process::Abort;
+
+/// Adds the names of the nodes of a module's body: of each statement, what is evaluated in it, and the statements in it.
+pub fn push_code(
+    alloc: Global,
+    out: &mut String,
+    module: &WellTyped<'_>,
+) -> Result<(), AllocError> {
+    let program = lower(alloc, module)?;
+    for s in &program.code.body {
+        push_statement(out, s)?;
+    }
+    Ok(())
+}
+
+fn push_name(out: &mut String, name: &str) -> Result<(), AllocError> {
+    out.push(' ')?;
+    out.push_str(name)
+}
+
+fn push_statement(out: &mut String, s: &Instruction) -> Result<(), AllocError> {
+    push_name(out, name_of(s))?;
+    match s {
+        Instruction::StoreNumber(_, n) => push_name(out, name_of_number(n)),
+        Instruction::StoreVariable(_, n) => push_name(out, name_of_number(n)),
+        Instruction::StoreTruth(_, t) => push_name(out, name_of_truth(t)),
+        Instruction::If(i) => {
+            push_name(out, name_of_truth(&i.condition))?;
+            push_names(out, i.body.as_slice())
+        }
+        Instruction::While(w) => {
+            push_name(out, name_of_truth(&w.condition))?;
+            push_names(out, w.body.as_slice())
+        }
+        _ => Ok(()),
+    }
+}
+
+fn push_names(out: &mut String, statements: &[Instruction]) -> Result<(), AllocError> {
+    for s in statements {
+        push_name(out, name_of(s))?;
+    }
+    Ok(())
+}
+
+fn name_of(s: &Instruction) -> &'static str {
+    match s {
+        Instruction::StoreNumber(_, _) => "StoreNumber",
+        Instruction::StoreVariable(_, _) => "StoreVariable",
+        Instruction::StoreChain(_, _) => "StoreChain",
+        Instruction::Update(_, _) => "Update",
+        Instruction::Increase(_, _) => "Increase",
+        Instruction::StoreTruth(_, _) => "StoreTruth",
+        Instruction::StoreConstant(_, _) => "StoreConstant",
+        Instruction::If(_) => "If",
+        Instruction::While(_) => "While",
+        _ => "other",
+    }
+}
+
+fn name_of_number(n: &Number) -> &'static str {
+    match n {
+        Number::Literal(_) => "Literal",
+        Number::Variable(_) => "Variable",
+        Number::Cell(_) => "Cell",
+        Number::Negative(_) => "Negative",
+        Number::Operation(_) => "Operation",
+        Number::Chain(_) => "Chain",
+    }
+}
+
+fn name_of_truth(t: &Truth) -> &'static str {
+    match t {
+        Truth::Unset(_) => "Unset",
+        Truth::All(_) => "All",
+        Truth::Any(_) => "Any",
+        Truth::LessThanLiteral(_, _) => "LessThanLiteral",
+        Truth::ComparedToLiteral(_, _, _) => "ComparedToLiteral",
+        Truth::ComparedToVariable(_, _, _) => "ComparedToVariable",
+        Truth::RowToVariable(_, _, _) => "RowToVariable",
+        _ => "other",
+    }
+}
+
+const LOOPS: &str = "MODULE M;\nVAR i, j, m: INTEGER;\n\
+    BEGIN WHILE j < 9 DO j := j + 1 END; WHILE i <= m DO j := 0; i := i + 2 END; WHILE j # 9 DO i := i + 1 END END M.";
+
+const ELEMENTS: &str =
+    "MODULE M;\nVAR a: ARRAY 9 OF INTEGER; on: ARRAY 9 OF BOOLEAN; i, m: INTEGER;\n\
+    BEGIN on[i] := TRUE; IF a[i] < m THEN m := a[i] END; IF ~on[i] THEN a[i] := m END END M.";
+
+const FIELDS: &str = "MODULE M;\nVAR r: RECORD f, g: INTEGER END;\n\
+    BEGIN r.f := r.f * 2; r.g := r.f; r.g := r.f + r.g * 3; r.f := r.g + 1 END M.";
+
+const CHAINS: &str = "MODULE M;\nVAR a, b, c: BOOLEAN;\n\
+    BEGIN IF a & b & c THEN a := b END; IF a OR b OR c THEN WriteLn END; a := a & ~b & c END M.";
+
+static ROWS: &[Row] = rows![
+    LOOPS, Code => " While LessThanLiteral Increase While ComparedToVariable StoreVariable Increase \
+        While ComparedToLiteral Increase";
+    ELEMENTS, Code => " StoreConstant If RowToVariable StoreVariable If Unset StoreNumber";
+    FIELDS, Code => " Update StoreVariable Variable StoreChain StoreVariable Operation";
+    CHAINS, Code => " If All StoreTruth If Any other StoreTruth All";
+];
+
+fn code_rows() -> &'static [Row] {
+    ROWS
+}
+
+#[test]
+fn statements_are_lowered_to_fused_nodes(rt: HostRuntime) {
+    let (text, wanted) = first_wrong(rt.alloc(), code_rows(), Walk::Asking);
+    assert!(rt; text.is_empty(), "{wanted} of {text}");
+}
