@@ -3,10 +3,10 @@
 //! A file of more bytes than a text may have is too long whatever its bytes, so that is reported before UTF-8 is looked
 //! at. All positions are found in one pass.
 
-ghost use Rattle.std.specs.Prelude.{◌≡◌, ◌≢◌, ◌<◌, ◌≤◌, ◌⊎◌, [], true, IfOk, IfNone, IfSome, MatchOption, OnOk, IfErr, length, map, string_bytes};
+ghost use Rattle.std.specs.Prelude.{◌≡◌, ◌≢◌, ◌<◌, ◌≤◌, [], true, IfOk, IfNone, IfSome, MatchOption, OnOk, IfErr, length, map, string_bytes};
 ghost use Rattle.std.specs.Io.KnownBytes.{Appends};
 ghost use Rattle.std.specs.Mem.{manually_drop_value};
-ghost use Rattle.ob0_commands.specs.Endings.{EndsByFault, EndsWell};
+ghost use Rattle.ob0_commands.specs.Performed.{ChecksFile};
 ghost use Rattle.ob0_commands.specs.Printed.{PrintsFaults, complaint_lines, line_at, lines_at, too_long_line};
 ghost use Rattle.ob0_commands.specs.Said.{Says};
 ghost use Rattle.ob0_commands.specs.Statuses.{AllocatesFor, HasNoText, IsOfOutput, PrintsNothing, StopsPrinting, StopsPrintingFaults};
@@ -27,13 +27,8 @@ use std::mem::ManuallyDrop;
 /// the status with which the program ends: 0 for a module with no diagnostic, 1 for diagnostics, 4 for bytes that are
 /// no UTF-8 or a failed write, 5 where memory runs out.
 pub fn check_text<O: Output, E: Output>(alloc: Global, file: &[u8], out: &mut O, err: &mut E) -> u8
-    ensures { EndsWell (Reports file.now [] × (out.new ≡ out.old))
-        (PrintsFaults file.now (O.contents out.old) (O.contents out.new)
-        × (O.is_flushed out.new ≡ true))
-        (¬ HasNoText file.now × (O.has_failed out.new ≡ O.has_failed out.old)
-        × (err.new ≡ err.old)) result
-        ⊎ EndsByFault O.has_failed out.old out.new file.now (StopsPrintingFaults file.now)
-        (Says E.contents E.is_flushed E.has_failed err.old err.new) result }
+    ensures { ChecksFile O.contents O.is_flushed O.has_failed out.old out.new
+        (Says E.contents E.is_flushed E.has_failed err.old err.new) file.now result }
 {
     match check(alloc, file, out) {
         Ok(Some(_text)) => 0,

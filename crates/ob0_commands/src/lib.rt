@@ -3,6 +3,7 @@
 #![tactic(auto)]
 
 mod checking;
+mod commands;
 mod faults;
 mod numbers;
 mod printing;
@@ -10,9 +11,7 @@ mod reading;
 mod renaming;
 mod running;
 
-pub use checking::check_text;
+pub use commands::perform;
 pub use faults::{FileFault, print_fault};
 pub use printing::{Output, TrackedWriter};
 pub use reading::{Input, MAX_FILE, TrackedReader, read_file};
-pub use renaming::rename_text;
-pub use running::run_text;

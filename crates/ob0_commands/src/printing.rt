@@ -36,12 +36,14 @@ pub trait Output: Write {
         ensures bytes { OnOk result
             (Appends (Self.contents self.old) (Self.contents self.new) bytes.now) }
         ensures unflushed { bytes.now ≢ [] → is_flushed self.new ≡ false }
+        ensures kept { bytes.now ≡ [] → is_flushed self.new ≡ is_flushed self.old }
         ensures failed { has_failed self.new ≡ (has_failed self.old || is_err result) };
 
     /// Flushes, and remembers whether this succeeded.
     fn flush_tracked(&mut self) -> io::Result<()>
         ensures bytes { Keeps (Self.contents self.old) (Self.contents self.new) }
         ensures flushed { OnOk result (is_flushed self.new ≡ true) }
+        ensures kept { OnErr result (is_flushed self.new ≡ is_flushed self.old) }
         ensures failed { has_failed self.new ≡ (has_failed self.old || is_err result) };
 }
 

@@ -6,8 +6,9 @@
 //! the proof needs that its text is a `&str`: `rename_in` speaks of the characters of a text, and `diagnoses` of its
 //! bytes.
 
-ghost use Rattle.std.specs.Prelude.{◌≡◌, ◌⊎◌, true, IfOk, IfErr, OnErr};
-ghost use Rattle.ob0_commands.specs.Endings.{EndsByFault, EndsWell};
+ghost use Rattle.std.specs.Prelude.{◌≡◌, true, IfOk, IfErr, OnErr};
+ghost use Rattle.ob0_commands.specs.Endings.{EndsWell};
+ghost use Rattle.ob0_commands.specs.Performed.{RenamesInFile};
 ghost use Rattle.ob0_commands.specs.Renamed.{IsRefusal, PrintsEdited, Renames};
 ghost use Rattle.ob0_commands.specs.Said.{Says};
 ghost use Rattle.ob0_commands.specs.Statuses.{AllocatesFor, HasNoText, IsOfOutput, PrintsNothing, StopsPrinting, StopsPrintingFaults};
@@ -31,11 +32,9 @@ pub fn rename_text<O: Output, E: Output>(
     out: &mut O,
     err: &mut E,
 ) -> u8
-    ensures { Renames O.contents O.is_flushed out.old out.new
+    ensures { RenamesInFile O.contents O.is_flushed O.has_failed out.old out.new
         (Says E.contents E.is_flushed E.has_failed err.old err.new) file.now position new.now
-        (¬ HasNoText file.now × (O.has_failed out.new ≡ O.has_failed out.old)) result
-        ⊎ EndsByFault O.has_failed out.old out.new file.now (StopsPrintingFaults file.now)
-        (Says E.contents E.is_flushed E.has_failed err.old err.new) result }
+        result }
 {
     match rename_file(alloc, file, position, new, out, err) {
         Ok(status) => status,

@@ -10,16 +10,16 @@
 //! stack and doesn't grow; it is written where the next item might not fit. So nothing is allocated once something is
 //! printed (a `String` could allocate between pieces, as far as a contract knows).
 
-ghost use Rattle.std.specs.Prelude.{◌≡◌, ◌+◌, ◌≤◌, ◌⊎◌, ◌++◌, true, IfOk, IfErr, IfNone, MatchOption, OnOk, OnErr, option_map, suc};
+ghost use Rattle.std.specs.Prelude.{◌≡◌, ◌+◌, ◌≤◌, ◌++◌, true, IfOk, IfErr, IfNone, MatchOption, OnOk, OnErr, option_map, suc};
 ghost use Rattle.std.specs.Io.KnownBytes.{Appends};
 ghost use Rattle.arrayvec.specs.ArrayString.{array_string_len};
 ghost use Rattle.ob0_tree.specs.Parsed.{named_tree_of};
 ghost use Rattle.ob0_analysis.specs.Diagnosed.{IsWellTypedModule};
 ghost use Rattle.ob0_run.specs.Outcomes.{item_of, items_out, run_of};
 ghost use Rattle.ob0_run.specs.Programs as lowered;
-ghost use Rattle.ob0_commands.specs.Endings.{EndsByFault};
 ghost use Rattle.ob0_commands.specs.Inputs.{TakesAtMost};
 ghost use Rattle.ob0_commands.specs.Numbers.{max_input};
+ghost use Rattle.ob0_commands.specs.Performed.{RunsFile};
 ghost use Rattle.ob0_commands.specs.Printed.{IsWrittenBut, PrintsFaults, end_line, output_text, written_text};
 ghost use Rattle.ob0_commands.specs.Said.{Says};
 ghost use Rattle.ob0_commands.specs.Statuses.{AllocatesFor, HasNoText, IsOfInput, IsOfOutput, PrintsNothing, StopsPrinting, StopsRunning, status_at};
@@ -66,15 +66,9 @@ pub fn run_text<R: Input, O: Output, E: Output>(
     out: &mut O,
     err: &mut E,
 ) -> u8
-    ensures ends { PrintsRuns O.contents O.is_flushed out.old out.new
+    ensures ends { RunsFile O.contents O.is_flushed O.has_failed out.old out.new
         (Says E.contents E.is_flushed E.has_failed err.old err.new) file.now
-        (R.remaining input.old) calls turns
-        (¬ HasNoText file.now × (O.has_failed out.new ≡ O.has_failed out.old)
-        × (R.has_failed input.new ≡ R.has_failed input.old)) result
-        ⊎ EndsByFault O.has_failed out.old out.new file.now
-        (λ fault. StopsRunning file.now (R.remaining input.old) (R.has_failed input.new) fault
-        × IsOfInput (R.has_failed input.old) (R.has_failed input.new) fault)
-        (Says E.contents E.is_flushed E.has_failed err.old err.new) result }
+        R.remaining R.has_failed input.old input.new calls turns result }
     ensures limit { TakesAtMost (suc max_input) (R.remaining input.old) (R.remaining input.new) }
     ensures unread { ¬ IsWellTypedModule file.now → input.new ≡ input.old }
 {
