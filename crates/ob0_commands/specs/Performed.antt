@@ -1,4 +1,4 @@
--- What a command line does on a file: what it prints, the status with which it ends, and what it leaves of its input.
+-- Defines what a command line does on a file: its output, its exit status, and how much of the input it reads.
 -- Rule: docs/PROTOCOL.md, The program 1 to 8.
 use Rattle.std.specs.Prelude.{◌≡◌, ◌⊎◌, ℕ, List, [], Option, None, Bool, true, suc}
 use Rattle.ob0_text.specs.declared.position_types.Position.{Position}
@@ -13,7 +13,8 @@ use Rattle.ob0_commands.specs.Renamed.{Renames}
 use Rattle.ob0_commands.specs.Statuses.{HasNoText, IsOfInput, StopsPrintingFaults, StopsRunning}
 use Rattle.ob0_commands.specs.TextRuns.{PrintsRuns}
 
--- what is wrong with a file is printed, and nothing of a well-typed module; or a fault stops it
+-- `check`: with status 0 the file has no diagnostics, and nothing is printed; with status 1 its errors are printed and
+-- flushed; or a fault stops it
 abbrev pub ChecksFile : {O : Type 0}
     → (contents : O → Option (List ℕ))
     → (is_flushed has_failed : O → Bool)
@@ -29,7 +30,7 @@ ChecksFile contents is_flushed has_failed before after Said file status =
     status
     ⊎ EndsByFault has_failed before after file (StopsPrintingFaults file) Said status
 
--- the run of a file's module on the numbers of an input is printed; or a fault stops it
+-- `run`: the run of the file's module on the numbers of an input is printed; or a fault stops it
 abbrev pub RunsFile : {O I : Type 0}
     → (contents : O → Option (List ℕ))
     → (is_flushed has_failed : O → Bool)
@@ -52,7 +53,7 @@ RunsFile contents is_flushed has_failed before after Said file remaining input_f
     × IsOfInput (input_failed input) (input_failed left) fault)
     Said status
 
--- a file's text is printed with another name at a position; or a fault stops it
+-- `rename`: the file's text is printed with another name at a position; or a fault stops it
 abbrev pub RenamesInFile : {O : Type 0}
     → (contents : O → Option (List ℕ))
     → (is_flushed has_failed : O → Bool)
@@ -69,7 +70,8 @@ RenamesInFile contents is_flushed has_failed before after Said file position new
     status
     ⊎ EndsByFault has_failed before after file (StopsPrintingFaults file) Said status
 
--- a command line does what its command says, with its own values; only `run` takes anything of the input
+-- Each command does what its definition says, with the values of the command line. Only `run` reads from the input: at
+-- most one byte over the limit, and nothing if the file isn't a well-typed module. `serve` isn't a command on a file.
 abbrev pub PerformsOnFile : {O I : Type 0}
     → (contents : O → Option (List ℕ))
     → (is_flushed has_failed : O → Bool)
