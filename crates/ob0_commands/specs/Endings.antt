@@ -1,10 +1,11 @@
--- States how a command on a file ends: its status, its output and its lines on standard error.
--- If it ends with 0 or 1, the file has a text or is too long, and neither the output nor the input has failed in the
--- call. If it ends with a fault's status, the fault has a reason (`StopsPrintingFaults`, `StopsRunning`). Only for an
--- input that isn't a list of numbers the reverse is weaker: 0 and 1 require such a list (`IsInputOf`), and 5 may come
--- with or without one. `text_of` allocates nothing and can't return `Memory`, so 5 comes only for a file that isn't too
--- long (`AllocatesFor`). Each command prints after its last allocation. So a fault other than `Write` leaves the output
--- unchanged (`PrintsNothing`), even if it ends the command.
+-- States how a command on a file ends: its status, its output and its lines on standard error. If
+-- it ends with 0 or 1, the file has a text or is too long, and neither the output nor the input has
+-- failed in the call. If it ends with a fault's status, the fault has a reason
+-- (`StopsPrintingFaults`, `StopsRunning`). Only for an input that isn't a list of numbers the
+-- reverse is weaker: 0 and 1 require such a list (`IsInputOf`), and 5 may come with or without one.
+-- `text_of` allocates nothing and can't return `Memory`, so 5 comes only for a file that isn't too
+-- long (`AllocatesFor`). Each command prints after its last allocation. So a fault other than
+-- `Write` leaves the output unchanged (`PrintsNothing`), even if it ends the command.
 -- Rule: docs/PROTOCOL.md, The program 5 to 8.
 use Rattle.std.specs.Prelude.{◌≡◌, ◌≤◌, ℕ, List, Option, Some, Bool}
 use Rattle.ob0_commands.specs.Printed.{fault_line}

@@ -1,4 +1,5 @@
--- Defines what a command line does on a file: its output, its exit status, and how much of the input it reads.
+-- Defines what a command line does on a file: its output, its exit status, and how much of the
+-- input it reads.
 -- Rule: docs/PROTOCOL.md, The program 1 to 8.
 use Rattle.std.specs.Prelude.{◌≡◌, ◌⊎◌, ℕ, List, [], Option, None, Bool, true, suc}
 use Rattle.ob0_text.specs.declared.position_types.Position.{Position}
@@ -13,8 +14,8 @@ use Rattle.ob0_commands.specs.Renamed.{Renames}
 use Rattle.ob0_commands.specs.Statuses.{HasNoText, IsOfInput, StopsPrintingFaults, StopsRunning}
 use Rattle.ob0_commands.specs.TextRuns.{PrintsRuns}
 
--- `check`: with status 0 the file has no diagnostics, and nothing is printed; with status 1 its errors are printed and
--- flushed; or a fault stops it
+-- `check`: with status 0 the file has no diagnostics, and nothing is printed; with status 1 its
+-- errors are printed and flushed; or a fault stops it
 abbrev pub ChecksFile : {O : Type 0}
     → (contents : O → Option (List ℕ))
     → (is_flushed has_failed : O → Bool)
@@ -70,8 +71,9 @@ RenamesInFile contents is_flushed has_failed before after Said file position new
     status
     ⊎ EndsByFault has_failed before after file (StopsPrintingFaults file) Said status
 
--- Each command does what its definition says, with the values of the command line. Only `run` reads from the input: at
--- most one byte over the limit, and nothing if the file isn't a well-typed module. `serve` isn't a command on a file.
+-- Each command does what its definition says, with the values of the command line. Only `run` reads
+-- from the input: at most one byte over the limit, and nothing if the file isn't a well-typed
+-- module. `serve` isn't a command on a file.
 abbrev pub PerformsOnFile : {O I : Type 0}
     → (contents : O → Option (List ℕ))
     → (is_flushed has_failed : O → Bool)

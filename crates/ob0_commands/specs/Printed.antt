@@ -59,8 +59,9 @@ too_long = complaint_of (record { code = TooLong; span = record { start = 0; end
 abbrev pub too_long_line : List ℕ
 too_long_line = line_at (record { line = 0; character = 0 }) too_long
 
--- Known bytes grow by the lines of a file's errors. If the file has more bytes than a text may have,
--- that is one line. Otherwise its text isn't a well-typed module, and each diagnostic has a line.
+-- Known bytes grow by the lines of a file's errors. If the file has more bytes than a text may
+-- have, that is one line. Otherwise its text isn't a well-typed module, and each diagnostic has a
+-- line.
 abbrev pub PrintsFaults : List ℕ → Option (List ℕ) → Option (List ℕ) → Type 0
 PrintsFaults file before after =
     ((max_text < length file) × Appends before after too_long_line)

@@ -1,7 +1,7 @@
--- Defines the lines that the commands print on standard error, in bytes of UTF-8.
--- `Says` covers two cases: nothing is printed and the writer is unchanged, or a line is printed and flushed unless the
--- writer failed. `EndsByFault`, `PrintsEnded` and `RefusesName` take `Says` as a function of the line. So the line
--- belongs to the same fault, run or refusal as the status and the output.
+-- Defines the lines that the commands print on standard error, in bytes of UTF-8. `Says` covers two
+-- cases: nothing is printed and the writer is unchanged, or a line is printed and flushed unless
+-- the writer failed. `EndsByFault`, `PrintsEnded` and `RefusesName` take `Says` as a function of
+-- the line. So the line belongs to the same fault, run or refusal as the status and the output.
 -- Rule: docs/PROTOCOL.md, The program 2, 3, 5, 6 and 7.
 use Rattle.std.specs.Prelude.{◌≡◌, ◌++◌, ℕ, List, Option, Some, None, Bool, true, false, codes}
 use Rattle.std.specs.Io.KnownBytes.{Appends}

@@ -69,7 +69,8 @@ HasNoInput file given input_failed = IsWellTypedModule file × HasNoNumbers give
 abbrev pub IsOfInput : (before after : Bool) → FileFault → Type 0
 IsOfInput before after f = f ≢ fault.Input → after ≡ before
 
--- a run isn't printed because there is no input for it, or because the file's errors can't be printed
+-- a run isn't printed because there is no input for it, or because the file's errors can't be
+-- printed
 abbrev pub StopsRunning : List ℕ → Option (List ℕ) → (input_failed : Bool) → FileFault → Type 0
 StopsRunning file given input_failed f =
     ((f ≡ fault.Input) × HasNoInput file given input_failed) ⊎ StopsPrintingFaults file f

@@ -24,8 +24,8 @@ use std::mem::ManuallyDrop;
 
 /// Prints one line `L:C: Code: message` to `out` for each diagnostic of a file, and returns the program's exit status.
 /// `L:C` is the diagnostic's start, in lines and UTF-16 units counted from 0. `file` has all bytes of the file, or the
-/// first 1,048,577. The status is 0 for a module without diagnostics and 1 for diagnostics. If the bytes aren't UTF-8 or
-/// a write fails, it is 4; if memory runs out, 5. Then `err` gets the line `fault: NAME`.
+/// first 1,048,577. The status is 0 for a module without diagnostics and 1 for diagnostics. If the bytes aren't UTF-8
+/// or a write fails, it is 4; if memory runs out, 5. Then `err` gets the line `fault: NAME`.
 pub fn check_text<O: Output, E: Output>(alloc: Global, file: &[u8], out: &mut O, err: &mut E) -> u8
     ensures { ChecksFile O.contents O.is_flushed O.has_failed out.old out.new
         (Says E.contents E.is_flushed E.has_failed err.old err.new) file.now result }
@@ -37,8 +37,8 @@ pub fn check_text<O: Output, E: Output>(alloc: Global, file: &[u8], out: &mut O,
     }
 }
 
-/// Returns the text of a file that has no diagnostics. Otherwise prints the diagnostics and returns None. A file of more
-/// bytes than a text may have is too long, whatever its bytes.
+/// Returns the text of a file that has no diagnostics. Otherwise prints the diagnostics and returns None. A file of
+/// more bytes than a text may have is too long, whatever its bytes.
 pub fn check<'f, O: Output>(
     alloc: Global,
     file: &'f [u8],

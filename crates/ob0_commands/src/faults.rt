@@ -70,7 +70,8 @@ impl<T: Drop> From<AllocFailed<T>> for FileFault {
     }
 }
 
-/// Prints a fault to `err`, and returns the program's exit status. If the line can't be written, the status is the same.
+/// Prints a fault to `err`, and returns the program's exit status. If the line can't be written, the status is the
+/// same.
 pub fn print_fault<E: Output>(fault: FileFault, err: &mut E) -> u8
     ensures status { result ≡ status_of fault }
     ensures fails { 4 ≤ result }

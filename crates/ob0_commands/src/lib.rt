@@ -1,5 +1,5 @@
-//! Performs the program's commands on files, over the bytes of a file and any readers and writers (docs/PROTOCOL.md, The
-//! program).
+//! Performs the program's commands on files, over the bytes of a file and any readers and writers (docs/PROTOCOL.md,
+//! The program).
 #![tactic(auto)]
 
 mod checking;

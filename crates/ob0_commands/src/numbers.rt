@@ -4,8 +4,8 @@
 //! that begins with `+` isn't a number, although Rust's `parse` accepts it.
 //!
 //! The loop's invariant (`Gathered`) has two directions. If the remaining text is a list of numbers, the whole text is
-//! that list after the numbers found so far. If the whole text is a list of numbers, the remaining text is also one, and
-//! its first word ends at the first white space (`first_word` of `proofs/Words`).
+//! that list after the numbers found so far. If the whole text is a list of numbers, the remaining text is also one,
+//! and its first word ends at the first white space (`first_word` of `proofs/Words`).
 
 ghost use Rattle.std.specs.Prelude.{◌≡◌, ◌≤◌, ℤ, IfOk, OnOk, IfErr, IfSome, MatchOption, length, suc};
 ghost use Rattle.std.specs.List.{position_or_len};

@@ -1,13 +1,14 @@
 //! Prints whole texts.
 //!
 //! The commands print to an `Output`: a writer that remembers whether it has been flushed since the last write, and
-//! whether it has failed. std's contracts of `Write` say neither, but the contract of `print` needs both. `TrackedWriter`
-//! makes an `Output` of any writer, also of standard error. `O.contents` is an option, as in `Write`: the clauses are
-//! empty for a writer whose bytes aren't known.
+//! whether it has failed. std's contracts of `Write` say neither, but the contract of `print` needs both.
+//! `TrackedWriter` makes an `Output` of any writer, also of standard error. `O.contents` is an option, as in `Write`:
+//! the clauses are empty for a writer whose bytes aren't known.
 //!
 //! After a command has printed, its output is flushed. If a name is refused, the output is unchanged, and whether it is
-//! flushed isn't known (`IsFlushedOrUnchanged`). `check` and `rename` print once, so their `Appends` is chained only with
-//! `print`'s flush. The contracts say nothing about the bytes after a failed write, because std's `write_all` doesn't.
+//! flushed isn't known (`IsFlushedOrUnchanged`). `check` and `rename` print once, so their `Appends` is chained only
+//! with `print`'s flush. The contracts say nothing about the bytes after a failed write, because std's `write_all`
+//! doesn't.
 
 ghost use Rattle.std.specs.Prelude.{◌≡◌, ◌≢◌, ◌||◌, [], Bool, Some, true, false, is_err, OnOk, OnErr, IfErr};
 ghost use Rattle.std.specs.Io.{WritesAtMost};

@@ -1,8 +1,8 @@
 //! Reads a file and the input.
 //!
-//! The commands read from an `Input`: a reader that remembers whether it has failed. So the contracts can tie the faults
-//! `File` and `Input` to a failed read (`StopsFor`). `TrackedReader` makes an `Input` of any reader. If the bytes that a
-//! reader has left aren't known (`Read::remaining`), the contracts don't say which numbers it has.
+//! The commands read from an `Input`: a reader that remembers whether it has failed. So the contracts can tie the
+//! faults `File` and `Input` to a failed read (`StopsFor`). `TrackedReader` makes an `Input` of any reader. If the
+//! bytes that a reader has left aren't known (`Read::remaining`), the contracts don't say which numbers it has.
 
 ghost use Rattle.std.specs.Prelude.{◌≡◌, ◌≤◌, ◌<◌, ◌||◌, ◌⊎◌, Bool, true, false, is_err, IfOk, OnOk, IfErr, IfSome, length, suc};
 ghost use Rattle.std.specs.Io.{ReadsAtMost};

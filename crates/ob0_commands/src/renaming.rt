@@ -1,9 +1,9 @@
 //! Renames in a file's text.
 //!
-//! `rename_text` analyses the text once. The renaming uses that analysis (`rename_in` of `ob0_edits`). If the text isn't
-//! a well-typed module, the diagnostics of the same analysis are printed, so `check` isn't called; both use `text_of` and
-//! `print_diagnoses`. `rename_in_text` is the part after the test for UTF-8. It is a separate function because the proof
-//! needs a `&str`: `rename_in` is about the characters of a text, `diagnoses` about its bytes.
+//! `rename_text` analyses the text once. The renaming uses that analysis (`rename_in` of `ob0_edits`). If the text
+//! isn't a well-typed module, the diagnostics of the same analysis are printed, so `check` isn't called; both use
+//! `text_of` and `print_diagnoses`. `rename_in_text` is the part after the test for UTF-8. It is a separate function
+//! because the proof needs a `&str`: `rename_in` is about the characters of a text, `diagnoses` about its bytes.
 
 ghost use Rattle.std.specs.Prelude.{◌≡◌, true, IfOk, IfErr, OnErr};
 ghost use Rattle.ob0_commands.specs.Endings.{EndsWell};
@@ -94,8 +94,8 @@ fn rename_in_text<O: Output, E: Output>(
     }
 }
 
-/// Prints the edited text to `out`, or the refusal to `err` as `refused: TEXT`. Returns the program's exit status: 0 for
-/// edits, 1 for a refusal.
+/// Prints the edited text to `out`, or the refusal to `err` as `refused: TEXT`. Returns the program's exit status: 0
+/// for edits, 1 for a refusal.
 pub fn print_edited<T: TextStore, O: Output, E: Output>(
     alloc: Global,
     store: &T,

@@ -1,14 +1,14 @@
 //! Runs a file's module on an input, and prints the output.
 //!
-//! `run_text` analyses and lowers the text once. `LoweringQuestion`, a question for `ask` of `ob0_analysis`, returns the
-//! program; if there is none, the diagnostics are printed. Then the input is read, and the program is executed. The
+//! `run_text` analyses and lowers the text once. `LoweringQuestion`, a question for `ask` of `ob0_analysis`, returns
+//! the program; if there is none, the diagnostics are printed. Then the input is read, and the program is executed. The
 //! module is dropped before that: the fact `IsLoweredTo` says that the program runs like a module of this text, and
 //! `execute` makes the defined run (`RunsAs`).
 //!
 //! The output is written in pieces of at most `PIECE_SIZE` bytes (`print_items`), so its whole text is never stored.
-//! `IsWrittenBut` separates the written text from the waiting piece. A piece is an `ArrayString`: it is on the stack and
-//! doesn't grow. It is written if the next item might not fit. So nothing is allocated after the first byte is printed.
-//! (A contract allows a `String` to allocate between pieces.)
+//! `IsWrittenBut` separates the written text from the waiting piece. A piece is an `ArrayString`: it is on the stack
+//! and doesn't grow. It is written if the next item might not fit. So nothing is allocated after the first byte is
+//! printed. (A contract allows a `String` to allocate between pieces.)
 
 ghost use Rattle.std.specs.Prelude.{◌≡◌, ◌+◌, ◌≤◌, ◌++◌, true, IfOk, IfErr, IfNone, MatchOption, OnOk, OnErr, option_map, suc};
 ghost use Rattle.std.specs.Io.KnownBytes.{Appends};
@@ -51,11 +51,12 @@ impl Question for LoweringQuestion {
     }
 }
 
-/// Runs a file's module on the numbers of `input`, and returns the program's exit status. At most `calls` calls are open
-/// at a time, and each execution of a loop has at most `turns` iterations. The output is printed to `out`. An end other
-/// than Done is printed to `err` as `fault: NAME`. If the file isn't a well-typed module, its diagnostics are printed as
-/// by `check_text`, and the input isn't read. The status is 0 for Done and 1 for another end or diagnostics; 4 and 5 are
-/// as for `check_text`. If the input can't be read, is too long or isn't a list of numbers, the status is 4.
+/// Runs a file's module on the numbers of `input`, and returns the program's exit status. At most `calls` calls are
+/// open at a time, and each execution of a loop has at most `turns` iterations. The output is printed to `out`. An end
+/// other than Done is printed to `err` as `fault: NAME`. If the file isn't a well-typed module, its diagnostics are
+/// printed as by `check_text`, and the input isn't read. The status is 0 for Done and 1 for another end or diagnostics;
+/// 4 and 5 are as for `check_text`. If the input can't be read, is too long or isn't a list of numbers, the status is
+/// 4.
 pub fn run_text<R: Input, O: Output, E: Output>(
     alloc: Global,
     file: &[u8],
