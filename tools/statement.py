@@ -131,8 +131,6 @@ BELIEVED = {
     "all_apart": "no two of the cuts share a character (an insertion strictly inside another cut does)",
     "in_text_order": "the cuts by their starts, then by their ends, then as in the list",
     "pieced": "what cuts in this order make of the text from a place on",
-    "device_of, has_failed, is_flushed, reads_of": "of a `Noted` its device; whether a call of it has returned an "
-    "error; whether a flush has succeeded since the last write, or nothing was written; how it was read",
     "IsTaken": "by at most 2^40 reads, each of at most 8,192 bytes",
     "Serves": "`put` is the frames of the replies to contents of `taken` (at `Err(Write)` perhaps only their first "
     "bytes). To which, a table in part 6 says by the result: at `Err(Memory)` to the first n, for some n",
@@ -161,14 +159,14 @@ BELIEVED = {
 # (what is said besides under a contract)
 BESIDE_CONTRACTS = {
     "serve": {
-        "Noted": "a reader or a writer, the *device*, with notes of its calls",
         "R.remaining d, W.contents d": "the bytes that a device has left to give, and that were written to it",
+        "R.reads d": "how often it was read, and for how many bytes at most",
+        "R.has_failed d, W.has_failed d, W.is_flushed d": "a call has failed; all is flushed",
         "taken": "bytes here, contents in the law and everywhere else",
     },
 }
 # (what the headline or its tie names and the last part unfolds)
 LATE: list[Key] = [("ob0_world", "Code", name) for name in ("event_of", "all_applied", "all_made")]
-LATE += [("ob0_session", "Noted", name) for name in ("device_of", "has_failed", "is_flushed", "reads_of")]
 LATE += [("ob0_session", "Serving", name) for name in ("IsTaken", "AreAllRead", "max_reads", "IsFlushedAfter")]
 # (what the language names and the last part unfolds, and what it says)
 LATER: dict[Key, str] = {
@@ -179,11 +177,11 @@ LATER: dict[Key, str] = {
 }
 # (what is no definition of this repository's crates, or a type of the code whose words suffice)
 WORDS = (
-    ("Noted", "a reader or a writer, with notes of its calls", "`ob0_session`"),
+    ("InputDevice, OutputDevice", "a device that is read, and one that is written to", "`ob0_session`"),
     (
         "R.remaining d, W.contents d",
         "the bytes that a device has left to give, and those that were written to it, if its type knows them",
-        "`std::io`",
+        "`ob0_session`",
     ),
     ("Data", "a JSON value", "`serde_json`"),
     (
@@ -306,11 +304,11 @@ PARTS: list[tuple[str, list[str], str, str]] = [
     (
         "Part 6: the wire",
         [
-            "That before each call of `Noted::read` all replies to the contents read are written and flushed is inferred "
-            "from the contract of `serve`: it holds for all readers and writers, also for such as fail from any call on, and "
-            "`Serves` allows no result if a read returned an error and after it a write. So nothing can be left to write "
-            "after a read, which may fail. This is no theorem, and it says nothing of the device: a `Noted::read` that "
-            "reads it twice meets its contract (docs/PROVING.md). Tests show that each reply comes.",
+            "That before each read of the device all replies to the contents read are written and flushed is inferred "
+            "from the contract of `serve`: it holds for all devices, even if they fail from some call on, and `Serves` "
+            "allows no result if a read failed and after it a write. So nothing can be left to write after a read, which "
+            "may fail. This is no theorem. `Noted` makes a device of std's reader: that it reads once for each read is in "
+            "its code and in no contract (docs/PROVING.md). Tests show that each reply comes.",
             "`Serves`, case by case:",
             ROWS,
             AFTER_ROWS,
@@ -423,7 +421,7 @@ UNPROVED = (
     "*Standard input and output* (tested in tests/test_stream.py and tests/test_devices.py). That pipes lose, add and "
     "reorder nothing is trusted. `main` has no contract; it calls `serve` and hands its status on "
     "(tests/test_lifecycle.py), 5 for `Err(Memory)`.",
-    "*A `serve` that still runs* has written and flushed each reply before its next call of `Noted::read` (inferred in "
+    "*A `serve` that still runs* has written and flushed each reply before its next read of the device (inferred in "
     "part 6; tested in tests/test_stream.py). An editor waits for replies, while the contract takes all that will come "
     "as given at the call (`R.remaining`): that is harmless, since `serve` sees only what has come.",
     "*That these errors come only if an allocation failed* (tested, docs/ROBUSTNESS.md): contracts don't know how much "
@@ -983,7 +981,7 @@ class Page:
         many, lines = self.counts(self.uncounted)
         return (
             f"No sum has the {many} definitions ({lines} lines) of part {STEPS} that the tie names: of what values of the "
-            "code mean, and of `Noted`."
+            "code mean."
         )
 
     def text(self) -> str:

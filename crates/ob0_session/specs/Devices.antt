@@ -1,8 +1,8 @@
--- How often a device was read.
+-- Counts the reads of a device.
 -- Rule: none; for contracts: the calls of a device.
 use Rattle.std.specs.Prelude.{◌+◌, ◌-◌, ◌^◌, ℕ, min, max}
 
--- how many reads were made, and how many bytes one of them could give at most
+-- the number of reads, and the most bytes that one of them could give
 pub record ReadCounts : Type 0 where
   pub count : ℕ
   pub longest : ℕ

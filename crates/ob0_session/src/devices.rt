@@ -1,7 +1,7 @@
-//! What `serve` reads from and writes to, with ghost counts of their calls and failures.
+//! Declares the devices that `serve` reads and writes, with ghost notes of their calls and failures.
 //!
-//! std's traits say neither how often a device was called nor whether a call failed. The contract of `serve` does, for
-//! every device whose calls meet these contracts: `Noted` makes one of each reader and writer of std.
+//! std's contracts say neither how often a reader was called nor whether a call failed. The contract of `serve` says
+//! both for every device of these traits. `Noted` makes such a device of each reader and each writer of std.
 ghost use Rattle.std.specs.Prelude.{◌≡◌, ◌≢◌, ◌||◌, ◌<◌, ℕ, List, [], Option, Bool, true, false, length, is_err, IfOk, OnOk, OnErr};
 ghost use Rattle.std.specs.Io.{ReadsAtMost, WritesAtMost};
 ghost use Rattle.std.specs.Io.KnownBytes.{Keeps, ReadConsumes, WriteAppends};
@@ -16,13 +16,13 @@ pub struct DeviceFault;
 
 /// A device that is read.
 pub trait InputDevice {
-    // The bytes that it has left to give, if they are known.
+    // The bytes that it has left to give, if these are known.
     ghost remaining: { Self → Option (List ℕ) };
 
-    // How often it was called, and how many bytes one of the calls could give at most.
+    // The number of its reads, and the most bytes that one of them could give.
     ghost reads: { Self → ReadCounts };
 
-    // Whether a call has failed.
+    // True if a call has failed.
     ghost has_failed: { Self → Bool };
 
     /// Reads some bytes. None are read only at the end, or if there is no room.
@@ -35,13 +35,13 @@ pub trait InputDevice {
 
 /// A device that is written to.
 pub trait OutputDevice {
-    // The bytes that were written to it, if they are known.
+    // The bytes that were written to it, if these are known.
     ghost contents: { Self → Option (List ℕ) };
 
-    // Whether a flush has succeeded after the last write, or nothing was written.
+    // True if a flush has succeeded after the last write, or nothing was written.
     ghost is_flushed: { Self → Bool };
 
-    // Whether a call has failed.
+    // True if a call has failed.
     ghost has_failed: { Self → Bool };
 
     /// Writes some of the bytes, at least one if there are any.
