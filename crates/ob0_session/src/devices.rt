@@ -25,7 +25,7 @@ pub trait InputDevice {
     // True if a call has failed.
     ghost has_failed: { Self → Bool };
 
-    /// Reads some bytes. None are read only at the end, or if there is no room.
+    /// Reads some bytes. Reads no bytes only at the end, or if there is no room.
     fn read(&mut self, buf: &mut [u8]) -> Result<usize, DeviceFault>
         ensures bound { ReadsAtMost result buf.new }
         ensures bytes { ReadConsumes (remaining self.old) (remaining self.new) result buf.new }
@@ -52,7 +52,7 @@ pub trait OutputDevice {
         ensures noted { has_failed self.new ≡ (has_failed self.old || is_err result) }
         ensures flushed { is_flushed self.new ≡ false };
 
-    /// Flushes what was written.
+    /// Flushes all the bytes written.
     fn flush(&mut self) -> Result<(), DeviceFault>
         ensures bytes { Keeps (contents self.old) (contents self.new) }
         ensures noted { has_failed self.new ≡ (has_failed self.old || is_err result) }
