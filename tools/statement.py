@@ -34,9 +34,8 @@ Size = Tuple[int, int]  # how many words, and how many lines
 
 # ---- what isn't in the template
 
-# (what the second page unfolds last, though the theorem names it: what values of the code mean, and `Noted`)
+# (what the second page unfolds last, though the theorem names it: what values of the code mean)
 LATE: list[Key] = [("ob0_world", "Code", name) for name in ("event_of", "all_applied", "all_made")]
-LATE += [("ob0_session", "Noted", name) for name in ("device_of", "has_failed", "is_flushed", "reads_of")]
 LATE += [("ob0_session", "Serving", name) for name in ("IsTaken", "AreAllRead", "max_reads", "IsFlushedAfter")]
 LATER: list[Key] = [("ob0_scan", "Classes", name) for name in ("reserved_text", "symbol_text")]
 # (types of the code in them)

@@ -49,6 +49,9 @@ def about(uri: str, message: Message) -> Message:
     return {**message, "params": {**message["params"], "textDocument": document}}
 
 
+# (its text and its table of lines give memory back when all lines but one go)
+MANY_LINES = "MODULE M; BEGIN WriteLn" + "\n" * 10_000 + "END M."
+
 # (five such texts are more than the session keeps analyses of)
 COMMENT = "(*" + "x" * 900_000 + "*)\n"
 KEPT = [f"file:///{it}" for it in "abcde"]
@@ -130,6 +133,11 @@ LONG = {
         None,
     ),
     "five documents, whose analyses are kept, dropped and made again": Case(["serve"], several_documents(), None),
+    "a document made smaller": Case(
+        ["serve"],
+        talk(did_open(MANY_LINES), did_change([{"range": extent("1:0-10000:0"), "text": ""}]), query(3, "hover", 0, 7)),
+        None,
+    ),
     "a constant inlined": Case(["serve"], talk(did_open(LEAST), acted(3, 3, 15), acted(4, 1, 6), **LITERALS), None),
     "a layout": Case(["serve"], talk(did_open(ON_ONE_LINE), laid_out(3)), None),
     "200 variables, renamed and laid out": Case(

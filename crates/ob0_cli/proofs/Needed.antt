@@ -1,11 +1,11 @@
--- What the subcommand of one name needs, since no two names are alike.
+-- The needs of a subcommand follow from its name, because the names differ.
 use Rattle.std.proofs.Common.{◌≡◌, ◌∙◌, ℕ, List, false, true, length, get_or, codes, sym, ap, inl, inr, arith}
 use Rattle.std.specs.Str.{bytes_eq}
 use Rattle.std.proofs.lemmas.Slice.Eq.{bytes_eq-Decides}
 use Rattle.clap.specs.Words.{Row, Text}
 use Rattle.ob0_cli.specs.Given.{HasBounded, HasPlace, HasText, NeedsAt}
 
--- by its first letter a name is distinguished from all but one
+-- the first letter tells a name apart from all others except one
 first : Text → ℕ
 first name = get_or name 0 0
 

@@ -1,4 +1,4 @@
--- What the getters read of a value that passed its parser.
+-- Laws of the numbers that the getters read from a value that passed its parser.
 use Rattle.std.proofs.Common.{◌≡◌, ◌<◌, ◌≤◌, ◌^◌, ℕ, Bool, true, false, List, Option, Some, None, arith, codes, refl}
 use Rattle.std.specs.Prelude.{Result, Err, pos, if◌then◌else◌}
 use Rattle.std.specs.Str.{bytes_eq}

@@ -1,4 +1,4 @@
--- The values of a subcommand's arguments after a parse without a fault.
+-- Laws of the values of a subcommand's arguments after a parse without a fault.
 use Rattle.std.proofs.Common.{◌≡◌, ◌⊎◌, ◌∙◌, ◌++◌, ◌&&◌, ◌||◌, Bool, true, false, not, List, [], ◌∷◌, length, is_some, Option, Some, None, refl, sym, ap, subst, inl, inr, arith}
 use Rattle.std.specs.Prelude.{find, fold, if◌then◌else◌, slice_get, option_map, option_and_then}
 use Rattle.std.specs.Option.{option_map_or}
@@ -29,7 +29,7 @@ each_both : {A : Type 0} (P : A → Type 0) (xs ys : List A) → Each P xs → E
 each_both P [] ys p q = q
 each_both P (x ∷ xs) ys p q = (p.0, each_both P xs ys p.1 q)
 
--- what is found is one of the items
+-- the item found is one of the items
 pub found_of : {A : Type 0} (P : A → Type 0) (xs : List A) → Each P xs → (p : A → Bool) (a : A) → find p xs ≡ Some a → P a × (p a ≡ true)
 found_of P [] all p a e = cc
 found_of {A} P (x ∷ xs) all p a e = go (p x) refl e (found_of P xs all.1 p a)
@@ -40,7 +40,7 @@ found_of {A} P (x ∷ xs) all p a e = go (p x) refl e (found_of P xs all.1 p a)
         subst (λ y. P y × (p y ≡ true)) same (all.0, is)
     go false is e later = later e
 
--- a row has a value, of which R holds with the row's name and how it is read
+-- a row has a value that is in the relation R with the row's name and its parser
 pub record Meets (R : Text → Text → Reading → Type 0) (r : Row) : Type 0 where
   pub value : Text
   pub more : List Text
@@ -67,9 +67,9 @@ module _ (R : Text → Text → Reading → Type 0) where
       (λ r m. (record { value = m.value; more = m.more ++ v ∷ vs; values = ap (λ l. l ++ v ∷ vs) m.values; good = m.good }, tt))
       (record { value = v; more = vs; values = refl; good = good }, tt) rows all
 
--- ---- what an argument's value has passed
+-- ---- the parser that an argument's value has passed
 
--- the value passed the argument's parser, and is read as that one says
+-- the value passed the argument's parser, which gives its meaning
 pub record Passed (rules : List Rule) (id : Text) (value : Text) (how : Reading) : Type 0 where
   pub rule : Rule
   pub own : arg_by_id rules id ≡ Some rule
@@ -175,7 +175,7 @@ none_of {A} q (x ∷ xs) none p a e = go (p x) (q x) refl none e (λ rest. none_
         subst (λ y. q y ≡ false) same is
     go false false is none e later = later none e
 
--- what is required was given
+-- every required argument was given
 required_given : (s : Shape) (words : List Text) → s.subcommand_negates_reqs ≡ false → level_fault s [] nothing_held words false [] ≡ []
     → list_any (λ a. a.required && not (is_given a.id (rows_after s.rules [] words))) s.rules ≡ false
 required_given s words plain e = third _ _ _ (rw plain at (fine s words e).checking)
@@ -186,7 +186,7 @@ required_given s words plain e = third _ _ _ (rw plain at (fine s words e).check
     third false false true e = cc
     third false false false e = refl
 
--- ---- what an id's row gives
+-- ---- the values in the row of an id
 
 -- the argument's first value, as text and as a number's text
 pub record HasPassed (rules : List Rule) (rows : List Row) (id : Text) : Type 0 where
@@ -254,7 +254,7 @@ at_there id other change missing changed (r ∷ rs) there = go (bytes_eq r.id ot
     go false true is there later = rw is refl
     go false false is there later = rw is (later there)
 
--- a new row is there
+-- a new row is found
 at_new : (id : Text) (change : Row → List Row) (new : Row) → new.id ≡ id → ((r : Row) → (new : Row) × (change r ≡ new ∷ []) × (new.id ≡ r.id))
     → (rows : List Row) → is_some (find (λ r. bytes_eq r.id id) (at_row id change (new ∷ []) rows)) ≡ true
 at_new id change new is changed [] = rw (is, (bytes_eq-Decides id id).1 refl) refl

@@ -1,4 +1,4 @@
--- A walk without a fault enters no `help`, where that is a subcommand.
+-- A walk without a fault never enters `help` if that is a subcommand.
 use Rattle.std.proofs.Common.{◌≡◌, ◌&&◌, Bool, true, false, not, List, [], ◌∷◌, ℕ, is_some, Option, Some, None, codes, refl}
 use Rattle.std.specs.Prelude.{fold, if◌then◌else◌}
 use Rattle.std.specs.Str.{bytes_eq}

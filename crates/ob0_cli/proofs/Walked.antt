@@ -1,4 +1,4 @@
--- What a walk without a fault leaves of a simple command's own arguments.
+-- Laws of the rows that a walk without a fault leaves for a simple command's own arguments.
 use Rattle.std.proofs.Common.{zero, suc, ◌≡◌, ◌&&◌, ℕ, Bool, true, false, List, [], ◌∷◌, length, is_some, Option, Some, None, refl}
 use Rattle.std.specs.Prelude.{find, fold, if◌then◌else◌, drop, encode_utf8, slice_get}
 use Rattle.std.specs.Option.{option_map_or}
@@ -10,13 +10,13 @@ use Rattle.clap.specs.Simple.{Shape}
 use Rattle.clap.specs.Kinds.{Kinds, or_else}
 use Rattle.clap.specs.Faults.{bundle_fault, bundle_step_fault, flag_word_fault, flags_fault, long_fault, option_fault, other_fault, positional_fault, react_fault, settle_fault, short_fault, step_fault, stray_fault, turn_fault, use_fault, walk_fault, word_fault}
 
--- ---- no fault in two steps is no fault in either
+-- ---- if two steps together have no fault, neither step has one
 
 pub neither : (a b : Kinds) → or_else a b ≡ [] → (a ≡ []) × (b ≡ [])
 neither [] b e = (refl, e)
 neither (k ∷ ks) b e = cc
 
--- a use of the argument without a fault keeps what is held of the rows
+-- a use of the argument without a fault keeps the property of the rows
 abbrev pub Keeps : (List Row → Type 0) → Bool → Rule → Type 0
 Keeps K again a = (values : List Text) (rows : List Row) → use_fault again a values rows ≡ [] → K rows → K (used a values rows)
 

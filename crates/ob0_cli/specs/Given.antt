@@ -1,4 +1,4 @@
--- What the words of a command line give.
+-- Defines the command line that words give.
 -- Rule: docs/PROTOCOL.md, The program; clap's definition of a command line.
 use Rattle.std.specs.Prelude.{◌≡◌, ◌⊎◌, ◌≤◌, ℕ, List, [], Option, Some, codes, if◌then◌else◌, pos}
 use Rattle.std.specs.Str.{bytes_eq}
@@ -14,7 +14,7 @@ use Rattle.ob0_cli.specs.declared.line.CommandLine.TheVariants.{Serve, Check, Ru
 use Rattle.ob0_cli.specs.declared.line.CommandFault.{CommandFault}
 use Rattle.ob0_cli.specs.declared.line.CommandFault.TheVariants.{Refused, Memory}
 
--- a subcommand, with what was found for its arguments
+-- a subcommand and the values found for its arguments
 abbrev pub FoundCommand : Type 0
 FoundCommand = Option (Text × List Row)
 
@@ -25,7 +25,7 @@ IsNumber id rows n =
     × (one_of id rows ≡ Some digits)
     × (n ≡ digits_value 10 (without_leading_plus digits))
 
--- the line is that of the subcommand of this name, with the values that were found
+-- the line is for the subcommand of this name, with the values found
 abbrev pub HoldsValues : Text → List Row → CommandLine → Type 0
 HoldsValues name rows Serve = name ≡ codes "serve"
 HoldsValues name rows (Check file) =
@@ -42,7 +42,7 @@ HoldsValues name rows (Rename file position new) =
     × IsNumber (codes "column") rows position.character
     × (first_of (codes "name") rows ≡ Some new.now)
 
--- a command reads the file of this name
+-- the command reads the file at this path
 abbrev pub NamesFile : CommandLine → Text → Type 0
 NamesFile Serve path = ⊥
 NamesFile (Check file) path = file.now ≡ path
@@ -54,7 +54,7 @@ abbrev pub IsReadFrom : FoundCommand → CommandLine → Type 0
 IsReadFrom found line =
     (name : Text) × (rows : List Row) × (found ≡ Some (name, rows)) × HoldsValues name rows line
 
--- the words have no fault, and the line is the one that they name
+-- the words have no fault, and the line is read from them
 pub record Gives (words : List Text) (line : CommandLine) : Type 0 where
   pub fine : fault_of ob0_app words ≡ []
   pub read : IsReadFrom (subcommand_of ob0_app words) line
@@ -66,29 +66,29 @@ RefusesWords words (Refused error) =
     IsAmong (kind_of error) (fault_of ob0_app words) × ¬ (kind_of error ≡ OutOfMemory)
 RefusesWords words Memory = Unit {0}
 
--- ---- what the matches are known to have
+-- ---- the values that clap's matches have
 
--- an argument has a text
+-- the argument has a text
 abbrev pub HasText : Text → List Row → Type 0
 HasText id rows = (text : Text) × (first_of id rows ≡ Some text)
 
--- the most that `--calls` and `--turns` take
+-- the greatest numbers that `--calls` and `--turns` accept
 abbrev pub most_of : Text → ℕ
 most_of id = if bytes_eq id (codes "calls") then max_calls else max_turns
 
--- an option has a number within its bounds
+-- the option has a number within its bounds
 abbrev pub HasBounded : Text → List Row → Type 0
 HasBounded id rows =
     (text : Text)
     × (one_of id rows ≡ Some (without_minus text))
     × IsSignedIn (pos 0) (pos (most_of id)) text
 
--- an argument has a number of 64 bits
+-- the argument has a number of 64 bits
 abbrev pub HasPlace : Text → List Row → Type 0
 HasPlace id rows =
     (text : Text) × (one_of id rows ≡ Some text) × IsUnsignedIn 0 18446744073709551615 text
 
--- what the subcommand of this name needs has values
+-- each argument that the subcommand of this name needs has a value
 abbrev pub NeedsAt : Text → List Row → Type 0
 NeedsAt name rows = (name ≡ codes "serve") ⊎ ((name ≡ codes "check") × HasText (codes "file") rows)
     ⊎ ((name ≡ codes "run")
@@ -101,7 +101,7 @@ NeedsAt name rows = (name ≡ codes "serve") ⊎ ((name ≡ codes "check") × Ha
     × HasPlace (codes "column") rows
     × HasText (codes "name") rows)
 
--- each argument that a command needs is there
+-- the subcommand found has all the arguments that it needs
 abbrev pub HasNeeded : FoundCommand → Type 0
 HasNeeded found =
     (name : Text) × (rows : List Row) × (found ≡ Some (name, rows)) × NeedsAt name rows

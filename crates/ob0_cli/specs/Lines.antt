@@ -1,19 +1,19 @@
--- The command line of `ob0`, as clap's definition of a simple command sees it.
+-- Defines the command line of `ob0`, in the terms of clap's definition of a simple command.
 -- Rule: docs/PROTOCOL.md, The program; clap's definition of a command line.
 use Rattle.std.specs.Prelude.{[], ◌∷◌, ℕ, pos, true, Some, codes}
 use Rattle.clap.specs.Words.{App, Rule, Text, new_app, new_rule, with_rule, with_subcommand}
 use Rattle.clap.specs.declared.builder.ArgAction.TheVariants.{Set, SetTrue}
 use Rattle.clap.specs.declared.builder.value_parser.ValueParser.TheVariants.{Signed, Unsigned}
 
--- a word that must be there; help has a name for its value, as for each value
+-- a word that is required; help has a name for its value, as for each value
 abbrev pub word_rule : Text → Rule
 word_rule id = record (new_rule id) { action = Some Set; value_names = 1; required = true }
 
--- a number of 64 bits that must be there
+-- a number of 64 bits that is required
 abbrev pub number_rule : Text → Rule
 number_rule id = record (word_rule id) { parser = Some (Unsigned 0 18446744073709551615) }
 
--- the most calls that may be open at a time, of one run
+-- the most calls that may be open at a time in a run
 abbrev pub max_calls : ℕ
 max_calls = 64
 
@@ -21,7 +21,7 @@ max_calls = 64
 abbrev pub max_turns : ℕ
 max_turns = 100000
 
--- at most 64, and 64 where it isn't given
+-- at most 64, and 64 by default
 abbrev pub calls_rule : Rule
 calls_rule = record (new_rule (codes "calls")) {
   long = Some (codes "calls");
@@ -30,7 +30,7 @@ calls_rule = record (new_rule (codes "calls")) {
   defaults = codes "64" ∷ [];
 }
 
--- at most 100,000, and 100,000 where it isn't given
+-- at most 100,000, and 100,000 by default
 abbrev pub turns_rule : Rule
 turns_rule = record (new_rule (codes "turns")) {
   long = Some (codes "turns");
@@ -39,25 +39,23 @@ turns_rule = record (new_rule (codes "turns")) {
   defaults = codes "100000" ∷ [];
 }
 
--- LSP 3.17, implementation considerations: the transport,
--- which is standard input and output in any case
+-- LSP 3.17, implementation considerations: the transport, which is always standard input and output
 abbrev pub stdio_rule : Rule
 stdio_rule =
     record (new_rule (codes "stdio")) { long = Some (codes "stdio"); action = Some SetTrue }
 
--- the same section: the process of the client. Any word is taken, and nothing depends on it
+-- the same section: the process of the client; any word is accepted, and nothing depends on it
 abbrev pub client_rule : Rule
 client_rule =
     record (new_rule (codes "client")) { long = Some (codes "clientProcessId"); value_names = 1 }
 
--- each option of `serve` may be given several times,
--- since clients add them to what their users wrote
+-- each option of `serve` may be given several times, because clients add options to the user's own
 abbrev pub serve_alone : App
 serve_alone =
     record (new_app (codes "serve"))
     { top = record (new_app (codes "serve")).top { args_override_self = true } }
 
--- `serve` takes no words but these options
+-- `serve` accepts no words except these options
 abbrev pub serve : App
 serve = with_rule (with_rule serve_alone stdio_rule) client_rule
 
@@ -80,13 +78,13 @@ rename =
     (number_rule (codes "column")))
     (word_rule (codes "name"))
 
--- it has a version, and one subcommand is required
+-- the program has a version, and one subcommand is required
 abbrev pub ob0_alone : App
 ob0_alone =
     record (new_app (codes "ob0"))
     { top = record (new_app (codes "ob0")).top { subcommand_required = true; has_version = true } }
 
--- these four subcommands, and `help`, which clap adds
+-- the program with its four subcommands; clap adds `help`
 abbrev pub ob0_app : App
 ob0_app =
     with_subcommand

@@ -1,14 +1,16 @@
-//! The command line.
+//! Reads the command line.
 //!
-//! A further subcommand: an `App` in `specs/Lines.antt`, a case of `HoldsValues` and of `NeedsAt`, and in
-//! `proofs/Named.antt` a `.._fits` and a `.._needs` by `refl` under `unfolding clap_on_literals nth`; an `App` of
-//! several arguments needs a line for each in the answers of its definition (`app_of` is put together step by step, by
-//! `with`, for which each argument has a clause `own`: `global ≡ false`). Nothing depends on the options of `serve`: only its `App`
-//! and `serve_definition` know them.
+//! To add a subcommand, write:
+//! - an `App` in `specs/Lines.antt`, and a case of `HoldsValues`, `NamesFile` and `NeedsAt`;
+//! - in `proofs/Named.antt` a `.._fits` and a `.._needs`, by `refl` under `unfolding clap_on_literals nth`;
+//! - if the `App` has several arguments, a line for each in the answers of its definition. `with` adds the arguments
+//!   one after another, and needs each argument's clause `own` (`global ≡ false`).
 //!
-//! Traps: a `ghost` clause can't be picked where a function takes a `&str`, so the bound of a number is a function of
-//! its name (`most_of`); a local named `run` is `run'` in the answers; `where` blocks want every `_` written out. Help
-//! texts are constants of at most 80 columns, one for each command: a test counts.
+//! Only the `App` of `serve` and `serve_definition` mention the options of `serve`.
+//!
+//! Traps: if a function takes a `&str`, no `ghost` clause can depend on it. So the bound of a number is a function of
+//! its name (`most_of`). A local named `run` is `run'` in the answers. A `where` block needs every `_` written out.
+//! Help texts are constants of at most 80 columns, one for each command: a test counts the columns.
 
 ghost use Rattle.std.specs.Prelude.{◌≡◌, ◌≢◌, ◌≤◌, Some, false, true, IfOk, IfErr, MatchOption, map};
 ghost use Rattle.clap.specs.Words.{App, Rule, app_of, first_of, found_of, new_app, rows_of, rule_of, subcommand_rows_of, with_rule, with_subcommand};
@@ -23,7 +25,7 @@ use std::alloc::{AllocError, Global};
 
 const VERSION: &str = "0.1.0";
 
-/// The statuses of all commands, after the program's own help.
+/// The end of the program's help: the exit statuses of all commands.
 const STATUSES: &str = "\
 Exit status:
   0  all went well
@@ -110,22 +112,22 @@ Exit status:
   4  the file can't be read or isn't UTF-8, or the output can't be written
   5  out of memory";
 
-/// What a command line requests.
+/// The command that a command line requests, with its values.
 #[derive(Clone, Copy, Drop, PartialEq, Eq)]
 pub enum CommandLine<'a> {
-    /// One conversation over standard input and output.
+    /// Serve one conversation over standard input and output.
     Serve,
-    /// What is wrong with a file.
+    /// Print the errors of a file.
     Check {
         file: &'a str,
     },
-    /// The run of a file's module on the numbers of standard input.
+    /// Run a file's module on the numbers of standard input.
     Run {
         file: &'a str,
         calls: u32,
         turns: u32,
     },
-    /// A file's text with another name for the one that is at a position.
+    /// Print a file's text with another name in place of the name at a position.
     Rename {
         file: &'a str,
         position: Position,
@@ -134,7 +136,7 @@ pub enum CommandLine<'a> {
 }
 
 impl<'a> CommandLine<'a> {
-    /// The file that the command reads. None for `serve`, which reads none.
+    /// Returns the file that the command reads. Returns None for `serve`, which reads no file.
     pub fn file(self) -> Option<&'a str>
         ensures { MatchOption result (self.entry ≡ Serve)
             (λ file. (self.entry ≢ Serve) × NamesFile self.entry file.now) }
@@ -159,14 +161,14 @@ impl<'a> CommandLine<'a> {
 /// Why a command line requests nothing.
 #[derive(Debug, Drop, thiserror::Error)]
 pub enum CommandFault {
-    /// The words are refused, or they request help or the version.
+    /// The words are refused, or request help or the version.
     #[error(transparent)]
     Refused(Error),
     #[error("out of memory")]
     Memory,
 }
 
-/// Reads the words of a command line, the program's name first.
+/// Reads the words of a command line, of which the first is the program's name.
 pub fn command<'a>(alloc: Global, words: &'a [&'a str]) -> Result<CommandLine<'a>, CommandFault>
     ensures gives { IfOk result (Gives (map (λ w. w.now) words.entry.now)) }
     ensures refuses { IfErr result (RefusesWords (map (λ w. w.now) words.entry.now)) }
@@ -177,7 +179,7 @@ pub fn command<'a>(alloc: Global, words: &'a [&'a str]) -> Result<CommandLine<'a
     }
 }
 
-/// What words request, by the definition of the command line.
+/// Reads words according to the definition of the command line.
 fn requested<'a>(
     definition: Command<'a>,
     words: &'a [&'a str],
@@ -196,7 +198,7 @@ fn requested<'a>(
     }
 }
 
-/// What the matches name.
+/// Returns the command line of clap's matches.
 fn line_of<'a>(matches: &ArgMatches<'a>) -> CommandLine<'a>
     requires { HasNeeded (subcommand_rows_of matches.now) }
     ensures { IsReadFrom (subcommand_rows_of matches.now) result }
@@ -207,7 +209,7 @@ fn line_of<'a>(matches: &ArgMatches<'a>) -> CommandLine<'a>
     }
 }
 
-/// The line of a subcommand, with what was found for its arguments.
+/// Returns the command line of a subcommand, with the values found for its arguments.
 fn subcommand_line<'a>(name: &str, given: &ArgMatches<'a>) -> CommandLine<'a>
     requires { NeedsAt name.now (rows_of (found_of given.now)) }
     ensures { HoldsValues name.now (rows_of (found_of given.now)) result }
@@ -267,7 +269,7 @@ fn place_at(given: &ArgMatches<'_>, id: &str) -> u64
     }
 }
 
-/// The command line has four subcommands and `help`, and one of them is needed.
+/// Makes clap's definition of the command line: four subcommands and `help`, of which one is required.
 fn definition<'a>(alloc: Global) -> Result<Command<'a>, AllocError>
     ensures { IfOk result (λ c. app_of c ≡ ob0_app) }
 {
@@ -277,8 +279,8 @@ fn definition<'a>(alloc: Global) -> Result<Command<'a>, AllocError>
     join(with_run, rename_definition(alloc))
 }
 
-/// A command with a further subcommand, where memory was enough for both. (Here alone is dropped what was made of a
-/// command when the memory ends.)
+/// Adds a subcommand to a command, unless making one of them ran out of memory. A command that was made in vain is
+/// dropped only here, so that only this function's proof covers the drop.
 fn join<'a>(
     above: Result<Command<'a>, AllocError>,
     below: Result<Command<'a>, AllocError>,
@@ -293,7 +295,7 @@ fn join<'a>(
     above.subcommand(below)
 }
 
-/// A command with a further argument, where memory was enough for what was made of it before.
+/// Adds an argument to a command, unless making the command ran out of memory.
 fn with<'a>(
     command: Result<Command<'a>, AllocError>,
     argument: Arg<'a>,
@@ -306,7 +308,7 @@ fn with<'a>(
     command?.arg(argument)
 }
 
-/// The program, as yet without its subcommands.
+/// Makes the command of the program, still without its subcommands.
 fn program<'a>(alloc: Global) -> Command<'a>
     ensures { app_of result ≡ ob0_alone }
 {
@@ -315,14 +317,14 @@ fn program<'a>(alloc: Global) -> Command<'a>
         .subcommand_required(true)
 }
 
-/// A command that takes no words yet, and what help says of it, before and after its words.
+/// Makes a command without arguments, with the texts that help prints before and after them.
 fn bare<'a>(alloc: Global, name: &'a str, about: &'a str, notes: &'a str) -> Command<'a>
     ensures { app_of result ≡ new_app name.entry.now }
 {
     Command::new(alloc, name).about(about).after_help(notes)
 }
 
-/// `serve` takes the options that LSP 3.17 recommends, and none of them changes what it does.
+/// Makes `serve`. It accepts the options that LSP 3.17 recommends, which change nothing.
 fn serve_definition<'a>(alloc: Global) -> Result<Command<'a>, AllocError>
     ensures { IfOk result (λ c. app_of c ≡ serve_lines) }
 {
@@ -330,7 +332,7 @@ fn serve_definition<'a>(alloc: Global) -> Result<Command<'a>, AllocError>
     with(with_stdio, client_argument(alloc))
 }
 
-/// `serve`, as yet without its options, each of which may be given several times.
+/// Makes `serve` still without its options, each of which may be given several times.
 fn serve_alone<'a>(alloc: Global) -> Command<'a>
     ensures { app_of result ≡ serve_lines_alone }
 {
@@ -419,7 +421,7 @@ fn rename_definition<'a>(alloc: Global) -> Result<Command<'a>, AllocError>
     with(with_column, word(alloc, "name", "NAME", "The new name"))
 }
 
-/// A word that must be there, and what help calls it.
+/// Makes a required word. `shown` is its name in the help.
 fn word<'a>(alloc: Global, id: &'a str, shown: &'a str, help: &'a str) -> Arg<'a>
     ensures rule { rule_of result ≡ word_rule id.entry.now }
     ensures own { result.global ≡ false }
@@ -431,7 +433,7 @@ fn word<'a>(alloc: Global, id: &'a str, shown: &'a str, help: &'a str) -> Arg<'a
         .help(help)
 }
 
-/// A number that must be there, and what help calls it.
+/// Makes a required number. `shown` is its name in the help.
 fn number<'a>(alloc: Global, id: &'a str, shown: &'a str, help: &'a str) -> Arg<'a>
     ensures rule { rule_of result ≡ number_rule id.entry.now }
     ensures own { result.global ≡ false }

@@ -1,4 +1,4 @@
--- What is printed of a text's run is printed of the file's run.
+-- The output printed for a text's run is the output for the file's run.
 use Rattle.std.proofs.Common.{◌≡◌, ◌≢◌, ℕ, ℤ, Bool, List, Option, None, Result, Ok, Err, IfOk, IfSome, OnOk, inl, inr, refl, subst, arith}
 use Rattle.std.specs.Io.KnownBytes.{Appends}
 use Rattle.ob0_analysis.specs.Diagnosed.{IsWellTypedModule}
@@ -25,7 +25,7 @@ done end.InputEnd n is zero = absurd (omega (arith, is, zero))
 done end.CallBound n is zero = absurd (omega (arith, is, zero))
 done end.TurnBound n is zero = absurd (omega (arith, is, zero))
 
--- the run ended otherwise
+-- the run ended in another way
 ended_otherwise : (e : End) (n : ℕ) → n ≡ status_at e → n ≡ 1 → end_in e ≢ end_in end.Done
 ended_otherwise end.Done n is one = absurd (omega (arith, is, one))
 ended_otherwise end.Overflow n is one = λ e. cc
@@ -67,7 +67,7 @@ stops_reading file text program given failed Otherwise f same lowered readable (
     inl (none.0, (subst IsWellTypedModule same module_there, none.1))
 stops_reading file text program given failed Otherwise f same lowered readable (inr memory) = inr (inr (inr memory.0, readable))
 
--- what follows from what is known of a status, and of a value
+-- consequences of the facts about a status and a value
 pub from_all : {X E A B C D : Type 0} {P Q R S : X → Type 0} (r : Result X E) → ((x : X) → P x → Q x → R x → A → B → C → D → S x)
     → IfOk r P → IfOk r Q → IfOk r R → OnOk r A → OnOk r B → OnOk r C → OnOk r D → IfOk r S
 from_all (Ok x) f p q s a b c d = f x p q s a b c d

@@ -2,6 +2,7 @@ pub mod Endings
 pub mod Inputs
 pub mod Numbers
 pub mod Outputs
+pub mod Performed
 pub mod Printed
 pub mod Renamed
 pub mod Said

@@ -1,4 +1,4 @@
--- What the commands print, in bytes of UTF-8.
+-- Defines the texts that the commands print, in bytes of UTF-8.
 -- Rule: docs/PROTOCOL.md, The program 1 to 4.
 use Rattle.std.specs.Prelude.{◌≡◌, ◌⊎◌, ◌<◌, ℕ, List, [], ◌∷◌, ◌++◌, Option, Some, None, length, codes, decimal}
 use Rattle.std.specs.Fmt.{signed_decimal}
@@ -19,7 +19,7 @@ use Rattle.ob0_commands.specs.declared.faults.FileFault.TheVariants as fault
 
 -- ---- faults
 
--- the line on standard error that names a fault
+-- the line on standard error that reports a fault
 abbrev pub fault_line : FileFault → List ℕ
 fault_line fault.File = codes "fault: File\n"
 fault_line fault.Utf8 = codes "fault: Utf8\n"
@@ -27,7 +27,7 @@ fault_line fault.Input = codes "fault: Input\n"
 fault_line fault.Write = codes "fault: Write\n"
 fault_line fault.Memory = codes "fault: Memory\n"
 
--- ---- what is wrong with a file
+-- ---- the errors of a file
 
 -- L:C: Code: message
 abbrev pub line_at : Position → Complaint → List ℕ
@@ -36,31 +36,32 @@ line_at p c =
     ++ (codes ":"
     ++ (decimal p.character ++ (codes ": " ++ (c.code ++ (codes ": " ++ (c.said ++ codes "\n"))))))
 
--- a line for each thing that is reported, at these positions
+-- a line for each diagnostic, at these positions
 abbrev pub lines_at : List Position → List Complaint → List ℕ
 lines_at [] cs = []
 lines_at (p ∷ ps) [] = []
 lines_at (p ∷ ps) (c ∷ cs) = line_at p c ++ lines_at ps cs
 
--- lines and UTF-16 units are counted from 0 on
+-- the line of a diagnostic at its start; lines and UTF-16 units count from 0
 abbrev pub complaint_line : List ℕ → Complaint → List ℕ
 complaint_line text c = line_at (position_of (width_of Utf16) (chars text) c.span.start) c
 
--- a line for each diagnostic, by its start
+-- a line for each diagnostic
 abbrev pub complaint_lines : List ℕ → List Complaint → List ℕ
 complaint_lines text [] = []
 complaint_lines text (c ∷ cs) = complaint_line text c ++ complaint_lines text cs
 
--- what is reported of a text that is too long
+-- the diagnostic of a text that is too long
 abbrev pub too_long : Complaint
 too_long = complaint_of (record { code = TooLong; span = record { start = 0; end = 0 } })
 
--- the line of it
+-- the line of that diagnostic
 abbrev pub too_long_line : List ℕ
 too_long_line = line_at (record { line = 0; character = 0 }) too_long
 
--- Known bytes grow by what is wrong with a file: one line where it has more bytes than a text may
--- have, else a line for each thing that is reported of its text, which isn't a well-typed module.
+-- Known bytes grow by the lines of a file's errors. If the file has more bytes than a text may
+-- have, that is one line. Otherwise its text isn't a well-typed module, and each diagnostic has a
+-- line.
 abbrev pub PrintsFaults : List ℕ → Option (List ℕ) → Option (List ℕ) → Type 0
 PrintsFaults file before after =
     ((max_text < length file) × Appends before after too_long_line)
@@ -71,23 +72,23 @@ PrintsFaults file before after =
 
 -- ---- runs
 
--- a number is a space and its digits, a line a line ending
+-- the text of an item: a space and the digits of a number, or a line feed
 abbrev pub written_text : Written → List ℕ
 written_text (number_out n) = codes " " ++ signed_decimal n
 written_text line_out = codes "\n"
 
--- the output of a run as text: a number as a space and its digits, an end of line as a line feed
+-- the output of a run as text
 abbrev pub output_text : List Written → List ℕ
 output_text [] = []
 output_text (w ∷ ws) = written_text w ++ output_text ws
 
--- known bytes grow by a text but for its end, which is left
+-- known bytes grow by a text without its end, which is left to write
 pub record IsWrittenBut (before after : Option (List ℕ)) (text left : List ℕ) : Type 0 where
   pub written : List ℕ
   pub grew : Appends before after written
   pub split : text ≡ written ++ left
 
--- the line of an end other than Done
+-- the line that reports an end other than Done
 abbrev pub end_line : End → Option (List ℕ)
 end_line end.Done = None
 end_line end.Overflow = Some (codes "fault: Overflow\n")

@@ -1,15 +1,14 @@
--- What the commands print on standard error, in bytes of UTF-8.
--- `Says` is nothing printed (the writer is as it was, not its bytes alone, which may not be known) or a line, which is
--- flushed, unless the writer failed. What a command says is a function of that line to what has a fault, an end or a
--- refusal (`EndsByFault`, `PrintsEnded`, `RefusesName`), so the line is that of the same run and the same refusal as the
--- status and the output.
+-- Defines the lines that the commands print on standard error, in bytes of UTF-8. `Says` covers two
+-- cases: nothing is printed and the writer is unchanged, or a line is printed and flushed unless
+-- the writer failed. `EndsByFault`, `PrintsEnded` and `RefusesName` take `Says` as a function of
+-- the line. So the line belongs to the same fault, run or refusal as the status and the output.
 -- Rule: docs/PROTOCOL.md, The program 2, 3, 5, 6 and 7.
 use Rattle.std.specs.Prelude.{◌≡◌, ◌++◌, ℕ, List, Option, Some, None, Bool, true, false, codes}
 use Rattle.std.specs.Io.KnownBytes.{Appends}
 use Rattle.ob0_text.specs.RefusalTexts.{refusal_text}
 use Rattle.ob0_text.specs.declared.refusals.EditRefusal.{EditRefusal}
 
--- nothing is printed, or a line is printed and flushed, unless the output has failed
+-- None: nothing is printed; a line: it is printed and flushed, unless the writer has failed
 abbrev pub Says : {E : Type 0}
     → (contents : E → Option (List ℕ))
     → (is_flushed has_failed : E → Bool)
@@ -21,6 +20,6 @@ Says contents is_flushed has_failed before after (Some line) =
     has_failed after ≡ false
     → Appends (contents before) (contents after) line × (is_flushed after ≡ true)
 
--- the line that names a refusal
+-- the line that reports a refusal
 abbrev pub refused_line : EditRefusal → List ℕ
 refused_line refusal = codes "refused: " ++ (refusal_text refusal ++ codes "\n")

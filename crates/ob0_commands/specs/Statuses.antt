@@ -1,4 +1,4 @@
--- The statuses with which a command on a file ends.
+-- Defines the exit statuses of the commands on files.
 -- Rule: docs/PROTOCOL.md, The program 8.
 use Rattle.std.specs.Prelude.{◌≡◌, ◌≢◌, ◌≤◌, ◌⊎◌, ℕ, List, Option, Bool, true, length}
 use Rattle.std.specs.Str.{IsUtf8}
@@ -10,7 +10,7 @@ use Rattle.ob0_commands.specs.declared.faults.FileFault.{FileFault}
 use Rattle.ob0_commands.specs.declared.faults.FileFault.TheVariants as fault
 use Rattle.ob0_commands.specs.Numbers.{HasNoNumbers}
 
--- 5 where memory runs out, 4 for what can't be read or written
+-- 5 if memory runs out, 4 for every other fault
 abbrev pub status_of : FileFault → ℕ
 status_of fault.File = 4
 status_of fault.Utf8 = 4
@@ -18,20 +18,20 @@ status_of fault.Input = 4
 status_of fault.Write = 4
 status_of fault.Memory = 5
 
--- why printing fails: the output can't be written, or an allocation failed
+-- printing fails because the output can't be written or an allocation failed
 abbrev pub StopsPrinting : FileFault → Type 0
 StopsPrinting f = (f ≡ fault.Write) ⊎ (f ≡ fault.Memory)
 
--- the file has no text: its bytes aren't UTF-8 (of one that is too long these aren't looked at)
+-- the file has no text: its bytes aren't UTF-8, and it isn't too long
 abbrev pub HasNoText : List ℕ → Type 0
 HasNoText file = (length file ≤ max_text) × ¬ (IsUtf8 file)
 
--- why nothing is reported of a file: it has no text, or what is wrong with it can't be printed
+-- no diagnostics are printed because the file has no text, or printing fails
 abbrev pub StopsPrintingFaults : List ℕ → FileFault → Type 0
 StopsPrintingFaults file f =
     ((f ≡ fault.Utf8) × HasNoText file) ⊎ (StopsPrinting f × ¬ (HasNoText file))
 
--- memory runs out only for a file that isn't too long: nothing is allocated for one that is
+-- memory runs out only for a file that isn't too long
 abbrev pub AllocatesFor : List ℕ → FileFault → Type 0
 AllocatesFor file f = f ≡ fault.Memory → length file ≤ max_text
 
@@ -39,12 +39,12 @@ AllocatesFor file f = f ≡ fault.Memory → length file ≤ max_text
 abbrev pub PrintsNothing : {O : Type 0} → (before after : O) → FileFault → Type 0
 PrintsNothing before after f = f ≢ fault.Write → after ≡ before
 
--- why reading fails: for a reason, for which there is one name,
--- or an allocation failed and something else holds
+-- reading fails by the fault of this name, for this reason;
+-- or an allocation failed, and `otherwise` holds
 abbrev pub StopsFor : (name : FileFault) → (reason otherwise : Type 0) → FileFault → Type 0
 StopsFor name reason otherwise f = ((f ≡ name) × reason) ⊎ ((f ≡ fault.Memory) × otherwise)
 
--- 0 for a run that reaches the end of the module's body, else 1
+-- 0 for a run that reaches the end of the module's body, otherwise 1
 abbrev pub status_at : End → ℕ
 status_at end.Done = 0
 status_at end.Overflow = 1
@@ -54,22 +54,23 @@ status_at end.InputEnd = 1
 status_at end.CallBound = 1
 status_at end.TurnBound = 1
 
--- the output has failed where the fault says so, and otherwise not since before
+-- the output has failed if the fault is `Write`; otherwise it hasn't failed in the call
 abbrev pub IsOfOutput : (before after : Bool) → FileFault → Type 0
 IsOfOutput before after f =
     (f ≡ fault.Write → after ≡ true) × (f ≢ fault.Write → after ≡ before)
 
 -- ---- runs
 
--- a well-typed module has no numbers to run on
+-- the file is a well-typed module, but there are no numbers to run it on
 abbrev pub HasNoInput : List ℕ → Option (List ℕ) → (input_failed : Bool) → Type 0
 HasNoInput file given input_failed = IsWellTypedModule file × HasNoNumbers given input_failed
 
--- the input has failed since before only where the fault says so
+-- the input has failed in the call only if the fault is `Input`
 abbrev pub IsOfInput : (before after : Bool) → FileFault → Type 0
 IsOfInput before after f = f ≢ fault.Input → after ≡ before
 
--- why a run isn't reported: there is no input for it, or nothing can be reported of the file
+-- a run isn't printed because there is no input for it, or because the file's errors can't be
+-- printed
 abbrev pub StopsRunning : List ℕ → Option (List ℕ) → (input_failed : Bool) → FileFault → Type 0
 StopsRunning file given input_failed f =
     ((f ≡ fault.Input) × HasNoInput file given input_failed) ⊎ StopsPrintingFaults file f

@@ -1,4 +1,4 @@
--- The run of the module that a text is, and how it is printed.
+-- Defines the run of a text's module, and what `run` prints.
 -- Rule: docs/PROTOCOL.md, The program 2.
 use Rattle.std.specs.Prelude.{◌≡◌, ◌≢◌, ◌⊎◌, ℕ, ℤ, List, Option, None, IfSome, Bool, true}
 use Rattle.std.specs.Io.KnownBytes.{Appends}
@@ -23,15 +23,15 @@ pub record TextRunsAs (text : List ℕ) (input : List ℤ) (c t : ℕ) (r : Run)
   pub well_typed : WellTyped tree
   pub is : r ≡ run tree input c t
 
--- the text is a well-typed module, and this program runs as it does
+-- the text is a well-typed module, and this program runs like it
 pub record IsLoweredTo (text : List ℕ) (program : Program) : Type 0 where
   pub tree : Tree Name module_text
   pub text_of : IsTextOf tree text
   pub well_typed : WellTyped tree
   pub runs : lowered.RunsAs tree program
 
--- known bytes grow by what a run of the file's module outputs,
--- given the numbers that the known bytes of an input write
+-- known bytes grow by the output of a run of the file's module
+-- on the numbers that the known bytes of an input spell
 pub record PrintsRun (file : List ℕ) (given : Option (List ℕ)) (c t : ℕ)
     (before after : Option (List ℕ)) (r : Run) : Type 0 where
   pub input : List ℤ
@@ -39,7 +39,7 @@ pub record PrintsRun (file : List ℕ) (given : Option (List ℕ)) (c t : ℕ)
   pub runs : TextRunsAs file input c t r
   pub printed : Appends before after (output_text r.output)
 
--- a run that reaches the end of the module's body is printed
+-- the output of a run that reaches the end of the module's body is printed
 abbrev pub PrintsDone : List ℕ
     → Option (List ℕ)
     → ℕ
@@ -50,7 +50,7 @@ abbrev pub PrintsDone : List ℕ
 PrintsDone file given c t before after =
     (r : Run) × PrintsRun file given c t before after r × (r.ending ≡ end_in end.Done)
 
--- a run that ends otherwise is printed, and its end is named
+-- the output of a run that ends otherwise is printed, and its end on standard error
 pub record PrintsEnded (file : List ℕ) (given : Option (List ℕ)) (c t : ℕ)
     (before after : Option (List ℕ)) (Said : Option (List ℕ) → Type 0) : Type 0 where
   pub r : Run
@@ -60,8 +60,8 @@ pub record PrintsEnded (file : List ℕ) (given : Option (List ℕ)) (c t : ℕ)
   pub ends : r.ending ≡ end_in last
   pub said : Said (end_line last)
 
--- a run that ends otherwise is printed, and its end is named,
--- or what is wrong with the file is printed, and no end is named
+-- the file's errors are printed, and nothing on standard error;
+-- or the output of a run that ends otherwise is printed, and its end on standard error
 abbrev pub PrintsOther : List ℕ
     → Option (List ℕ)
     → ℕ
@@ -74,8 +74,8 @@ PrintsOther file given c t before after Said =
     (PrintsFaults file before after × Said None)
     ⊎ PrintsEnded file given c t before after Said
 
--- the run of a file's module to its end is printed, and nothing on standard error; or a run that
--- ends otherwise, or what is wrong with the file; all is flushed
+-- With status 0 the run to the end of the module's body is printed, and nothing on standard error.
+-- With status 1 another run or the file's errors are printed. All output is flushed.
 abbrev pub PrintsRuns : {O : Type 0}
     → (contents : O → Option (List ℕ))
     → (is_flushed : O → Bool)

@@ -1,12 +1,12 @@
-//! Printing what is wrong with a file.
+//! Prints the errors of a file.
 //!
-//! A file of more bytes than a text may have is too long whatever its bytes, so that is reported before UTF-8 is looked
-//! at. All positions are found in one pass.
+//! A file of more bytes than a text may have is reported as too long before its UTF-8 is examined. All positions are
+//! found in one pass.
 
-ghost use Rattle.std.specs.Prelude.{◌≡◌, ◌≢◌, ◌<◌, ◌≤◌, ◌⊎◌, [], true, IfOk, IfNone, IfSome, MatchOption, OnOk, IfErr, length, map, string_bytes};
+ghost use Rattle.std.specs.Prelude.{◌≡◌, ◌≢◌, ◌<◌, ◌≤◌, [], true, IfOk, IfNone, IfSome, MatchOption, OnOk, IfErr, length, map, string_bytes};
 ghost use Rattle.std.specs.Io.KnownBytes.{Appends};
 ghost use Rattle.std.specs.Mem.{manually_drop_value};
-ghost use Rattle.ob0_commands.specs.Endings.{EndsByFault, EndsWell};
+ghost use Rattle.ob0_commands.specs.Performed.{ChecksFile};
 ghost use Rattle.ob0_commands.specs.Printed.{PrintsFaults, complaint_lines, line_at, lines_at, too_long_line};
 ghost use Rattle.ob0_commands.specs.Said.{Says};
 ghost use Rattle.ob0_commands.specs.Statuses.{AllocatesFor, HasNoText, IsOfOutput, PrintsNothing, StopsPrinting, StopsPrintingFaults};
@@ -22,18 +22,13 @@ use ob0_text::{Lines, Position, TextStore};
 use std::alloc::{AllocError, Global};
 use std::mem::ManuallyDrop;
 
-/// Prints one line `L:C: Code: message` for each diagnostic of a file to `out`, by its start, in lines and UTF-16 units
-/// from 0 on, and a fault to `err` as `fault: NAME`. The file's bytes are all of it, or the first 1,048,577. Returns
-/// the status with which the program ends: 0 for a module with no diagnostic, 1 for diagnostics, 4 for bytes that are
-/// no UTF-8 or a failed write, 5 where memory runs out.
+/// Prints one line `L:C: Code: message` to `out` for each diagnostic of a file, and returns the program's exit status.
+/// `L:C` is the diagnostic's start, in lines and UTF-16 units counted from 0. `file` has all bytes of the file, or the
+/// first 1,048,577. The status is 0 for a module without diagnostics and 1 for diagnostics. If the bytes aren't UTF-8
+/// or a write fails, it is 4; if memory runs out, 5. Then `err` gets the line `fault: NAME`.
 pub fn check_text<O: Output, E: Output>(alloc: Global, file: &[u8], out: &mut O, err: &mut E) -> u8
-    ensures { EndsWell (Reports file.now [] × (out.new ≡ out.old))
-        (PrintsFaults file.now (O.contents out.old) (O.contents out.new)
-        × (O.is_flushed out.new ≡ true))
-        (¬ HasNoText file.now × (O.has_failed out.new ≡ O.has_failed out.old)
-        × (err.new ≡ err.old)) result
-        ⊎ EndsByFault O.has_failed out.old out.new file.now (StopsPrintingFaults file.now)
-        (Says E.contents E.is_flushed E.has_failed err.old err.new) result }
+    ensures { ChecksFile O.contents O.is_flushed O.has_failed out.old out.new
+        (Says E.contents E.is_flushed E.has_failed err.old err.new) file.now result }
 {
     match check(alloc, file, out) {
         Ok(Some(_text)) => 0,
@@ -42,8 +37,8 @@ pub fn check_text<O: Output, E: Output>(alloc: Global, file: &[u8], out: &mut O,
     }
 }
 
-/// The text of a file that is without diagnostics; else they are printed. A file of more bytes than a text may have is
-/// too long whatever they are.
+/// Returns the text of a file that has no diagnostics. Otherwise prints the diagnostics and returns None. A file of
+/// more bytes than a text may have is too long, whatever its bytes.
 pub fn check<'f, O: Output>(
     alloc: Global,
     file: &'f [u8],
@@ -72,7 +67,7 @@ pub fn check<'f, O: Output>(
     Ok(None)
 }
 
-/// What is wrong with a text.
+/// Returns the diagnostics of a text.
 fn diagnose(alloc: Global, text: &str) -> Result<Vec<Diagnosis>, AllocError>
     ensures { IfOk result (λ list. Reports text.now (map complaint_in list.items)) }
 {
@@ -80,8 +75,8 @@ fn diagnose(alloc: Global, text: &str) -> Result<Vec<Diagnosis>, AllocError>
     analysis.diagnoses(alloc)
 }
 
-/// The analysis of a text for a command that ends with its process: what it has is left to the process, which frees all
-/// of it at once, and not freed part by part before.
+/// Returns the analysis of a text, which isn't dropped: the process ends soon after and frees all memory at once, which
+/// is faster than freeing the analysis part by part.
 pub fn analyse(alloc: Global, text: &str) -> Result<ManuallyDrop<Analysis>, AllocError>
     ensures { IfOk result (λ analysis. manually_drop_value analysis ≡ text.now) }
 {
@@ -89,7 +84,7 @@ pub fn analyse(alloc: Global, text: &str) -> Result<ManuallyDrop<Analysis>, Allo
     Ok(ManuallyDrop::new(analysis))
 }
 
-/// The text of a file that isn't too long; else that is printed.
+/// Returns the text of a file. If the file is too long, prints that and returns None.
 pub fn text_of<'f, O: Output>(file: &'f [u8], out: &mut O) -> Result<Option<&'f str>, FileFault>
     ensures found { IfOk result (λ found. MatchOption found ((max_text < length file.entry.now)
         × Appends (O.contents out.old) (O.contents out.new) too_long_line)
@@ -114,7 +109,7 @@ pub fn text_of<'f, O: Output>(file: &'f [u8], out: &mut O) -> Result<Option<&'f 
     }
 }
 
-/// Prints what is wrong with a text.
+/// Prints the diagnostics of a text.
 pub fn print_diagnoses<O: Output>(
     alloc: Global,
     text: &str,
@@ -133,7 +128,7 @@ pub fn print_diagnoses<O: Output>(
     print(out, lines_of(alloc, text, reported)?.as_str())
 }
 
-/// A line for each diagnostic.
+/// Returns a line for each diagnostic.
 fn lines_of(alloc: Global, text: &str, reported: &[Diagnosis]) -> Result<String, AllocError>
     ensures { IfOk result
         (λ lines. string_bytes lines ≡ complaint_lines text.now (map complaint_in reported.now)) }
@@ -144,7 +139,7 @@ fn lines_of(alloc: Global, text: &str, reported: &[Diagnosis]) -> Result<String,
     lines_at(alloc, reported, positions.as_slice())
 }
 
-/// Where diagnostics start.
+/// Returns the byte offsets at which the diagnostics start.
 fn starts_of(alloc: Global, reported: &[Diagnosis]) -> Result<Vec<usize>, AllocError>
     ensures { IfOk result (λ starts. starts.items ≡ map (λ d. d.span.start) reported.now) }
 {
@@ -154,7 +149,7 @@ fn starts_of(alloc: Global, reported: &[Diagnosis]) -> Result<Vec<usize>, AllocE
         .collect(alloc)
 }
 
-/// A line for each diagnostic, with its position.
+/// Returns a line for each diagnostic, with its position.
 fn lines_at(
     alloc: Global,
     reported: &[Diagnosis],

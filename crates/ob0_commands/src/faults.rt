@@ -1,4 +1,4 @@
-//! Why a command on a file failed.
+//! The faults of commands on files.
 
 ghost use Rattle.std.specs.Prelude.{◌≡◌, ◌≤◌, Some};
 ghost use Rattle.ob0_commands.specs.Printed.{fault_line};
@@ -9,7 +9,7 @@ use crate::printing::{Output, print};
 use std::alloc::{AllocError, AllocFailed};
 use thiserror::Error;
 
-/// Why a command on a file failed. Each is reported by its name.
+/// Why a command on a file failed. Each fault is reported by its name.
 #[derive(Clone, Copy, Debug, Drop, PartialEq, Eq, Error)]
 pub enum FileFault {
     #[error("the file can't be read")]
@@ -25,7 +25,7 @@ pub enum FileFault {
 }
 
 impl FileFault {
-    /// The status with which the program ends.
+    /// Returns the program's exit status.
     pub fn status(self) -> u8
         ensures status { result ≡ status_of self }
         ensures fails { 4 ≤ result }
@@ -36,7 +36,7 @@ impl FileFault {
         }
     }
 
-    /// The line, with its ending, that names the fault.
+    /// Returns the line, with its line ending, that reports the fault.
     fn line(self) -> &'static str
         ensures { result.now ≡ fault_line self }
     {
@@ -70,8 +70,8 @@ impl<T: Drop> From<AllocFailed<T>> for FileFault {
     }
 }
 
-/// Prints a fault to `err`, and returns the status with which the program ends. A fault that can't be reported keeps
-/// its status.
+/// Prints a fault to `err`, and returns the program's exit status. If the line can't be written, the status is the
+/// same.
 pub fn print_fault<E: Output>(fault: FileFault, err: &mut E) -> u8
     ensures status { result ≡ status_of fault }
     ensures fails { 4 ≤ result }

@@ -1,8 +1,9 @@
-//! What the program's commands on files do, over the bytes of a file and over any readers and writers
-//! (docs/PROTOCOL.md, The program).
+//! Performs the program's commands on files, over the bytes of a file and any readers and writers (docs/PROTOCOL.md,
+//! The program).
 #![tactic(auto)]
 
 mod checking;
+mod commands;
 mod faults;
 mod numbers;
 mod printing;
@@ -10,9 +11,7 @@ mod reading;
 mod renaming;
 mod running;
 
-pub use checking::check_text;
+pub use commands::perform;
 pub use faults::{FileFault, print_fault};
 pub use printing::{Output, TrackedWriter};
 pub use reading::{Input, MAX_FILE, TrackedReader, read_file};
-pub use renaming::rename_text;
-pub use running::run_text;

@@ -1,10 +1,11 @@
-//! The numbers of an input.
+//! Reads the numbers of an input.
 //!
-//! The input is read whole before the run, and its words are cut out of its bytes, so only a word has to be UTF-8. A
-//! word with a `+` is no number, though Rust's parse would take it. `WritesNumbers` goes from the beginning, and so
-//! does the loop's invariant: what is left and writes more, writes what was found and more (`Gathered`). That a text is
-//! refused only if it is no list of numbers is the other way: where the text is one, so is what is left, and its first
-//! word is all up to white space (`first_word` of `proofs/Words`).
+//! The whole input is read before the run. Its words are cut out of its bytes, so only a word has to be UTF-8. A word
+//! that begins with `+` isn't a number, although Rust's `parse` accepts it.
+//!
+//! The loop's invariant (`Gathered`) has two directions. If the remaining text is a list of numbers, the whole text is
+//! that list after the numbers found so far. If the whole text is a list of numbers, the remaining text is also one,
+//! and its first word ends at the first white space (`first_word` of `proofs/Words`).
 
 ghost use Rattle.std.specs.Prelude.{◌≡◌, ◌≤◌, ℤ, IfOk, OnOk, IfErr, IfSome, MatchOption, length, suc};
 ghost use Rattle.std.specs.List.{position_or_len};
@@ -19,8 +20,8 @@ use crate::reading::{Input, read_input};
 use ob0_scan::is_space;
 use std::alloc::{AllocError, Global};
 
-/// Reads the numbers of the input: whole numbers of 32 bits, digits with an optional `-` before them, between white
-/// space.
+/// Reads the numbers of the input: words between white space, each a whole number of 32 bits in decimal digits, with or
+/// without a `-` before them. If a read fails, or the input is too long or has another word, the fault is `Input`.
 pub fn read_numbers<R: Input>(alloc: Global, input: &mut R) -> Result<Vec<i32>, FileFault>
     ensures numbers { IfOk result
         (λ numbers. IfSome (R.remaining input.old) (IsInputOf numbers.items)) }
@@ -37,7 +38,7 @@ pub fn read_numbers<R: Input>(alloc: Global, input: &mut R) -> Result<Vec<i32>, 
     }
 }
 
-/// The numbers that a text writes, in their order. None exactly where a word of it writes none.
+/// Returns the numbers of a text in their order. Returns None if one of its words isn't a number.
 fn numbers_in(alloc: Global, text: &[u8]) -> Result<Option<Vec<i32>>, AllocError>
     ensures { IfOk result (λ found. MatchOption found (¬ IsListOfNumbers text.now)
         (λ numbers. WritesNumbers text.now numbers.items)) }
@@ -59,7 +60,7 @@ fn numbers_in(alloc: Global, text: &[u8]) -> Result<Option<Vec<i32>>, AllocError
     Ok(Some(numbers))
 }
 
-/// How many bytes at the beginning are before the first white space.
+/// Returns the number of bytes before the first white space.
 fn word_len(bytes: &[u8]) -> usize
     ensures is { result ≡ position_or_len is_space bytes.now }
     ensures inside { result ≤ length bytes.now }
@@ -67,7 +68,7 @@ fn word_len(bytes: &[u8]) -> usize
     bytes.iter().take_while(|byte| !is_space(**byte)).count()
 }
 
-/// The number that a word writes. None exactly where it writes none.
+/// Returns the number that a word spells, or None if the word isn't a number.
 fn number_of(word: &[u8]) -> Option<i32>
     ensures { MatchOption result (¬ ((n : ℤ) × WritesNumber word.now n))
         (λ number. WritesNumber word.now number) }

@@ -1,14 +1,14 @@
-//! Printing whole texts.
+//! Prints whole texts.
 //!
-//! What the commands print to is an `Output`: a writer that remembers whether it was flushed since something was last
-//! written, and whether it has failed. std's `Write` says nothing of that, so `print`, which has to say that what it
-//! wrote is flushed, takes one; `TrackedWriter` makes one of any writer. Clauses on `O.contents` are those of `Write`
-//! still, an option: where what a writer holds isn't known, nothing is said of it. Standard error is an `Output` too.
+//! The commands print to an `Output`: a writer that remembers whether it has been flushed since the last write, and
+//! whether it has failed. std's contracts of `Write` say neither, but the contract of `print` needs both.
+//! `TrackedWriter` makes an `Output` of any writer, also of standard error. `O.contents` is an option, as in `Write`:
+//! the clauses are empty for a writer whose bytes aren't known.
 //!
-//! A command returns the output flushed where it printed; where a name is refused the output is as it was, of which
-//! nobody knows whether it is flushed (`IsFlushedOrUnchanged`). `check` and `rename` print once, so their `Appends` is
-//! never chained, but for `print`'s flush. After a failed write nothing can be said, since std's `write_all` says
-//! nothing then.
+//! After a command has printed, its output is flushed. If a name is refused, the output is unchanged, and whether it is
+//! flushed isn't known (`IsFlushedOrUnchanged`). `check` and `rename` print once, so their `Appends` is chained only
+//! with `print`'s flush. The contracts say nothing about the bytes after a failed write, because std's `write_all`
+//! doesn't.
 
 ghost use Rattle.std.specs.Prelude.{◌≡◌, ◌≢◌, ◌||◌, [], Bool, Some, true, false, is_err, OnOk, OnErr, IfErr};
 ghost use Rattle.std.specs.Io.{WritesAtMost};
@@ -20,32 +20,34 @@ ghost use Rattle.ob0_commands.specs.Said.{Says};
 use crate::faults::FileFault;
 use std::io::{self, Write};
 
-/// How many bytes a piece has at most that is read, or that is put together before it is written.
+/// The most bytes that are read at a time, or put together before they are written.
 pub(crate) const PIECE_SIZE: usize = 8192;
 
-/// A writer that knows whether it has been flushed since something was last written to it, and whether it has failed.
+/// A writer that knows whether it has been flushed since the last write, and whether it has failed.
 pub trait Output: Write {
-    // Whether it has been flushed since then, by a flush that succeeded.
+    // True if a flush has succeeded since the last write of some bytes.
     ghost is_flushed: { Self → Bool };
 
-    // Whether a call of the two below has failed.
+    // True if a call of one of the two functions below has failed.
     ghost has_failed: { Self → Bool };
 
-    /// Writes all of some bytes, and remembers where that fails.
+    /// Writes all the bytes, and remembers if that fails.
     fn write_tracked(&mut self, bytes: &[u8]) -> io::Result<()>
         ensures bytes { OnOk result
             (Appends (Self.contents self.old) (Self.contents self.new) bytes.now) }
         ensures unflushed { bytes.now ≢ [] → is_flushed self.new ≡ false }
+        ensures kept { bytes.now ≡ [] → is_flushed self.new ≡ is_flushed self.old }
         ensures failed { has_failed self.new ≡ (has_failed self.old || is_err result) };
 
     /// Flushes, and remembers whether this succeeded.
     fn flush_tracked(&mut self) -> io::Result<()>
         ensures bytes { Keeps (Self.contents self.old) (Self.contents self.new) }
         ensures flushed { OnOk result (is_flushed self.new ≡ true) }
+        ensures kept { OnErr result (is_flushed self.new ≡ is_flushed self.old) }
         ensures failed { has_failed self.new ≡ (has_failed self.old || is_err result) };
 }
 
-/// A device, whether it has been flushed since something was last written to it, and whether it has failed.
+/// A writer with the two notes of an `Output`.
 #[derive(Drop)]
 pub struct TrackedWriter<W> {
     device: W,
@@ -54,7 +56,7 @@ pub struct TrackedWriter<W> {
 }
 
 impl<W> TrackedWriter<W> {
-    /// A device that hasn't been flushed and hasn't failed.
+    /// Makes an output of a writer. It counts as not flushed and not failed.
     pub fn new(device: W) -> TrackedWriter<W>
         ensures device { output_device result ≡ device }
         ensures fresh { has_flushed result ≡ false }
@@ -122,7 +124,7 @@ impl<W: Write> Output for TrackedWriter<W> {
     }
 }
 
-/// Writes all of a text.
+/// Writes a whole text, without a flush.
 pub(crate) fn write<W: Output>(out: &mut W, text: &str) -> Result<(), FileFault>
     ensures written { OnOk result (Appends (W.contents out.old) (W.contents out.new) text.now) }
     ensures unfailed { OnOk result (W.has_failed out.new ≡ W.has_failed out.old) }
@@ -135,7 +137,7 @@ pub(crate) fn write<W: Output>(out: &mut W, text: &str) -> Result<(), FileFault>
     }
 }
 
-/// Writes all of a text, and flushes.
+/// Writes a whole text, and flushes.
 pub fn print<W: Output>(out: &mut W, text: &str) -> Result<(), FileFault>
     ensures printed { OnOk result (Appends (W.contents out.old) (W.contents out.new) text.now) }
     ensures flushed { OnOk result (W.is_flushed out.new ≡ true) }

@@ -1,8 +1,8 @@
-//! Reading a file and the input.
+//! Reads a file and the input.
 //!
-//! What the commands read from is an `Input`: a reader that remembers whether it has failed (`TrackedReader` makes one
-//! of any reader), so the faults File and Input are tied to it (`StopsFor`). Where the bytes that a reader has left
-//! aren't known (`Read::remaining`), nothing is said of a list of numbers.
+//! The commands read from an `Input`: a reader that remembers whether it has failed. So the contracts can tie the
+//! faults `File` and `Input` to a failed read (`StopsFor`). `TrackedReader` makes an `Input` of any reader. If the
+//! bytes that a reader has left aren't known (`Read::remaining`), the contracts don't say which numbers it has.
 
 ghost use Rattle.std.specs.Prelude.{◌≡◌, ◌≤◌, ◌<◌, ◌||◌, ◌⊎◌, Bool, true, false, is_err, IfOk, OnOk, IfErr, IfSome, length, suc};
 ghost use Rattle.std.specs.Io.{ReadsAtMost};
@@ -19,18 +19,18 @@ use ob0_scan::MAX_TEXT;
 use std::alloc::Global;
 use std::io::{self, Read};
 
-/// How many bytes of a file are read at most: one more than a text may have.
+/// The most bytes of a file that are read: one more than a text may have.
 pub const MAX_FILE: usize = MAX_TEXT + 1;
 
-/// How many bytes the input of a run may have.
+/// The most bytes that the input of a run may have.
 const MAX_INPUT: usize = 16_777_216;
 
 /// A reader that knows whether it has failed.
 pub trait Input: Read {
-    // Whether a call of the one below has failed.
+    // True if a call of the function below has failed.
     ghost has_failed: { Self → Bool };
 
-    /// Reads some bytes, and remembers where that fails.
+    /// Reads some bytes, and remembers if that fails.
     fn read_tracked(&mut self, buf: &mut [u8]) -> io::Result<usize>
         ensures bound { ReadsAtMost result buf.new }
         ensures bytes { ReadConsumes
@@ -38,7 +38,7 @@ pub trait Input: Read {
         ensures failed { has_failed self.new ≡ (has_failed self.old || is_err result) };
 }
 
-/// A device that is read, and whether it has failed.
+/// A reader with the note of an `Input`.
 #[derive(Drop)]
 pub struct TrackedReader<R> {
     device: R,
@@ -46,7 +46,7 @@ pub struct TrackedReader<R> {
 }
 
 impl<R> TrackedReader<R> {
-    /// A device that hasn't failed.
+    /// Makes an input of a reader. It counts as not failed.
     pub fn new(device: R) -> TrackedReader<R>
         ensures device { input_device result ≡ device }
         ensures works { input_failed result ≡ false }
@@ -85,7 +85,7 @@ impl<R: Read> Input for TrackedReader<R> {
     }
 }
 
-/// Reads a file's bytes, or the first 1,048,577 of them.
+/// Reads a file's bytes, or the first 1,048,577 of them. If a read fails, the fault is `File`.
 pub fn read_file<R: Input>(alloc: Global, file: &mut R) -> Result<Vec<u8>, FileFault>
     ensures bound { IfOk result (λ bytes. length bytes.items ≤ suc max_text) }
     ensures taken { IfOk result
@@ -100,7 +100,8 @@ pub fn read_file<R: Input>(alloc: Global, file: &mut R) -> Result<Vec<u8>, FileF
     read_up_to(alloc, file, MAX_FILE, FileFault::File)
 }
 
-/// Reads the input's bytes, which are at most 16,777,216. Of a longer input one more is read.
+/// Reads the whole input. If it has more than 16,777,216 bytes, the fault is `Input`, after one byte over the limit is
+/// read. If a read fails, the fault is `Input` as well.
 pub fn read_input<R: Input>(alloc: Global, input: &mut R) -> Result<Vec<u8>, FileFault>
     ensures bound { IfOk result (λ bytes. length bytes.items ≤ max_input) }
     ensures taken { IfOk result
@@ -119,7 +120,7 @@ pub fn read_input<R: Input>(alloc: Global, input: &mut R) -> Result<Vec<u8>, Fil
     Ok(bytes)
 }
 
-/// Reads to the end, or the first `most` bytes. A failed read is reported as `fault`.
+/// Reads to the end, or the first `most` bytes. If a read fails, returns `fault`.
 fn read_up_to<R: Input>(
     alloc: Global,
     reader: &mut R,

@@ -1,13 +1,13 @@
-//! Another name in a file's text.
+//! Renames in a file's text.
 //!
-//! `rename_text` makes one analysis of the text: the renaming is put to it (`rename_in` of `ob0_edits`), and where the
-//! text isn't a well-typed module its `diagnoses` are printed. So it doesn't call `check`; `text_of` and
-//! `print_diagnoses` serve both. The part after the test of UTF-8 is a function of its own (`rename_in_text`), since
-//! the proof needs that its text is a `&str`: `rename_in` speaks of the characters of a text, and `diagnoses` of its
-//! bytes.
+//! `rename_text` analyses the text once. The renaming uses that analysis (`rename_in` of `ob0_edits`). If the text
+//! isn't a well-typed module, the diagnostics of the same analysis are printed, so `check` isn't called; both use
+//! `text_of` and `print_diagnoses`. `rename_in_text` is the part after the test for UTF-8. It is a separate function
+//! because the proof needs a `&str`: `rename_in` is about the characters of a text, `diagnoses` about its bytes.
 
-ghost use Rattle.std.specs.Prelude.{◌≡◌, ◌⊎◌, true, IfOk, IfErr, OnErr};
-ghost use Rattle.ob0_commands.specs.Endings.{EndsByFault, EndsWell};
+ghost use Rattle.std.specs.Prelude.{◌≡◌, true, IfOk, IfErr, OnErr};
+ghost use Rattle.ob0_commands.specs.Endings.{EndsWell};
+ghost use Rattle.ob0_commands.specs.Performed.{RenamesInFile};
 ghost use Rattle.ob0_commands.specs.Renamed.{IsRefusal, PrintsEdited, Renames};
 ghost use Rattle.ob0_commands.specs.Said.{Says};
 ghost use Rattle.ob0_commands.specs.Statuses.{AllocatesFor, HasNoText, IsOfOutput, PrintsNothing, StopsPrinting, StopsPrintingFaults};
@@ -19,10 +19,10 @@ use ob0_edits::rename_in;
 use ob0_text::{Edit, EditRefusal, Lines, Position, TextStore, patch};
 use std::alloc::Global;
 
-/// Prints to `out` a file's text with `new` in place of the name at a position, which counts lines and UTF-16 units
-/// from 0 on. A refused name is reported to `err` as `refused: TEXT`, and a file that isn't a well-typed module as by
-/// `check_text`. Returns the status with which the program ends: 0 for a text, 1 for a refusal or diagnostics, 4 for
-/// bytes that aren't UTF-8 or a failed write, 5 where memory runs out.
+/// Prints a file's text to `out`, with `new` in place of the name at a position, and returns the program's exit status.
+/// The position counts lines and UTF-16 units from 0. If the name is refused, `err` gets `refused: TEXT`. If the file
+/// isn't a well-typed module, its diagnostics are printed as by `check_text`. The status is 0 for a text and 1 for a
+/// refusal or diagnostics; 4 and 5 are as for `check_text`.
 pub fn rename_text<O: Output, E: Output>(
     alloc: Global,
     file: &[u8],
@@ -31,11 +31,9 @@ pub fn rename_text<O: Output, E: Output>(
     out: &mut O,
     err: &mut E,
 ) -> u8
-    ensures { Renames O.contents O.is_flushed out.old out.new
+    ensures { RenamesInFile O.contents O.is_flushed O.has_failed out.old out.new
         (Says E.contents E.is_flushed E.has_failed err.old err.new) file.now position new.now
-        (¬ HasNoText file.now × (O.has_failed out.new ≡ O.has_failed out.old)) result
-        ⊎ EndsByFault O.has_failed out.old out.new file.now (StopsPrintingFaults file.now)
-        (Says E.contents E.is_flushed E.has_failed err.old err.new) result }
+        result }
 {
     match rename_file(alloc, file, position, new, out, err) {
         Ok(status) => status,
@@ -96,8 +94,8 @@ fn rename_in_text<O: Output, E: Output>(
     }
 }
 
-/// Prints the text that the edits make to `out`, or the refusal to `err` as `refused: TEXT`. Returns the status with
-/// which the program ends: 0 for edits, 1 for a refusal.
+/// Prints the edited text to `out`, or the refusal to `err` as `refused: TEXT`. Returns the program's exit status: 0
+/// for edits, 1 for a refusal.
 pub fn print_edited<T: TextStore, O: Output, E: Output>(
     alloc: Global,
     store: &T,

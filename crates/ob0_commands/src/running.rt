@@ -1,25 +1,25 @@
-//! Running a file's module: its input, and what a run outputs.
+//! Runs a file's module on an input, and prints the output.
 //!
-//! `run_text` analyses and lowers the text once: a question of its own (`LoweringQuestion`, for `ask` of
-//! `ob0_analysis`) gives the program, or what is wrong with the text. Then the input is read, and the program is
-//! executed on it. Of the module nothing has to live so long: that the program runs as a module of this text is a fact
-//! about both (`IsLoweredTo`), and `execute` makes the defined run of it (`RunsAs`).
+//! `run_text` analyses and lowers the text once. `LoweringQuestion`, a question for `ask` of `ob0_analysis`, returns
+//! the program; if there is none, the diagnostics are printed. Then the input is read, and the program is executed. The
+//! module is dropped before that: the fact `IsLoweredTo` says that the program runs like a module of this text, and
+//! `execute` makes the defined run (`RunsAs`).
 //!
-//! What a run outputs is written in pieces of at most `PIECE_SIZE` bytes, so its text isn't stored beside its items
-//! (`print_items`): `IsWrittenBut` says what was written and what waits. A piece is an `ArrayString`, which is on the
-//! stack and doesn't grow; it is written where the next item might not fit. So nothing is allocated once something is
-//! printed (a `String` could allocate between pieces, as far as a contract knows).
+//! The output is written in pieces of at most `PIECE_SIZE` bytes (`print_items`), so its whole text is never stored.
+//! `IsWrittenBut` separates the written text from the waiting piece. A piece is an `ArrayString`: it is on the stack
+//! and doesn't grow. It is written if the next item might not fit. So nothing is allocated after the first byte is
+//! printed. (A contract allows a `String` to allocate between pieces.)
 
-ghost use Rattle.std.specs.Prelude.{◌≡◌, ◌+◌, ◌≤◌, ◌⊎◌, ◌++◌, true, IfOk, IfErr, IfNone, MatchOption, OnOk, OnErr, option_map, suc};
+ghost use Rattle.std.specs.Prelude.{◌≡◌, ◌+◌, ◌≤◌, ◌++◌, true, IfOk, IfErr, IfNone, MatchOption, OnOk, OnErr, option_map, suc};
 ghost use Rattle.std.specs.Io.KnownBytes.{Appends};
 ghost use Rattle.arrayvec.specs.ArrayString.{array_string_len};
 ghost use Rattle.ob0_tree.specs.Parsed.{named_tree_of};
 ghost use Rattle.ob0_analysis.specs.Diagnosed.{IsWellTypedModule};
 ghost use Rattle.ob0_run.specs.Outcomes.{item_of, items_out, run_of};
 ghost use Rattle.ob0_run.specs.Programs as lowered;
-ghost use Rattle.ob0_commands.specs.Endings.{EndsByFault};
 ghost use Rattle.ob0_commands.specs.Inputs.{TakesAtMost};
 ghost use Rattle.ob0_commands.specs.Numbers.{max_input};
+ghost use Rattle.ob0_commands.specs.Performed.{RunsFile};
 ghost use Rattle.ob0_commands.specs.Printed.{IsWrittenBut, PrintsFaults, end_line, output_text, written_text};
 ghost use Rattle.ob0_commands.specs.Said.{Says};
 ghost use Rattle.ob0_commands.specs.Statuses.{AllocatesFor, HasNoText, IsOfInput, IsOfOutput, PrintsNothing, StopsPrinting, StopsRunning, status_at};
@@ -37,7 +37,7 @@ use ob0_analysis::{Analysis, Question, WellTyped, ask};
 use ob0_run::{End, Item, Outcome, Program, execute, lower};
 use std::alloc::{AllocError, Global};
 
-/// The program that a text's module is lowered to.
+/// Asks for the program that a text's module is lowered to.
 #[derive(Drop)]
 struct LoweringQuestion {}
 
@@ -51,12 +51,12 @@ impl Question for LoweringQuestion {
     }
 }
 
-/// Runs a file's module on the numbers of `input`, with at most `calls` calls open at a time and at most `turns`
-/// iterations of each execution of a loop. Prints what it outputs to `out`, an end other than Done to `err` as
-/// `fault: NAME`.
-/// A file that isn't a module is reported as by `check_text`, before the input is read. Returns the status with which
-/// the program ends: 0 for Done, 1 for another end and for diagnostics, 4 and 5 as `check_text`, 4 also for an input
-/// that can't be read, is too long or isn't a list of numbers.
+/// Runs a file's module on the numbers of `input`, and returns the program's exit status. At most `calls` calls are
+/// open at a time, and each execution of a loop has at most `turns` iterations. The output is printed to `out`. An end
+/// other than Done is printed to `err` as `fault: NAME`. If the file isn't a well-typed module, its diagnostics are
+/// printed as by `check_text`, and the input isn't read. The status is 0 for Done and 1 for another end or diagnostics;
+/// 4 and 5 are as for `check_text`. If the input can't be read, is too long or isn't a list of numbers, the status is
+/// 4.
 pub fn run_text<R: Input, O: Output, E: Output>(
     alloc: Global,
     file: &[u8],
@@ -66,15 +66,9 @@ pub fn run_text<R: Input, O: Output, E: Output>(
     out: &mut O,
     err: &mut E,
 ) -> u8
-    ensures ends { PrintsRuns O.contents O.is_flushed out.old out.new
+    ensures ends { RunsFile O.contents O.is_flushed O.has_failed out.old out.new
         (Says E.contents E.is_flushed E.has_failed err.old err.new) file.now
-        (R.remaining input.old) calls turns
-        (¬ HasNoText file.now × (O.has_failed out.new ≡ O.has_failed out.old)
-        × (R.has_failed input.new ≡ R.has_failed input.old)) result
-        ⊎ EndsByFault O.has_failed out.old out.new file.now
-        (λ fault. StopsRunning file.now (R.remaining input.old) (R.has_failed input.new) fault
-        × IsOfInput (R.has_failed input.old) (R.has_failed input.new) fault)
-        (Says E.contents E.is_flushed E.has_failed err.old err.new) result }
+        R.remaining R.has_failed input.old input.new calls turns result }
     ensures limit { TakesAtMost (suc max_input) (R.remaining input.old) (R.remaining input.new) }
     ensures unread { ¬ IsWellTypedModule file.now → input.new ≡ input.old }
 {
@@ -120,8 +114,8 @@ fn run_file<R: Input, O: Output, E: Output>(
     print_outcome(outcome.output.as_slice(), outcome.end, out, err)
 }
 
-/// The program that a text is lowered to; else what is wrong with the text is printed. The analysis is dropped at once:
-/// a run may take long and needs the program alone.
+/// Returns the program that a text is lowered to. If there is none, prints the text's diagnostics and returns None. The
+/// analysis is dropped here because a run may take long and needs only the program.
 fn lower_text<O: Output>(
     alloc: Global,
     text: &str,
@@ -148,7 +142,7 @@ fn lower_text<O: Output>(
     }
 }
 
-/// The run of the module that a text is, by the program that it is lowered to. The text is for the contract alone.
+/// Runs the program that a text is lowered to. Only the contract uses the text.
 fn execute_module(
     alloc: Global,
     text: &str,
@@ -163,7 +157,7 @@ fn execute_module(
     execute(alloc, program, input, calls, turns)
 }
 
-/// The line, with its ending, that names an end other than `Done`.
+/// Returns the line, with its line ending, that reports an end other than `Done`. Returns None for `Done`.
 fn line_of(end: End) -> Option<&'static str>
     ensures { option_map (λ line. line.now) result ≡ end_line end }
 {
@@ -178,8 +172,8 @@ fn line_of(end: End) -> Option<&'static str>
     }
 }
 
-/// Prints what a run output to `out`, and an end other than `Done` to `err`. Returns the status with which the program
-/// ends: 0 for `Done`, else 1.
+/// Prints a run's output to `out`, and an end other than `Done` to `err`. Returns the program's exit status: 0 for
+/// `Done`, otherwise 1.
 pub fn print_outcome<O: Output, E: Output>(
     output: &[Item],
     end: End,
@@ -209,11 +203,11 @@ pub fn print_outcome<O: Output, E: Output>(
     }
 }
 
-/// A space, a sign and ten digits.
+/// The most bytes of an item's text: a space, a sign and ten digits.
 const LONGEST_ITEM: usize = 12;
 
-/// Prints items and flushes. Their text is written in pieces, so that no text of all of them is stored, and each is put
-/// together on the stack, so that nothing is allocated once something is printed.
+/// Prints items, and flushes. Their text is put together in pieces on the stack, so that the whole text is never stored
+/// and nothing is allocated after the first byte is printed.
 fn print_items<O: Output>(output: &[Item], out: &mut O) -> Result<(), FileFault>
     ensures printed { OnOk result
         (Appends (O.contents out.old) (O.contents out.new) (output_text (items_out output.now))) }
@@ -230,7 +224,7 @@ fn print_items<O: Output>(output: &[Item], out: &mut O) -> Result<(), FileFault>
     print(out, text.as_str())
 }
 
-/// Puts an item at the end of a text, which is written first where the item might not fit.
+/// Appends an item to a text. If the item might not fit, the text is first written and cleared.
 fn append_item<O: Output>(
     text: &mut ArrayString<PIECE_SIZE>,
     digits: &mut Buffer,
@@ -251,7 +245,7 @@ fn append_item<O: Output>(
     Ok(())
 }
 
-/// A number is a space and its digits, a line a line ending.
+/// Appends a space and the digits of a number, or a line feed.
 fn push_item(text: &mut ArrayString<PIECE_SIZE>, digits: &mut Buffer, item: Item)
     requires { array_string_len text.old + 12 ≤ 8192 }
     ensures { text.new.bytes ≡ text.old.bytes ++ written_text (item_of item) }

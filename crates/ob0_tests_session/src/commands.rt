@@ -1,57 +1,48 @@
-//! Commands with writers that pass written bytes on only when they are flushed; and command lines.
+//! Commands over writers that pass on what is written only when they are flushed, and command lines.
 
 use crate::devices::{Count, Counter, Source};
 use ob0_cli::{CommandFault, CommandLine, command};
-use ob0_commands::{TrackedReader, TrackedWriter, check_text, rename_text, run_text};
+use ob0_commands::{TrackedReader, TrackedWriter, perform};
 use ob0_text::Position;
 use std::alloc::Global;
 use std::process::Abort;
 
 const READS: &[u8] = b"MODULE M; VAR x: INTEGER; BEGIN Read(x); Write(x) END M.";
 
-/// A check of an empty file, a run of a module on an input, or a rename in that module at a column
-/// of its line.
-#[derive(Clone, Copy)]
-enum Called {
-    Check,
-    Run(&'static [u8]),
-    Rename(u64),
-}
+const CHECK: CommandLine<'static> = CommandLine::Check { file: "m" };
 
-/// Returns the status of a run on this input.
-fn run_status(
-    alloc: Global,
-    input: &[u8],
-    out: &mut TrackedWriter<Counter<'_>>,
-    err: &mut TrackedWriter<Counter<'_>>,
-) -> u8 {
-    let mut input = TrackedReader::new(Source {
-        bytes: input,
-        most: 1,
-        calls_left: 16,
-    });
-    run_text(alloc, READS, &mut input, 0, 0, out, err)
-}
+const RUN: CommandLine<'static> = CommandLine::Run {
+    file: "m",
+    calls: 0,
+    turns: 0,
+};
 
-fn status_of(
-    alloc: Global,
-    called: Called,
-    out: &mut TrackedWriter<Counter<'_>>,
-    err: &mut TrackedWriter<Counter<'_>>,
-) -> u8 {
-    match called {
-        Called::Check => check_text(alloc, b"", out, err),
-        Called::Run(input) => run_status(alloc, input, out, err),
-        Called::Rename(character) => {
-            let place = Position { line: 0, character };
-            rename_text(alloc, READS, place, "abc", out, err)
-        }
-    }
-}
+/// A rename of the variable `x` to `abc`.
+const RENAME: CommandLine<'static> = CommandLine::Rename {
+    file: "m",
+    position: Position {
+        line: 0,
+        character: 14,
+    },
+    name: "abc",
+};
 
-/// Returns the status of a command if `flushes` flushes succeed, and the number of bytes that are
-/// passed on.
-fn outcome_of(alloc: Global, called: Called, flushes: u32) -> (u8, usize) {
+/// The same at the word MODULE, which isn't a name.
+const RENAME_WORD: CommandLine<'static> = CommandLine::Rename {
+    file: "m",
+    position: Position {
+        line: 0,
+        character: 0,
+    },
+    name: "abc",
+};
+
+/// A command line, the bytes of its file and the input.
+type Call = (CommandLine<'static>, &'static [u8], &'static [u8]);
+
+/// The status of a call if `flushes` flushes succeed, and how many bytes are passed on.
+fn outcome_of(alloc: Global, call: Call, flushes: u32) -> (u8, usize) {
+    let (line, file, bytes) = call;
     let (mut printed, mut reported) = (Count::new(512, flushes), Count::new(512, 1));
     let mut out = TrackedWriter::new(Counter {
         count: &mut printed,
@@ -59,28 +50,32 @@ fn outcome_of(alloc: Global, called: Called, flushes: u32) -> (u8, usize) {
     let mut err = TrackedWriter::new(Counter {
         count: &mut reported,
     });
-    let status = status_of(alloc, called, &mut out, &mut err);
+    let mut input = TrackedReader::new(Source {
+        bytes,
+        most: 1,
+        calls_left: 16,
+    });
+    let status = perform(alloc, line, file, &mut input, &mut out, &mut err);
     (status, printed.passed_on)
 }
 
-/// Commands, the number of flushes that succeed, the status, and the number of bytes that are
-/// passed on.
-static CALLS: &[(Called, u32, (u8, usize))] = &[
+/// Calls, how many flushes succeed, the status, and how many bytes are passed on.
+static CALLS: &[(Call, u32, (u8, usize))] = &[
     (
-        Called::Check,
+        (CHECK, b"", b""),
         1,
         (1, "0:0: Syntax: expected MODULE\n".len()),
     ),
-    (Called::Check, 0, (4, 0)),
-    (Called::Run(b"-17"), 1, (0, " -17".len())),
-    (Called::Run(b""), 1, (1, 0)),
-    (Called::Run(b"x"), 1, (4, 0)),
-    (Called::Rename(14), 1, (0, READS.len() + 6)),
-    (Called::Rename(0), 1, (1, 0)),
+    ((CHECK, b"", b""), 0, (4, 0)),
+    ((RUN, READS, b"-17"), 1, (0, " -17".len())),
+    ((RUN, READS, b""), 1, (1, 0)),
+    ((RUN, READS, b"x"), 1, (4, 0)),
+    ((RENAME, READS, b""), 1, (0, READS.len() + 6)),
+    ((RENAME_WORD, READS, b""), 1, (1, 0)),
 ];
 
-/// Returns the number of the first command that ends otherwise.
-fn first_astray(alloc: Global, calls: &[(Called, u32, (u8, usize))]) -> Option<usize> {
+/// The number of the first call that ends otherwise.
+fn first_astray(alloc: Global, calls: &[(Call, u32, (u8, usize))]) -> Option<usize> {
     for i in 0..calls.len() {
         if outcome_of(alloc, calls[i].0, calls[i].1) != calls[i].2 {
             return Some(i);
@@ -95,7 +90,7 @@ fn commands_print_what_they_flush(rt: HostRuntime) {
     assert!(rt; number.is_none(), "call {number:?}");
 }
 
-/// Returns the request of a command line, in a word.
+/// What a command line requests, in a word.
 fn word_of(line: &CommandLine<'_>) -> &'static str {
     match line {
         CommandLine::Serve => "serve",

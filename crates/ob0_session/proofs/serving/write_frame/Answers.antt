@@ -1,20 +1,19 @@
 use Rattle.std.proofs.Common.{◌∙◌}
 use Rattle.std.proofs.Math.Bool.{or-true}
-use Rattle.ob0_session.specs.Noted.{device_of}
 use Rattle.ob0_session.proofs.Written.{failing, front_of_first, front_of_later, whatever}
 use Rattle.ob0_session.proofs.serving.write_frame.Goals as goal
 
 pub returns-clause-front : goal.returns-clause-front
 returns-clause-front g c =
-    let contents = g.W.Write.contents in
+    let contents = g.W.OutputDevice.contents in
     failing c.write_whole-2.result _ _ c.write_whole-2.ensures.noted
-    (front_of_later (contents (device_of c.args.writer.now)) (contents (device_of c.write_whole.new.writer)) (contents (device_of c.write_whole-2.new.writer)) c.args.head.now c.args.content.now c.in_ok-write_whole.ensures.whole)
+    (front_of_later (contents c.args.writer.now) (contents c.write_whole.new.writer) (contents c.write_whole-2.new.writer) c.args.head.now c.args.content.now c.in_ok-write_whole.ensures.whole)
     c.write_whole-2.ensures.front
 
 pub returns-in_err-write_whole-clause-front : goal.returns-in_err-write_whole-clause-front
 returns-in_err-write_whole-clause-front g c =
-    let contents = g.W.Write.contents in
+    let contents = g.W.OutputDevice.contents in
     whatever c.from_residual.result (
-      front_of_first (contents (device_of c.args.writer.now)) (contents (device_of c.write_whole.new.writer)) c.args.head.now c.args.content.now c.in_err-write_whole.ensures.front,
+      front_of_first (contents c.args.writer.now) (contents c.write_whole.new.writer) c.args.head.now c.args.content.now c.in_err-write_whole.ensures.front,
       c.in_err-write_whole.ensures.noted ∙ or-true _,
     )

@@ -1,0 +1,45 @@
+//! Performs the command that a command line requests of a file.
+
+ghost use Rattle.std.specs.Prelude.{◌≢◌};
+ghost use Rattle.ob0_cli.specs.declared.line.CommandLine.TheVariants.{Serve};
+ghost use Rattle.ob0_commands.specs.Performed.{PerformsOnFile};
+ghost use Rattle.ob0_commands.specs.Said.{Says};
+
+use crate::checking::check_text;
+use crate::printing::Output;
+use crate::reading::Input;
+use crate::renaming::rename_text;
+use crate::running::run_text;
+use ob0_cli::CommandLine;
+use std::alloc::Global;
+
+/// Does what a command line requests of a file with these bytes, and returns the program's exit status. Output goes to
+/// `out`, faults and refusals go to `err`. Only `run` reads from `input`. `serve` is no command on a file.
+pub fn perform<R: Input, O: Output, E: Output>(
+    alloc: Global,
+    line: CommandLine<'_>,
+    file: &[u8],
+    input: &mut R,
+    out: &mut O,
+    err: &mut E,
+) -> u8
+    requires { line ≢ Serve }
+    ensures { PerformsOnFile O.contents O.is_flushed O.has_failed out.old out.new
+        (Says E.contents E.is_flushed E.has_failed err.old err.new) file.now
+        R.remaining R.has_failed input.old input.new line.entry result }
+{
+    match line {
+        CommandLine::Serve => unreachable!(),
+        CommandLine::Check { file: _path } => check_text(alloc, file, out, err),
+        CommandLine::Run {
+            file: _path,
+            calls,
+            turns,
+        } => run_text(alloc, file, input, calls, turns, out, err),
+        CommandLine::Rename {
+            file: _path,
+            position,
+            name,
+        } => rename_text(alloc, file, position, name, out, err),
+    }
+}
