@@ -27,7 +27,7 @@ def middle(name: str, near: dict[str, list[str]], columns: dict[str, float]) -> 
 
 def room_of(name: str) -> float:
     """Half of the room that a node needs; a joint needs little."""
-    return 0.25 if "@" in name else 0.5
+    return 0.15 if "@" in name else 0.5
 
 
 def spread(row: list[str], wanted: dict[str, float]) -> dict[str, float]:

@@ -103,10 +103,9 @@ def picture_of_rooms() -> str:
     drawn = Picture(width, height, "The rooms of ob0's crates, and which rooms each one rests on")
     middles = {name: (8 + column * CELL[0], (top - at) * CELL[1] + 37) for name, (at, column) in places.items()}
     for path in layers.joints(arrows).values():
-        points = [middles[it] for it in path]
-        points[0] = (points[0][0], points[0][1] + BOX[1] / 2)
-        points[-1] = (points[-1][0], points[-1][1] - BOX[1] / 2)
-        drawn.line(points, has_head=True)
+        # (an arrow goes straight down between boxes)
+        points = [(x, y + side * BOX[1] / 2) for x, y in (middles[it] for it in path) for side in (-1, 1)]
+        drawn.line(points[1:-1], has_head=True)
     for room in rooms:
         x, y = middles[room.name]
         drawn.box((x - BOX[0] / 2, y - BOX[1] / 2), BOX)

@@ -41,17 +41,18 @@ class Scene(NamedTuple):
 
 
 SCENES = [
-    Scene("A name that isn't declared is marked as you write", [":16", "Enter", "A", " - lwo", "Escape"], "not declared"),
-    Scene("Renaming a to low is refused: in line 15 it would mean another variable", [":5", "Enter", "w", "grn", "C-u", "low", "Enter"], "would mean another declaration"),
+    Scene("A name that isn't declared is marked as you write", ["16Gzz", "A", " - lwo", "Escape"], "not declared"),
+    Scene("Renaming a to low is refused: in line 15 it would mean another variable", ["4Gzt", "jw", "grn", "C-u", "low", "Enter"], "would mean another declaration"),
 ]
 # (ob0's files as they are in the repository, the keys of their page, and a screen without what differs from run to run)
 SETTINGS = """
-set nocompatible noswapfile shortmess=aoOtTIWAFc laststatus=0 noruler noshowcmd signcolumn=yes number scrolloff=3 background=dark shada=
+set nocompatible noswapfile shortmess=aoOtTIWAFc laststatus=0 noruler noshowcmd signcolumn=yes number scrolloff=0 background=dark shada=
 set noshowmode nowrap guicursor=
 let &runtimepath = '{editors}/vim,{editors}/neovim,' . $VIMRUNTIME
 let g:ob0_program = '{program}'
 filetype plugin indent on
 syntax on
+highlight SignColumn ctermbg=NONE
 nnoremap grn <Cmd>lua vim.lsp.buf.rename()<CR>
 """
 
