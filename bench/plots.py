@@ -5,6 +5,7 @@ import math
 import os
 import re
 import sys
+from collections.abc import Callable
 from typing import List, Tuple
 
 sys.path.insert(0, os.path.join(os.path.dirname(os.path.dirname(os.path.abspath(__file__))), "tools"))
@@ -32,16 +33,22 @@ def in_words(value: float) -> str:
     return f"{value:g}"
 
 
+def scale(low: float, high: float, first: float, last: float) -> Callable[[float], float]:
+    """Where a number is between two places, which are those of two powers of ten."""
+    return lambda value: first + (math.log10(value) - low) / (high - low) * (last - first)
+
+
 def plot_of_keys(page: str) -> str:
     """Instructions by the size of the text, both by powers of ten: a line for each change, and one for reading from scratch."""
     heads, rows = rows_of(page, KEYS)
     sizes = [float(it.replace(",", "").split()[0]) for it in heads[1:] if it.endswith("bytes")]
     values = [(name, found[: len(sizes)]) for name, found in rows]
-    low, high = (bound(math.log10(edge(it for _, found in values for it in found))) for bound, edge in ((math.floor, min), (math.ceil, max)))
+    powers = [math.log10(it) for _, found in values for it in found]
+    low, high = math.floor(min(powers)), math.ceil(max(powers))
     left, top, width, height, right = 66.0, 46.0, 380.0, 300.0, 350.0
     drawn = Picture(left + width + right, top + height + 50, "Instructions for a change, and for reading the text from scratch, by the size of the text")
-    across = lambda size: left + 10 + (math.log10(size) - math.log10(sizes[0])) / (math.log10(sizes[-1]) - math.log10(sizes[0])) * (width - 20)  # noqa: E731
-    up = lambda value: top + height - (math.log10(value) - low) / (high - low) * height  # noqa: E731
+    across = scale(math.log10(sizes[0]), math.log10(sizes[-1]), left + 10, left + width - 10)
+    up = scale(low, high, top + height, top)
     drawn.text((14, 24), "Instructions (each line of the grid is ten times the one below)", weight="bold")
     for power in range(low, high + 1):
         drawn.line([(left, up(10**power)), (left + width, up(10**power))], "grid")
@@ -74,8 +81,9 @@ def plot_of_runs(page: str) -> str:
     others = [it.partition(" by ")[2] for it in heads if " by " in it]
     values = [(name, found[-len(others) :]) for name, found in rows]
     left, top, width, step = 290.0, 62.0, 400.0, 34.0
-    low, high = min(-1, math.floor(math.log10(min(it for _, found in values for it in found)))), max(1, math.ceil(math.log10(max(it for _, found in values for it in found))))
-    across = lambda value: left + (math.log10(value) - low) / (high - low) * width  # noqa: E731
+    ratios = [math.log10(it) for _, found in values for it in found]
+    low, high = min(-1, math.floor(min(ratios))), max(1, math.ceil(max(ratios)))
+    across = scale(low, high, left, left + width)
     drawn = Picture(left + width + 60, top + len(values) * step + 30, "Instructions of ob0's runs, by those of " + " and ".join(others))
     drawn.text((14, 24), "Instructions of ob0 for one of the other's: left of 1 it takes fewer", weight="bold")
     for at, other in enumerate(others):

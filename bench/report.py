@@ -15,7 +15,7 @@ import shutil
 import subprocess
 import sys
 import tempfile
-from typing import Dict, List, Tuple
+from typing import Dict, List
 
 import run  # (it says where the other modules are)
 
@@ -147,16 +147,16 @@ def with_table(page: str, heading: str, new: str) -> str:
     return re.sub(pattern, lambda it: it[1] + new, page, count=1, flags=re.S)
 
 
-def draw() -> None:
-    """Draws the plots from the page's tables."""
-    for name, drawn in plots.drawn_of(common_page()).items():
-        with open(os.path.join(TOP, "docs", "pictures", name), "w", encoding="utf-8") as file:
-            file.write(drawn)
-
-
-def common_page() -> str:
+def page_now() -> str:
     with open(PAGE, encoding="utf-8") as file:
         return file.read()
+
+
+def draw() -> None:
+    """Draws the plots from the page's tables."""
+    for name, drawn in plots.drawn_of(page_now()).items():
+        with open(os.path.join(TOP, "docs", "pictures", name), "w", encoding="utf-8") as file:
+            file.write(drawn)
 
 
 def main(words: List[str]) -> int:
@@ -164,7 +164,7 @@ def main(words: List[str]) -> int:
         missing = [it for it in ("valgrind", *BESIDE.values(), BINARY) if not shutil.which(it)]
         if missing:
             common.stop(f"{', '.join(missing)} is missing: on Debian `apt-get install valgrind lua5.4 python3`, and `make build`")
-        page = with_table(common_page(), plots.KEYS, table_of_keys(of_keys()))
+        page = with_table(page_now(), plots.KEYS, table_of_keys(of_keys()))
         page = with_table(page, plots.RUNS, table_of_runs(of_runs()))
         page = COUNTED.sub(lambda it: it[1] + counted_with(), page)
         with open(PAGE, "w", encoding="utf-8") as file:

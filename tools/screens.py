@@ -89,12 +89,15 @@ def taken(style: Style, codes: list[int]) -> Style:
             else:
                 colour, codes = "#" + "".join(f"{it:02x}" for it in codes[1:4]), codes[4:]
             # (58 is the colour of the line below)
-            style = style._replace(**{{38: "colour", 48: "behind", 58: "under"}[code]: colour})
+            style = {38: style._replace(colour=colour), 48: style._replace(behind=colour), 58: style._replace(under=colour)}[code]
         elif code == 0:
             style = Style()
-        elif code in (1, 4, 7, 22, 24, 27):
-            name = {1: "bold", 2: "bold", 4: "line", 7: "turned"}[code if code < 20 else code - 20]
-            style = style._replace(**{name: code < 20})
+        elif code in (1, 22):
+            style = style._replace(bold=code == 1)
+        elif code in (4, 24):
+            style = style._replace(line=code == 4)
+        elif code in (7, 27):
+            style = style._replace(turned=code == 7)
         elif 30 <= code < 40 or 90 <= code < 98:
             style = style._replace(colour=None if code == 39 else colour_of(code - 30 if code < 40 else code - 82))
         elif 40 <= code < 50 or 100 <= code < 108:
@@ -171,7 +174,8 @@ class Terminal:
         self.run("set-option", "-g", "default-terminal", "tmux-256color", ";", "set-option", "-g", "status", "off", ";", "new-session", "-d", *size, *editor)
 
     def run(self, *words: str) -> str:
-        return subprocess.run([*self.words, *words], stdout=subprocess.PIPE, check=True, **self.how).stdout.decode()
+        ran: subprocess.CompletedProcess[bytes] = subprocess.run([*self.words, *words], stdout=subprocess.PIPE, check=True, **self.how)
+        return ran.stdout.decode()
 
     def screen(self) -> str:
         return self.run("capture-pane", "-e", "-p")
