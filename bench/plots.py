@@ -14,15 +14,25 @@ import common  # noqa: E402
 from svg import Picture  # noqa: E402
 
 KEYS, RUNS = "A key, by the size of the text", "Runs, beside Lua and Python"
+# the plot under each heading: its file, and what it shows
+PLOTS = {
+    KEYS: ("keys.svg", "Instructions for a change, and for reading from scratch, by the size of the text"),
+    RUNS: ("runs.svg", "Instructions of ob0's runs, by those of Lua and of Python"),
+}
 COLOURS = ["ink", "one", "two", "three", "four"]
 Rows = List[Tuple[str, List[float]]]
 
 
+def region(heading: str) -> re.Pattern[str]:
+    """What is under a heading: a paragraph, and then the plot and the table, or a line that says that they aren't there."""
+    return re.compile(rf"(## {re.escape(heading)}\n\n(?:[^\n]+\n)+\n)(Not counted yet[^\n]*\n|!\[[^\n]*\n\n(?:\|[^\n]*\n)+)")
+
+
 def rows_of(page: str, heading: str) -> tuple[list[str], Rows]:
-    """The heads and the rows of the table under a heading: a name, and numbers."""
-    text = common.match_of(rf"## {re.escape(heading)}\n.*?\n\n(\|.*?\n)(?=\n|\Z)", page, re.S)[1]
+    """The heads and the rows of the table under a heading: a name, and numbers. None if there is no table."""
+    text = common.match_of(region(heading).pattern, page)[2].partition("\n\n")[2]
     lines = [[it.strip() for it in line.strip("|").split("|")] for line in text.splitlines()]
-    return lines[0], [(cells[0], [float(it.replace(",", "")) for it in cells[1:]]) for cells in lines[2:]]
+    return lines[0] if lines else [], [(cells[0], [float(it.replace(",", "")) for it in cells[1:]]) for cells in lines[2:]]
 
 
 def in_words(value: float) -> str:
@@ -46,7 +56,7 @@ def plot_of_keys(page: str) -> str:
     powers = [math.log10(it) for _, found in values for it in found]
     low, high = math.floor(min(powers)), math.ceil(max(powers))
     left, top, width, height, right = 66.0, 46.0, 380.0, 300.0, 350.0
-    drawn = Picture(left + width + right, top + height + 50, "Instructions for a change, and for reading the text from scratch, by the size of the text")
+    drawn = Picture(left + width + right, top + height + 50, PLOTS[KEYS][1])
     across = scale(math.log10(sizes[0]), math.log10(sizes[-1]), left + 10, left + width - 10)
     up = scale(low, high, top + height, top)
     drawn.text((14, 24), "Instructions (each line of the grid is ten times the one below)", weight="bold")
@@ -80,11 +90,11 @@ def plot_of_runs(page: str) -> str:
     heads, rows = rows_of(page, RUNS)
     others = [it.partition(" by ")[2] for it in heads if " by " in it]
     values = [(name, found[-len(others) :]) for name, found in rows]
-    left, top, width, step = 290.0, 62.0, 400.0, 34.0
+    left, top, width, step = 330.0, 62.0, 400.0, 34.0
     ratios = [math.log10(it) for _, found in values for it in found]
     low, high = min(-1, math.floor(min(ratios))), max(1, math.ceil(max(ratios)))
     across = scale(low, high, left, left + width)
-    drawn = Picture(left + width + 60, top + len(values) * step + 30, "Instructions of ob0's runs, by those of " + " and ".join(others))
+    drawn = Picture(left + width + 60, top + len(values) * step + 30, PLOTS[RUNS][1])
     drawn.text((14, 24), "Instructions of ob0 for one of the other's: left of 1 it takes fewer", weight="bold")
     for at, other in enumerate(others):
         drawn.add("rect", x=left + 110 * at, y=36, width=12, height=10, class_=COLOURS[at + 1])
@@ -104,5 +114,6 @@ def plot_of_runs(page: str) -> str:
 
 
 def drawn_of(page: str) -> dict[str, str]:
-    """Each plot by its file's name."""
-    return {"keys.svg": plot_of_keys(page), "runs.svg": plot_of_runs(page)}
+    """Each plot by its file's name; none if the page has no figures yet."""
+    made = {KEYS: plot_of_keys, RUNS: plot_of_runs}
+    return {PLOTS[heading][0]: plot(page) for heading, plot in made.items() if rows_of(page, heading)[1]}

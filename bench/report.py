@@ -14,18 +14,21 @@ import re
 import shutil
 import subprocess
 import sys
-import tempfile
 from typing import Dict, List
 
-import run  # (it says where the other modules are)
+sys.dont_write_bytecode = True
+HERE = os.path.dirname(os.path.abspath(__file__))
+sys.path[:0] = [HERE, os.path.join(os.path.dirname(HERE), "tests", "lib")]
 
-import common
-import corpus
-import keys
-import plots
-import programs
-from framing import Message
-from harness import BINARY, TOP, frames
+from harness import BINARY, TOP, frames  # noqa: E402 (it says where the scripts are)
+
+import common  # noqa: E402
+import corpus  # noqa: E402
+import counting  # noqa: E402
+import keys  # noqa: E402
+import plots  # noqa: E402
+import programs  # noqa: E402
+from framing import Message  # noqa: E402
 
 PAGE = os.path.join(TOP, "docs", "PERFORMANCE.md")
 COUNTED = re.compile(r"(## What they were counted with\n\n).*?(?=\n## |\Z)", re.S)
@@ -46,7 +49,7 @@ def said(name: str, counts: list[int]) -> None:
 
 
 def conversed(messages: list[Message]) -> int:
-    return run.instructions_of_conversation(BINARY, frames(keys.conversation(messages)))
+    return counting.instructions_of_conversation(BINARY, frames(keys.conversation(messages)))
 
 
 def of_keys() -> Table:
@@ -66,25 +69,13 @@ def of_keys() -> Table:
     return found
 
 
-def counted(words: list[str], text: str) -> int:
-    """The instructions of a command on a file with this text. (Python orders sets by a seed.)"""
-    with tempfile.TemporaryDirectory() as room:
-        file = os.path.join(room, "program")
-        with open(file, "w", encoding="utf-8") as out:
-            out.write(text)
-        callgrind = ["valgrind", "--tool=callgrind", "--callgrind-out-file=/dev/null", *words, file]
-        own = {**os.environ, "PYTHONHASHSEED": "0", "LC_ALL": "C.UTF-8"}
-        done = subprocess.run(callgrind, stdin=subprocess.DEVNULL, stdout=subprocess.DEVNULL, stderr=subprocess.PIPE, env=own, check=False)
-    return int(common.match_of(r"Collected : (\d+)", done.stderr.decode())[1])
-
-
 def of_runs() -> Table:
     """For each program its instructions in ob0, in Lua and in Python."""
     words = [[BINARY, "run"], [BESIDE["Lua"]], [BESIDE["Python"], "-I", "-S"]]
-    nothing = [counted(it, text) for it, text in zip(words, ("MODULE M; END M.\n", "", ""))]
+    nothing = [counting.instructions_on_file(it, text) for it, text in zip(words, ("MODULE M; END M.\n", "", ""))]
     found: Table = {}
     for name, texts in programs.PROGRAMS.items():
-        found[name] = [counted(it, text) - less for it, text, less in zip(words, texts, nothing)]
+        found[name] = [counting.instructions_on_file(it, text) - less for it, text, less in zip(words, texts, nothing)]
         said(name, found[name])
     return found
 
@@ -128,7 +119,7 @@ def processor() -> str:
 def counted_with() -> str:
     """A list of what the figures were counted with."""
     is_proved = os.path.abspath(BINARY) == common.BINARY and common.is_current()
-    kind = "the proved program" if is_proved else "**not the proved program**, but one that was compiled without proofs, with a check at each step: its counts are higher"
+    kind = "the proved program" if is_proved else "**not the proved program** of these sources"
     commit = version_of(["git", "-C", TOP, "log", "-1", "--format=%H"], r"(\w+)")
     lines = {
         "ob0": f"{kind}; the commit is `{commit}`",
@@ -141,10 +132,11 @@ def counted_with() -> str:
 
 
 def with_table(page: str, heading: str, new: str) -> str:
-    """The page with another table under a heading."""
-    pattern = rf"(## {re.escape(heading)}\n.*?\n\n)\|.*?\n(?=\n|\Z)"
-    common.match_of(pattern, page, re.S)
-    return re.sub(pattern, lambda it: it[1] + new, page, count=1, flags=re.S)
+    """The page with a plot and a table under a heading."""
+    name, title = plots.PLOTS[heading]
+    region = plots.region(heading)
+    common.match_of(region.pattern, page)
+    return region.sub(lambda it: f"{it[1]}![{title}](pictures/{name})\n\n{new}", page, count=1)
 
 
 def page_now() -> str:
@@ -161,6 +153,7 @@ def draw() -> None:
 
 def main(words: List[str]) -> int:
     if words != ["--plots"]:
+        # (one that is compiled to be tried checks each access, and can't be counted)
         missing = [it for it in ("valgrind", *BESIDE.values(), BINARY) if not shutil.which(it)]
         if missing:
             common.stop(f"{', '.join(missing)} is missing: on Debian `apt-get install valgrind lua5.4 python3`, and `make build`")
