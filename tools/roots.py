@@ -200,6 +200,9 @@ def try_suite(suite: str, folder: str, releases: dict[str, list[str]]) -> None:
     if not os.path.isdir(base):
         print(f"making a root of {suite}", flush=True)
         ran(["debootstrap", "--variant=minbase", suite, base, MIRROR])
+    # (a root that is thrown away needs no file on the disk before the next)
+    with open(os.path.join(base, "etc", "dpkg", "dpkg.cfg.d", "unsafe-io"), "w", encoding="ascii") as settings:
+        settings.write("force-unsafe-io\n")
     with open(os.path.join(base, "etc", "debian_version"), encoding="ascii") as file:
         print(f"{suite}, Debian {file.read().strip()}:", flush=True)
     copied(base, root)
